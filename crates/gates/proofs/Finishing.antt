@@ -1,0 +1,100 @@
+-- What the steps of an accepted evaluation leave, as the definitions of the wires and the board say it.
+-- Assumes nothing.
+use mathlib.Core.Path.{_≡_, _∙_, sym, ap}
+use mathlib.Core.List.{List, [], _∷_, _++_, zipWith, append-nil}
+use Prim.Native.Nat.{ℕ, suc, _+_, _-_, _≤_, min}
+use native.Mathlib.Nat.{zero-min, min-zero, suc-min-suc}
+use native.Mathlib.Omega.{arith}
+use lib.ListN.{length, take, drop, length-append, length-drop, drop-of-length-le}
+use lib.Seq.{take-all, take-length, take-at, sets, sets-eq, length-sets}
+use Rattle.gates.specs.Gate.{Gate, gatesOf}
+use Rattle.gates.specs.Wires.{wiresOf, outputsOf}
+use Rattle.gates.specs.Board.{conditionals, conditionalCount, shownBit, shownBits, boardOf}
+use Rattle.gates.specs.Test.{firstBad}
+use Rattle.gates.specs.Step.{rangeOf, stepWires, stepBoard, StepReady}
+use Rattle.gates.specs.declared.place.Place.the-variants.{Nowhere}
+use Rattle.gates.proofs.WireLaws.{length-wires}
+
+pub length-zip : {A B C : Type 0} (f : A → B → C) (xs : List A) (ys : List B) → length (zipWith f xs ys) ≡ min (length xs) (length ys)
+unfolding zipWith
+length-zip f [] ys = sym (zero-min (length ys))
+length-zip f (x ∷ xs) [] = sym (min-zero (suc (length xs)))
+length-zip f (x ∷ xs) (y ∷ ys) = ap suc (length-zip f xs ys) ∙ sym (suc-min-suc (length xs) (length ys))
+
+-- a tape of C bytes gives C shown bits
+pub length-shown : (ws : List ℕ) (gs : List Gate) (tape : List ℕ) → length tape ≡ conditionalCount gs → length (shownBits ws gs tape) ≡ conditionalCount gs
+unfolding shownBits conditionalCount
+length-shown ws gs tape e = omega (arith, length-zip (shownBit ws) (conditionals gs) tape)
+
+-- the whole list is its range from 0 to its end
+pub whole-range : (t : List ℕ) (gates : ℕ) → gates ≡ length (gatesOf t) → rangeOf t 0 gates ≡ gatesOf t
+unfolding rangeOf
+whole-range t gates e = take-all (gates - 0) (gatesOf t) (omega arith)
+
+module _ (inputs t : List ℕ) (gates k : ℕ) (tape ws board : List ℕ) (e : gates ≡ length (gatesOf t)) (w : length ws ≡ length inputs + gates) where
+  -- the wire table once the inputs are copied
+  filled : List ℕ
+  filled = take (length inputs) inputs ++ drop (length inputs) ws
+
+  filled-inputs : take (length inputs + 0) filled ≡ inputs
+  unfolding filled
+  filled-inputs =
+      let p : length (take (length inputs) inputs) ≡ length inputs + 0 = omega (arith, ap length (take-length inputs)) in
+      take-at (take (length inputs) inputs) (drop (length inputs) ws) (length inputs + 0) p ∙ take-length inputs
+
+  filled-long : length filled ≡ length inputs + gates
+  unfolding filled
+  filled-long = omega (arith, length-append (take (length inputs) inputs) (drop (length inputs) ws), ap length (take-length inputs), length-drop (length inputs) ws)
+
+  filled-end : drop (length inputs + gates) filled ≡ []
+  filled-end = drop-of-length-le filled {i = length inputs + gates} (omega (arith, filled-long))
+
+  run-wires : stepWires (length inputs) t 0 gates filled ≡ wiresOf inputs (gatesOf t)
+  unfolding stepWires
+  run-wires = rw (filled-inputs, filled-end, whole-range t gates e) (append-nil (wiresOf inputs (gatesOf t)))
+
+  -- the steps one after the other, each from what the one before it left: the wire table with its inputs, the step's wire table, board and count, and the closed board
+  module _ (enough : k ≤ gates) (good : firstBad (length inputs) 0 (gatesOf t) ≡ Nowhere) (lt : length tape ≡ conditionalCount (gatesOf t)) (lb : length board ≡ conditionalCount (gatesOf t) + k)
+      (ws₁ : List ℕ) (e₁ : ws₁ ≡ take (length inputs) inputs ++ drop (length inputs) ws) where
+    is-filled : ws₁ ≡ filled
+    unfolding filled
+    is-filled = e₁
+
+    count-range : conditionalCount (rangeOf t 0 gates) ≡ conditionalCount (gatesOf t)
+    count-range = ap conditionalCount (whole-range t gates e)
+
+    pub ready : StepReady (length inputs) t 0 gates tape 0 ws₁ board
+    ready =
+        record {
+          order = omega arith;
+          inTable = omega arith;
+          good = ap (firstBad (length inputs) 0) (whole-range t gates e) ∙ good;
+          inWires = omega (arith, ap length is-filled, filled-long);
+          inTape = omega (arith, count-range);
+          inBoard = omega (arith, count-range);
+        }
+
+    module _ (shown : ℕ) (ws₂ board₂ : List ℕ) (n : shown ≡ 0 + conditionalCount (rangeOf t 0 gates)) (e₂ : ws₂ ≡ stepWires (length inputs) t 0 gates ws₁)
+        (f₂ : board₂ ≡ stepBoard (length inputs) t 0 gates tape 0 ws₁ board) where
+      pub final-wires : ws₂ ≡ wiresOf inputs (gatesOf t)
+      final-wires = e₂ ∙ ap (stepWires (length inputs) t 0 gates) is-filled ∙ run-wires
+
+      bits : List ℕ
+      bits = shownBits (wiresOf inputs (gatesOf t)) (gatesOf t) tape
+
+      stepped-board : board₂ ≡ sets board 0 bits
+      unfolding stepBoard bits
+      stepped-board = f₂ ∙ rw (is-filled, run-wires, whole-range t gates e)
+
+      pub can-close : (k ≤ length ws₂) × (length board₂ ≡ shown + k)
+      can-close = (omega (arith, ap length final-wires, length-wires inputs (gatesOf t)), omega (arith, ap length stepped-board, length-sets board 0 bits, count-range))
+
+      pub final-board : (board₃ : List ℕ) → board₃ ≡ take shown board₂ ++ outputsOf k ws₂ → board₃ ≡ boardOf (wiresOf inputs (gatesOf t)) (gatesOf t) k tape
+      unfolding boardOf bits
+      final-board board₃ e₃ =
+          let l : length bits ≡ conditionalCount (gatesOf t) = length-shown (wiresOf inputs (gatesOf t)) (gatesOf t) tape lt in
+          let c : length bits ≡ shown = omega (arith, count-range) in
+          let f : board₂ ≡ bits ++ drop (0 + length bits) board = stepped-board ∙ sets-eq bits board 0 (omega arith) in
+          e₃ ∙ ap (λ (b : List ℕ). take shown b ++ outputsOf k ws₂) f
+          ∙ ap (λ (b : List ℕ). b ++ outputsOf k ws₂) (take-at bits (drop (0 + length bits) board) shown c)
+          ∙ ap (λ (b : List ℕ). bits ++ outputsOf k b) final-wires

@@ -1,0 +1,14 @@
+pub mod Tests
+pub mod Applying
+pub mod KindLaws
+pub mod Table
+pub mod Counting
+pub mod Places
+pub mod Judging
+pub mod Goodness
+pub mod WireLaws
+pub mod Stepping
+pub mod Evaluating
+pub mod Finishing
+pub mod Laws
+pub mod Hiding

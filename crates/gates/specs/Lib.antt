@@ -1,0 +1,9 @@
+pub mod Kind
+pub mod Gate
+pub mod Wires
+pub mod Board
+pub mod Test
+pub mod Step
+pub mod Evaluate
+pub mod Hiding
+pub mod HidingExample

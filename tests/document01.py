@@ -1,0 +1,107 @@
+"""Document 01 in Python: a second program, written apart from the Rattle code, that says what the core must answer.
+
+It is written for plainness and not for speed. Nothing here is shared with the crates.
+"""
+
+MOST_GATES = 1_048_576
+
+# The table of kinds: operands in use, and whether the gate is conditional.
+OPERANDS = {0: 0, 1: 0, 2: 1, 3: 1, 4: 2, 5: 2, 6: 2, 7: 3}
+CONDITIONAL = {0: False, 1: False, 2: False, 3: False, 4: True, 5: True, 6: True, 7: True}
+
+
+def gate_value(kind, a, b, c):
+    """The column "value" of the table, for bits."""
+    if kind == 0:
+        return 0
+    if kind == 1:
+        return 1
+    if kind == 2:
+        return a
+    if kind == 3:
+        return 1 - a
+    if kind == 4:
+        return 1 if (a == 1 and b == 1) else 0
+    if kind == 5:
+        return 1 if (a == 1 or b == 1) else 0
+    if kind == 6:
+        return 1 if a != b else 0
+    if kind == 7:
+        return b if a == 1 else c
+    raise ValueError(kind)
+
+
+def gates_of(table):
+    return [tuple(table[i:i + 4]) for i in range(0, len(table) - len(table) % 4, 4)]
+
+
+def is_bad(gate, own):
+    """Reason 3, for a gate that makes wire `own`."""
+    kind, operands = gate[0], gate[1:]
+    if kind > 7:
+        return True
+    used = OPERANDS[kind]
+    return any(x >= own for x in operands[:used]) or any(x != 0 for x in operands[used:])
+
+
+def conditional_count(gates):
+    return sum(1 for g in gates if CONDITIONAL.get(g[0], False))
+
+
+def list_fault(inputs, k, table):
+    """What is wrong with a list, in checking order: a name and a place, or None."""
+    if len(table) % 4 != 0:
+        return ("part-of-a-gate", 0)
+    if len(table) // 4 < k:
+        return ("too-few-gates", 0)
+    if len(table) // 4 > MOST_GATES:
+        return ("too-many-gates", 0)
+    for g, gate in enumerate(gates_of(table)):
+        if is_bad(gate, inputs + g):
+            return ("bad-gate", g)
+    return None
+
+
+def run_gates(inputs, gates, tape):
+    """Wires and shown bits of a well-formed list."""
+    wires = list(inputs)
+    shown = []
+    for kind, a, b, c in gates:
+        used = OPERANDS[kind]
+        x = wires[a] if used > 0 else None
+        y = wires[b] if used > 1 else None
+        z = wires[c] if used > 2 else None
+        if CONDITIONAL[kind]:
+            shown.append((x + tape[len(shown)]) % 2)
+        wires.append(gate_value(kind, x, y, z))
+    return wires, shown
+
+
+def first_above_one(data):
+    for i, x in enumerate(data):
+        if x > 1:
+            return i
+    return None
+
+
+def evaluate(inputs, table, k, tape, wires, board):
+    """The gate layer's total evaluation: (answer words, wires after, board after)."""
+    gates = gates_of(table)
+    count = conditional_count(gates)
+    fault = list_fault(len(inputs), k, table)
+    if fault is not None:
+        name, place = fault
+        words = ["refused", name] + ([str(place)] if name == "bad-gate" else [])
+        return words, wires, board
+    if len(tape) != count:
+        return ["refused", "tape-length"], wires, board
+    place = first_above_one(tape)
+    if place is not None:
+        return ["refused", "tape-byte", str(place)], wires, board
+    if len(wires) != len(inputs) + len(gates):
+        return ["refused", "wires-length"], wires, board
+    if len(board) != count + k:
+        return ["refused", "board-length"], wires, board
+    values, shown = run_gates(inputs, gates, tape)
+    closing = values[len(values) - k:] if k else []
+    return ["accepted", str(len(gates)), str(count)], values, shown + closing
