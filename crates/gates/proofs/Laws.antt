@@ -220,3 +220,11 @@ pub numbers-append : (gs hs : List Gate) → numbersOf (gs ++ hs) ≡ numbersOf 
 unfolding numbersOf
 numbers-append [] hs = refl
 numbers-append (g ∷ gs) hs = ap (λ (l : List ℕ). g .kind ∷ g .a ∷ g .b ∷ g .c ∷ l) (numbers-append gs hs)
+
+pub numbers-nil : numbersOf [] ≡ []
+unfolding numbersOf
+numbers-nil = refl
+
+pub numbers-one : (g : Gate) → numbersOf (g ∷ []) ≡ g .kind ∷ g .a ∷ g .b ∷ g .c ∷ []
+unfolding numbersOf
+numbers-one g = refl

@@ -1,0 +1,82 @@
+-- Writing blocks one after the other.
+-- Assumes nothing.
+use mathlib.Core.Path.{_≡_, _∙_, refl, sym, ap}
+use mathlib.Core.Bool.{cond}
+use mathlib.Core.List.{List, [], _∷_, _++_}
+use Prim.Native.Nat.{ℕ, suc, _+_, _*_, _≤_}
+use native.Mathlib.Numerals.{add-one, add-two, add-three}
+use native.Mathlib.Omega.{arith}
+use lib.Dec.{ltb}
+use lib.ListN.{length, set, length-append}
+use lib.Seq.{sets, length-sets}
+use Rattle.gates.specs.Kind.{operandsOf, conditionalOf}
+use Rattle.gates.specs.Gate.{Gate, numbersOf}
+use Rattle.gates.proofs.Counting.{count-nil, count-one, count-append, count-most}
+use Rattle.gates.proofs.Laws.{length-numbers, numbers-append, numbers-nil, numbers-one}
+use Rattle.words.specs.Emitted.{emitted}
+use Rattle.words.specs.Writing.{Room, Wrote}
+use Rattle.words.specs.declared.writer.Writer.{Writer}
+
+-- storing two lists one behind the other
+sets-append : (xs ys t : List ℕ) (i j : ℕ) → j ≡ i + length xs → sets (sets t i xs) j ys ≡ sets t i (xs ++ ys)
+sets-append [] ys t i j e = ap (λ (k : ℕ). sets t k ys) (omega arith)
+sets-append (x ∷ xs) ys t i j e = sets-append xs ys (set t i x) (suc i) j (omega arith)
+
+-- nothing is written
+pub wrote-nothing : (w : Writer) (t : List ℕ) → Wrote w t [] t w
+wrote-nothing w t =
+    record {
+      numbers = ap (sets t (4 * w .gate)) (sym numbers-nil);
+      gates = omega arith;
+      wires = omega arith;
+      conditionals = omega (arith, count-nil);
+    }
+
+-- two blocks, one after the other
+pub wrote-both : (w : Writer) (t : List ℕ) (gs : List Gate) (t₁ : List ℕ) (w₁ : Writer) (hs : List Gate) (t₂ : List ℕ) (w₂ : Writer)
+    → Wrote w t gs t₁ w₁ → Wrote w₁ t₁ hs t₂ w₂ → Wrote w t (gs ++ hs) t₂ w₂
+wrote-both w t gs t₁ w₁ hs t₂ w₂ a b =
+    record {
+      numbers =
+          b .numbers ∙ ap (λ (l : List ℕ). sets l (4 * w₁ .gate) (numbersOf hs)) (a .numbers)
+          ∙ sets-append (numbersOf gs) (numbersOf hs) t (4 * w .gate) (4 * w₁ .gate) (omega (arith, a .gates, length-numbers gs))
+          ∙ ap (sets t (4 * w .gate)) (sym (numbers-append gs hs));
+      gates = omega (arith, a .gates, b .gates, length-append gs hs);
+      wires = omega (arith, a .wires, b .wires, length-append gs hs);
+      conditionals = omega (arith, a .conditionals, b .conditionals, count-append gs hs);
+    }
+
+-- the same block under another name
+pub wrote-as : (w : Writer) (t : List ℕ) (gs hs : List Gate) (t₁ : List ℕ) (w₁ : Writer) → gs ≡ hs → Wrote w t gs t₁ w₁ → Wrote w t hs t₁ w₁
+wrote-as w t gs hs t₁ w₁ e a = rw (← e) a
+
+-- room for a part, and for the rest once a part is written
+pub room-less : (w : Writer) (t : List ℕ) (m n : ℕ) → m ≤ n → Room w t n → Room w t m
+room-less w t m n h r = record { inTable = omega (arith, r .inTable); small = omega (arith, r .small); counted = r .counted }
+
+pub room-after : (w : Writer) (t : List ℕ) (gs : List Gate) (t₁ : List ℕ) (w₁ : Writer) (m n : ℕ) → Wrote w t gs t₁ w₁ → length gs + m ≤ n → Room w t n → Room w₁ t₁ m
+room-after w t gs t₁ w₁ m n a h r =
+    record {
+      inTable = omega (arith, a .gates, r .inTable, ap length (a .numbers), length-sets t (4 * w .gate) (numbersOf gs));
+      small = omega (arith, a .wires, r .small);
+      counted = omega (arith, a .conditionals, a .gates, r .counted, count-most gs);
+    }
+
+-- the table keeps its length
+pub wrote-long : (w : Writer) (t : List ℕ) (gs : List Gate) (t₁ : List ℕ) (w₁ : Writer) → Wrote w t gs t₁ w₁ → length t₁ ≡ length t
+wrote-long w t gs t₁ w₁ a = ap length (a .numbers) ∙ length-sets t (4 * w .gate) (numbersOf gs)
+
+-- one gate: its kind, and the operands that its kind uses
+pub wrote-gate : (w : Writer) (t : List ℕ) (kind a b c count x y z mark : ℕ) → count ≡ operandsOf kind
+    → x ≡ cond (ltb 0 count) a 0 → y ≡ cond (ltb 1 count) b 0 → z ≡ cond (ltb 2 count) c 0 → mark ≡ cond (conditionalOf kind) 1 0
+    → Wrote w t (emitted kind a b c ∷ [])
+    (set (set (set (set t (4 * w .gate) kind) (4 * w .gate + 1) x) (4 * w .gate + 2) y) (4 * w .gate + 3) z)
+    (record { gate = w .gate + 1; wire = w .wire + 1; conditional = w .conditional + mark })
+unfolding emitted
+wrote-gate w t kind a b c count x y z mark e ex ey ez em =
+    record {
+      numbers = rw (ex, ey, ez, e, numbers-one, add-one (4 * w .gate), add-two (4 * w .gate), add-three (4 * w .gate));
+      gates = refl;
+      wires = refl;
+      conditionals = ap (λ (n : ℕ). w .conditional + n) (em ∙ sym (count-one (emitted kind a b c)));
+    }

@@ -1,0 +1,18 @@
+-- `words::writer::Writer::complements` meets its contract: it is `each` at kind 3.
+-- Assumes nothing.
+use Rattle.gates.proofs.Laws.{operand-counts}
+use borrow.Author.Needs.{needs}
+use Rattle.words.proofs.writer.Writer.complements.Statement.{statement}
+use Rattle.words.proofs.writer.Writer.complements.Tie as tie
+
+each-requires : tie.Need-each-requires
+each-requires c κs = let p = c .before .before .pre in (p .0, (operand-counts .3, p .1))
+
+same-length : tie.Need-same-length
+same-length c = search needs
+
+returns : tie.Need-returns
+returns c = search needs
+
+pub complements-spec : {M : Type 1} → statement M
+complements-spec = tie.close (tie.spec each-requires same-length returns)

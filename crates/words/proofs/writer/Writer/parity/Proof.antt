@@ -1,0 +1,18 @@
+-- `words::writer::Writer::parity` meets its contract: it is `chain` at kind 6.
+-- Assumes nothing.
+use Rattle.gates.proofs.Laws.{operand-counts}
+use borrow.Author.Needs.{needs}
+use Rattle.words.proofs.writer.Writer.parity.Statement.{statement}
+use Rattle.words.proofs.writer.Writer.parity.Tie as tie
+
+chain-requires : tie.Need-chain-requires
+chain-requires c κs = let p = c .before .before .pre in (p .0, (p .1 .0, (p .1 .1, operand-counts .6)))
+
+same-length : tie.Need-same-length
+same-length c = search needs
+
+returns : tie.Need-returns
+returns c = search needs
+
+pub parity-spec : {M : Type 1} → statement M
+parity-spec = tie.close (tie.spec chain-requires same-length returns)

@@ -1,0 +1,17 @@
+-- Words: what the wires from a place on, a stride apart, spell. W gives each wire its value.
+use Prim.Native.Nat.{ℕ, zero, suc, _+_, _*_, _<_}
+
+-- The number of ones among m wires: at, at + d, at + 2 d, and so on.
+unfoldable pub ones : (ℕ → ℕ) → ℕ → ℕ → ℕ → ℕ
+ones W at d zero = 0
+ones W at d (suc m) = W at + ones W (at + d) d m
+
+-- The number that w wires spell in binary, lowest digit first.
+unfoldable pub number : (ℕ → ℕ) → ℕ → ℕ → ℕ → ℕ
+number W at d zero = 0
+number W at d (suc w) = W at + 2 * number W (at + d) d w
+
+-- The m wires at, at + d, at + 2 d, and so on are below wire n.
+abbrev pub Below : ℕ → ℕ → ℕ → ℕ → Type 0
+Below n at d zero = Unit {0}
+Below n at d (suc m) = (at < n) × Below n (at + d) d m

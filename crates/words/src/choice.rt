@@ -1,0 +1,121 @@
+// Words made digit by digit.
+use crate::writer::Writer;
+ghost use mathlib.Core.Path.{_≡_};
+ghost use Prim.Native.Nat.{_+_, _≤_, _<_};
+ghost use Rattle.gates.specs.Kind.{operandsOf};
+ghost use Rattle.words.specs.Word.{Below};
+ghost use Rattle.words.specs.Writing.{Room, Wrote};
+ghost use Rattle.words.specs.Choice.{constants, each, copies, complements, choose, chain, anyOf, parity};
+
+impl Writer {
+    // The digits of a public number.
+    pub fn constants(self, table: &mut [u32], value: u32, digits: u32) -> Writer
+        requires { ⌜ Room self (now table) digits ⌝ }
+        ensures { λ r. ⌜ Wrote self (now (table .entry)) (constants value digits) (now (table .exit)) r ⌝ }
+    {
+        let mut w = self;
+        let mut v = value;
+        let mut left = digits;
+        while 0 < left {
+            w = w.emit(table, v % 2, 0, 0, 0);
+            v /= 2;
+            left -= 1;
+        }
+        w
+    }
+
+    // A gate of a kind with one operand for each digit of a word.
+    fn each(self, table: &mut [u32], kind: u32, x: u32, digits: u32) -> Writer
+        requires { ⌜ Room self (now table) digits ⌝ }
+        requires { ⌜ (operandsOf kind ≡ 1) × (x + digits ≤ self .wire) ⌝ }
+        ensures { λ r. ⌜ Wrote self (now (table .entry)) (each kind x digits) (now (table .exit)) r ⌝ }
+    {
+        let mut w = self;
+        let mut i: u32 = 0;
+        while i < digits {
+            w = w.emit(table, kind, x + i, 0, 0);
+            i += 1;
+        }
+        w
+    }
+
+    pub fn copies(self, table: &mut [u32], x: u32, digits: u32) -> Writer
+        requires { ⌜ Room self (now table) digits ⌝ }
+        requires { ⌜ x + digits ≤ self .wire ⌝ }
+        ensures { λ r. ⌜ Wrote self (now (table .entry)) (copies x digits) (now (table .exit)) r ⌝ }
+    {
+        self.each(table, 2, x, digits)
+    }
+
+    pub fn complements(self, table: &mut [u32], x: u32, digits: u32) -> Writer
+        requires { ⌜ Room self (now table) digits ⌝ }
+        requires { ⌜ x + digits ≤ self .wire ⌝ }
+        ensures { λ r. ⌜ Wrote self (now (table .entry)) (complements x digits) (now (table .exit)) r ⌝ }
+    {
+        self.each(table, 3, x, digits)
+    }
+
+    // The word at x where wire f is 1, else the word at y.
+    pub fn choose(self, table: &mut [u32], f: u32, x: u32, y: u32, digits: u32) -> Writer
+        requires { ⌜ Room self (now table) digits ⌝ }
+        requires { ⌜ (x + digits ≤ self .wire) × (y + digits ≤ self .wire) ⌝ }
+        ensures { λ r. ⌜ Wrote self (now (table .entry)) (choose f x y digits) (now (table .exit)) r ⌝ }
+    {
+        let mut w = self;
+        let mut i: u32 = 0;
+        while i < digits {
+            w = w.emit(table, 7, f, x + i, y + i);
+            i += 1;
+        }
+        w
+    }
+
+    // A chain of gates of a kind with two operands.
+    fn chain(
+        self,
+        table: &mut [u32],
+        kind: u32,
+        s: u32,
+        first: u32,
+        stride: u32,
+        count: u32,
+    ) -> Writer
+        requires { ⌜ Room self (now table) count ⌝ }
+        requires { ⌜ Below (self .wire) first stride count ⌝ }
+        requires { ⌜ (stride < 2147483648) × (operandsOf kind ≡ 2) ⌝ }
+        ensures { λ r. ⌜ Wrote self (now (table .entry)) (chain kind (self .wire) s first stride count) (now (table .exit)) r ⌝ }
+    {
+        let mut w = self;
+        let mut last = s;
+        let mut at = first;
+        let mut left = count;
+        while 0 < left {
+            let n = w.wire;
+            w = w.emit(table, kind, last, at, 0);
+            last = n;
+            at += stride;
+            left -= 1;
+        }
+        w
+    }
+
+    // Whether wire s or one of so many wires a stride apart is 1.
+    pub fn any_of(self, table: &mut [u32], s: u32, first: u32, stride: u32, count: u32) -> Writer
+        requires { ⌜ Room self (now table) count ⌝ }
+        requires { ⌜ Below (self .wire) first stride count ⌝ }
+        requires { ⌜ stride < 2147483648 ⌝ }
+        ensures { λ r. ⌜ Wrote self (now (table .entry)) (anyOf (self .wire) s first stride count) (now (table .exit)) r ⌝ }
+    {
+        self.chain(table, 5, s, first, stride, count)
+    }
+
+    // The sum modulo 2 of wire s and so many wires a stride apart.
+    pub fn parity(self, table: &mut [u32], s: u32, first: u32, stride: u32, count: u32) -> Writer
+        requires { ⌜ Room self (now table) count ⌝ }
+        requires { ⌜ Below (self .wire) first stride count ⌝ }
+        requires { ⌜ stride < 2147483648 ⌝ }
+        ensures { λ r. ⌜ Wrote self (now (table .entry)) (parity (self .wire) s first stride count) (now (table .exit)) r ⌝ }
+    {
+        self.chain(table, 6, s, first, stride, count)
+    }
+}
