@@ -228,3 +228,10 @@ numbers-nil = refl
 pub numbers-one : (g : Gate) → numbersOf (g ∷ []) ≡ g .kind ∷ g .a ∷ g .b ∷ g .c ∷ []
 unfolding numbersOf
 numbers-one g = refl
+
+-- The choice by a bit that is known.
+pub mux-zero : (x b c : ℕ) → x ≡ 0 → valueOf 7 x b c ≡ c
+mux-zero x b c e = ap (λ (y : ℕ). valueOf 7 y b c) e ∙ mux-value-zero b c
+
+pub mux-one : (x b c : ℕ) → x ≡ 1 → valueOf 7 x b c ≡ b
+mux-one x b c e = ap (λ (y : ℕ). valueOf 7 y b c) e ∙ mux-value-one b c

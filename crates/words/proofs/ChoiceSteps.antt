@@ -1,12 +1,13 @@
 -- Blocks of one gate a digit: the first digit, and the rest. Their lengths.
 -- Assumes nothing.
-use mathlib.Core.Path.{_≡_, _∙_, refl, ap}
+use mathlib.Core.Path.{_≡_, _∙_, refl, sym, ap}
 use mathlib.Core.List.{[], _∷_, _++_}
 use Prim.Native.Nat.{ℕ, zero, suc, _+_, _-_, _/_, _<_, _≤_}
+use native.Mathlib.Nat.{add-zero}
 use native.Mathlib.Omega.{arith}
 use lib.ListN.{length}
 use Rattle.words.specs.Gates.{gate, constant, muxOf}
-use Rattle.words.specs.Choice.{constants, each, choose, chain}
+use Rattle.words.specs.Choice.{constants, each, choose, chain, chainEnd}
 
 -- digits that are left count down
 left-one : (i n : ℕ) → i < n → n - i ≡ suc (n - (i + 1))
@@ -75,3 +76,9 @@ constants-none v n h = let e : n ≡ 0 = omega arith in rw e
 pub chain-none : (kind n s at d m : ℕ) → m ≤ 0 → chain kind n s at d m ≡ []
 unfolding chain
 chain-none kind n s at d m h = let e : m ≡ 0 = omega arith in rw e
+
+-- the end of a chain is the end of the chain behind its first gate
+pub chain-next : (n s m : ℕ) → chainEnd (n + 1) n m ≡ chainEnd n s (suc m)
+unfolding chainEnd
+chain-next n s zero = sym (add-zero n)
+chain-next n s (suc m) = omega arith

@@ -31,7 +31,7 @@ three-used : (kind a b c : ℕ) → operandsOf kind ≡ 3 → emitted kind a b c
 unfolding emitted
 three-used kind a b c e = rw e
 
-bit-none-used : (v : ℕ) → v < 2 → operandsOf v ≡ 0
+pub bit-none-used : (v : ℕ) → v < 2 → operandsOf v ≡ 0
 bit-none-used zero h = operand-counts .0
 bit-none-used (suc zero) h = operand-counts .1
 bit-none-used (suc (suc v)) h = absurd (omega arith)

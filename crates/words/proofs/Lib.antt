@@ -5,3 +5,10 @@ pub mod Places
 pub mod ChoiceSteps
 pub mod WordSteps
 pub mod CounterSteps
+pub mod Numbers
+pub mod GateValues
+pub mod AdderLaws
+pub mod CounterLaws
+pub mod ChoiceLaws
+pub mod ComparisonLaws
+pub mod PointsBack

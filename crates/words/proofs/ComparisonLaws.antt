@@ -1,0 +1,141 @@
+-- What comparisons tell: for all widths at once. A wire up that says "above so far" counts as one unit more of the word.
+-- Assumes nothing.
+use mathlib.Core.Path.{_≡_, _∙_, refl, sym, ap}
+use mathlib.Core.Bool.{Bool, true, false, cond}
+use mathlib.Core.Logic.{⊎-elim}
+use mathlib.Core.List.{List, [], _∷_}
+use Prim.Native.Nat.{ℕ, zero, suc, _+_, _-_, _*_, _/_, _^_, _%_, _≤_, _<_}
+use native.Mathlib.Nat.{add-zero, pow-succ'}
+use native.Mathlib.Omega.{arith}
+use lib.Dec.{eqb}
+use Rattle.gates.specs.Gate.{Gate}
+use Rattle.gates.proofs.Laws.{Holds, mux-zero, mux-one}
+use Rattle.words.specs.Gates.{notOf, andOf, orOf, xorOf, muxOf}
+use Rattle.words.specs.Word.{number}
+use Rattle.words.specs.Choice.{chainEnd}
+use Rattle.words.specs.Comparison.{atLeast, compareDigit, compareWords, upEnd, downEnd}
+use Rattle.words.proofs.Numbers.{Binary, bit-cases, number-none, number-more}
+use Rattle.words.proofs.GateValues.{valueOn, holds-first, holds-rest, holds-three, not-is, and-is, or-is, xor-is}
+use Rattle.words.proofs.ChoiceSteps.{chain-next}
+use Rattle.words.proofs.WordSteps.{leastGate}
+
+-- a bit that would be the other one
+not-one : {y t s : ℕ} → y ≡ 0 → (t < s → y ≡ 1) → s ≤ t
+not-one {y} {t} {s} z f = let g : ¬ (t < s) = λ q. let k = f q in omega arith in omega arith
+
+not-zero : {y t s : ℕ} → y ≡ 1 → (s ≤ t → y ≡ 0) → t < s
+not-zero {y} {t} {s} z f = let g : ¬ (s ≤ t) = λ q. let k = f q in omega arith in omega arith
+
+module _ (W : ℕ → ℕ) (b : Binary W) where
+  -- one digit of a comparison with a public number: 1 exactly where the digit and what was so far exceed the number's digit
+  least-digit : (v x r : ℕ) → (v % 2 < W x + W r → valueOn W (leastGate v x r) ≡ 1) × (W x + W r ≤ v % 2 → valueOn W (leastGate v x r) ≡ 0)
+  least-digit v x r = go (v % 2) (omega arith)
+    where
+      go : (d : ℕ) → d ≤ 1 → (d < W x + W r → valueOn W (cond (eqb d 0) (orOf x r) (andOf x r)) ≡ 1) × (W x + W r ≤ d → valueOn W (cond (eqb d 0) (orOf x r) (andOf x r)) ≡ 0)
+      go zero l = (λ h. omega (arith, h, or-is W b x r, b x, b r), λ h. omega (arith, h, or-is W b x r))
+      go (suc zero) l = (λ h. omega (arith, h, and-is W b x r, b x, b r), λ h. omega (arith, h, and-is W b x r))
+      go (suc (suc d)) l = absurd (omega arith)
+
+  pub least-yes : (n x v r w : ℕ) → v < 2 ^ w → v < number W x 1 w + W r → Holds W n (atLeast n x v r w) → W (chainEnd n r w) ≡ 1
+  unfolding atLeast
+  least-yes n x v r zero l p h = unfold chainEnd in (omega (arith, b r, number-none W x 1))
+  least-yes n x v r (suc w) l p h =
+      let e = pow-succ' 2 w in
+      let rest = atLeast (n + 1) (x + 1) (v / 2) n w in
+      let first = holds-first W n (leastGate v x r) rest h in
+      let d = least-digit v x r in
+      let m = number-more W x 1 w in
+      sym (ap W (chain-next n r w))
+      ∙ least-yes (n + 1) (x + 1) (v / 2) n w (omega arith)
+        (⊎-elim (λ (z : W n ≡ 0). let k : W x + W r ≤ v % 2 = not-one z (λ q. first ∙ d .0 q) in omega arith) (λ (z : W n ≡ 1). omega (arith, b r, b x)) (bit-cases (W n) (b n)))
+        (holds-rest W n (leastGate v x r) rest h)
+
+  pub least-no : (n x v r w : ℕ) → v < 2 ^ w → number W x 1 w + W r ≤ v → Holds W n (atLeast n x v r w) → W (chainEnd n r w) ≡ 0
+  unfolding atLeast
+  least-no n x v r zero l p h = unfold chainEnd in (omega (arith, number-none W x 1))
+  least-no n x v r (suc w) l p h =
+      let e = pow-succ' 2 w in
+      let rest = atLeast (n + 1) (x + 1) (v / 2) n w in
+      let first = holds-first W n (leastGate v x r) rest h in
+      let d = least-digit v x r in
+      let m = number-more W x 1 w in
+      sym (ap W (chain-next n r w))
+      ∙ least-no (n + 1) (x + 1) (v / 2) n w (omega arith)
+        (⊎-elim (λ (z : W n ≡ 0). omega arith) (λ (z : W n ≡ 1). let k : v % 2 < W x + W r = not-zero z (λ q. first ∙ d .1 q) in omega arith) (bit-cases (W n) (b n)))
+        (holds-rest W n (leastGate v x r) rest h)
+
+  -- two digits, both ways
+  pub digit-up : (n x y : ℕ) → Holds W n (compareDigit n x y) → (W y < W x → W (n + 2) ≡ 1) × (W x ≤ W y → W (n + 2) ≡ 0)
+  unfolding compareDigit
+  digit-up n x y h =
+      let g = holds-three W n (notOf x) (notOf y) (andOf x (n + 1)) (andOf n y ∷ []) h in
+      let p = g .1 ∙ not-is W b y in
+      let q = g .2 ∙ and-is W b x (n + 1) in
+      (λ l. omega (arith, p, q, l, b x, b y), λ l. omega (arith, p, q, l, b x, b y))
+
+  pub digit-down : (n x y : ℕ) → Holds W n (compareDigit n x y) → (W x < W y → W (n + 3) ≡ 1) × (W y ≤ W x → W (n + 3) ≡ 0)
+  unfolding compareDigit
+  digit-down n x y h =
+      let g = holds-three W n (notOf x) (notOf y) (andOf x (n + 1)) (andOf n y ∷ []) h in
+      let p = g .0 ∙ not-is W b x in
+      let q = g .3 .0 ∙ and-is W b n y in
+      (λ l. omega (arith, p, q, l, b x, b y), λ l. omega (arith, p, q, l, b x, b y))
+
+  up-next : (n up w : ℕ) → upEnd (n + 3) (n + 1) w ≡ upEnd n up (suc w)
+  unfolding upEnd
+  up-next n up zero = omega arith
+  up-next n up (suc w) = omega arith
+
+  down-next : (n down w : ℕ) → downEnd (n + 3) (n + 2) w ≡ downEnd n down (suc w)
+  unfolding downEnd
+  down-next n down zero = omega arith
+  down-next n down (suc w) = omega arith
+
+  -- the wire that one digit hands on: x where the digits differ, else what was so far
+  one-digit : (x y s t k : ℕ) → x ≤ 1 → y ≤ 1 → s ≤ 1 → t ≡ (x + y) % 2 → (t ≡ 0 → k ≡ s) → (t ≡ 1 → k ≡ x) → (y < x + s → k ≡ 1) × (x + s ≤ y → k ≡ 0)
+  one-digit x y s t k hx hy hs e k₀ k₁ =
+      ⊎-elim (λ (z : t ≡ 0). let p = k₀ z in ((λ q. omega arith), (λ q. omega arith))) (λ (z : t ≡ 1). let p = k₁ z in ((λ q. omega arith), (λ q. omega arith))) (bit-cases t (omega arith))
+
+  module _ (n x y up down w : ℕ) (h : Holds W n (compareWords n x y up down (suc w))) where
+    gates-of : (W n ≡ valueOn W (xorOf x y)) × (W (n + 1) ≡ valueOn W (muxOf n x up)) × (W (n + 2) ≡ valueOn W (muxOf n y down))
+        × Holds W (n + 3) (compareWords (n + 3) (x + 1) (y + 1) (n + 1) (n + 2) w)
+    gates-of = holds-three W n (xorOf x y) (muxOf n x up) (muxOf n y down) (compareWords (n + 3) (x + 1) (y + 1) (n + 1) (n + 2) w) (unfold compareWords in h)
+
+    up-digit : (W y < W x + W up → W (n + 1) ≡ 1) × (W x + W up ≤ W y → W (n + 1) ≡ 0)
+    up-digit =
+        one-digit (W x) (W y) (W up) (W n) (W (n + 1)) (b x) (b y) (b up) (gates-of .0 ∙ xor-is W b x y)
+        (λ e. gates-of .1 ∙ mux-zero (W n) (W x) (W up) e) (λ e. gates-of .1 ∙ mux-one (W n) (W x) (W up) e)
+
+    down-digit : (W x < W y + W down → W (n + 2) ≡ 1) × (W y + W down ≤ W x → W (n + 2) ≡ 0)
+    down-digit =
+        let swap : (W x + W y) % 2 ≡ (W y + W x) % 2 = omega arith in
+        one-digit (W y) (W x) (W down) (W n) (W (n + 2)) (b y) (b x) (b down) (gates-of .0 ∙ xor-is W b x y ∙ swap)
+        (λ e. gates-of .2 ∙ mux-zero (W n) (W y) (W down) e) (λ e. gates-of .2 ∙ mux-one (W n) (W y) (W down) e)
+
+  pub words-up : (n x y up down w : ℕ) → Holds W n (compareWords n x y up down w)
+      → (number W y 1 w < number W x 1 w + W up → W (upEnd n up w) ≡ 1) × (number W x 1 w + W up ≤ number W y 1 w → W (upEnd n up w) ≡ 0)
+  words-up n x y up down zero h = unfold upEnd number in ((λ l. omega (arith, b up, l)), (λ l. omega (arith, l)))
+  words-up n x y up down (suc w) h =
+      let d = up-digit n x y up down w h in
+      let r = words-up (n + 3) (x + 1) (y + 1) (n + 1) (n + 2) w (gates-of n x y up down w h .3) in
+      let e = ap W (up-next n up w) in
+      let mx = number-more W x 1 w in
+      let my = number-more W y 1 w in
+      ((λ (l : number W y 1 (suc w) < number W x 1 (suc w) + W up).
+        sym e ∙ r .0 (⊎-elim (λ (z : W (n + 1) ≡ 0). let k : W x + W up ≤ W y = not-one z (d .0) in omega arith) (λ (z : W (n + 1) ≡ 1). omega (arith, b x, b up)) (bit-cases (W (n + 1)) (b (n + 1))))),
+      (λ (l : number W x 1 (suc w) + W up ≤ number W y 1 (suc w)).
+        sym e ∙ r .1 (⊎-elim (λ (z : W (n + 1) ≡ 0). omega (arith, b y)) (λ (z : W (n + 1) ≡ 1). let k : W y < W x + W up = not-zero z (d .1) in omega arith) (bit-cases (W (n + 1)) (b (n + 1))))))
+
+  pub words-down : (n x y up down w : ℕ) → Holds W n (compareWords n x y up down w)
+      → (number W x 1 w < number W y 1 w + W down → W (downEnd n down w) ≡ 1) × (number W y 1 w + W down ≤ number W x 1 w → W (downEnd n down w) ≡ 0)
+  words-down n x y up down zero h = unfold downEnd number in ((λ l. omega (arith, b down, l)), (λ l. omega (arith, l)))
+  words-down n x y up down (suc w) h =
+      let d = down-digit n x y up down w h in
+      let r = words-down (n + 3) (x + 1) (y + 1) (n + 1) (n + 2) w (gates-of n x y up down w h .3) in
+      let e = ap W (down-next n down w) in
+      let mx = number-more W x 1 w in
+      let my = number-more W y 1 w in
+      ((λ (l : number W x 1 (suc w) < number W y 1 (suc w) + W down).
+        sym e ∙ r .0 (⊎-elim (λ (z : W (n + 2) ≡ 0). let k : W y + W down ≤ W x = not-one z (d .0) in omega arith) (λ (z : W (n + 2) ≡ 1). omega (arith, b y, b down)) (bit-cases (W (n + 2)) (b (n + 2))))),
+      (λ (l : number W y 1 (suc w) + W down ≤ number W x 1 (suc w)).
+        sym e ∙ r .1 (⊎-elim (λ (z : W (n + 2) ≡ 0). omega (arith, b x)) (λ (z : W (n + 2) ≡ 1). let k : W x < W y + W down = not-zero z (d .1) in omega arith) (bit-cases (W (n + 2)) (b (n + 2))))))
