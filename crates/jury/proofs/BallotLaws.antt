@@ -1,0 +1,74 @@
+-- The ballots and their tests, one step at a time.
+-- Assumes nothing.
+use mathlib.Core.Path.{_≡_, _∙_, ap}
+use mathlib.Core.Bool.{Bool, cond}
+use mathlib.Core.Option.{Option}
+use mathlib.Core.List.{List, [], _∷_}
+use Prim.Native.Nat.{ℕ, suc, _+_, _*_, _-_, _≤_, _<_}
+use native.Mathlib.Nat.{suc-mul, mul-le-mul-right}
+use native.Mathlib.Omega.{arith}
+use lib.Dec.{eqb}
+use lib.ListN.{length, getD, take, drop}
+use lib.Seq.{drop-cons}
+use borrow.Author.Tests.{eq-eqb, ne-eqb}
+use Rattle.gates.specs.declared.place.Place.{Place}
+use Rattle.gates.specs.declared.place.Place.the-variants.{At, Nowhere}
+use Rattle.gates.specs.Test.{firstAboveOne}
+use Rattle.jury.specs.declared.shape.Shape.{Shape}
+use Rattle.jury.specs.Shape.{ballotBytes}
+use Rattle.jury.specs.Reason.{Reason, unless, foundAt, firstOf}
+use Rattle.jury.specs.Ballots.{ones, rowsOf, firstBadRow, ballotReasons}
+
+-- the ones from place i on: byte i first
+ones-step : (xs : List ℕ) (i : ℕ) → i < length xs → ones (drop i xs) ≡ cond (eqb (getD xs i 0) 1) (suc (ones (drop (suc i) xs))) (ones (drop (suc i) xs))
+unfolding ones
+ones-step xs i h = rw (drop-cons xs i 0)
+
+pub ones-here : (xs : List ℕ) (i : ℕ) → i < length xs → getD xs i 0 ≡ 1 → ones (drop i xs) ≡ suc (ones (drop (suc i) xs))
+ones-here xs i h e = ones-step xs i h ∙ ap (λ (t : Bool). cond t (suc (ones (drop (suc i) xs))) (ones (drop (suc i) xs))) (eq-eqb (getD xs i 0) 1 e)
+
+pub ones-later : (xs : List ℕ) (i : ℕ) → i < length xs → (getD xs i 0 ≡ 1 → ⊥) → ones (drop i xs) ≡ ones (drop (suc i) xs)
+ones-later xs i h e = ones-step xs i h ∙ ap (λ (t : Bool). cond t (suc (ones (drop (suc i) xs))) (ones (drop (suc i) xs))) (ne-eqb (getD xs i 0) 1 e)
+
+-- a row lies within the rows
+pub row-within : (row rows d : ℕ) → row < rows → row * d + d ≤ rows * d
+row-within row rows d h = let l = mul-le-mul-right d h in omega (arith, suc-mul row d)
+
+-- the rows from place `row` on: that row first
+rows-step : (d row rows : ℕ) (xs : List ℕ) → row < rows → rowsOf d (rows - row) xs ≡ take d xs ∷ rowsOf d (rows - suc row) (drop d xs)
+unfolding rowsOf
+rows-step d row rows xs h = ap (λ (n : ℕ). rowsOf d n xs) {x = rows - row} {y = suc (rows - suc row)} (omega arith)
+
+bad-step : (d row rows : ℕ) (xs : List ℕ) → row < rows →
+    firstBadRow row (rowsOf d (rows - row) xs)
+    ≡ cond (eqb (ones (take d xs)) 1) (firstBadRow (suc row) (rowsOf d (rows - suc row) (drop d xs))) (At row)
+unfolding firstBadRow
+bad-step d row rows xs h = ap (firstBadRow row) (rows-step d row rows xs h)
+
+pub bad-here : (d row rows : ℕ) (xs : List ℕ) → row < rows → (ones (take d xs) ≡ 1 → ⊥) → firstBadRow row (rowsOf d (rows - row) xs) ≡ At row
+bad-here d row rows xs h e =
+    bad-step d row rows xs h
+    ∙ ap (λ (t : Bool). cond t (firstBadRow (suc row) (rowsOf d (rows - suc row) (drop d xs))) (At row)) (ne-eqb (ones (take d xs)) 1 e)
+
+pub bad-later : (d row rows : ℕ) (xs : List ℕ) → row < rows → ones (take d xs) ≡ 1 →
+    firstBadRow row (rowsOf d (rows - row) xs) ≡ firstBadRow (suc row) (rowsOf d (rows - suc row) (drop d xs))
+bad-later d row rows xs h e =
+    bad-step d row rows xs h
+    ∙ ap (λ (t : Bool). cond t (firstBadRow (suc row) (rowsOf d (rows - suc row) (drop d xs))) (At row)) (eq-eqb (ones (take d xs)) 1 e)
+
+pub bad-end : (d row rows : ℕ) (xs : List ℕ) → rows ≤ row → firstBadRow row (rowsOf d (rows - row) xs) ≡ Nowhere
+unfolding firstBadRow rowsOf
+bad-end d row rows xs h = ap (λ (n : ℕ). firstBadRow row (rowsOf d n xs)) {x = rows - row} {y = 0} (omega arith)
+
+-- what the three tests of ballots answer, from their outcomes
+unfoldable pub judged : Bool → Place → Place → Option Reason
+judged size byte row = firstOf (unless size 4 ∷ foundAt 5 byte ∷ foundAt 6 row ∷ [])
+
+pub judged-by : (s : Shape) (xs : List ℕ) (size : Bool) (byte row : Place) →
+    eqb (length xs) (ballotBytes s) ≡ size → firstAboveOne 0 xs ≡ byte → firstBadRow 0 (rowsOf (s .grades) (s .ballots * s .candidates) xs) ≡ row →
+    firstOf (ballotReasons s xs) ≡ judged size byte row
+unfolding judged ballotReasons
+judged-by s xs size byte row e₁ e₂ e₃ =
+    ap (λ (t : Bool). judged t (firstAboveOne 0 xs) (firstBadRow 0 (rowsOf (s .grades) (s .ballots * s .candidates) xs))) e₁
+    ∙ ap (λ (p : Place). judged size p (firstBadRow 0 (rowsOf (s .grades) (s .ballots * s .candidates) xs))) e₂
+    ∙ ap (λ (p : Place). judged size byte p) e₃

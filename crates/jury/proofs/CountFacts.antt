@@ -1,0 +1,97 @@
+-- Facts about the grade counts: each is the number of ones in its column, only the ballot bytes are read, and the counts of a candidate add up to n.
+-- Assumes nothing.
+use mathlib.Core.Path.{_≡_, _∙_, refl, sym, ap}
+use mathlib.Core.List.{List, []}
+use Prim.Native.Nat.{ℕ, zero, suc, _+_, _*_, _≤_, _<_}
+use native.Mathlib.Omega.{arith}
+use lib.ListN.{length, getD, take, drop}
+use lib.Seq.{getD-take, getD-drop}
+use Rattle.jury.specs.declared.shape.Shape.{Shape}
+use Rattle.jury.specs.Shape.{ballotBytes}
+use Rattle.jury.specs.Ballots.{ones}
+use Rattle.jury.specs.Counts.{byteOf, countUpTo, countOf, tabulate, countsOf}
+use Rattle.jury.specs.Gauge.{sum}
+use Rattle.jury.specs.Accepted.{AcceptedBallots}
+use Rattle.jury.proofs.BallotLaws.{row-within}
+use Rattle.jury.proofs.Tabulate.{length-tabulate, getD-tabulate, tabulate-cong}
+use Rattle.jury.proofs.Sums.{addend, sum-last, sum-add, sum-zero, sum-ones}
+use Rattle.jury.proofs.CountLaws.{bit-added}
+
+-- the matrix has k rows of d counts, and each is the count of its candidate and grade
+pub counts-length : (s : Shape) (xs : List ℕ) → length (countsOf s xs) ≡ s .candidates
+unfolding countsOf
+counts-length s xs = length-tabulate (s .candidates) (λ c. tabulate (s .grades) (countOf s xs c))
+
+pub counts-row : (s : Shape) (xs : List ℕ) (c : ℕ) → c < s .candidates → getD (countsOf s xs) c [] ≡ tabulate (s .grades) (countOf s xs c)
+unfolding countsOf
+counts-row s xs c h = getD-tabulate (s .candidates) c (λ c. tabulate (s .grades) (countOf s xs c)) [] h
+
+pub counts-at : (s : Shape) (xs : List ℕ) (c g : ℕ) → c < s .candidates → g < s .grades → getD (getD (countsOf s xs) c []) g 0 ≡ countOf s xs c g
+counts-at s xs c g hc hg = ap (λ (r : List ℕ). getD r g 0) (counts-row s xs c hc) ∙ getD-tabulate (s .grades) g (countOf s xs c) 0 hg
+
+-- a count is the number of ones in its column
+pub column-addends : (s : Shape) (xs : List ℕ) (b c g : ℕ) → countUpTo s xs b c g ≡ sum (tabulate b (λ i. addend (byteOf s xs i c g)))
+unfolding countUpTo sum tabulate addend
+column-addends s xs zero c g = refl
+column-addends s xs (suc b) c g = omega (arith, column-addends s xs b c g, sum-last b (λ i. addend (byteOf s xs i c g)))
+
+-- so for accepted ballots it is the sum of the bytes in its column
+pub column-sum : (s : Shape) (xs : List ℕ) → AcceptedBallots s xs → (b c g : ℕ) → countUpTo s xs b c g ≡ sum (tabulate b (λ i. byteOf s xs i c g))
+unfolding addend byteOf
+column-sum s xs a b c g =
+    column-addends s xs b c g
+    ∙ ap sum
+    (tabulate-cong b (λ i. addend (byteOf s xs i c g)) (λ i. byteOf s xs i c g)
+    (λ i h. bit-added (byteOf s xs i c g) (a .bits ((i * s .candidates + c) * s .grades + g))))
+
+-- each byte that is counted stands among the ballot bytes
+pub byte-within : (s : Shape) (b c g : ℕ) → b < s .ballots → c < s .candidates → g < s .grades → (b * s .candidates + c) * s .grades + g < ballotBytes s
+unfolding ballotBytes
+byte-within s b c g hb hc hg =
+    let row : b * s .candidates + c < s .ballots * s .candidates = omega (arith, row-within b (s .ballots) (s .candidates) hb) in
+    omega (arith, row-within (b * s .candidates + c) (s .ballots * s .candidates) (s .grades) row)
+
+-- counts depend on the bytes of their columns alone
+counts-same : (s : Shape) (xs ys : List ℕ) (n c g : ℕ) → ((b : ℕ) → b < n → byteOf s xs b c g ≡ byteOf s ys b c g) → countUpTo s xs n c g ≡ countUpTo s ys n c g
+counts-same s xs ys n c g h =
+    column-addends s xs n c g
+    ∙ ap sum (tabulate-cong n (λ b. addend (byteOf s xs b c g)) (λ b. addend (byteOf s ys b c g)) (λ b l. ap addend (h b l)))
+    ∙ sym (column-addends s ys n c g)
+
+-- nothing past the last row is read
+pub reads-ballots : (s : Shape) (xs ys : List ℕ) → take (ballotBytes s) xs ≡ take (ballotBytes s) ys → countsOf s xs ≡ countsOf s ys
+unfolding countsOf countOf byteOf
+reads-ballots s xs ys e =
+    tabulate-cong (s .candidates) (λ c. tabulate (s .grades) (countOf s xs c)) (λ c. tabulate (s .grades) (countOf s ys c))
+    (λ c hc. tabulate-cong (s .grades) (countOf s xs c) (countOf s ys c)
+    (λ g hg. counts-same s xs ys (s .ballots) c g (λ b hb. byte b c g (byte-within s b c g hb hc hg))))
+  where
+    byte : (b c g : ℕ) → (b * s .candidates + c) * s .grades + g < ballotBytes s → byteOf s xs b c g ≡ byteOf s ys b c g
+    byte b c g h =
+        sym (getD-take (ballotBytes s) xs ((b * s .candidates + c) * s .grades + g) 0 h)
+        ∙ ap (λ (l : List ℕ). getD l ((b * s .candidates + c) * s .grades + g) 0) e
+        ∙ getD-take (ballotBytes s) ys ((b * s .candidates + c) * s .grades + g) 0 h
+
+-- one row of a ballot adds 1 in all
+one-addend : (s : Shape) (xs : List ℕ) → AcceptedBallots s xs → (c b : ℕ) → c < s .candidates → b < s .ballots → sum (tabulate (s .grades) (λ g. addend (byteOf s xs b c g))) ≡ 1
+unfolding byteOf
+one-addend s xs a c b hc hb =
+    ap sum
+    (tabulate-cong (s .grades) (λ g. addend (byteOf s xs b c g)) (λ g. addend (getD (drop (row * s .grades) xs) g 0))
+    (λ g h. ap addend (sym (getD-drop (row * s .grades) xs g 0))))
+    ∙ sum-ones (s .grades) (drop (row * s .grades) xs)
+    ∙ a .rows row (omega (arith, row-within b (s .ballots) (s .candidates) hb))
+  where
+    row : ℕ
+    row = b * s .candidates + c
+
+-- the counts of a candidate add up to the ballots counted
+sum-up-to : (s : Shape) (xs : List ℕ) → AcceptedBallots s xs → (c : ℕ) → c < s .candidates → (b : ℕ) → b ≤ s .ballots → sum (tabulate (s .grades) (countUpTo s xs b c)) ≡ b
+unfolding countUpTo addend
+sum-up-to s xs a c hc zero h = sum-zero (s .grades)
+sum-up-to s xs a c hc (suc b) h =
+    sum-add (s .grades) (countUpTo s xs b c) (λ g. addend (byteOf s xs b c g)) ∙ omega (arith, sum-up-to s xs a c hc b (omega arith), one-addend s xs a c b hc (omega arith))
+
+pub counts-sum : (s : Shape) (xs : List ℕ) → AcceptedBallots s xs → (c : ℕ) → c < s .candidates → sum (getD (countsOf s xs) c []) ≡ s .ballots
+unfolding countOf
+counts-sum s xs a c h = ap sum (counts-row s xs c h) ∙ sum-up-to s xs a c h (s .ballots) (omega arith)

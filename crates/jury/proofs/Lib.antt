@@ -1,0 +1,19 @@
+-- Laws that the proofs of functions rest on.
+pub mod Flags
+pub mod Cases
+pub mod Tabulate
+pub mod Sums
+pub mod Limits
+pub mod WidthLaws
+pub mod BallotLaws
+pub mod AcceptedLaws
+pub mod CountLaws
+pub mod Matrix
+pub mod GaugeLaws
+pub mod Rows
+-- Facts for readers and for the layers above.
+pub mod CountFacts
+pub mod BallotOrder
+pub mod MedianFacts
+pub mod Conditions
+pub mod Closing

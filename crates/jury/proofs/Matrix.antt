@@ -1,0 +1,35 @@
+-- The matrix of grade counts and the array in which the program keeps it.
+-- Assumes nothing.
+use mathlib.Core.Path.{_≡_, _∙_, sym, ap}
+use mathlib.Core.List.{List, map}
+use Prim.Native.Nat.{ℕ, _<_}
+use lib.ListN.{take}
+use Rattle.jury.specs.declared.shape.Shape.{Shape}
+use Rattle.jury.specs.Counts.{countOf, tabulate, countsOf, countArray}
+use Rattle.jury.specs.Inner.{rowsIn}
+use Rattle.jury.proofs.Limits.{Within}
+use Rattle.jury.proofs.Tabulate.{tabulate-cong, take-tabulate, map-tabulate}
+use Rattle.jury.proofs.CountLaws.{entryAfter, rowAfter, arrayAfter, entry-inside, array-end}
+
+-- the first k rows of the array, d counts of each, are the matrix
+pub array-rows : (s : Shape) (xs : List ℕ) → Within s → rowsIn (s .candidates) (s .grades) (countArray s xs) ≡ countsOf s xs
+unfolding rowsIn arrayAfter rowAfter countsOf countOf
+array-rows s xs w =
+    ap (λ (m : List (List ℕ)). map (take d) (take k m)) (sym (array-end s xs))
+    ∙ ap (map (take d)) (take-tabulate k 8 (rowAfter s xs n) (w .k-most))
+    ∙ map-tabulate (take d) k (rowAfter s xs n)
+    ∙ tabulate-cong k (λ c. take d (rowAfter s xs n c)) (λ c. tabulate d (countOf s xs c)) row
+  where
+    k : ℕ
+    k = s .candidates
+
+    d : ℕ
+    d = s .grades
+
+    n : ℕ
+    n = s .ballots
+
+    row : (c : ℕ) → c < k → take d (rowAfter s xs n c) ≡ tabulate d (countOf s xs c)
+    row c h =
+        take-tabulate d 7 (entryAfter s xs n c) (w .d-most)
+        ∙ tabulate-cong d (entryAfter s xs n c) (countOf s xs c) (λ g l. entry-inside s xs n c g h l)

@@ -1,0 +1,25 @@
+-- `jury::shape::Shape::new` meets its contract: it answers by the test of the limits.
+-- Assumes nothing.
+use mathlib.Core.Path.{_∙_, sym, ap}
+use mathlib.Core.Bool.{Bool, cond}
+use Rattle.jury.specs.declared.shape.Shape.{Shape}
+use Rattle.jury.specs.declared.shape.Shaped.the-variants.{Within, Outside}
+use borrow.Author.Needs.{needs}
+use Rattle.jury.proofs.shape.Shape.new.Statement.{statement}
+use Rattle.jury.proofs.shape.Shape.new.Tie as tie
+
+is-within-limits-requires : tie.Need-is-within-limits-requires
+is-within-limits-requires c κs = search needs
+
+returns : tie.Need-returns
+returns c =
+    let s : Shape = record { candidates = c .before .before .args .candidates; grades = c .before .before .args .grades; ballots = c .before .before .args .ballots } in
+    ap (λ (t : Bool). cond t (Within s) Outside) (sym (c .if1 .taken) ∙ c .before .is-within-limits .ensures)
+
+returns-2 : tie.Need-returns-2
+returns-2 c =
+    let s : Shape = record { candidates = c .before .before .args .candidates; grades = c .before .before .args .grades; ballots = c .before .before .args .ballots } in
+    ap (λ (t : Bool). cond t (Within s) Outside) (sym (c .if1 .left) ∙ c .before .is-within-limits .ensures)
+
+pub new-spec : {M : Type 1} → statement M
+new-spec = tie.close (tie.spec is-within-limits-requires returns returns-2)

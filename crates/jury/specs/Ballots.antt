@@ -1,0 +1,36 @@
+-- Ballots, and the tests that they have to pass.
+use mathlib.Core.Bool.{cond}
+use mathlib.Core.Option.{Option}
+use mathlib.Core.List.{List, [], _∷_}
+use Prim.Native.Nat.{ℕ, zero, suc, _*_}
+use lib.Dec.{eqb}
+use lib.ListN.{length, take, drop}
+use Rattle.gates.specs.declared.place.Place.{Place}
+use Rattle.gates.specs.declared.place.Place.the-variants.{At, Nowhere}
+use Rattle.gates.specs.Test.{firstAboveOne}
+use Rattle.jury.specs.declared.shape.Shape.{Shape}
+use Rattle.jury.specs.Shape.{ballotBytes}
+use Rattle.jury.specs.Reason.{Reason, unless, foundAt}
+
+-- How many of these bytes are 1.
+unfoldable pub ones : List ℕ → ℕ
+ones [] = 0
+ones (x ∷ xs) = cond (eqb x 1) (suc (ones xs)) (ones xs)
+
+-- "A ballot is k rows of d bytes", and "ballots follow each other without gaps": the first so many rows of d bytes.
+unfoldable pub rowsOf : ℕ → ℕ → List ℕ → List (List ℕ)
+rowsOf d zero xs = []
+rowsOf d (suc rows) xs = take d xs ∷ rowsOf d rows (drop d xs)
+
+-- "A row does not hold exactly one 1; the place is the first such row", the first row here standing at place i.
+unfoldable pub firstBadRow : ℕ → List (List ℕ) → Place
+firstBadRow i [] = Nowhere
+firstBadRow i (row ∷ rows) = cond (eqb (ones row) 1) (firstBadRow (suc i) rows) (At i)
+
+-- The tests of the ballots in checking order: 4, 5 over all bytes, then 6.
+unfoldable pub ballotReasons : Shape → List ℕ → List (Option Reason)
+ballotReasons s xs =
+    unless (eqb (length xs) (ballotBytes s)) 4
+    ∷ foundAt 5 (firstAboveOne 0 xs)
+    ∷ foundAt 6 (firstBadRow 0 (rowsOf (s .grades) (s .ballots * s .candidates) xs))
+    ∷ []

@@ -1,0 +1,33 @@
+-- Grade counts: how many ballots give each candidate each grade.
+use mathlib.Core.Bool.{cond, _&&_}
+use mathlib.Core.List.{List, [], _∷_}
+use Prim.Native.Nat.{ℕ, zero, suc, _+_, _*_}
+use lib.Dec.{eqb, ltb}
+use lib.ListN.{getD}
+use Rattle.jury.specs.declared.shape.Shape.{Shape}
+
+-- The byte of ballot b, candidate c and grade g: "A ballot is k rows of d bytes, candidate after candidate, best grade first. [..] Ballots follow each other without gaps".
+unfoldable pub byteOf : Shape → List ℕ → ℕ → ℕ → ℕ → ℕ
+byteOf s xs b c g = getD xs ((b * s .candidates + c) * s .grades + g) 0
+
+-- How many of the first b ballots give candidate c the grade g.
+unfoldable pub countUpTo : Shape → List ℕ → ℕ → ℕ → ℕ → ℕ
+countUpTo s xs zero c g = 0
+countUpTo s xs (suc b) c g = countUpTo s xs b c g + cond (eqb (byteOf s xs b c g) 1) 1 0
+
+-- How many ballots give candidate c the grade g.
+unfoldable pub countOf : Shape → List ℕ → ℕ → ℕ → ℕ
+countOf s xs c g = countUpTo s xs (s .ballots) c g
+
+-- The values of f at 0, 1, and so on, n of them.
+unfoldable pub tabulate : {A : Type 0} → ℕ → (ℕ → A) → List A
+tabulate zero f = []
+tabulate (suc n) f = f 0 ∷ tabulate n (λ i. f (suc i))
+
+-- "a matrix of k rows of grade counts", d of them in each, best grade first.
+unfoldable pub countsOf : Shape → List ℕ → List (List ℕ)
+countsOf s xs = tabulate (s .candidates) (λ c. tabulate (s .grades) (countOf s xs c))
+
+-- The same as the program keeps it, in an eight by seven array whose other entries are 0.
+unfoldable pub countArray : Shape → List ℕ → List (List ℕ)
+countArray s xs = tabulate 8 (λ c. tabulate 7 (λ g. cond (ltb c (s .candidates) && ltb g (s .grades)) (countOf s xs c g) 0))

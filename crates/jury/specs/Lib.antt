@@ -1,0 +1,9 @@
+pub mod Shape
+pub mod Width
+pub mod Reason
+pub mod Ballots
+pub mod Counts
+pub mod Gauge
+pub mod Panels
+pub mod Accepted
+pub mod Inner

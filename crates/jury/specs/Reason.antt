@@ -1,0 +1,54 @@
+-- The reasons to turn a call away, by their numbers in document 01, and the order of tests.
+use mathlib.Core.Bool.{Bool, true, false}
+use mathlib.Core.Option.{Option, none, some}
+use mathlib.Core.List.{List, [], _∷_}
+use Prim.Native.Nat.{ℕ}
+use Rattle.gates.specs.declared.place.Place.{Place}
+use Rattle.gates.specs.declared.place.Place.the-variants.{At, Nowhere}
+use Rattle.jury.specs.declared.reason.Refusal.{Refusal}
+use Rattle.jury.specs.declared.reason.Refusal.the-variants.{Shape, Table, Gate, BallotsLength, BallotByte, BallotRow, TapeLength, TapeByte, WiresLength, BoardLength}
+use Rattle.jury.specs.declared.reason.Verdict.{Verdict}
+use Rattle.jury.specs.declared.reason.Verdict.the-variants.{Accepted, Refused}
+
+-- A reason: its number and its place.
+pub record Reason : Type 0 where
+  pub number : ℕ
+  pub place : ℕ
+
+-- "where no place is named it is 0".
+unfoldable pub reasonAt : ℕ → ℕ → Reason
+reasonAt number place = record { number = number; place = place }
+
+-- Document 01's number and place for each case of the program's enum.
+unfoldable pub reasonOf : Refusal → Reason
+reasonOf Shape = reasonAt 1 0
+reasonOf Table = reasonAt 2 0
+reasonOf (Gate g) = reasonAt 3 g
+reasonOf BallotsLength = reasonAt 4 0
+reasonOf (BallotByte i) = reasonAt 5 i
+reasonOf (BallotRow r) = reasonAt 6 r
+reasonOf TapeLength = reasonAt 7 0
+reasonOf (TapeByte i) = reasonAt 8 i
+reasonOf WiresLength = reasonAt 9 0
+reasonOf BoardLength = reasonAt 10 0
+
+-- The reason of a verdict, where it is a refusal.
+unfoldable pub refusedFor : Verdict → Option Reason
+refusedFor Accepted = none
+refusedFor (Refused r) = some (reasonOf r)
+
+-- The reason of that number, at place 0, unless its test passes.
+unfoldable pub unless : Bool → ℕ → Option Reason
+unless true number = none
+unless false number = some (reasonAt number 0)
+
+-- The reason of that number at the place that was found, if any.
+unfoldable pub foundAt : ℕ → Place → Option Reason
+foundAt number Nowhere = none
+foundAt number (At place) = some (reasonAt number place)
+
+-- "The first that applies is returned with its place".
+unfoldable pub firstOf : List (Option Reason) → Option Reason
+firstOf [] = none
+firstOf (none ∷ rest) = firstOf rest
+firstOf (some r ∷ rest) = some r

@@ -1,0 +1,7 @@
+// Counting a tasting jury: shapes, ballots, the majority gauge.
+pub mod ballots;
+pub mod counts;
+pub mod gauge;
+pub mod reason;
+pub mod shape;
+pub mod width;

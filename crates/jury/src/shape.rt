@@ -1,0 +1,68 @@
+// The shape of a jury: its numbers of candidates, grades and ballots, and the limits that belong to it.
+ghost use mathlib.Core.Path.{_≡_};
+ghost use mathlib.Core.Bool.{cond};
+ghost use lib.Dec.{T};
+ghost use Rattle.jury.specs.Shape.{withinLimits, ballotBytes};
+
+// A candidate is a blend. The numbers are wide enough to hold what lies outside the limits.
+pub struct Shape {
+    pub candidates: usize,
+    pub grades: usize,
+    pub ballots: usize,
+}
+
+// What the constructor answers.
+pub enum Shaped {
+    Within(Shape),
+    Outside,
+}
+
+impl Shape {
+    pub const LEAST_CANDIDATES: usize = 1;
+
+    pub const MOST_CANDIDATES: usize = 8;
+
+    pub const LEAST_GRADES: usize = 2;
+
+    pub const MOST_GRADES: usize = 7;
+
+    pub const LEAST_BALLOTS: usize = 1;
+
+    pub const MOST_BALLOTS: usize = 255;
+
+    // A shape within the limits, or its refusal.
+    pub fn new(candidates: usize, grades: usize, ballots: usize) -> Shaped
+        ensures { λ r. ⌜ r ≡ cond (withinLimits (record { candidates = candidates; grades = grades; ballots = ballots })) (Shaped.Within (record { candidates = candidates; grades = grades; ballots = ballots })) Shaped.Outside ⌝ }
+    {
+        let shape = Shape {
+            candidates,
+            grades,
+            ballots,
+        };
+        if shape.is_within_limits() {
+            Shaped::Within(shape)
+        } else {
+            Shaped::Outside
+        }
+    }
+
+    // Whether a shape, however it was made, is within the limits.
+    pub fn is_within_limits(self) -> bool
+        ensures { λ r. ⌜ r ≡ withinLimits self ⌝ }
+    {
+        Shape::LEAST_CANDIDATES <= self.candidates
+            && self.candidates <= Shape::MOST_CANDIDATES
+            && Shape::LEAST_GRADES <= self.grades
+            && self.grades <= Shape::MOST_GRADES
+            && Shape::LEAST_BALLOTS <= self.ballots
+            && self.ballots <= Shape::MOST_BALLOTS
+    }
+
+    // I, the number of ballot bytes.
+    pub fn ballot_bytes(self) -> usize
+        requires { ⌜ T (withinLimits self) ⌝ }
+        ensures { λ r. ⌜ r ≡ ballotBytes self ⌝ }
+    {
+        self.ballots * self.candidates * self.grades
+    }
+}

@@ -1,0 +1,3 @@
+pub mod CountReason
+pub mod PlainFacts
+pub mod Edges

@@ -1,0 +1,39 @@
+// The entry point "Count plainly".
+use jury::reason::Refusal;
+use jury::reason::Verdict;
+use jury::shape::Shape;
+ghost use mathlib.Core.Path.{_≡_};
+ghost use Rattle.jury.specs.Reason.{refusedFor};
+ghost use Rattle.tally.specs.Count.{countReason, plainClosing};
+
+// The outcome of a count, and the closing bytes: 0 from place k on, and eight zeros on a refusal.
+pub struct Counted {
+    pub verdict: Verdict,
+    pub closing: [u8; 8],
+}
+
+// Counts the ballots of a jury of any shape, however it was made.
+pub fn count(shape: Shape, ballots: &[u8]) -> Counted
+    ensures { λ r. ⌜ refusedFor (r .verdict) ≡ countReason shape (now (ballots .entry)) ⌝ }
+    ensures { λ r. ⌜ r .closing ≡ plainClosing shape (now (ballots .entry)) ⌝ }
+{
+    if !shape.is_within_limits() {
+        return Counted {
+            verdict: Verdict::Refused(Refusal::Shape),
+            closing: [0u8; 8],
+        };
+    }
+    match jury::ballots::test(shape, ballots) {
+        Verdict::Refused(reason) => Counted {
+            verdict: Verdict::Refused(reason),
+            closing: [0u8; 8],
+        },
+        Verdict::Accepted => {
+            let counts = jury::counts::counts(shape, ballots);
+            Counted {
+                verdict: Verdict::Accepted,
+                closing: jury::gauge::winners(shape, counts),
+            }
+        }
+    }
+}

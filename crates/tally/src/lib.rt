@@ -1,0 +1,2 @@
+// The counting core's entry points.
+pub mod count;
