@@ -12,3 +12,4 @@ pub mod CounterLaws
 pub mod ChoiceLaws
 pub mod ComparisonLaws
 pub mod PointsBack
+pub mod Ends

@@ -24,7 +24,7 @@ use Rattle.words.proofs.Emitting.{bit-none-used}
 use Rattle.words.proofs.WordSteps.{leastGate, length-full, length-half}
 use Rattle.words.proofs.CounterSteps.{length-level, length-count, length-add-levels, below-carries, count-size-step, add-size-step, add-size-last}
 
-good-constant : (n v : ℕ) → T (goodGate n (constant v))
+pub good-constant : (n v : ℕ) → T (goodGate n (constant v))
 good-constant n v = good-none n (v % 2) (omega arith) (bit-none-used (v % 2) (omega arith))
 
 good-copy : (n a : ℕ) → a < n → T (goodGate n (copyOf a))

@@ -1,0 +1,5 @@
+pub mod Plan
+pub mod RunningSums
+pub mod Key
+pub mod Contest
+pub mod OwnList
