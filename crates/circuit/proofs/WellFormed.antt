@@ -5,6 +5,7 @@ use mathlib.Core.List.{List, [], _∷_, _++_}
 use Prim.Native.Nat.{ℕ, zero, suc, _+_, _-_, _*_, _/_, _%_, _≤_, _<_}
 use native.Mathlib.Nat.{suc-mul, zero-mul}
 use native.Mathlib.Omega.{arith}
+use lib.ListN.{length}
 use Rattle.gates.specs.Gate.{Gate}
 use Rattle.words.specs.Gates.{constant, copyOf, andOf, muxOf}
 use Rattle.words.specs.Word.{Below}
@@ -28,6 +29,11 @@ middle-span p = refl
 pub last-span : (p : Plan) → lastSpan p ≡ 3 * p .digits + 1 + countSize (p .ballots) (p .worst) (p .digits) + (p .digits + 1)
 unfolding lastSpan
 last-span p = refl
+
+pub length-copies-apart : (x d m : ℕ) → length (copiesApart x d m) ≡ m
+unfolding copiesApart
+length-copies-apart x d zero = refl
+length-copies-apart x d (suc m) = ap suc (length-copies-apart (x + d) d m)
 
 module _ (p : Plan) (f : Planned p) where
   pub first-block : (n c : ℕ) → p .inputs ≤ n → c < p .candidates

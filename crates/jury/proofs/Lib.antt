@@ -15,5 +15,6 @@ pub mod Rows
 pub mod CountFacts
 pub mod BallotOrder
 pub mod MedianFacts
+pub mod RunningSums
 pub mod Conditions
 pub mod Closing

@@ -1,11 +1,12 @@
 -- Blocks of one gate a digit: the first digit, and the rest. Their lengths.
 -- Assumes nothing.
 use mathlib.Core.Path.{_≡_, _∙_, refl, sym, ap}
-use mathlib.Core.List.{[], _∷_, _++_}
+use mathlib.Core.List.{List, [], _∷_, _++_}
 use Prim.Native.Nat.{ℕ, zero, suc, _+_, _-_, _/_, _<_, _≤_}
-use native.Mathlib.Nat.{add-zero}
+use native.Mathlib.Nat.{add-zero, zero-add, suc-add}
 use native.Mathlib.Omega.{arith}
 use lib.ListN.{length}
+use Rattle.gates.specs.Gate.{Gate}
 use Rattle.words.specs.Gates.{gate, constant, muxOf}
 use Rattle.words.specs.Choice.{constants, each, choose, chain, chainEnd}
 
@@ -82,3 +83,12 @@ pub chain-next : (n s m : ℕ) → chainEnd (n + 1) n m ≡ chainEnd n s (suc m)
 unfolding chainEnd
 chain-next n s zero = sym (add-zero n)
 chain-next n s (suc m) = omega arith
+
+-- a choice of two words is one of their low parts and one of their high parts
+pub choose-parts : (f x y v w : ℕ) → choose f x y (v + w) ≡ choose f x y v ++ choose f (x + v) (y + v) w
+unfolding choose
+choose-parts f x y zero w = rw (zero-add w, add-zero x, add-zero y)
+choose-parts f x y (suc v) w =
+    let e₁ : x + suc v ≡ x + 1 + v = omega arith in
+    let e₂ : y + suc v ≡ y + 1 + v = omega arith in
+    rw (suc-add v w, e₁, e₂) (ap (λ (gs : List Gate). muxOf f x y ∷ gs) (choose-parts f (x + 1) (y + 1) v w))
