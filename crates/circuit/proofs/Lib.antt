@@ -6,3 +6,8 @@ pub mod SumLaws
 pub mod KeyLaws
 pub mod Keys
 pub mod ContestLaws
+pub mod RoundLaws
+pub mod Planning
+pub mod RowKeys
+pub mod Columns
+pub mod Accuracy

@@ -35,6 +35,11 @@ unfolding copiesApart
 length-copies-apart x d zero = refl
 length-copies-apart x d (suc m) = ap suc (length-copies-apart (x + d) d m)
 
+pub length-still-won : (at down j : ℕ) → length (stillWon at down j) ≡ j
+unfolding stillWon
+length-still-won at down zero = refl
+length-still-won at down (suc j) = ap suc (length-still-won (at + 1) down j)
+
 module _ (p : Plan) (f : Planned p) where
   pub first-block : (n c : ℕ) → p .inputs ≤ n → c < p .candidates
       → Block n (firstGrade p n c) (p .digits + countSize (p .ballots) (p .offset) (p .digits) + (3 * p .digits + 1))
@@ -80,7 +85,7 @@ module _ (p : Plan) (f : Planned p) where
       (chosen-block a (a + lastSpan p) (omega arith)))
 
   -- how far the last sum stands behind the first
-  pub laterSize : ℕ → ℕ
+  unfoldable pub laterSize : ℕ → ℕ
   laterSize zero = 0
   laterSize (suc t) = t * middleSpan p + lastSpan p
 
@@ -146,7 +151,7 @@ module _ (p : Plan) (f : Planned p) where
       (copies-block (flagsAt p x + (p .grades - 2)) (b + p .digits) 1 (omega arith))) (omega arith)
       (copies-block (flagsAt p x + (p .grades - 2) + 1) (differAt p b) 1 (omega (arith, some-below (balanceAt p b + 3 * p .digits) (p .inputs) (balanceAt p b + 1) (p .digits) x (omega arith) (omega arith) (omega arith)))))
 
-  pub candidateSize : ℕ
+  unfoldable pub candidateSize : ℕ
   candidateSize = p .digits + countSize (p .ballots) (p .offset) (p .digits) + laterSize (p .grades - 2) + (8 * p .digits + 1 + (p .digits - 1)) + (p .digits + p .grades + 1)
 
   pub key-of : (n : ℕ) → keyOf p n ≡ n + (p .digits + countSize (p .ballots) (p .offset) (p .digits) + laterSize (p .grades - 2) + (8 * p .digits + 1 + (p .digits - 1)))
@@ -170,7 +175,7 @@ module _ (p : Plan) (f : Planned p) where
       (balance-block b)) (omega arith)
       (key-block a (omega arith)))
 
-  pub contestSize : ℕ
+  unfoldable pub contestSize : ℕ
   contestSize = 7 + 3 * p .digits + 3 * (p .grades - 1)
 
   pub contest-block : (n x y : ℕ) → strictAt p x < n → strictAt p y < n → Block n (contest p n x y) contestSize
@@ -209,7 +214,7 @@ module _ (p : Plan) (f : Planned p) where
       (choose-block (suc e) (upAt p n) x y (p .digits + p .grades) (omega arith) (omega arith) (omega arith))) refl
       (gate-block (mux-good (e + suc (p .digits + p .grades)) (upAt p n) (strictAt p x) e (omega arith) (omega arith) (omega arith)) (none-block (suc (e + suc (p .digits + p .grades))))))
 
-  pub mergedSize : ℕ → ℕ
+  unfoldable pub mergedSize : ℕ → ℕ
   mergedSize zero = 0
   mergedSize (suc t) = 2 + p .digits + p .grades
 
@@ -235,7 +240,7 @@ module _ (p : Plan) (f : Planned p) where
   won-block n at up down (suc (suc j)) h hu hd =
       both-block (still-won-block n at down (suc (suc j)) h hd) refl (gate-block (copy-good (n + suc (suc j)) up (omega arith)) (none-block (suc (n + suc (suc j)))))
 
-  pub roundSize : ℕ → ℕ → ℕ
+  unfoldable pub roundSize : ℕ → ℕ → ℕ
   roundSize j t = candidateSize + contestSize + mergedSize t + (j + 1)
 
   pub round-block : (n y at j t : ℕ) → p .inputs + 2 ≤ n → strictAt p y < n → at + j ≤ n → j < p .candidates → Block n (round p n y at j t) (roundSize j t)
@@ -256,7 +261,7 @@ module _ (p : Plan) (f : Planned p) where
   unfolding roundSize
   round-end n j t = omega (arith, candidate-end n, contest-end (candidateEnd p n), merged-end (candidateEnd p n) t)
 
-  pub roundsSize : ℕ → ℕ → ℕ
+  unfoldable pub roundsSize : ℕ → ℕ → ℕ
   roundsSize j zero = 0
   roundsSize j (suc t) = roundSize j t + roundsSize (j + 1) t
 
@@ -285,3 +290,23 @@ module _ (p : Plan) (f : Planned p) where
       let first : Block (suc (suc i)) (candidate p (i + 2) 0) candidateSize = rw start (candidate-block (i + 2) 0 (omega arith) (omega arith)) in
       both-block (sized (omega arith) (gate-block (good-constant i 0) (gate-block (good-constant (suc i) 1) first))) (omega (arith, candidate-end (i + 2)))
       (rounds-block (candidateEnd p (i + 2)) (keyOf p (i + 2)) 0 1 (p .candidates - 1) (omega (arith, candidate-end (i + 2))) (omega arith) (omega arith) (omega arith))
+
+  -- where the last round says who has won
+  unfoldable pub wonAt : ℕ → ℕ → ℕ → ℕ
+  wonAt n j zero = 0
+  wonAt n j (suc zero) = mergedEnd p (candidateEnd p n) 0
+  wonAt n j (suc (suc t)) = wonAt (mergedEnd p (candidateEnd p n) (suc t) + (j + 1)) (j + 1) (suc t)
+
+  pub won-end : (n j t : ℕ) → wonAt n j (suc t) + (j + suc t) ≡ n + roundsSize j (suc t)
+  unfolding wonAt roundsSize
+  won-end n j zero = omega (arith, round-end n j 0)
+  won-end n j (suc t) =
+      let next = mergedEnd p (candidateEnd p n) (suc t) + (j + 1) in
+      omega (arith, round-end n j (suc t), won-end next (j + 1) t)
+
+  pub won-late : (n j t : ℕ) → n ≤ wonAt n j (suc t)
+  unfolding wonAt
+  won-late n j zero = omega (arith, candidate-end n, contest-end (candidateEnd p n), merged-end (candidateEnd p n) 0)
+  won-late n j (suc t) =
+      let next = mergedEnd p (candidateEnd p n) (suc t) + (j + 1) in
+      omega (arith, candidate-end n, contest-end (candidateEnd p n), merged-end (candidateEnd p n) (suc t), won-late next (j + 1) t)

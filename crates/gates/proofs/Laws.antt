@@ -201,6 +201,10 @@ wires-bits ws (g ∷ gs) p b =
     let bit = bit-value (g .kind) (getD ws (g .a) 0) (getD ws (g .b) 0) (getD ws (g .c) 0) (good-gate (length ws) g (p .0) .known) (b (g .a)) (b (g .b)) (b (g .c)) in
     wires-bits next gs (subst (λ (m : ℕ). AllGood m gs) (sym long) (p .1)) (bits-more ws (value ws g) b bit)
 
+pub wire-bit : (ws : List ℕ) → Bits ws → (i : ℕ) → wire ws i ≤ 1
+unfolding wire
+wire-bit ws b i = b i
+
 -- Reading back a written table, also where it is the first part of a longer one.
 pub read-back : (gs : List Gate) (rest : List ℕ) → gatesOf (numbersOf gs ++ rest) ≡ gs ++ gatesOf rest
 unfolding gatesOf numbersOf

@@ -44,6 +44,12 @@ column-sum s xs a b c g =
     (tabulate-cong b (λ i. addend (byteOf s xs i c g)) (λ i. byteOf s xs i c g)
     (λ i h. bit-added (byteOf s xs i c g) (a .bits ((i * s .candidates + c) * s .grades + g))))
 
+-- the bytes of a column, by their places
+pub column-bytes : (s : Shape) (xs : List ℕ) → AcceptedBallots s xs → (c g : ℕ)
+    → countOf s xs c g ≡ sum (tabulate (s .ballots) (λ i. getD xs ((i * s .candidates + c) * s .grades + g) 0))
+unfolding countOf byteOf
+column-bytes s xs a c g = column-sum s xs a (s .ballots) c g
+
 -- each byte that is counted stands among the ballot bytes
 pub byte-within : (s : Shape) (b c g : ℕ) → b < s .ballots → c < s .candidates → g < s .grades → (b * s .candidates + c) * s .grades + g < ballotBytes s
 unfolding ballotBytes

@@ -1,13 +1,13 @@
 -- A shape within its limits, as facts about its numbers.
 -- Assumes nothing.
-use mathlib.Core.Path.{_≡_}
+use mathlib.Core.Path.{_≡_, refl}
 use mathlib.Core.Bool.{true, _&&_}
 use Prim.Native.Nat.{_≤_, _*_}
 use native.Mathlib.Nat.{mul-le-mul}
 use lib.Dec.{T, leb}
 use borrow.Author.Tests.{leb-true, le-leb}
 use Rattle.jury.specs.declared.shape.Shape.{Shape}
-use Rattle.jury.specs.Shape.{withinLimits}
+use Rattle.jury.specs.Shape.{withinLimits, ballotBytes}
 use Rattle.jury.proofs.Flags.{and-first, and-second, T-true}
 
 pub record Within (s : Shape) : Type 0 where
@@ -50,3 +50,7 @@ rows-bound s w = mul-le-mul (w .n-most) (w .k-most)
 
 pub bytes-bound : (s : Shape) → Within s → s .ballots * s .candidates * s .grades ≤ 14280
 bytes-bound s w = mul-le-mul (rows-bound s w) (w .d-most)
+
+pub bytes-are : (s : Shape) → ballotBytes s ≡ s .ballots * s .candidates * s .grades
+unfolding ballotBytes
+bytes-are s = refl

@@ -12,7 +12,15 @@ use Rattle.jury.specs.Gauge.{sum}
 use Rattle.jury.specs.Ballots.{ones}
 use Rattle.jury.specs.Counts.{tabulate}
 
--- the last entry taken apart
+-- the first entry taken apart, and the last
+pub sum-none : (f : ℕ → ℕ) → sum (tabulate 0 f) ≡ 0
+unfolding sum tabulate
+sum-none f = refl
+
+pub sum-first : (n : ℕ) (f : ℕ → ℕ) → sum (tabulate (suc n) f) ≡ f 0 + sum (tabulate n (λ i. f (suc i)))
+unfolding sum tabulate
+sum-first n f = refl
+
 pub sum-last : (n : ℕ) (f : ℕ → ℕ) → sum (tabulate (suc n) f) ≡ sum (tabulate n f) + f n
 unfolding sum tabulate
 sum-last zero f = omega arith
