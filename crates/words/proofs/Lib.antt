@@ -12,3 +12,5 @@ pub mod CounterLaws
 pub mod ChoiceLaws
 pub mod ComparisonLaws
 pub mod PointsBack
+pub mod CostLaws
+pub mod Laws
