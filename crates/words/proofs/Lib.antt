@@ -13,4 +13,5 @@ pub mod ChoiceLaws
 pub mod ComparisonLaws
 pub mod PointsBack
 pub mod CostLaws
+pub mod CostSteps
 pub mod Laws
