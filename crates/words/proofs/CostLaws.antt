@@ -12,12 +12,12 @@ use Rattle.gates.specs.Board.{conditionalCount}
 use Rattle.gates.proofs.Counting.{count-cons, count-nil, count-append, mark-at-most-one}
 use Rattle.gates.proofs.Laws.{marks}
 use Rattle.words.specs.Gates.{gate, constant, copyOf, notOf, andOf, orOf, xorOf, muxOf}
-use Rattle.words.specs.Adder.{fullAdder, halfAdder, increment, addWords, addWithBit}
+use Rattle.words.specs.Adder.{fullAdder, halfAdder, increment, addWords, addWithBit, topCarry, topDigit, addModulo}
 use Rattle.words.specs.Choice.{constants, each, copies, complements, choose, chain, anyOf, parity}
 use Rattle.words.specs.Comparison.{atLeast, compareDigit, compareWords}
 use Rattle.words.specs.Counter.{level, adders, levelSum, countLevels, countDigits, counter, addLevels, addDigits, accumulator}
 use Rattle.words.specs.Choice.{chainEnd}
-use Rattle.words.specs.Cost.{markOf, fullCost, halfCost, levelCost, countCost, addCost, addBitCost, leastCost}
+use Rattle.words.specs.Cost.{markOf, fullCost, halfCost, levelCost, countCost, addCost, addBitCost, moduloCost, leastCost}
 use Rattle.words.proofs.WordSteps.{leastGate}
 
 -- a gate is its kind's mark
@@ -112,6 +112,18 @@ cost-add-bit n x y e zero = count-nil
 cost-add-bit n x y e (suc w) =
     let rest = addWords (n + 3) (x + 1) (y + 1) (n + 2) w in
     omega (arith, count-append (halfAdder n x y e) rest, cost-half n x y e, cost-add (n + 3) (x + 1) (y + 1) (n + 2) w)
+
+cost-top : (n x y c : ℕ) → conditionalCount (topDigit n x y c) ≡ 2 * markOf 6
+unfolding topDigit
+cost-top n x y c = omega (arith, cost-cons (xorOf x y) (xorOf n c ∷ []), cost-cons (xorOf n c) [], count-nil)
+
+pub cost-modulo : (n x y c w : ℕ) → conditionalCount (addModulo n x y c w) ≡ moduloCost w
+unfolding addModulo moduloCost
+cost-modulo n x y c zero = count-nil
+cost-modulo n x y c (suc w) =
+    let q = n + 3 * w in
+    let k = topCarry n c w in
+    omega (arith, count-append (addWords n x y c w) (topDigit q (x + w) (y + w) k), cost-add n x y c w, cost-top q (x + w) (y + w) k)
 
 -- comparisons
 pub cost-least : (n x v r w : ℕ) → conditionalCount (atLeast n x v r w) ≡ leastCost v w

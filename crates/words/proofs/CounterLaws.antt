@@ -1,23 +1,19 @@
 -- What counters spell: for all numbers of bits, starts and strides at once.
 -- Assumes nothing.
 use mathlib.Core.Path.{_≡_, _∙_, refl, sym, ap, subst}
-use mathlib.Core.Bool.{Bool, true, false, cond}
-use mathlib.Core.List.{List, [], _∷_, _++_}
+use mathlib.Core.List.{[]}
 use Prim.Native.Nat.{ℕ, zero, suc, _+_, _-_, _*_, _/_, _^_, _%_, _≤_, _<_}
-use native.Mathlib.Nat.{add-zero, pow-succ'}
+use native.Mathlib.Nat.{pow-succ'}
 use native.Mathlib.Omega.{arith}
-use lib.Dec.{eqb}
-use lib.ListN.{length}
 use borrow.Author.Tests.{eq-eqb, ne-eqb}
-use Rattle.gates.specs.Gate.{Gate}
 use Rattle.gates.proofs.Laws.{Holds, holds-append}
 use Rattle.words.specs.Gates.{copyOf, xorOf}
 use Rattle.words.specs.Word.{ones, number}
-use Rattle.words.specs.Adder.{fullAdder, halfAdder, increment}
+use Rattle.words.specs.Adder.{fullAdder}
 use Rattle.words.specs.Choice.{chain, chainEnd, parity}
 use Rattle.words.specs.Counter.{level, adders, levelSum, countLevels, countDigits, counter, countSize, Countable, addLevels, addDigits, accumulator, addSize}
-use Rattle.words.proofs.Numbers.{Binary, ones-most, ones-none, ones-more, number-one, number-more}
-use Rattle.words.proofs.GateValues.{valueOn, holds-first, holds-rest, copy-is, xor-is}
+use Rattle.words.proofs.Numbers.{Binary, ones-none, ones-more, number-one, number-more}
+use Rattle.words.proofs.GateValues.{holds-first, holds-rest, copy-is, xor-is}
 use Rattle.words.proofs.ChoiceSteps.{chain-next}
 use Rattle.words.proofs.WordSteps.{length-full}
 use Rattle.words.proofs.CounterSteps.{length-level, length-count, length-add-levels}

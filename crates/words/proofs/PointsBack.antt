@@ -1,6 +1,6 @@
 -- Every block is a well-formed list: its operands point back, where those handed to it do.
 -- Assumes nothing.
-use mathlib.Core.Path.{_≡_, _∙_, refl, sym, ap, subst}
+use mathlib.Core.Path.{_≡_, refl, sym, ap, subst}
 use mathlib.Core.Bool.{Bool, true, false, cond}
 use mathlib.Core.List.{List, [], _∷_, _++_}
 use Prim.Native.Nat.{ℕ, zero, suc, _+_, _-_, _*_, _/_, _%_, _≤_, _<_}
@@ -13,15 +13,15 @@ use Rattle.gates.specs.Kind.{operandsOf}
 use Rattle.gates.specs.Gate.{Gate}
 use Rattle.gates.specs.Test.{goodGate}
 use Rattle.gates.proofs.Laws.{AllGood, good-none, good-one, good-two, good-three, good-append, operand-counts}
-use Rattle.words.specs.Gates.{gate, constant, copyOf, notOf, andOf, orOf, xorOf, muxOf}
+use Rattle.words.specs.Gates.{constant, copyOf, notOf, andOf, orOf, xorOf, muxOf}
 use Rattle.words.specs.Word.{Below}
-use Rattle.words.specs.Adder.{fullAdder, halfAdder, increment, addWords, addWithBit}
+use Rattle.words.specs.Adder.{fullAdder, halfAdder, increment, addWords, addWithBit, topCarry, topDigit, addModulo}
 use Rattle.words.specs.Choice.{constants, each, choose, chain, chainEnd}
 use Rattle.words.specs.Comparison.{atLeast, compareDigit, compareWords}
 use Rattle.words.specs.Counter.{level, adders, levelSum, countLevels, countDigits, counter, countSize, Countable, addLevels, addDigits, accumulator, addSize}
 use Rattle.words.proofs.Places.{below-more, below-first}
 use Rattle.words.proofs.Emitting.{bit-none-used}
-use Rattle.words.proofs.WordSteps.{leastGate, length-full, length-half}
+use Rattle.words.proofs.WordSteps.{length-full, length-half, length-add}
 use Rattle.words.proofs.CounterSteps.{length-level, length-count, length-add-levels, below-carries, count-size-step, add-size-step, add-size-last}
 
 good-constant : (n v : ℕ) → T (goodGate n (constant v))
@@ -85,6 +85,22 @@ add-bit-good n x y e zero hx hy = tt
 add-bit-good n x y e (suc w) hx hy =
     behind n 3 (halfAdder n x y e) (addWords (n + 3) (x + 1) (y + 1) (n + 2) w) (length-half n x y e) (half-good n x y e (omega arith) (omega arith))
     (add-good (n + 3) (x + 1) (y + 1) (n + 2) w (omega arith) (omega arith) (omega arith))
+
+-- the top carry is a wire of the sum, or the carry that it starts from
+carry-below : (n c w q : ℕ) → c < q → n + 3 * w ≤ q → topCarry n c w < q
+unfolding topCarry
+carry-below n c zero q hc h = hc
+carry-below n c (suc w) q hc h = omega arith
+
+pub modulo-good : (n x y c w : ℕ) → x + w ≤ n → y + w ≤ n → c < n → AllGood n (addModulo n x y c w)
+unfolding addModulo topDigit
+modulo-good n x y c zero hx hy hc = tt
+modulo-good n x y c (suc w) hx hy hc =
+    let q = n + 3 * w in
+    let k = topCarry n c w in
+    let hk = carry-below n c w q (omega arith) (omega arith) in
+    behind n (3 * w) (addWords n x y c w) (topDigit q (x + w) (y + w) k) (length-add n x y c w) (add-good n x y c w (omega arith) (omega arith) hc)
+    (good-xor q (x + w) (y + w) (omega arith) (omega arith), (good-xor (suc q) q k (omega arith) (omega arith), tt))
 
 pub constants-good : (n v w : ℕ) → AllGood n (constants v w)
 unfolding constants

@@ -36,6 +36,11 @@ unfoldable pub addBitCost : ℕ → ℕ → ℕ
 addBitCost e zero = 0
 addBitCost e (suc w) = halfCost e + w * fullCost
 
+-- Of two words of w digits added without the top carry.
+unfoldable pub moduloCost : ℕ → ℕ
+moduloCost zero = 0
+moduloCost (suc w) = w * fullCost + 2 * markOf 6
+
 -- Of a word of w digits compared with the public number v: "or" where the number's digit is 0, "and" where it is 1.
 unfoldable pub leastCost : ℕ → ℕ → ℕ
 leastCost v zero = 0
