@@ -19,7 +19,7 @@ fn top_carry(n: u32, carry: u32, digits: u32) -> u32
 }
 
 impl Writer {
-    pub fn full_adder(self, table: &mut [u32], s: u32, u: u32, v: u32) -> Writer
+    pub(crate) fn full_adder(self, table: &mut [u32], s: u32, u: u32, v: u32) -> Writer
         requires { ⌜ Room self (now table) 3 ⌝ }
         ensures { λ r. ⌜ Wrote self (now (table .entry)) (fullAdder (self .wire) s u v) (now (table .exit)) r ⌝ }
     {
@@ -29,7 +29,7 @@ impl Writer {
         second.emit(table, 7, n, v, s)
     }
 
-    pub fn half_adder(self, table: &mut [u32], s: u32, u: u32, e: u32) -> Writer
+    pub(crate) fn half_adder(self, table: &mut [u32], s: u32, u: u32, e: u32) -> Writer
         requires { ⌜ Room self (now table) 3 ⌝ }
         ensures { λ r. ⌜ Wrote self (now (table .entry)) (halfAdder (self .wire) s u e) (now (table .exit)) r ⌝ }
     {
@@ -43,7 +43,7 @@ impl Writer {
         second.emit(table, 5, s, u, 0)
     }
 
-    pub fn increment(self, table: &mut [u32], s: u32) -> Writer
+    pub(crate) fn increment(self, table: &mut [u32], s: u32) -> Writer
         requires { ⌜ Room self (now table) 3 ⌝ }
         ensures { λ r. ⌜ Wrote self (now (table .entry)) (increment (self .wire) s) (now (table .exit)) r ⌝ }
     {
