@@ -1,14 +1,13 @@
 -- What comparisons tell: for all widths at once. A wire up that says "above so far" counts as one unit more of the word.
 -- Assumes nothing.
-use mathlib.Core.Path.{_≡_, _∙_, refl, sym, ap}
-use mathlib.Core.Bool.{Bool, true, false, cond}
+use mathlib.Core.Path.{_≡_, _∙_, sym, ap}
+use mathlib.Core.Bool.{cond}
 use mathlib.Core.Logic.{⊎-elim}
-use mathlib.Core.List.{List, [], _∷_}
-use Prim.Native.Nat.{ℕ, zero, suc, _+_, _-_, _*_, _/_, _^_, _%_, _≤_, _<_}
-use native.Mathlib.Nat.{add-zero, pow-succ'}
+use mathlib.Core.List.{[], _∷_}
+use Prim.Native.Nat.{ℕ, zero, suc, _+_, _/_, _^_, _%_, _≤_, _<_}
+use native.Mathlib.Nat.{pow-succ'}
 use native.Mathlib.Omega.{arith}
 use lib.Dec.{eqb}
-use Rattle.gates.specs.Gate.{Gate}
 use Rattle.gates.proofs.Laws.{Holds, mux-zero, mux-one}
 use Rattle.words.specs.Gates.{notOf, andOf, orOf, xorOf, muxOf}
 use Rattle.words.specs.Word.{number}
@@ -47,8 +46,8 @@ module _ (W : ℕ → ℕ) (b : Binary W) where
       let m = number-more W x 1 w in
       sym (ap W (chain-next n r w))
       ∙ least-yes (n + 1) (x + 1) (v / 2) n w (omega arith)
-        (⊎-elim (λ (z : W n ≡ 0). let k : W x + W r ≤ v % 2 = not-one z (λ q. first ∙ d .0 q) in omega arith) (λ (z : W n ≡ 1). omega (arith, b r, b x)) (bit-cases (W n) (b n)))
-        (holds-rest W n (leastGate v x r) rest h)
+      (⊎-elim (λ (z : W n ≡ 0). let k : W x + W r ≤ v % 2 = not-one z (λ q. first ∙ d .0 q) in omega arith) (λ (z : W n ≡ 1). omega (arith, b r, b x)) (bit-cases (W n) (b n)))
+      (holds-rest W n (leastGate v x r) rest h)
 
   pub least-no : (n x v r w : ℕ) → v < 2 ^ w → number W x 1 w + W r ≤ v → Holds W n (atLeast n x v r w) → W (chainEnd n r w) ≡ 0
   unfolding atLeast
@@ -61,8 +60,8 @@ module _ (W : ℕ → ℕ) (b : Binary W) where
       let m = number-more W x 1 w in
       sym (ap W (chain-next n r w))
       ∙ least-no (n + 1) (x + 1) (v / 2) n w (omega arith)
-        (⊎-elim (λ (z : W n ≡ 0). omega arith) (λ (z : W n ≡ 1). let k : v % 2 < W x + W r = not-zero z (λ q. first ∙ d .1 q) in omega arith) (bit-cases (W n) (b n)))
-        (holds-rest W n (leastGate v x r) rest h)
+      (⊎-elim (λ (z : W n ≡ 0). omega arith) (λ (z : W n ≡ 1). let k : v % 2 < W x + W r = not-zero z (λ q. first ∙ d .1 q) in omega arith) (bit-cases (W n) (b n)))
+      (holds-rest W n (leastGate v x r) rest h)
 
   -- two digits, both ways
   pub digit-up : (n x y : ℕ) → Holds W n (compareDigit n x y) → (W y < W x → W (n + 2) ≡ 1) × (W x ≤ W y → W (n + 2) ≡ 0)
@@ -120,11 +119,12 @@ module _ (W : ℕ → ℕ) (b : Binary W) where
       let r = words-up (n + 3) (x + 1) (y + 1) (n + 1) (n + 2) w (gates-of n x y up down w h .3) in
       let e = ap W (up-next n up w) in
       let mx = number-more W x 1 w in
-      let my = number-more W y 1 w in
-      ((λ (l : number W y 1 (suc w) < number W x 1 (suc w) + W up).
-        sym e ∙ r .0 (⊎-elim (λ (z : W (n + 1) ≡ 0). let k : W x + W up ≤ W y = not-one z (d .0) in omega arith) (λ (z : W (n + 1) ≡ 1). omega (arith, b x, b up)) (bit-cases (W (n + 1)) (b (n + 1))))),
-      (λ (l : number W x 1 (suc w) + W up ≤ number W y 1 (suc w)).
-        sym e ∙ r .1 (⊎-elim (λ (z : W (n + 1) ≡ 0). omega (arith, b y)) (λ (z : W (n + 1) ≡ 1). let k : W y < W x + W up = not-zero z (d .1) in omega arith) (bit-cases (W (n + 1)) (b (n + 1))))))
+      let my = number-more W y 1 w in (
+        (λ (l : number W y 1 (suc w) < number W x 1 (suc w) + W up).
+            sym e ∙ r .0 (⊎-elim (λ (z : W (n + 1) ≡ 0). let k : W x + W up ≤ W y = not-one z (d .0) in omega arith) (λ (z : W (n + 1) ≡ 1). omega (arith, b x, b up)) (bit-cases (W (n + 1)) (b (n + 1))))),
+        (λ (l : number W x 1 (suc w) + W up ≤ number W y 1 (suc w)).
+            sym e ∙ r .1 (⊎-elim (λ (z : W (n + 1) ≡ 0). omega (arith, b y)) (λ (z : W (n + 1) ≡ 1). let k : W y < W x + W up = not-zero z (d .1) in omega arith) (bit-cases (W (n + 1)) (b (n + 1))))),
+      )
 
   pub words-down : (n x y up down w : ℕ) → Holds W n (compareWords n x y up down w)
       → (number W x 1 w < number W y 1 w + W down → W (downEnd n down w) ≡ 1) × (number W y 1 w + W down ≤ number W x 1 w → W (downEnd n down w) ≡ 0)
@@ -134,8 +134,9 @@ module _ (W : ℕ → ℕ) (b : Binary W) where
       let r = words-down (n + 3) (x + 1) (y + 1) (n + 1) (n + 2) w (gates-of n x y up down w h .3) in
       let e = ap W (down-next n down w) in
       let mx = number-more W x 1 w in
-      let my = number-more W y 1 w in
-      ((λ (l : number W x 1 (suc w) < number W y 1 (suc w) + W down).
-        sym e ∙ r .0 (⊎-elim (λ (z : W (n + 2) ≡ 0). let k : W y + W down ≤ W x = not-one z (d .0) in omega arith) (λ (z : W (n + 2) ≡ 1). omega (arith, b y, b down)) (bit-cases (W (n + 2)) (b (n + 2))))),
-      (λ (l : number W y 1 (suc w) + W down ≤ number W x 1 (suc w)).
-        sym e ∙ r .1 (⊎-elim (λ (z : W (n + 2) ≡ 0). omega (arith, b x)) (λ (z : W (n + 2) ≡ 1). let k : W x < W y + W down = not-zero z (d .1) in omega arith) (bit-cases (W (n + 2)) (b (n + 2))))))
+      let my = number-more W y 1 w in (
+        (λ (l : number W x 1 (suc w) < number W y 1 (suc w) + W down).
+            sym e ∙ r .0 (⊎-elim (λ (z : W (n + 2) ≡ 0). let k : W y + W down ≤ W x = not-one z (d .0) in omega arith) (λ (z : W (n + 2) ≡ 1). omega (arith, b y, b down)) (bit-cases (W (n + 2)) (b (n + 2))))),
+        (λ (l : number W y 1 (suc w) + W down ≤ number W x 1 (suc w)).
+            sym e ∙ r .1 (⊎-elim (λ (z : W (n + 2) ≡ 0). omega (arith, b x)) (λ (z : W (n + 2) ≡ 1). let k : W x < W y + W down = not-zero z (d .1) in omega arith) (bit-cases (W (n + 2)) (b (n + 2))))),
+      )

@@ -1,23 +1,19 @@
 -- What counters spell: for all numbers of bits, starts and strides at once.
 -- Assumes nothing.
 use mathlib.Core.Path.{_≡_, _∙_, refl, sym, ap, subst}
-use mathlib.Core.Bool.{Bool, true, false, cond}
-use mathlib.Core.List.{List, [], _∷_, _++_}
+use mathlib.Core.List.{[]}
 use Prim.Native.Nat.{ℕ, zero, suc, _+_, _-_, _*_, _/_, _^_, _%_, _≤_, _<_}
-use native.Mathlib.Nat.{add-zero, pow-succ'}
+use native.Mathlib.Nat.{pow-succ'}
 use native.Mathlib.Omega.{arith}
-use lib.Dec.{eqb}
-use lib.ListN.{length}
 use borrow.Author.Tests.{eq-eqb, ne-eqb}
-use Rattle.gates.specs.Gate.{Gate}
 use Rattle.gates.proofs.Laws.{Holds, holds-append}
 use Rattle.words.specs.Gates.{copyOf, xorOf}
 use Rattle.words.specs.Word.{ones, number}
-use Rattle.words.specs.Adder.{fullAdder, halfAdder, increment}
+use Rattle.words.specs.Adder.{fullAdder}
 use Rattle.words.specs.Choice.{chain, chainEnd, parity}
 use Rattle.words.specs.Counter.{level, adders, levelSum, countLevels, countDigits, counter, countSize, Countable, addLevels, addDigits, accumulator, addSize}
-use Rattle.words.proofs.Numbers.{Binary, ones-most, ones-none, ones-more, number-one, number-more}
-use Rattle.words.proofs.GateValues.{valueOn, holds-first, holds-rest, copy-is, xor-is}
+use Rattle.words.proofs.Numbers.{Binary, ones-none, ones-more, number-one, number-more}
+use Rattle.words.proofs.GateValues.{holds-first, holds-rest, copy-is, xor-is}
 use Rattle.words.proofs.ChoiceSteps.{chain-next}
 use Rattle.words.proofs.WordSteps.{length-full}
 use Rattle.words.proofs.CounterSteps.{length-level, length-count, length-add-levels}
@@ -69,8 +65,17 @@ module _ (W : ℕ → ℕ) (b : Binary W) where
       let f = full-law W b n s at (at + d) (p .0) in
       let r = level-law (n + 3) (n + 1) (at + d + d) d e m l (subst (λ (k : ℕ). Holds W k rest) (ap (λ (k : ℕ). n + k) (length-full n s at (at + d))) (p .1)) in
       let place : n + 3 + 2 ≡ n + 2 + 3 = omega arith in
-      omega (arith, f, r, ap W (sum-next n s m e), ap (ones W (n + 2) 3) (two-more m e), ones-more W (n + 2) 3 (adders m e), ap (λ (k : ℕ). ones W k 3 (adders m e)) place,
-      ones-more W at d (suc m), ones-more W (at + d) d m)
+      omega (
+        arith,
+        f,
+        r,
+        ap W (sum-next n s m e),
+        ap (ones W (n + 2) 3) (two-more m e),
+        ones-more W (n + 2) 3 (adders m e),
+        ap (λ (k : ℕ). ones W k 3 (adders m e)) place,
+        ones-more W at d (suc m),
+        ones-more W (at + d) d m,
+      )
 
   -- the digits of a count: the levels stand at n, and the copies of their sums at q
   pub count-law : (n at d m x r q : ℕ) → Countable m x r → Holds W n (countLevels n at d m x r) → Holds W q (countDigits n at m x r)
@@ -87,11 +92,19 @@ module _ (W : ℕ → ℕ) (b : Binary W) where
       let p = holds-append W n lev rest h in
       let f = level-law n at (at + d) d e (m - 1) (omega arith) (p .0) in
       let above = count-law (n + 3 * t) (n + 2) 3 t (x / 2) r (q + 1) (k .1)
-          (subst (λ (z : ℕ). Holds W z rest) (ap (λ (z : ℕ). n + z) (length-level n at (at + d) d e (m - 1) (omega arith))) (p .1))
-          (holds-rest W q (copyOf (levelSum n at (m - 1) e)) digits g) in
+      (subst (λ (z : ℕ). Holds W z rest) (ap (λ (z : ℕ). n + z) (length-level n at (at + d) d e (m - 1) (omega arith))) (p .1))
+      (holds-rest W q (copyOf (levelSum n at (m - 1) e)) digits g) in
       let first : m ≡ suc (m - 1) = omega (arith, k .0) in
-      omega (arith, f, above, number-more W q 1 (suc r), holds-first W q (copyOf (levelSum n at (m - 1) e)) digits g, copy-is W b (levelSum n at (m - 1) e),
-      ap (ones W at d) first, ones-more W at d (m - 1))
+      omega (
+        arith,
+        f,
+        above,
+        number-more W q 1 (suc r),
+        holds-first W q (copyOf (levelSum n at (m - 1) e)) digits g,
+        copy-is W b (levelSum n at (m - 1) e),
+        ap (ones W at d) first,
+        ones-more W at d (m - 1),
+      )
 
   pub counter-law : (n at d m x r : ℕ) → Countable m x r → Holds W n (counter n at d m x r) → number W (n + countSize m x r) 1 (suc r) ≡ ones W at d m + x
   unfolding counter
@@ -124,8 +137,8 @@ module _ (W : ℕ → ℕ) (b : Binary W) where
       let f = level-law n a at d 0 m (omega arith) (p .0) in
       let size = pow-succ' 2 (suc r) in
       let above = sum-law (n + 3 * t) (a + 1) (n + 2) 3 t r (q + 1) (omega (arith, f, size, number-more W a 1 (suc r)))
-          (subst (λ (z : ℕ). Holds W z rest) (ap (λ (z : ℕ). n + z) (length-level n a at d 0 m (omega arith))) (p .1))
-          (holds-rest W q (copyOf (levelSum n a m 0)) digits g) in
+      (subst (λ (z : ℕ). Holds W z rest) (ap (λ (z : ℕ). n + z) (length-level n a at d 0 m (omega arith))) (p .1))
+      (holds-rest W q (copyOf (levelSum n a m 0)) digits g) in
       omega (arith, f, above, number-more W q 1 (suc r), number-more W a 1 (suc r), holds-first W q (copyOf (levelSum n a m 0)) digits g, copy-is W b (levelSum n a m 0))
 
   pub accumulator-law : (n a at d m r : ℕ) → number W a 1 (suc r) + ones W at d m < 2 ^ suc r → Holds W n (accumulator n a at d m r)

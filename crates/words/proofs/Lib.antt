@@ -13,3 +13,6 @@ pub mod ChoiceLaws
 pub mod ComparisonLaws
 pub mod PointsBack
 pub mod Ends
+pub mod CostLaws
+pub mod CostSteps
+pub mod Laws

@@ -1,6 +1,6 @@
 -- Every block is a well-formed list: its operands point back, where those handed to it do.
 -- Assumes nothing.
-use mathlib.Core.Path.{_≡_, _∙_, refl, sym, ap, subst}
+use mathlib.Core.Path.{_≡_, refl, sym, ap, subst}
 use mathlib.Core.Bool.{Bool, true, false, cond}
 use mathlib.Core.List.{List, [], _∷_, _++_}
 use Prim.Native.Nat.{ℕ, zero, suc, _+_, _-_, _*_, _/_, _%_, _≤_, _<_}
@@ -13,15 +13,15 @@ use Rattle.gates.specs.Kind.{operandsOf}
 use Rattle.gates.specs.Gate.{Gate}
 use Rattle.gates.specs.Test.{goodGate}
 use Rattle.gates.proofs.Laws.{AllGood, good-none, good-one, good-two, good-three, good-append, operand-counts}
-use Rattle.words.specs.Gates.{gate, constant, copyOf, notOf, andOf, orOf, xorOf, muxOf}
+use Rattle.words.specs.Gates.{constant, copyOf, notOf, andOf, orOf, xorOf, muxOf}
 use Rattle.words.specs.Word.{Below}
-use Rattle.words.specs.Adder.{fullAdder, halfAdder, increment, addWords, addWithBit}
+use Rattle.words.specs.Adder.{fullAdder, halfAdder, increment, addWords, addWithBit, topCarry, topDigit, addModulo}
 use Rattle.words.specs.Choice.{constants, each, choose, chain, chainEnd}
 use Rattle.words.specs.Comparison.{atLeast, compareDigit, compareWords}
 use Rattle.words.specs.Counter.{level, adders, levelSum, countLevels, countDigits, counter, countSize, Countable, addLevels, addDigits, accumulator, addSize}
 use Rattle.words.proofs.Places.{below-more, below-first}
 use Rattle.words.proofs.Emitting.{bit-none-used}
-use Rattle.words.proofs.WordSteps.{leastGate, length-full, length-half}
+use Rattle.words.proofs.WordSteps.{length-full, length-half, length-add}
 use Rattle.words.proofs.CounterSteps.{length-level, length-count, length-add-levels, below-carries, count-size-step, add-size-step, add-size-last}
 
 pub good-constant : (n v : ℕ) → T (goodGate n (constant v))
@@ -86,6 +86,22 @@ add-bit-good n x y e (suc w) hx hy =
     behind n 3 (halfAdder n x y e) (addWords (n + 3) (x + 1) (y + 1) (n + 2) w) (length-half n x y e) (half-good n x y e (omega arith) (omega arith))
     (add-good (n + 3) (x + 1) (y + 1) (n + 2) w (omega arith) (omega arith) (omega arith))
 
+-- the top carry is a wire of the sum, or the carry that it starts from
+carry-below : (n c w q : ℕ) → c < q → n + 3 * w ≤ q → topCarry n c w < q
+unfolding topCarry
+carry-below n c zero q hc h = hc
+carry-below n c (suc w) q hc h = omega arith
+
+pub modulo-good : (n x y c w : ℕ) → x + w ≤ n → y + w ≤ n → c < n → AllGood n (addModulo n x y c w)
+unfolding addModulo topDigit
+modulo-good n x y c zero hx hy hc = tt
+modulo-good n x y c (suc w) hx hy hc =
+    let q = n + 3 * w in
+    let k = topCarry n c w in
+    let hk = carry-below n c w q (omega arith) (omega arith) in
+    behind n (3 * w) (addWords n x y c w) (topDigit q (x + w) (y + w) k) (length-add n x y c w) (add-good n x y c w (omega arith) (omega arith) hc)
+    (good-xor q (x + w) (y + w) (omega arith) (omega arith), (good-xor (suc q) q k (omega arith) (omega arith), tt))
+
 pub constants-good : (n v w : ℕ) → AllGood n (constants v w)
 unfolding constants
 constants-good n v zero = tt
@@ -110,9 +126,10 @@ choose-good n f x y (suc w) hf hx hy = (good-mux n f x y hf (omega arith) (omega
 pub chain-good : (n kind s at d m : ℕ) → kind < 8 → operandsOf kind ≡ 2 → s < n → Below n at d m → AllGood n (chain kind n s at d m)
 unfolding chain
 chain-good n kind s at d zero k e hs bl = tt
-chain-good n kind s at d (suc m) k e hs bl =
-    (good-two n kind s at k e hs (bl .0),
-    next n (chain kind (n + 1) n (at + d) d m) (chain-good (n + 1) kind n (at + d) d m k e (omega arith) (below-more n (n + 1) (at + d) d m (omega arith) (bl .1))))
+chain-good n kind s at d (suc m) k e hs bl = (
+  good-two n kind s at k e hs (bl .0),
+  next n (chain kind (n + 1) n (at + d) d m) (chain-good (n + 1) kind n (at + d) d m k e (omega arith) (below-more n (n + 1) (at + d) d m (omega arith) (bl .1))),
+)
 
 pub any-good : (n s at d m : ℕ) → s < n → Below n at d m → AllGood n (chain 5 n s at d m)
 any-good n s at d m hs bl = chain-good n 5 s at d m (omega arith) (operand-counts .5) hs bl
@@ -126,17 +143,25 @@ pub compare-good : (n x y up down w : ℕ) → x + w ≤ n → y + w ≤ n → u
 unfolding compareWords
 compare-good n x y up down zero hx hy hu hd = tt
 compare-good n x y up down (suc w) hx hy hu hd =
-    let three : n + 3 ≡ suc (suc (suc n)) = omega arith in
-    (good-xor n x y (omega arith) (omega arith), (good-mux (suc n) n x up (omega arith) (omega arith) (omega arith), (good-mux (suc (suc n)) n y down (omega arith) (omega arith) (omega arith),
-    subst (λ (j : ℕ). AllGood j (compareWords (n + 3) (x + 1) (y + 1) (n + 1) (n + 2) w)) three
-    (compare-good (n + 3) (x + 1) (y + 1) (n + 1) (n + 2) w (omega arith) (omega arith) (omega arith) (omega arith)))))
+    let three : n + 3 ≡ suc (suc (suc n)) = omega arith in (
+      good-xor n x y (omega arith) (omega arith),
+      (
+        good-mux (suc n) n x up (omega arith) (omega arith) (omega arith),
+        (
+          good-mux (suc (suc n)) n y down (omega arith) (omega arith) (omega arith),
+          subst (λ (j : ℕ). AllGood j (compareWords (n + 3) (x + 1) (y + 1) (n + 1) (n + 2) w)) three
+              (compare-good (n + 3) (x + 1) (y + 1) (n + 1) (n + 2) w (omega arith) (omega arith) (omega arith) (omega arith)),
+        ),
+      ),
+    )
 
 pub least-good : (n x v r w : ℕ) → x + w ≤ n → r < n → AllGood n (atLeast n x v r w)
 unfolding atLeast
 least-good n x v r zero hx hr = tt
-least-good n x v r (suc w) hx hr =
-    (either (eqb (v % 2) 0) (good-or n x r (omega arith) hr) (good-and n x r (omega arith) hr),
-    next n (atLeast (n + 1) (x + 1) (v / 2) n w) (least-good (n + 1) (x + 1) (v / 2) n w (omega arith) (omega arith)))
+least-good n x v r (suc w) hx hr = (
+  either (eqb (v % 2) 0) (good-or n x r (omega arith) hr) (good-and n x r (omega arith) hr),
+  next n (atLeast (n + 1) (x + 1) (v / 2) n w) (least-good (n + 1) (x + 1) (v / 2) n w (omega arith) (omega arith)),
+)
   where
     either : (b : Bool) → T (goodGate n (orOf x r)) → T (goodGate n (andOf x r)) → T (goodGate n (cond b (orOf x r) (andOf x r)))
     either true p q = p
@@ -189,9 +214,10 @@ count-digits-good n at m x (suc r) q ha h k =
     let t = adders (m - 1) (x % 2) in
     let size = count-size-step m x (suc r) (omega arith) in
     let down : suc r - 1 ≡ r = omega arith in
-    let rest = ap (countSize t (x / 2)) down in
-    (good-copy q (levelSum n at (m - 1) (x % 2)) (sum-below n at (m - 1) (x % 2) q ha (omega arith)),
-    count-digits-good (n + 3 * t) (n + 2) t (x / 2) r (suc q) (omega (arith, countable-some t (x / 2) r (k .1))) (omega arith) (k .1))
+    let rest = ap (countSize t (x / 2)) down in (
+      good-copy q (levelSum n at (m - 1) (x % 2)) (sum-below n at (m - 1) (x % 2) q ha (omega arith)),
+      count-digits-good (n + 3 * t) (n + 2) t (x / 2) r (suc q) (omega (arith, countable-some t (x / 2) r (k .1))) (omega arith) (k .1),
+    )
 
 pub counter-good : (n at d m x r : ℕ) → Below n at d m → Countable m x r → AllGood n (counter n at d m x r)
 unfolding counter

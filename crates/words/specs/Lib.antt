@@ -4,5 +4,6 @@ pub mod Adder
 pub mod Counter
 pub mod Choice
 pub mod Comparison
+pub mod Cost
 pub mod Writing
 pub mod Emitted

@@ -1,12 +1,25 @@
 // Adders.
 use crate::writer::Writer;
-ghost use Prim.Native.Nat.{_+_, _≤_, _<_};
+ghost use mathlib.Core.Path.{_≡_};
+ghost use Prim.Native.Nat.{_+_, _*_, _≤_, _<_};
 ghost use lib.ListN.{length};
 ghost use Rattle.words.specs.Writing.{Room, Wrote};
-ghost use Rattle.words.specs.Adder.{fullAdder, halfAdder, increment, addWords, addWithBit};
+ghost use Rattle.words.specs.Adder.{fullAdder, halfAdder, increment, addWords, addWithBit, topCarry, topDigit, addModulo};
+
+// The wire of the top carry of a sum of so many digits.
+fn top_carry(n: u32, carry: u32, digits: u32) -> u32
+    requires { ⌜ n + 3 * digits < 2147483648 ⌝ }
+    ensures { λ r. ⌜ r ≡ topCarry n carry digits ⌝ }
+{
+    if digits == 0 {
+        carry
+    } else {
+        n + 3 * digits - 1
+    }
+}
 
 impl Writer {
-    pub fn full_adder(self, table: &mut [u32], s: u32, u: u32, v: u32) -> Writer
+    pub(crate) fn full_adder(self, table: &mut [u32], s: u32, u: u32, v: u32) -> Writer
         requires { ⌜ Room self (now table) 3 ⌝ }
         ensures { λ r. ⌜ Wrote self (now (table .entry)) (fullAdder (self .wire) s u v) (now (table .exit)) r ⌝ }
     {
@@ -16,7 +29,7 @@ impl Writer {
         second.emit(table, 7, n, v, s)
     }
 
-    pub fn half_adder(self, table: &mut [u32], s: u32, u: u32, e: u32) -> Writer
+    pub(crate) fn half_adder(self, table: &mut [u32], s: u32, u: u32, e: u32) -> Writer
         requires { ⌜ Room self (now table) 3 ⌝ }
         ensures { λ r. ⌜ Wrote self (now (table .entry)) (halfAdder (self .wire) s u e) (now (table .exit)) r ⌝ }
     {
@@ -30,7 +43,7 @@ impl Writer {
         second.emit(table, 5, s, u, 0)
     }
 
-    pub fn increment(self, table: &mut [u32], s: u32) -> Writer
+    pub(crate) fn increment(self, table: &mut [u32], s: u32) -> Writer
         requires { ⌜ Room self (now table) 3 ⌝ }
         ensures { λ r. ⌜ Wrote self (now (table .entry)) (increment (self .wire) s) (now (table .exit)) r ⌝ }
     {
@@ -56,6 +69,31 @@ impl Writer {
             i += 1;
         }
         w
+    }
+
+    // The top digit of a sum: two digits and a carry added modulo 2.
+    fn top_digit(self, table: &mut [u32], x: u32, y: u32, carry: u32) -> Writer
+        requires { ⌜ Room self (now table) 2 ⌝ }
+        ensures { λ r. ⌜ Wrote self (now (table .entry)) (topDigit (self .wire) x y carry) (now (table .exit)) r ⌝ }
+    {
+        let n = self.wire;
+        let first = self.emit(table, 6, x, y, 0);
+        first.emit(table, 6, n, carry, 0)
+    }
+
+    // Adds two words of so many digits and a carry, without the top carry.
+    pub fn add_modulo(self, table: &mut [u32], x: u32, y: u32, carry: u32, digits: u32) -> Writer
+        requires { ⌜ Room self (now table) (length (addModulo (self .wire) x y carry digits)) ⌝ }
+        requires { ⌜ (x + digits ≤ self .wire) × (y + digits ≤ self .wire) ⌝ }
+        ensures { λ r. ⌜ Wrote self (now (table .entry)) (addModulo (self .wire) x y carry digits) (now (table .exit)) r ⌝ }
+    {
+        if digits == 0 {
+            return self;
+        }
+        let top = digits - 1;
+        let n = self.wire;
+        let w = self.add_words(table, x, y, carry, top);
+        w.top_digit(table, x + top, y + top, top_carry(n, carry, top))
     }
 
     // Adds two words of so many digits and a public bit.

@@ -9,7 +9,7 @@ ghost use Rattle.words.specs.Choice.{chainEnd};
 ghost use Rattle.words.specs.Counter.{level, adders, levelSum, countLevels, countDigits, counter, addLevels, addDigits, accumulator, countSize, addSize, Countable};
 
 // The number of a level's adders.
-pub fn adders_of(count: u32, e: u32) -> u32
+pub(crate) fn adders_of(count: u32, e: u32) -> u32
     requires { ⌜ (count < 2147483648) × (e < 2) ⌝ }
     ensures { λ r. ⌜ r ≡ adders count e ⌝ }
 {
@@ -35,7 +35,7 @@ fn chain_end(n: u32, s: u32, count: u32) -> u32
 
 impl Writer {
     // One level: adds to wire sum so many bits a stride apart, and a public bit.
-    pub fn level(
+    pub(crate) fn level(
         self,
         table: &mut [u32],
         sum: u32,

@@ -6,5 +6,6 @@
 pub mod adder;
 pub mod choice;
 pub mod comparison;
+pub mod cost;
 pub mod counter;
 pub mod writer;

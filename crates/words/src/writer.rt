@@ -23,7 +23,9 @@ fn operand(i: u32, count: u32, wire: u32) -> u32
 
 impl Writer {
     // Before the first gate of a list with so many inputs.
-    pub fn new(inputs: u32) -> Writer {
+    pub fn new(inputs: u32) -> Writer
+        ensures { λ r. ⌜ r ≡ record { gate = 0; wire = inputs; conditional = 0 } ⌝ }
+    {
         Writer {
             gate: 0,
             wire: inputs,

@@ -48,7 +48,7 @@ add-words-requires c κs =
     let h = c .before .before .before .half-adder in
     let n = length-half (a .self .wire) (a .x) (a .y) (a .e) in (
       room-after (a .self) (a .table .now) _ (h .last .1 .0) (h .result) _ _ (h .ensures)
-          (omega (arith, n, length-add (h .result .wire) (a .x + 1) (a .y + 1) (a .self .wire + 2) (a .digits - 1), length-add-bit (a .self .wire) (a .x) (a .y) (a .e) (a .digits), c .before .before .before .before .before .if1 .left)) (s .pre .0),
+          (simp length-add (omega (arith, n, length-add-bit (a .self .wire) (a .x) (a .y) (a .e) (a .digits), c .before .before .before .before .before .if1 .left))) (s .pre .0),
       omega (arith, h .ensures .wires, n, s .pre .1, c .before .before .before .before .before .if1 .left),
     )
 

@@ -1,12 +1,13 @@
 -- `words::writer::Writer::copies` meets its contract: it is `each` at kind 2.
 -- Assumes nothing.
+use native.Mathlib.Omega.{arith}
 use Rattle.gates.proofs.Laws.{operand-counts}
 use borrow.Author.Needs.{needs}
 use Rattle.words.proofs.writer.Writer.copies.Statement.{statement}
 use Rattle.words.proofs.writer.Writer.copies.Tie as tie
 
 each-requires : tie.Need-each-requires
-each-requires c κs = let p = c .before .before .pre in (p .0, (operand-counts .2, p .1))
+each-requires c κs = let p = c .before .before .pre in (p .0, (omega (arith, operand-counts), p .1))
 
 same-length : tie.Need-same-length
 same-length c = search needs

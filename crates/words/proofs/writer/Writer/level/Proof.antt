@@ -35,8 +35,12 @@ loop-holds c =
       goes-start (a .self) (a .table .now) (level (a .self .wire) (a .sum) (a .first) (a .stride) (a .e) (a .count)) (length (level (a .self .wire) (a .sum) (a .first) (a .stride) (a .e) (a .count))) (c .before .pre .0),
     )
 
+-- two bits are left in the loop
+two-left : (c : tie.In-loop Inv-loop μ-loop) → 1 < c .before .loop .left
+two-left c = omega arith
+
 add-full-adder : tie.Need-add-full-adder Inv-loop μ-loop
-add-full-adder c = let s = c .before .before .before .before in let l = c .before .before .loop in omega (arith, s .pre .0 .small, below-two (s .args .self .wire) (l .at) (s .args .stride) (l .left) (c .before .loop-test .taken) (l .inv .0) .0)
+add-full-adder c = let s = c .before .before .before .before in let l = c .before .before .loop in omega (arith, s .pre .0 .small, below-two (s .args .self .wire) (l .at) (s .args .stride) (l .left) (two-left (c .before)) (l .inv .0) .0)
 
 full-adder-requires : tie.Need-full-adder-requires Inv-loop μ-loop
 full-adder-requires c κs =
@@ -44,16 +48,16 @@ full-adder-requires c κs =
     let a = s .args in
     let l = c .before .before .loop in
     goes-room (a .self) (a .table .now) (level (a .self .wire) (a .sum) (a .first) (a .stride) (a .e) (a .count)) (l .w) (l .table) (level (l .w .wire) (l .s) (l .at) (a .stride) (a .e) (l .left)) 3 (length (level (a .self .wire) (a .sum) (a .first) (a .stride) (a .e) (a .count))) (l .inv .1)
-    (omega (arith, long (l .w .wire) (l .s) (l .at) (a .stride) (a .e) (l .left) (c .before .loop-test .taken))) (omega (arith, s .pre .0 .small)) (s .pre .0)
+    (omega (arith, long (l .w .wire) (l .s) (l .at) (a .stride) (a .e) (l .left) (two-left (c .before)))) (omega (arith, s .pre .0 .small)) (s .pre .0)
 
 add-s : tie.Need-add-s Inv-loop μ-loop
-add-s c = let s = c .before .before .before .before .before .before .before in let a = s .args in let l = c .before .before .before .before .before .loop in omega (arith, s .pre .0 .small, l .inv .1 .wireLeft, long (l .w .wire) (l .s) (l .at) (a .stride) (a .e) (l .left) (c .before .before .before .before .loop-test .taken))
+add-s c = let s = c .before .before .before .before .before .before .before in let a = s .args in let l = c .before .before .before .before .before .loop in omega (arith, s .pre .0 .small, l .inv .1 .wireLeft, long (l .w .wire) (l .s) (l .at) (a .stride) (a .e) (l .left) (two-left (c .before .before .before .before)))
 
 add-at : tie.Need-add-at Inv-loop μ-loop
-add-at c = let s = c .before .before .before .before .before .before .before in let l = c .before .before .before .before .before .loop in omega (arith, s .pre .0 .small, below-two (s .args .self .wire) (l .at) (s .args .stride) (l .left) (c .before .before .before .before .loop-test .taken) (l .inv .0) .0)
+add-at c = let s = c .before .before .before .before .before .before .before in let l = c .before .before .before .before .before .loop in omega (arith, s .pre .0 .small, below-two (s .args .self .wire) (l .at) (s .args .stride) (l .left) (two-left (c .before .before .before .before)) (l .inv .0) .0)
 
 add-at-2 : tie.Need-add-at-2 Inv-loop μ-loop
-add-at-2 c = let s = c .before .before .before .before .before .before .before in let l = c .before .before .before .before .before .loop in omega (arith, s .pre .0 .small, below-two (s .args .self .wire) (l .at) (s .args .stride) (l .left) (c .before .before .before .before .loop-test .taken) (l .inv .0) .0)
+add-at-2 c = let s = c .before .before .before .before .before .before .before in let l = c .before .before .before .before .before .loop in omega (arith, s .pre .0 .small, below-two (s .args .self .wire) (l .at) (s .args .stride) (l .left) (two-left (c .before .before .before .before)) (l .inv .0) .0)
 
 sub-left : tie.Need-sub-left Inv-loop μ-loop
 sub-left c = omega arith
@@ -67,7 +71,7 @@ loop-again c =
     let a = s .args in
     let l = c .before .before .before .before .before .loop in
     let e = c .before .before .full-adder in
-    let t = c .before .before .before .before .loop-test .taken in
+    let t = two-left (c .before .before .before .before) in
     let wrote = e .ensures in (
       below-two (a .self .wire) (l .at) (a .stride) (l .left) t (l .inv .0) .1,
       goes-as (a .self) (a .table .now) (level (a .self .wire) (a .sum) (a .first) (a .stride) (a .e) (a .count)) (e .result) (e .last .1 .0) _ _ (ap (λ (n : ℕ). level n (l .w .wire + 1) (l .at + a .stride + a .stride) (a .stride) (a .e) (l .left - 2)) (sym (wrote .wires ∙ ap (λ (n : ℕ). l .w .wire + n) (length-full (l .w .wire) (l .s) (l .at) (l .at + a .stride)))))

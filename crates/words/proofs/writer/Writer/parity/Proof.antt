@@ -1,12 +1,13 @@
 -- `words::writer::Writer::parity` meets its contract: it is `chain` at kind 6.
 -- Assumes nothing.
+use native.Mathlib.Omega.{arith}
 use Rattle.gates.proofs.Laws.{operand-counts}
 use borrow.Author.Needs.{needs}
 use Rattle.words.proofs.writer.Writer.parity.Statement.{statement}
 use Rattle.words.proofs.writer.Writer.parity.Tie as tie
 
 chain-requires : tie.Need-chain-requires
-chain-requires c κs = let p = c .before .before .pre in (p .0, (p .1 .0, (p .1 .1, operand-counts .6)))
+chain-requires c κs = let p = c .before .before .pre in (p .0, (p .1 .0, (p .1 .1, omega (arith, operand-counts))))
 
 same-length : tie.Need-same-length
 same-length c = search needs

@@ -1,0 +1,26 @@
+-- `words::cost::full` meets its contract: it computes the definition.
+-- Assumes nothing.
+use native.Mathlib.Omega.{arith}
+use Rattle.words.specs.Cost.{fullCost}
+use borrow.Author.Needs.{needs}
+use Rattle.words.proofs.cost.full.Statement.{statement}
+use Rattle.words.proofs.cost.full.Tie as tie
+
+mark-requires : tie.Need-mark-requires
+mark-requires c κs = search needs
+
+mul-result : tie.Need-mul-result
+mul-result c = search needs
+
+mark-requires-2 : tie.Need-mark-requires-2
+mark-requires-2 c κs = search needs
+
+add-result : tie.Need-add-result
+add-result c = search needs
+
+returns : tie.Need-returns
+unfolding fullCost
+returns c = omega arith
+
+pub full-spec : {M : Type 1} → statement M
+full-spec = tie.close (tie.spec mark-requires mul-result mark-requires-2 add-result returns)
