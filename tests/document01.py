@@ -145,18 +145,24 @@ def median_grade(counts):
     raise ValueError(counts)
 
 
+def gauge(counts):
+    """The median grade, p and q."""
+    m = median_grade(counts)
+    return m, sum(counts[:m]), sum(counts[m + 1:])
+
+
 def condition(a, b):
     """The number of the condition by which a beats b, both given by their counts, or None."""
-    m, l = median_grade(a), median_grade(b)
-    p, q = sum(a[:m]), sum(a[m + 1:])
-    r, s = sum(b[:l]), sum(b[l + 1:])
-    if m < l:
+    (a_median, a_p, a_q), (b_median, b_p, b_q) = gauge(a), gauge(b)
+    if a_median < b_median:
         return 1
-    if m == l and p > q and r < s:
+    if a_median > b_median:
+        return None
+    if a_p > a_q and b_p < b_q:
         return 2
-    if m == l and p > q and r > s and p > r:
+    if a_p > a_q and b_p > b_q and a_p > b_p:
         return 3
-    if m == l and p < q and r < s and q < s:
+    if a_p < a_q and b_p < b_q and a_q < b_q:
         return 4
     return None
 
