@@ -100,13 +100,14 @@ def shapes():
         yield Case(k, d, n, ballots=[])
     for k, d, n in itertools.product((2, HUGE), (3, HUGE), (1, HUGE)):
         yield Case(k, d, n, ballots=[0, 1, 0, 1, 0, 0])
-    for k, d, n in [(257, 2, 1), (1, 258, 1), (1, 2, 257), (65_537, 3, 1), (2, 65_539, 1), (2, 3, 65_537)]:
-        yield Case(k, d, n, ballots=[0, 1, 0, 1, 0, 0])      # numbers that are within limits modulo 256 or 65,536
+    # Shapes that are within limits modulo 256, with the ballots of those.
+    for k, d, n in [(257, 2, 1), (1, 258, 1), (1, 2, 257), (65_537, 3, 1), (2, 65_539, 1), (2, 3, 65_537), (1, 2, HUGE)]:
+        yield Case(k, d, n, ballots=with_any_grades(k % 256, d % 256, n % 256).ballots)
 
 
 def lengths():
     for k, d, n in [(1, 2, 1), (2, 3, 3), (8, 7, 1), (3, 4, 5)]:
-        good = raw(with_any_grades(k, d, n)).ballots
+        good = with_any_grades(k, d, n).ballots
         for ballots in ([], good[:-1], good + [0], good + [1], good[:-d], good + row(d, 0), good + [2], good + good):
             yield Case(k, d, n, ballots=ballots)
     yield Case(8, 7, 255, ballots=with_any_grades(8, 7, 255).ballots + [0])
@@ -220,6 +221,7 @@ def level(rng, k, d, n):
 
 
 def random_juries(rng):
+    # 21 sizes a shape and four styles: each size meets every style.
     styles = itertools.cycle([uniform, tied, peaked, level])
     for k, d in itertools.product(range(1, 9), range(2, 8)):
         for n in EDGE_SIZES:
@@ -227,7 +229,6 @@ def random_juries(rng):
         for width in (2, 3, 4, 5, 6):
             n = rng.randrange(1 << (width - 1), 1 << width)
             yield jury(d, next(styles)(rng, k, d, n))
-        next(styles)                                         # so that each shape sees another style at each size
     for style in [tied, level, level] * 100:                 # small juries, where the gauge is silent most often
         yield jury(3, style(rng, rng.choice([2, 2, 3, 4]), 3, rng.randrange(3, 12)))
 
@@ -243,8 +244,8 @@ def damaged_juries(rng):
 
 def cases():
     rng = random.Random(3)
-    makers = [panels(), shapes(), lengths(), bytes_above_one(), bad_rows(), pairs_of_faults(), random_juries(rng), damaged_juries(rng)]
-    return [case for maker in makers for case in maker]
+    fixed = [panels(), shapes(), lengths(), bytes_above_one(), bad_rows(), pairs_of_faults()]
+    return list(itertools.chain(*fixed, random_juries(rng), damaged_juries(rng)))
 
 
 def make():
