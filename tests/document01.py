@@ -105,3 +105,76 @@ def evaluate(inputs, table, k, tape, wires, board):
     values, shown = run_gates(inputs, gates, tape)
     closing = values[len(values) - k:] if k else []
     return ["accepted", str(len(gates)), str(count)], values, shown + closing
+
+
+def shape_is_within(k, d, n):
+    """Not reason 1."""
+    return 1 <= k <= 8 and 2 <= d <= 7 and 1 <= n <= 255
+
+
+def ballots_fault(k, d, n, ballots):
+    """Reasons 4, 5 and 6 for a shape within its limits: a number and a place, or None."""
+    if len(ballots) != n * k * d:
+        return (4, 0)
+    place = first_above_one(ballots)
+    if place is not None:
+        return (5, place)
+    for row in range(n * k):
+        if sum(1 for x in ballots[row * d:row * d + d] if x == 1) != 1:
+            return (6, row)
+    return None
+
+
+def grade_counts(k, d, n, ballots):
+    """A row of d counts, best grade first, for each candidate."""
+    counts = [[0] * d for _ in range(k)]
+    for ballot in range(n):
+        for candidate in range(k):
+            for grade in range(d):
+                counts[candidate][grade] += ballots[ballot * k * d + candidate * d + grade]
+    return counts
+
+
+def median_grade(counts):
+    """The first grade at which twice the running sum, this grade included, is at least n."""
+    running = 0
+    for grade, count in enumerate(counts):
+        running += count
+        if 2 * running >= sum(counts):
+            return grade
+    raise ValueError(counts)
+
+
+def gauge(counts):
+    """The median grade, p and q."""
+    m = median_grade(counts)
+    return m, sum(counts[:m]), sum(counts[m + 1:])
+
+
+def condition(a, b):
+    """The number of the condition by which a beats b, both given by their counts, or None."""
+    (a_median, a_p, a_q), (b_median, b_p, b_q) = gauge(a), gauge(b)
+    if a_median < b_median:
+        return 1
+    if a_median > b_median:
+        return None
+    if a_p > a_q and b_p < b_q:
+        return 2
+    if a_p > a_q and b_p > b_q and a_p > b_p:
+        return 3
+    if a_p < a_q and b_p < b_q and a_q < b_q:
+        return 4
+    return None
+
+
+def closing_bytes(counts):
+    """1 for a candidate that beats each other one, 0 for any other."""
+    others = [counts[:i] + counts[i + 1:] for i in range(len(counts))]
+    return [1 if all(condition(a, b) for b in rest) else 0 for a, rest in zip(counts, others)]
+
+
+def count_plainly(k, d, n, ballots):
+    """The entry point "Count plainly": the fault (a number and a place) or None, and eight bytes."""
+    fault = ballots_fault(k, d, n, ballots) if shape_is_within(k, d, n) else (1, 0)
+    closing = closing_bytes(grade_counts(k, d, n, ballots)) if fault is None else []
+    return fault, closing + [0] * (8 - len(closing))

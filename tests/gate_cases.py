@@ -3,10 +3,7 @@
 import random
 
 import document01 as doc
-
-
-def word(n):
-    return n.to_bytes(4, "little")
+from case_data import word
 
 
 class Case:

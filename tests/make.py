@@ -7,9 +7,10 @@
 import pathlib
 import sys
 
+import count_cases
 import gate_cases
 
-MAKERS = [gate_cases]
+MAKERS = [gate_cases, count_cases]
 ROOT = pathlib.Path(__file__).resolve().parent.parent
 
 

@@ -3,17 +3,18 @@
 use mathlib.Core.Path.{_≡_, _∙_, refl, sym, ap}
 use mathlib.Core.Bool.{Bool, true, false, cond}
 use mathlib.Core.Option.{none}
-use mathlib.Core.List.{List, [], _∷_}
-use Prim.Native.Nat.{ℕ, zero, suc, _*_, _≤_, _<_}
+use mathlib.Core.List.{List}
+use Prim.Native.Nat.{ℕ, zero, suc, _*_, _<_}
 use native.Mathlib.Nat.{zero-mul, suc-mul, add-comm}
 use native.Mathlib.Omega.{arith}
-use lib.Dec.{ltb, eqb}
-use lib.ListN.{length, getD, take, drop}
+use lib.Dec.{eqb}
+use lib.ListN.{length, take, drop}
 use lib.Seq.{drop-drop}
-use borrow.Author.Tests.{ltb-false, le-ltb, eqb-true, eq-eqb}
+use borrow.Author.Tests.{eqb-true, eq-eqb}
 use Rattle.gates.specs.declared.place.Place.{Place}
 use Rattle.gates.specs.declared.place.Place.the-variants.{At, Nowhere}
 use Rattle.gates.specs.Test.{firstAboveOne}
+use Rattle.gates.proofs.Hiding.{all-bits, none-above}
 use Rattle.jury.specs.declared.shape.Shape.{Shape}
 use Rattle.jury.specs.Shape.{withinLimits, ballotBytes}
 use Rattle.jury.specs.Reason.{unless, foundAt, firstOf}
@@ -37,27 +38,10 @@ unfolding judged unless foundAt firstOf
 row-passed (At r) e = let z : _≡_ {A = ℕ} 0 1 = cc in absurd (omega arith)
 row-passed Nowhere e = refl
 
--- a choice between a place and a search further on that finds nothing
-passed-on : (t : Bool) (i : ℕ) (rest : Place) → cond t (At i) rest ≡ Nowhere → (t ≡ false) × (rest ≡ Nowhere)
-passed-on true i rest e = let z : _≡_ {A = ℕ} 0 1 = cc in absurd (omega arith)
-passed-on false i rest e = (refl, e)
-
+-- a choice between a search further on that finds nothing and a place
 passed-over : (t : Bool) (i : ℕ) (rest : Place) → cond t rest (At i) ≡ Nowhere → (t ≡ true) × (rest ≡ Nowhere)
 passed-over true i rest e = (refl, e)
 passed-over false i rest e = let z : _≡_ {A = ℕ} 0 1 = cc in absurd (omega arith)
-
--- no byte is above 1 where none was found
-pub all-bits : (xs : List ℕ) (n : ℕ) → firstAboveOne n xs ≡ Nowhere → (i : ℕ) → getD xs i 0 ≤ 1
-unfolding firstAboveOne
-all-bits [] n e i = omega arith
-all-bits (x ∷ xs) n e zero = ltb-false 1 x (passed-on (ltb 1 x) n (firstAboveOne (suc n) xs) e .0)
-all-bits (x ∷ xs) n e (suc i) = all-bits xs (suc n) (passed-on (ltb 1 x) n (firstAboveOne (suc n) xs) e .1) i
-
-pub all-bits-back : (xs : List ℕ) (n : ℕ) → ((i : ℕ) → getD xs i 0 ≤ 1) → firstAboveOne n xs ≡ Nowhere
-unfolding firstAboveOne
-all-bits-back [] n h = refl
-all-bits-back (x ∷ xs) n h =
-    ap (λ (t : Bool). cond t (At n) (firstAboveOne (suc n) xs)) (le-ltb 1 x (h 0)) ∙ all-bits-back xs (suc n) (λ i. h (suc i))
 
 -- row j of these bytes, from the first and from the second row on
 pub row-first : (d : ℕ) (xs : List ℕ) → drop (0 * d) xs ≡ xs
@@ -118,7 +102,7 @@ module _ (s : Shape) (xs : List ℕ) where
   accepted w e = record {
     within = w;
     size = eqb-true (length xs) (ballotBytes s) (size-of e);
-    bits = all-bits xs 0 (byte-of e);
+    bits = all-bits 0 xs (byte-of e);
     rows = all-rows (s .grades) (s .ballots * s .candidates) xs 0 (row-of e);
   }
 
@@ -126,5 +110,5 @@ module _ (s : Shape) (xs : List ℕ) where
   pub accepted-back : AcceptedBallots s xs → firstOf (ballotReasons s xs) ≡ none
   unfolding judged unless foundAt firstOf
   accepted-back a =
-      judged-by s xs true Nowhere Nowhere (eq-eqb (length xs) (ballotBytes s) (a .size)) (all-bits-back xs 0 (a .bits))
+      judged-by s xs true Nowhere Nowhere (eq-eqb (length xs) (ballotBytes s) (a .size)) (none-above 0 xs (a .bits))
       (all-rows-back (s .grades) (s .ballots * s .candidates) xs 0 (a .rows))

@@ -2,8 +2,9 @@
 -- Assumes nothing.
 use mathlib.Core.Path.{_≡_, refl}
 use mathlib.Core.Bool.{true, _&&_}
-use Prim.Native.Nat.{_≤_, _*_}
+use Prim.Native.Nat.{ℕ, _≤_, _<_, _*_, _^_}
 use native.Mathlib.Nat.{mul-le-mul}
+use native.Mathlib.Omega.{arith}
 use lib.Dec.{T, leb}
 use borrow.Author.Tests.{leb-true, le-leb}
 use Rattle.jury.specs.declared.shape.Shape.{Shape}
@@ -54,3 +55,10 @@ bytes-bound s w = mul-le-mul (rows-bound s w) (w .d-most)
 pub bytes-are : (s : Shape) → ballotBytes s ≡ s .ballots * s .candidates * s .grades
 unfolding ballotBytes
 bytes-are s = refl
+
+-- numbers of a shape multiplied, whichever they are, fit
+pub two-fit : (a b : ℕ) → a ≤ 255 → b ≤ 255 → a * b < 2 ^ 64
+two-fit a b ha hb = let h : a * b ≤ 255 * 255 = mul-le-mul ha hb in omega arith
+
+pub three-fit : (a b c : ℕ) → a ≤ 255 → b ≤ 255 → c ≤ 255 → a * b * c < 2 ^ 64
+three-fit a b c ha hb hc = let h : a * b * c ≤ 255 * 255 * 255 = mul-le-mul (mul-le-mul ha hb) hc in omega arith

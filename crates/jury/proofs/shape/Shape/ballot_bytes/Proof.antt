@@ -1,21 +1,21 @@
--- `jury::shape::Shape::ballot_bytes` meets its contract: it is the definition's product, which within limits is at most 14,280.
+-- `jury::shape::Shape::ballot_bytes` meets its contract: it is the definition's product, whose factors are at most 255.
 -- Assumes nothing.
 use mathlib.Core.Path.{refl}
 use native.Mathlib.Omega.{arith}
 use Rattle.jury.specs.Shape.{ballotBytes}
-use Rattle.jury.proofs.Limits.{within-T, rows-bound, bytes-bound}
+use Rattle.jury.proofs.Limits.{within-T, two-fit, three-fit}
 use Rattle.jury.proofs.shape.Shape.ballot_bytes.Statement.{statement}
 use Rattle.jury.proofs.shape.Shape.ballot_bytes.Tie as tie
 
 mul-result : tie.Need-mul-result
 mul-result c =
-    let s = c .before .args .self in
-    omega (arith, rows-bound s (within-T s (c .before .pre)))
+    let w = within-T (c .before .args .self) (c .before .pre) in
+    record { fits = two-fit _ _ (omega arith) (omega arith) }
 
 mul-result-2 : tie.Need-mul-result-2
 mul-result-2 c =
-    let s = c .before .before .args .self in
-    omega (arith, bytes-bound s (within-T s (c .before .before .pre)))
+    let w = within-T (c .before .before .args .self) (c .before .before .pre) in
+    record { fits = three-fit _ _ _ (omega arith) (omega arith) (omega arith) }
 
 returns : tie.Need-returns
 unfolding ballotBytes
