@@ -7,7 +7,7 @@ ghost use Rattle.words.specs.Writing.{Room, Wrote};
 ghost use Rattle.words.specs.Adder.{fullAdder, halfAdder, increment, addWords, addWithBit, topCarry, topDigit, addModulo};
 
 // The wire of the top carry of a sum of so many digits.
-fn top_carry(n: u32, carry: u32, digits: u32) -> u32
+pub fn top_carry(n: u32, carry: u32, digits: u32) -> u32
     requires { ⌜ n + 3 * digits < 2147483648 ⌝ }
     ensures { λ r. ⌜ r ≡ topCarry n carry digits ⌝ }
 {

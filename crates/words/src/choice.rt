@@ -5,7 +5,15 @@ ghost use Prim.Native.Nat.{_+_, _≤_, _<_};
 ghost use Rattle.gates.specs.Kind.{operandsOf};
 ghost use Rattle.words.specs.Word.{Below};
 ghost use Rattle.words.specs.Writing.{Room, Wrote};
-ghost use Rattle.words.specs.Choice.{constants, each, copies, complements, choose, chain, anyOf, parity};
+ghost use Rattle.words.specs.Choice.{constants, each, copies, complements, choose, chain, chainEnd, anyOf, parity};
+
+// The last wire of a chain of so many gates.
+pub fn chain_end(n: u32, s: u32, count: u32) -> u32
+    requires { ⌜ n + count < 2147483648 ⌝ }
+    ensures { λ r. ⌜ r ≡ chainEnd n s count ⌝ }
+{
+    if count == 0 { s } else { n + count - 1 }
+}
 
 impl Writer {
     // The digits of a public number.

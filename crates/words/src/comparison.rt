@@ -1,9 +1,34 @@
 // Comparisons.
 use crate::writer::Writer;
-ghost use Prim.Native.Nat.{_+_, _≤_};
+ghost use mathlib.Core.Path.{_≡_};
+ghost use Prim.Native.Nat.{_+_, _*_, _≤_, _<_};
 ghost use lib.ListN.{length};
 ghost use Rattle.words.specs.Writing.{Room, Wrote};
-ghost use Rattle.words.specs.Comparison.{atLeast, compareDigit, compareWords};
+ghost use Rattle.words.specs.Comparison.{atLeast, compareDigit, compareWords, upEnd, downEnd};
+
+// The wire that says of all digits that the first word is above the second.
+pub fn up_end(n: u32, up: u32, digits: u32) -> u32
+    requires { ⌜ n + 3 * digits < 2147483648 ⌝ }
+    ensures { λ r. ⌜ r ≡ upEnd n up digits ⌝ }
+{
+    if digits == 0 {
+        up
+    } else {
+        n + 3 * digits - 2
+    }
+}
+
+// The wire that says so of the second word and the first.
+pub fn down_end(n: u32, down: u32, digits: u32) -> u32
+    requires { ⌜ n + 3 * digits < 2147483648 ⌝ }
+    ensures { λ r. ⌜ r ≡ downEnd n down digits ⌝ }
+{
+    if digits == 0 {
+        down
+    } else {
+        n + 3 * digits - 1
+    }
+}
 
 impl Writer {
     // Whether a word is at least a public number. Wire r says so of the digits before.

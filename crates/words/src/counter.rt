@@ -1,11 +1,11 @@
 // Counting bits, by levels of adders.
+use crate::choice::chain_end;
 use crate::writer::Writer;
 ghost use Prim.Native.Nat.{_+_, _*_, _≤_, _<_};
 ghost use mathlib.Core.Path.{_≡_};
 ghost use lib.ListN.{length};
 ghost use Rattle.words.specs.Word.{Below};
 ghost use Rattle.words.specs.Writing.{Room, Wrote};
-ghost use Rattle.words.specs.Choice.{chainEnd};
 ghost use Rattle.words.specs.Counter.{level, adders, levelSum, countLevels, countDigits, counter, addLevels, addDigits, accumulator, countSize, addSize, Countable};
 
 // The number of a level's adders.
@@ -23,14 +23,6 @@ fn level_sum(n: u32, s: u32, count: u32, e: u32) -> u32
 {
     let adders = adders_of(count, e);
     if adders == 0 { s } else { n + 3 * adders - 2 }
-}
-
-// The last wire of a chain of so many gates.
-fn chain_end(n: u32, s: u32, count: u32) -> u32
-    requires { ⌜ n + count < 2147483648 ⌝ }
-    ensures { λ r. ⌜ r ≡ chainEnd n s count ⌝ }
-{
-    if count == 0 { s } else { n + count - 1 }
 }
 
 impl Writer {

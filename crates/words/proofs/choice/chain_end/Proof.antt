@@ -1,12 +1,12 @@
--- `words::counter::chain_end` meets its contract: it computes the definition.
+-- `words::choice::chain_end` meets its contract: it computes the definition.
 -- Assumes nothing.
 use mathlib.Core.Path.{_≡_, refl}
 use Prim.Native.Nat.{ℕ, zero, suc, _+_, _-_}
 use native.Mathlib.Omega.{arith}
 use Rattle.words.specs.Choice.{chainEnd}
 use borrow.Author.Needs.{needs}
-use Rattle.words.proofs.counter.chain_end.Statement.{statement}
-use Rattle.words.proofs.counter.chain_end.Tie as tie
+use Rattle.words.proofs.choice.chain_end.Statement.{statement}
+use Rattle.words.proofs.choice.chain_end.Tie as tie
 
 add-result : tie.Need-add-result
 add-result c = search needs
