@@ -16,6 +16,9 @@ use Rattle.circuit.specs.Plan.{planOf, Planned}
 pub top-width : (n : ℕ) → 0 < n → suc (widthOf n - 1) ≡ widthOf n
 top-width n h = omega (arith, width-half n h)
 
+pub high-width : (n : ℕ) → 0 < n → n < 2 ^ suc (widthOf n - 1)
+high-width n h = subst (λ (k : ℕ). n < 2 ^ k) (sym (top-width n h)) (below-width n)
+
 pub half-most : (n r : ℕ) → n < 2 ^ suc r → (n + 1) / 2 ≤ 2 ^ r
 half-most n r h = omega (arith, pow-succ' 2 r)
 
@@ -28,7 +31,7 @@ planned s e =
     let w = within s e in
     let n = s .ballots in
     let r = widthOf n - 1 in
-    let high : n < 2 ^ suc r = subst (λ (k : ℕ). n < 2 ^ k) (sym (top-width n (w .n-least))) (below-width n) in
+    let high = high-width n (w .n-least) in
     record {
       k-least = w .k-least;
       k-most = w .k-most;
