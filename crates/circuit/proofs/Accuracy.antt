@@ -100,7 +100,7 @@ module _ (W : ℕ → ℕ) (b : Binary W) (p : Plan) (f : Planned p) (two : 1 < 
       let s = sums-of c l in
       let first : ones W (bitsAt p c 0) (apart p) (p .ballots) ≡ sum (take 1 row) = omega (arith, counted c 0 l (omega (arith, f .d-least)), running-next row 0, running-start row) in
       let next : (g : ℕ) → suc g < p .grades → sum (take (suc g) row) + ones W (bitsAt p c (suc g)) (apart p) (p .ballots) ≡ sum (take (suc (suc g)) row) =
-              λ g k. omega (arith, counted c (suc g) l k, running-next row (suc g)) in
+      λ g k. omega (arith, counted c (suc g) l k, running-next row (suc g)) in
       row-key W b p f (cuts .0) (cuts .1) row (row-is c l) s (keyOf p n)
       (candidate-law W b p f (cuts .0) (cuts .1) (λ g. sum (take (suc g) row)) (medianOf row) (pOf row) s c l first next n m w)
 
@@ -131,9 +131,10 @@ module _ (W : ℕ → ℕ) (b : Binary W) (p : Plan) (f : Planned p) (two : 1 < 
       let block = circuit-block p f .long in
       let all : 1 + suc t ≡ p .candidates = omega arith in
       let at : p .inputs + length (circuit p) - p .candidates ≡ wonAt p f n 1 (suc t) = omega (arith, ap (roundsSize p f 1) many) in
-      let wire-at : W (p .inputs + length (circuit p) - p .candidates + i) ≡ W (wonAt p f n 1 (suc t) + i) = ap (λ (k : ℕ). W (k + i)) at in
-      (λ e o k ne. wins-beats p f (rows i) (rows o) (row-is i l) (row-is o k) (final .among i (omega arith) (sym wire-at ∙ e) o (omega arith) ne),
-      λ k. wire-at ∙ final .has-won i (omega arith) (λ o m ne. beats-wins p f (rows i) (rows o) (row-is i l) (row-is o (omega arith)) (k o (omega arith) ne)))
+      let wire-at : W (p .inputs + length (circuit p) - p .candidates + i) ≡ W (wonAt p f n 1 (suc t) + i) = ap (λ (k : ℕ). W (k + i)) at in (
+        λ e o k ne. wins-beats p f (rows i) (rows o) (row-is i l) (row-is o k) (final .among i (omega arith) (sym wire-at ∙ e) o (omega arith) ne),
+        λ k. wire-at ∙ final .has-won i (omega arith) (λ o m ne. beats-wins p f (rows i) (rows o) (row-is i l) (row-is o (omega arith)) (k o (omega arith) ne)),
+      )
 
 -- a single candidate, and two or more
 own-single : (s : Shape) → s .candidates ≡ 1 → ownList s ≡ constant 1 ∷ []

@@ -107,7 +107,7 @@ module _ (W : ℕ → ℕ) (b : Binary W) (p : Plan) (f : Planned p) where
       let size : r + p .grades ≡ r + 1 + (p .grades - 1) = omega arith in
       let parts = ap (choose u x y) size ∙ choose-parts u x y (r + 1) (p .grades - 1) in
       let halves = cut2 W (e + 1) (choose u x y (r + 1)) (choose u (x + (r + 1)) (y + (r + 1)) (p .grades - 1)) (flagsAt p (e + 1))
-              (omega (arith, length-choose u x y (r + 1))) (rw (← parts) (holds-rest W e first pick (q .0))) in
+      (omega (arith, length-choose u x y (r + 1))) (rw (← parts) (holds-rest W e first pick (q .0))) in
       let m = e + 1 in
       let low = subst (λ (k : ℕ). Holds W m (choose u x y k)) (add-one r) (halves .0) in
       let px : x + (r + 1) ≡ flagsAt p x = omega arith in

@@ -60,7 +60,7 @@ module _ (W : ℕ → ℕ) (b : Binary W) where
       let last = fl m (omega arith) in
       ⊎-elim
       (λ (k : m < median). let e : median ≡ suc m = omega arith in
-          omega (arith, top-zero _ _ _ _ (top-digit W at m) (last .no k), flags-number-low at median m (λ g h. fl g (omega arith)) (omega arith), ap (λ (i : ℕ). 2 ^ i) e))
+      omega (arith, top-zero _ _ _ _ (top-digit W at m) (last .no k), flags-number-low at median m (λ g h. fl g (omega arith)) (omega arith), ap (λ (i : ℕ). 2 ^ i) e))
       (λ (k : median ≤ m). omega (arith, top-one _ _ _ _ (top-digit W at m) (last .yes k), flags-number at median m (λ g h. fl g (omega arith)) k, pow-succ' 2 m))
       (below-or-not m median)
     where
@@ -96,17 +96,17 @@ module _ (W : ℕ → ℕ) (b : Binary W) where
         let add = addWithBit bal (beforeMedian p at) (upTo p at) (n % 2) r in
         let some = someOf (bal + 3 * r) (bal + 1) r in
         let q = cut4 W (behind p at) half pick add some (upTo p at) bal (bal + 3 * r)
-                (omega (arith, length-constants (n / 2) r)) (omega (arith, length-choose (at + r) (upToMedian p at) (behind p at) r)) (omega (arith, length-add-bit bal (beforeMedian p at) (upTo p at) (n % 2) r)) h in
+        (omega (arith, length-constants (n / 2) r)) (omega (arith, length-choose (at + r) (upToMedian p at) (behind p at) r)) (omega (arith, length-add-bit bal (beforeMedian p at) (upTo p at) (n % 2) r)) h in
         let fl = flag W b p f S median before s at g a in
         let constant = constants-law W b (behind p at) (n / 2) r (omega (arith, f .high, pow-succ' 2 r)) (q .0) in
         let inside = s .inside in
         let low : number W (beforeMedian p at) 1 r ≡ p .offset + before =
-                ⊎-elim (λ (k : g < median). omega (arith, a .before-passed k, s .some g (omega arith))) (λ (k : median ≤ g). a .before-reached k) (below-or-not g median) in
+        ⊎-elim (λ (k : g < median). omega (arith, a .before-passed k, s .some g (omega arith))) (λ (k : median ≤ g). a .before-reached k) (below-or-not g median) in
         let high : number W (upTo p at) 1 r + (n + 1) / 2 ≡ S median =
-                ⊎-elim
-                (λ (k : g < median). let e : p .grades - 1 ≡ median = omega arith in omega (arith, choose-zero W b (upTo p at) (at + r) (upToMedian p at) (behind p at) r (fl .no k) (q .1), constant, s .whole, ap S e))
-                (λ (k : median ≤ g). omega (arith, choose-one W b (upTo p at) (at + r) (upToMedian p at) (behind p at) r (fl .yes k) (q .1), a .upTo-reached k))
-                (below-or-not g median) in
+        ⊎-elim
+        (λ (k : g < median). let e : p .grades - 1 ≡ median = omega arith in omega (arith, choose-zero W b (upTo p at) (at + r) (upToMedian p at) (behind p at) r (fl .no k) (q .1), constant, s .whole, ap S e))
+        (λ (k : median ≤ g). omega (arith, choose-one W b (upTo p at) (at + r) (upToMedian p at) (behind p at) r (fl .yes k) (q .1), a .upTo-reached k))
+        (below-or-not g median) in
         let sum = add-bit-law W b bal (beforeMedian p at) (upTo p at) (n % 2) (p .inputs + n % 2) r (omega arith) (public-bit (n % 2) (omega arith)) (q .2) in
         let less = number-less W b (bal + 1) 3 r in
         let z = number W (bal + 1) 3 r in
@@ -114,9 +114,9 @@ module _ (W : ℕ → ℕ) (b : Binary W) where
         let without : W (carryAt p at) ≡ 0 → number W (beforeMedian p at) 1 r + number W (upTo p at) 1 r + n % 2 ≡ z = λ k. top-zero _ _ _ _ (sym sum) k in
         let with : W (carryAt p at) ≡ 1 → number W (beforeMedian p at) 1 r + number W (upTo p at) 1 r + n % 2 ≡ z + 2 ^ r = λ k. top-one _ _ _ _ (sym sum) k in
         let differ : before + S median ≢ n → 0 < z = λ k. ⊎-elim
-                (λ (c : W (carryAt p at) ≡ 0). omega (arith, without c, low, high, f .offset-is, f .high, pow-succ' 2 r, s .reached median (omega arith)))
-                (λ (c : W (carryAt p at) ≡ 1). ⊎-elim (λ (m : 0 < z). m) (λ (m : z ≤ 0). absurd (k (omega (arith, with c, low, high, f .offset-is)))) (below-or-not 0 z))
-                bit in
+        (λ (c : W (carryAt p at) ≡ 0). omega (arith, without c, low, high, f .offset-is, f .high, pow-succ' 2 r, s .reached median (omega arith)))
+        (λ (c : W (carryAt p at) ≡ 1). ⊎-elim (λ (m : 0 < z). m) (λ (m : z ≤ 0). absurd (k (omega (arith, with c, low, high, f .offset-is)))) (below-or-not 0 z))
+        bit in
         record {
           low = low;
           high = high;
@@ -151,14 +151,14 @@ module _ (W : ℕ → ℕ) (b : Binary W) where
         let late = copies (at + r) 1 in
         let differ = copies (differAt p at) 1 in
         let q = cut5 W x pick carry early late differ (x + r) (flagsAt p x) (flagsAt p x + t) (strictAt p x)
-                (omega (arith, length-choose (carryAt p at) (beforeMedian p at) (upTo p at) r)) (omega (arith, length-each 2 (carryAt p at) 1))
-                (omega (arith, length-copies-apart (a + r) (middleSpan p) t)) (omega (arith, length-each 2 (at + r) 1)) h in
+        (omega (arith, length-choose (carryAt p at) (beforeMedian p at) (upTo p at) r)) (omega (arith, length-each 2 (carryAt p at) 1))
+        (omega (arith, length-copies-apart (a + r) (middleSpan p) t)) (omega (arith, length-each 2 (at + r) 1)) h in
         let copied : (i : ℕ) → i < p .grades - 1 → Flag median i (W (flagsAt p x + i)) = λ i l. ⊎-elim
-                (λ (m : i < t). let place : a + r + i * middleSpan p ≡ a + i * middleSpan p + r = omega arith in
-                    subst (Flag median i) (sym (copies-apart-law (flagsAt p x) (a + r) (middleSpan p) t i m (q .2) ∙ ap W place)) (fl i (omega arith)))
-                (λ (m : t ≤ i). let e : g ≡ i = omega arith in let e′ : t ≡ i = omega arith in
-                    subst (λ (k : ℕ). Flag median k (W (flagsAt p x + i))) e (subst (λ (k : ℕ). Flag median g (W (flagsAt p x + k))) e′ (subst (Flag median g) (sym (one-copy (flagsAt p x + t) (at + r) (q .3))) last)))
-                (below-or-not i t) in
+        (λ (m : i < t). let place : a + r + i * middleSpan p ≡ a + i * middleSpan p + r = omega arith in
+        subst (Flag median i) (sym (copies-apart-law (flagsAt p x) (a + r) (middleSpan p) t i m (q .2) ∙ ap W place)) (fl i (omega arith)))
+        (λ (m : t ≤ i). let e : g ≡ i = omega arith in let e′ : t ≡ i = omega arith in
+        subst (λ (k : ℕ). Flag median k (W (flagsAt p x + i))) e (subst (λ (k : ℕ). Flag median g (W (flagsAt p x + k))) e′ (subst (Flag median g) (sym (one-copy (flagsAt p x + t) (at + r) (q .3))) last)))
+        (below-or-not i t) in
         let top = one-copy (x + r) (carryAt p at) (q .1) in
         let strict = one-copy (strictAt p x) (differAt p at) (q .4) in
         record {
@@ -180,7 +180,7 @@ module _ (W : ℕ → ℕ) (b : Binary W) where
           let e = last-sum p f a g in
           let d = f .d-least in
           let q = cut4 W n (firstGrade p n c) (laterGrades p a c g) (balance p at) (key p a at) (behind p a) (behind p at) (keyAt p at)
-                  (omega (arith, first-block p f n c (omega arith) hc .long)) (omega (arith, later-block p f a c g (omega arith) hc (omega arith) .long)) (omega (arith, balance-block p f at .long)) w in
+          (omega (arith, first-block p f n c (omega arith) hc .long)) (omega (arith, later-block p f a c g (omega arith) hc (omega arith) .long)) (omega (arith, balance-block p f at .long)) w in
           let start = first-law W b p f S median before s c hc first next n (q .0) in
           let sums = later-law W b p f S median before s c hc first next a g (omega arith) (omega arith) start (q .1) in
           key-law a at g (omega arith) (λ i l. flag W b p f S median before s (a + i * middleSpan p) i (sums .1 i l)) (flag W b p f S median before s at g (sums .0))

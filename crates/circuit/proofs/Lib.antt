@@ -11,3 +11,5 @@ pub mod Planning
 pub mod RowKeys
 pub mod Columns
 pub mod Accuracy
+pub mod Costs
+pub mod BoundLaws

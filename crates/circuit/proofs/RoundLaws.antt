@@ -162,8 +162,8 @@ module _ (W : ℕ → ℕ) (b : Binary W) where
           let size = candidate-end p f n in
           let end = contest-end p f e in
           let q = cut4 W n (candidate p n j) (contest p e x y) (merged p e x y t) (won at (upAt p e) (downAt p e) j) e (contestEnd p e) (mergedEnd p e t)
-                  (omega (arith, candidate-block p f n j h hj .long)) (omega (arith, contest-block p f e x y (omega arith) (omega arith) .long))
-                  (omega (arith, merged-block p f e x y t (omega arith) (omega arith) .long, merged-end p f e t)) w in
+          (omega (arith, candidate-block p f n j h hj .long)) (omega (arith, contest-block p f e x y (omega arith) (omega arith) .long))
+          (omega (arith, merged-block p f e x y t (omega arith) (omega arith) .long, merged-end p f e t)) w in
           record {
             new = keyed j n hj h (q .0);
             told = contest-law W b p f e x y (q .1);

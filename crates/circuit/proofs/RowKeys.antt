@@ -87,6 +87,7 @@ module _ (p : Plan) (f : Planned p) where
     where
       fa : Facts a
       fa = facts a ra
+
       fb : Facts b
       fb = facts b rb
 
@@ -107,6 +108,7 @@ module _ (p : Plan) (f : Planned p) where
     where
       fa : Facts a
       fa = facts a ra
+
       fb : Facts b
       fb = facts b rb
 

@@ -101,12 +101,12 @@ module _ (W : ℕ → ℕ) (b : Binary W) (p : Plan) (f : Planned p) (S : ℕ �
         total = t;
         upTo-reached = λ l. ⊎-elim
             (λ (m : g < median). let e : suc g ≡ median = omega arith in
-                omega (arith, choose-zero W b (upToMedian p at′) (at + r) (upToMedian p at) at′ r (old .no m) (c .0), low-reached at′ (suc g) t l, ap S e))
+            omega (arith, choose-zero W b (upToMedian p at′) (at + r) (upToMedian p at) at′ r (old .no m) (c .0), low-reached at′ (suc g) t l, ap S e))
             (λ (m : median ≤ g). omega (arith, choose-one W b (upToMedian p at′) (at + r) (upToMedian p at) at′ r (old .yes m) (c .0), a .upTo-reached m))
             (below-or-not g median);
         before-reached = λ l. ⊎-elim
             (λ (m : g < median). let e : suc g ≡ median = omega arith in
-                omega (arith, choose-one W b (beforeMedian p at′) (at′ + r) (beforeMedian p at) at′ r (new .yes l) (c .1), a .before-passed m, s .some g e))
+            omega (arith, choose-one W b (beforeMedian p at′) (at′ + r) (beforeMedian p at) at′ r (new .yes l) (c .1), a .before-passed m, s .some g e))
             (λ (m : median ≤ g). omega (arith, choose-one W b (beforeMedian p at′) (at′ + r) (beforeMedian p at) at′ r (new .yes l) (c .1), a .before-reached m))
             (below-or-not g median);
         before-passed = λ l. omega (arith, choose-zero W b (beforeMedian p at′) (at′ + r) (beforeMedian p at) at′ r (new .no l) (c .1), low-passed at′ (suc g) t l);
@@ -123,7 +123,7 @@ module _ (W : ℕ → ℕ) (b : Binary W) (p : Plan) (f : Planned p) (S : ℕ �
         let copy = copies at r in
         let pick = choose (at + r) n at r in
         let q = cut4 W n zeroth bits copy pick (n + r) (upToMedian p at) (beforeMedian p at)
-                (omega (arith, length-constants (p .offset) r)) (omega (arith, length-counter (n + r) (bitsAt p c 0) (apart p) (p .ballots) (p .offset) r)) (omega (arith, length-each 2 at r)) h in
+        (omega (arith, length-constants (p .offset) r)) (omega (arith, length-counter (n + r) (bitsAt p c 0) (apart p) (p .ballots) (p .offset) r)) (omega (arith, length-each 2 at r)) h in
         let t : number W at 1 (suc r) ≡ p .offset + S 0 = omega (arith, counter-law W b (n + r) (bitsAt p c 0) (apart p) (p .ballots) (p .offset) r (first-countable p f) (q .1), first) in
         let now = flag-of at 0 t in
         let offset = constants-law W b n (p .offset) r (omega (arith, f .offset-is, f .n-least)) (q .0) in
@@ -160,7 +160,7 @@ module _ (W : ℕ → ℕ) (b : Binary W) (p : Plan) (f : Planned p) (S : ℕ �
         let worst = counter (behind p at) bits (apart p) (p .ballots) (p .worst) r in
         let flip = complements (behind p at + size) (r + 1) in
         let q = cut3 W (behind p at) worst flip (chosen p at at′) at′ (upToMedian p at′)
-                (omega (arith, length-counter (behind p at) bits (apart p) (p .ballots) (p .worst) r)) (omega (arith, length-each 3 (behind p at + size) (r + 1))) h in
+        (omega (arith, length-counter (behind p at) bits (apart p) (p .ballots) (p .worst) r)) (omega (arith, length-each 3 (behind p at + size) (r + 1))) h in
         let count = counter-law W b (behind p at) bits (apart p) (p .ballots) (p .worst) r (worst-countable p f) (q .0) in
         let other = subst (λ (k : ℕ). number W at′ 1 k + number W (behind p at + size) 1 k + 1 ≡ 2 ^ k) (add-one r) (complements-law W b at′ (behind p at + size) (r + 1) (q .1)) in
         let rest : S (suc g) + ones W bits (apart p) (p .ballots) ≡ p .ballots = ap (λ (k : ℕ). S (suc g) + ones W (bitsAt p c k) (apart p) (p .ballots)) (sym hg) ∙ next (suc g) (omega arith) ∙ ap S hg ∙ s .whole in

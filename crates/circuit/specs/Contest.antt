@@ -23,9 +23,9 @@ contest p n x y =
     compareDigit n x y
     ++ compareWords (n + 4) (x + 1) (y + 1) (n + 2) (n + 3) (p .digits)
     ++ (andOf (strictAt p x) (strictAt p y)
-      ∷ andOf (upEnd (n + 4) (n + 2) (p .digits)) (bothAt p n)
-      ∷ andOf (downEnd (n + 4) (n + 3) (p .digits)) (bothAt p n)
-      ∷ [])
+    ∷ andOf (upEnd (n + 4) (n + 2) (p .digits)) (bothAt p n)
+    ∷ andOf (downEnd (n + 4) (n + 3) (p .digits)) (bothAt p n)
+    ∷ [])
     ++ compareWords (bothAt p n + 3) (flagsAt p x) (flagsAt p y) (bothAt p n + 1) (bothAt p n + 2) (p .grades - 1)
 
 abbrev pub contestEnd : Plan → ℕ → ℕ

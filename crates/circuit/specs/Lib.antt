@@ -3,3 +3,5 @@ pub mod RunningSums
 pub mod Key
 pub mod Contest
 pub mod OwnList
+pub mod Measure
+pub mod Bound

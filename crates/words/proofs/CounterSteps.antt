@@ -3,6 +3,7 @@
 use mathlib.Core.Path.{_≡_, _∙_, refl, sym, ap, subst₂}
 use mathlib.Core.List.{[], _∷_, _++_, append-nil}
 use Prim.Native.Nat.{ℕ, zero, suc, _+_, _-_, _*_, _/_, _%_, _<_, _≤_}
+use native.Mathlib.Nat.{suc-mul, zero-mul}
 use native.Mathlib.Omega.{arith}
 use lib.ListN.{length, length-append}
 use borrow.Author.Tests.{eq-eqb, ne-eqb}
@@ -163,3 +164,16 @@ few-adders m e h = omega arith
 pub adders-small : (m t : ℕ) → t ≡ adders m 0 → m < 2147483648 → t < 2147483648
 unfolding adders
 adders-small m t e h = omega arith
+
+-- a level has at most as many adders as the bits it may have, so each is at most twice as many gates and two
+pub count-size-most : (m x r most : ℕ) → m ≤ most → 0 < most → countSize m x r ≤ r * (2 * most + 2)
+unfolding countSize adders
+count-size-most m x zero most h l = omega arith
+count-size-most m x (suc r) most h l =
+    omega (arith, count-size-most ((m - 1 + x % 2 + 1) / 2) (x / 2) r most (omega arith) l, suc-mul r (2 * most + 2))
+
+pub add-size-most : (m r most : ℕ) → m ≤ most → 0 < most → addSize m r ≤ r * (2 * most + 2) + most
+unfolding addSize adders
+add-size-most m zero most h l = omega (arith, zero-mul (2 * most + 2))
+add-size-most m (suc r) most h l =
+    omega (arith, add-size-most ((m + 0 + 1) / 2) r most (omega arith) l, suc-mul r (2 * most + 2))

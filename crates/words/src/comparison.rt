@@ -11,11 +11,7 @@ pub fn up_end(n: u32, up: u32, digits: u32) -> u32
     requires { ⌜ n + 3 * digits < 2147483648 ⌝ }
     ensures { λ r. ⌜ r ≡ upEnd n up digits ⌝ }
 {
-    if digits == 0 {
-        up
-    } else {
-        n + 3 * digits - 2
-    }
+    if digits == 0 { up } else { n + 3 * digits - 2 }
 }
 
 // The wire that says so of the second word and the first.
