@@ -1,3 +1,6 @@
 pub mod CountReason
 pub mod PlainFacts
 pub mod Edges
+pub mod TestReasons
+pub mod RunReasons
+pub mod Hiding

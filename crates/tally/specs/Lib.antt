@@ -1,1 +1,6 @@
+pub mod Answer
 pub mod Count
+pub mod Test
+pub mod Run
+pub mod Hiding
+pub mod Examples

@@ -1,2 +1,5 @@
 // The counting core's entry points.
+pub mod answer;
 pub mod count;
+pub mod run;
+pub mod test;

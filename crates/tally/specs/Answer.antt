@@ -1,0 +1,34 @@
+-- What the entry points answer, in document 01's terms.
+use mathlib.Core.Option.{Option, none, some}
+use mathlib.Core.List.{List}
+use Prim.Native.Nat.{ℕ}
+use lib.ListN.{length}
+use Rattle.gates.specs.Gate.{Gate}
+use Rattle.gates.specs.Board.{conditionalCount}
+use Rattle.jury.specs.Reason.{Reason, reasonOf}
+use Rattle.tally.specs.declared.answer.Answer.{Answer}
+use Rattle.tally.specs.declared.answer.Answer.the-variants.{Accepted, Refused}
+
+-- A call is turned away for a reason, or it is accepted and gives its values.
+pub data Said (Values : Type 0) : Type 0 where
+  refused : Reason → Said Values
+  accepted : Values → Said Values
+
+-- "A call is accepted when none of the reasons to turn it away that concern it applies."
+unfoldable pub said : {Values : Type 0} → Option Reason → Values → Said Values
+said (some r) values = refused r
+said none values = accepted values
+
+-- "Accepted writing, testing and running give G and C".
+pub record Size : Type 0 where
+  pub gates : ℕ
+  pub conditional : ℕ
+
+-- "G is the number of gates in the lent list, C the number of conditional gates in it".
+unfoldable pub sizeOf : List Gate → Size
+sizeOf gs = record { gates = length gs; conditional = conditionalCount gs }
+
+-- Document 01's number and values for each case of the program's enum.
+unfoldable pub saidBy : Answer → Said Size
+saidBy (Accepted gates conditional) = accepted (record { gates = gates; conditional = conditional })
+saidBy (Refused r) = refused (reasonOf r)

@@ -1,0 +1,39 @@
+-- Demand 3: "The board tells no more than its closing bytes."
+use mathlib.Core.Path.{_≡_}
+use mathlib.Core.List.{List}
+use Prim.Native.Nat.{ℕ, _-_}
+use lib.ListN.{length, drop}
+use Rattle.gates.specs.Gate.{gatesOf}
+use Rattle.gates.specs.Wires.{wiresOf}
+use Rattle.gates.specs.Board.{MaskTape}
+use Rattle.gates.specs.Hiding.{ExactlyOne, Finished}
+use Rattle.jury.specs.declared.shape.Shape.{Shape}
+use Rattle.tally.specs.Answer.{accepted, Size, sizeOf}
+use Rattle.tally.specs.Run.{ran}
+
+-- "The last k board bytes [..] are the closing bytes."
+unfoldable pub closingBytes : Shape → List ℕ → List ℕ
+closingBytes s board = drop (length board - s .candidates) board
+
+-- What two runs of one shape and one list show of their ballots xs and ys, for wire tables vs and ws and boards bs and ds of any earlier contents. `Finished` says of a board's bytes that each shown bit is "its gate's wire a plus its own tape byte modulo 2", and that the closing bytes stand behind them.
+pub record Hidden (s : Shape) (table xs ys vs ws bs ds : List ℕ) : Type 0 where
+  -- under every mask tape the first run answers the list's own G and C, fills the wire table with wires that the tape does not alter, and finishes its board
+  pub first-answer : (t : List ℕ) → MaskTape (gatesOf table) t → ran s table xs t vs bs .answer ≡ accepted (sizeOf (gatesOf table))
+  pub first-wires : (t : List ℕ) → MaskTape (gatesOf table) t → ran s table xs t vs bs .wires ≡ wiresOf xs (gatesOf table)
+  pub first-board : (t : List ℕ) → MaskTape (gatesOf table) t → Finished (wiresOf xs (gatesOf table)) (gatesOf table) (s .candidates) t (ran s table xs t vs bs .board)
+  -- and so does the second
+  pub second-answer : (t : List ℕ) → MaskTape (gatesOf table) t → ran s table ys t ws ds .answer ≡ accepted (sizeOf (gatesOf table))
+  pub second-wires : (t : List ℕ) → MaskTape (gatesOf table) t → ran s table ys t ws ds .wires ≡ wiresOf ys (gatesOf table)
+  pub second-board : (t : List ℕ) → MaskTape (gatesOf table) t → Finished (wiresOf ys (gatesOf table)) (gatesOf table) (s .candidates) t (ran s table ys t ws ds .board)
+  -- "whatever the first tape, exactly one second tape makes the boards [..] equal in every byte"
+  pub same-board : (t : List ℕ) → MaskTape (gatesOf table) t
+      → ExactlyOne (λ (u : List ℕ). MaskTape (gatesOf table) u × (ran s table xs t vs bs .board ≡ ran s table ys u ws ds .board))
+
+-- "For any two accepted runs of one shape and one list, ours or a stranger's, with equal closing bytes".
+abbrev pub BoardTellsNoMore : Type 0
+BoardTellsNoMore =
+    (s : Shape) (table xs ys t u vs ws bs ds : List ℕ) (first second : Size)
+    → ran s table xs t vs bs .answer ≡ accepted first
+    → ran s table ys u ws ds .answer ≡ accepted second
+    → closingBytes s (ran s table xs t vs bs .board) ≡ closingBytes s (ran s table ys u ws ds .board)
+    → (first ≡ sizeOf (gatesOf table)) × (second ≡ sizeOf (gatesOf table)) × Hidden s table xs ys vs ws bs ds

@@ -1,0 +1,46 @@
+-- The entry point "Run a list".
+use mathlib.Core.Option.{Option, none, some}
+use mathlib.Core.List.{List, [], _∷_, _++_}
+use Prim.Native.Nat.{ℕ, _+_}
+use lib.Dec.{eqb}
+use lib.ListN.{length}
+use Rattle.gates.specs.Gate.{Gate, gatesOf}
+use Rattle.gates.specs.Wires.{wiresOf}
+use Rattle.gates.specs.Board.{boardOf}
+use Rattle.gates.specs.Test.{firstAboveOne}
+use Rattle.jury.specs.declared.shape.Shape.{Shape}
+use Rattle.jury.specs.Shape.{ballotBytes}
+use Rattle.jury.specs.Reason.{Reason, unless, foundAt, firstOf}
+use Rattle.jury.specs.Ballots.{ballotReasons}
+use Rattle.tally.specs.Answer.{Said, refused, accepted, Size, sizeOf}
+use Rattle.tally.specs.Test.{testReasons}
+
+-- The tests of what is lent besides the list and the ballots, in checking order: 7, 8, 9, 10. "With G gates, of which C are conditional, the tape is C bytes, the wire table I + G bytes and the board C + k bytes."
+unfoldable pub lentReasons : ℕ → ℕ → Size → List ℕ → List ℕ → List ℕ → List (Option Reason)
+lentReasons i k size tape wires board =
+    unless (eqb (length tape) (size .conditional)) 7
+    ∷ foundAt 8 (firstAboveOne 0 tape)
+    ∷ unless (eqb (length wires) (i + size .gates)) 9
+    ∷ unless (eqb (length board) (size .conditional + k)) 10
+    ∷ []
+
+-- All ten reasons in checking order. "G and C on a run are those of the lent list."
+unfoldable pub runReasons : Shape → List ℕ → List ℕ → List ℕ → List ℕ → List ℕ → List (Option Reason)
+runReasons s table ballots tape wires board =
+    testReasons s table ++ ballotReasons s ballots ++ lentReasons (ballotBytes s) (s .candidates) (sizeOf (gatesOf table)) tape wires board
+
+-- What a call leaves: its answer, the wire table and the board.
+pub record Ran : Type 0 where
+  pub answer : Said Size
+  pub wires : List ℕ
+  pub board : List ℕ
+
+-- "Nothing lent is altered" by a refusal. After an accepted run "the wire table holds every wire's value", and the board its shown bits and closing bytes.
+unfoldable pub ranAfter : Option Reason → Shape → List Gate → List ℕ → List ℕ → List ℕ → List ℕ → Ran
+ranAfter (some r) s gs ballots tape wires board = record { answer = refused r; wires = wires; board = board }
+ranAfter none s gs ballots tape wires board =
+    record { answer = accepted (sizeOf gs); wires = wiresOf ballots gs; board = boardOf (wiresOf ballots gs) gs (s .candidates) tape }
+
+unfoldable pub ran : Shape → List ℕ → List ℕ → List ℕ → List ℕ → List ℕ → Ran
+ran s table ballots tape wires board =
+    ranAfter (firstOf (runReasons s table ballots tape wires board)) s (gatesOf table) ballots tape wires board

@@ -1,0 +1,8 @@
+// What writing, testing and running a list answer.
+use jury::reason::Refusal;
+
+// The list's own G and C, or the first reason that applies.
+pub enum Answer {
+    Accepted { gates: usize, conditional: usize },
+    Refused(Refusal),
+}

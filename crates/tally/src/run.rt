@@ -1,0 +1,94 @@
+// The entry point "Run a list".
+use crate::answer::Answer;
+use gates::place::Place;
+use jury::reason::Refusal;
+use jury::reason::Verdict;
+use jury::shape::Shape;
+ghost use mathlib.Core.Path.{_≡_};
+ghost use Rattle.gates.specs.Gate.{gatesOf};
+ghost use Rattle.jury.specs.Reason.{refusedFor, firstOf};
+ghost use Rattle.tally.specs.Answer.{saidBy, said, sizeOf};
+ghost use Rattle.tally.specs.Run.{lentReasons, runReasons, ran};
+
+// Reasons 7 to 10, for a list of so many inputs, outputs, gates and conditional gates.
+fn test_lent(
+    inputs: usize,
+    outputs: usize,
+    gates: usize,
+    conditional: usize,
+    tape: &[u8],
+    wires: &[u8],
+    board: &[u8],
+) -> Verdict
+    ensures { λ r. ⌜ refusedFor r ≡ firstOf (lentReasons inputs outputs (record { gates = gates; conditional = conditional }) (now (tape .entry)) (now (wires .entry)) (now (board .entry))) ⌝ }
+{
+    if !gates::evaluate::has_length(tape, conditional, 0) {
+        return Verdict::Refused(Refusal::TapeLength);
+    }
+    if let Place::At(i) = gates::place::first_above_one(tape) {
+        return Verdict::Refused(Refusal::TapeByte(i));
+    }
+    if !gates::evaluate::has_length(wires, inputs, gates) {
+        return Verdict::Refused(Refusal::WiresLength);
+    }
+    if !gates::evaluate::has_length(board, conditional, outputs) {
+        return Verdict::Refused(Refusal::BoardLength);
+    }
+    Verdict::Accepted
+}
+
+// Reasons 1 to 10.
+fn test_run(
+    shape: Shape,
+    table: &[u32],
+    ballots: &[u8],
+    tape: &[u8],
+    wires: &[u8],
+    board: &[u8],
+) -> Answer
+    ensures { λ r. ⌜ saidBy r ≡ said (firstOf (runReasons shape (now (table .entry)) (now (ballots .entry)) (now (tape .entry)) (now (wires .entry)) (now (board .entry)))) (sizeOf (gatesOf (now (table .entry)))) ⌝ }
+{
+    let answer = crate::test::test(shape, table);
+    let Answer::Accepted { gates, conditional } = answer else {
+        return answer;
+    };
+    if let Verdict::Refused(reason) = jury::ballots::test(shape, ballots) {
+        return Answer::Refused(reason);
+    }
+    let inputs = shape.ballot_bytes();
+    match test_lent(
+        inputs,
+        shape.candidates,
+        gates,
+        conditional,
+        tape,
+        wires,
+        board,
+    ) {
+        Verdict::Refused(reason) => Answer::Refused(reason),
+        Verdict::Accepted => answer,
+    }
+}
+
+// Runs a list, whoever wrote it, on the ballots of a jury, with one mask for each conditional gate.
+pub fn run(
+    shape: Shape,
+    table: &[u32],
+    ballots: &[u8],
+    tape: &[u8],
+    wires: &mut [u8],
+    board: &mut [u8],
+) -> Answer
+    ensures { λ r. ⌜ saidBy r ≡ (ran shape (now (table .entry)) (now (ballots .entry)) (now (tape .entry)) (now (wires .entry)) (now (board .entry))) .answer ⌝ }
+    ensures { λ _. ⌜ now (wires .exit) ≡ (ran shape (now (table .entry)) (now (ballots .entry)) (now (tape .entry)) (now (wires .entry)) (now (board .entry))) .wires ⌝ }
+    ensures { λ _. ⌜ now (board .exit) ≡ (ran shape (now (table .entry)) (now (ballots .entry)) (now (tape .entry)) (now (wires .entry)) (now (board .entry))) .board ⌝ }
+{
+    let answer = test_run(shape, table, ballots, tape, wires, board);
+    if let Answer::Accepted {
+        gates: _,
+        conditional: _,
+    } = answer {
+        gates::step::run(ballots, table, shape.candidates, tape, wires, board);
+    }
+    answer
+}
