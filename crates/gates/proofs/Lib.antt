@@ -12,3 +12,4 @@ pub mod Evaluating
 pub mod Finishing
 pub mod Laws
 pub mod Hiding
+pub mod Accepting
