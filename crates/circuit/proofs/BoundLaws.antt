@@ -6,6 +6,7 @@ use mathlib.Core.Logic.{⊎-elim}
 use Prim.Native.Nat.{ℕ, zero, suc, _+_, _-_, _*_, _^_, _≤_, _<_}
 use native.Mathlib.Nat.{suc-mul, zero-mul, mul-comm, mul-assoc, mul-add, mul-suc, mul-le-mul, mul-le-mul-left}
 use native.Mathlib.Omega.{arith}
+use lib.Pow.{pow-mono}
 use Rattle.words.specs.Counter.{countSize, addSize}
 use Rattle.words.proofs.CounterSteps.{count-size-most, add-size-most}
 use Rattle.circuit.specs.declared.plan.Plan.{Plan}
@@ -107,3 +108,49 @@ module _ (p : Plan) (f : Planned p) where
     where
       square : (k t : ℕ) → k ≡ suc t → t ≤ k * k
       square k t e = omega (arith, ap (λ (x : ℕ). k * x) e, mul-suc k t)
+
+  -- all of it in plain numbers
+  pub digits-most : p .digits ≤ 7
+  digits-most = let no : ¬ (8 ≤ p .digits) = not-eight in omega arith
+    where
+      not-eight : ¬ (8 ≤ p .digits)
+      not-eight eight =
+          let high : 2 ^ 8 ≤ 2 ^ p .digits = pow-mono {i = 8} {j = p .digits} eight in
+          omega (arith, f .low, f .n-most)
+
+  nw-small : nw ≤ 2040
+  unfolding nw
+  nw-small =
+      let r : suc (p .digits) ≤ 8 = omega (arith, digits-most) in
+      let h : p .ballots * suc (p .digits) ≤ 255 * 8 = mul-le-mul (f .n-most) r in
+      omega arith
+
+  grade-small : grade ≤ 5000
+  unfolding grade w
+  grade-small = omega (arith, nw-small, digits-most)
+
+  share-small : share ≤ 5000
+  unfolding share w
+  share-small = omega (arith, nw-small, digits-most)
+
+  pub first-small : countSize (p .ballots) (p .offset) (p .digits) + (p .digits + 1) + 3 * p .digits ≤ 5000
+  first-small = omega (arith, first-most, grade-small)
+
+  pub middle-small : middleGates p ≤ 5000
+  middle-small = omega (arith, middle-most, grade-small)
+
+  pub last-small : lastGates p ≤ 5000
+  last-small = omega (arith, last-most, grade-small)
+
+  pub candidate-small : candidateGates p ≤ 35000
+  candidate-small = let h : p .grades * share ≤ 7 * 5000 = mul-le-mul (f .d-most) share-small in omega (arith, candidate-most)
+
+  pub rounds-small : roundsGates p 1 (p .candidates - 1) ≤ 280000
+  unfolding w
+  rounds-small =
+      let h : p .grades * share ≤ 7 * 5000 = mul-le-mul (f .d-most) share-small in
+      let t = p .candidates - 1 in
+      let few : t ≤ 7 = omega (arith, f .k-most) in
+      let round : p .grades * share + (20 * suc (p .digits) + 6 * p .grades + 20) ≤ 36000 = omega (arith, digits-most, f .d-most) in
+      let turns : t * (p .grades * share + (20 * suc (p .digits) + 6 * p .grades + 20)) ≤ 7 * 36000 = mul-le-mul few round in
+      omega (arith, rounds-most 1 t (omega (arith, f .k-least, f .k-most)))

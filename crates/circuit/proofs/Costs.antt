@@ -51,26 +51,43 @@ copies-costs x w = record { gates = length-each 2 x w; conditional = cost-copies
 complements-costs : (x w : ℕ) → Costs (complements x w) w 0
 complements-costs x w = record { gates = length-each 3 x w; conditional = cost-complements x w }
 
-choose-costs : (f x y w : ℕ) → Costs (choose f x y w) w (w * markOf 7)
+pub choose-costs : (f x y w : ℕ) → Costs (choose f x y w) w (w * markOf 7)
 choose-costs f x y w = record { gates = length-choose f x y w; conditional = cost-choose f x y w }
 
-any-costs : (n s at d m : ℕ) → Costs (anyOf n s at d m) m (m * markOf 5)
+pub any-costs : (n s at d m : ℕ) → Costs (anyOf n s at d m) m (m * markOf 5)
 any-costs n s at d m = record { gates = length-chain 5 n s at d m; conditional = cost-any n s at d m }
 
-add-bit-costs : (n x y e w : ℕ) → Costs (addWithBit n x y e w) (3 * w) (addBitCost e w)
+pub add-bit-costs : (n x y e w : ℕ) → Costs (addWithBit n x y e w) (3 * w) (addBitCost e w)
 add-bit-costs n x y e w = record { gates = length-add-bit n x y e w; conditional = cost-add-bit n x y e w }
 
-compare-digit-costs : (n x y : ℕ) → Costs (compareDigit n x y) 4 (2 * markOf 4)
+pub compare-digit-costs : (n x y : ℕ) → Costs (compareDigit n x y) 4 (2 * markOf 4)
 compare-digit-costs n x y = record { gates = length-compare-digit n x y; conditional = cost-compare-digit n x y }
 
-compare-costs : (n x y up down w : ℕ) → Costs (compareWords n x y up down w) (3 * w) (w * (markOf 6 + 2 * markOf 7))
+pub compare-costs : (n x y up down w : ℕ) → Costs (compareWords n x y up down w) (3 * w) (w * (markOf 6 + 2 * markOf 7))
 compare-costs n x y up down w = record { gates = length-compare n x y up down w; conditional = cost-compare n x y up down w }
 
-counter-costs : (n at d m x r : ℕ) → Costs (counter n at d m x r) (countSize m x r + (r + 1)) (countCost m x r)
+pub counter-costs : (n at d m x r : ℕ) → Costs (counter n at d m x r) (countSize m x r + (r + 1)) (countCost m x r)
 counter-costs n at d m x r = record { gates = length-counter n at d m x r; conditional = cost-counter n at d m x r }
 
-accumulator-costs : (n a at d m r : ℕ) → Costs (accumulator n a at d m r) (addSize m r + (r + 1)) (addCost m r)
+pub accumulator-costs : (n a at d m r : ℕ) → Costs (accumulator n a at d m r) (addSize m r + (r + 1)) (addCost m r)
 accumulator-costs n a at d m r = record { gates = length-accumulator n a at d m r; conditional = cost-accumulator n a at d m r }
+
+-- who has won so far
+still-costs : (at down j : ℕ) → Costs (stillWon at down j) j (j * markOf 4)
+unfolding stillWon
+still-costs at down zero = costs refl (sym (zero-mul (markOf 4))) nothing
+still-costs at down (suc j) = costs (omega arith) (omega (arith, suc-mul j (markOf 4))) (one-more (andOf at down) (still-costs (at + 1) down j))
+
+unfoldable pub wonCost : ℕ → ℕ
+wonCost zero = 0
+wonCost (suc zero) = 0
+wonCost (suc (suc j)) = suc (suc j) * markOf 4
+
+pub won-costs : (at up down j : ℕ) → Costs (won at up down j) (j + 1) (wonCost j)
+unfolding won wonCost
+won-costs at up down zero = costs (omega arith) (omega (arith, free-copy)) (one-more (copyOf up) nothing)
+won-costs at up down (suc zero) = costs (omega arith) (omega (arith, free-copy)) (one-more (copyOf down) (one-more (copyOf up) nothing))
+won-costs at up down (suc (suc j)) = costs (omega arith) (omega (arith, free-copy)) (both (still-costs at down (suc (suc j))) (one-more (copyOf up) nothing))
 
 -- the blocks of the circuit
 module _ (p : Plan) where
@@ -210,22 +227,6 @@ module _ (p : Plan) where
       two-more a b m =
           let e : 2 + a + b ≡ suc (suc (a + b)) = omega arith in
           omega (arith, ap (λ (k : ℕ). k * m) e, suc-mul (suc (a + b)) m, suc-mul (a + b) m)
-
-  still-costs : (at down j : ℕ) → Costs (stillWon at down j) j (j * markOf 4)
-  unfolding stillWon
-  still-costs at down zero = costs refl (sym (zero-mul (markOf 4))) nothing
-  still-costs at down (suc j) = costs (omega arith) (omega (arith, suc-mul j (markOf 4))) (one-more (andOf at down) (still-costs (at + 1) down j))
-
-  unfoldable pub wonCost : ℕ → ℕ
-  wonCost zero = 0
-  wonCost (suc zero) = 0
-  wonCost (suc (suc j)) = suc (suc j) * markOf 4
-
-  pub won-costs : (at up down j : ℕ) → Costs (won at up down j) (j + 1) (wonCost j)
-  unfolding won wonCost
-  won-costs at up down zero = costs (omega arith) (omega (arith, free-copy)) (one-more (copyOf up) nothing)
-  won-costs at up down (suc zero) = costs (omega arith) (omega (arith, free-copy)) (one-more (copyOf down) (one-more (copyOf up) nothing))
-  won-costs at up down (suc (suc j)) = costs (omega arith) (omega (arith, free-copy)) (both (still-costs at down (suc (suc j))) (one-more (copyOf up) nothing))
 
   unfoldable pub roundGates : ℕ → ℕ → ℕ
   roundGates j t = candidateGates + contestGates + mergedGates t + (j + 1)

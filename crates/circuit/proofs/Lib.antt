@@ -13,3 +13,5 @@ pub mod Columns
 pub mod Accuracy
 pub mod Costs
 pub mod BoundLaws
+pub mod Measuring
+pub mod OwnListLaws
