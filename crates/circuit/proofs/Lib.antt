@@ -15,3 +15,4 @@ pub mod Costs
 pub mod BoundLaws
 pub mod Measuring
 pub mod OwnListLaws
+pub mod ContestWriters

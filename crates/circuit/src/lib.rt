@@ -1,2 +1,3 @@
 // The own list of a shape: the majority gauge as a circuit.
+mod contest;
 pub mod plan;
