@@ -25,7 +25,8 @@ use Rattle.jury.proofs.Limits.{within}
 use Rattle.jury.proofs.Tabulate.{length-tabulate}
 use Rattle.jury.proofs.CountFacts.{counts-length, counts-row, counts-at, counts-sum}
 use Rattle.jury.proofs.RunningSums.{running-start, running-next, q-is}
-use Rattle.jury.proofs.Closing.{BeatsOthers, closing-length, closing-one, closing-zero}
+use Rattle.jury.specs.Winner.{BeatsOthers}
+use Rattle.jury.proofs.Closing.{closing-length, closing-one, closing-zero}
 use Rattle.words.specs.Gates.{constant}
 use Rattle.words.specs.Word.{ones, number}
 use Rattle.words.proofs.Numbers.{Binary, bit-cases}

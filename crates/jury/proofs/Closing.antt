@@ -10,6 +10,7 @@ use native.Mathlib.Omega.{arith}
 use lib.ListN.{length, getD, take, drop, length-append, length-take, length-drop, List·getD-append, List·getD-eq-default}
 use lib.Seq.{getD-take, getD-drop, getD-append-add, getD-append-seam, take-append-seam, drop-append-add, append-snoc}
 use Rattle.jury.specs.Gauge.{beats, beatsAll, closingFrom, closingOf}
+use Rattle.jury.specs.Winner.{BeatsOthers}
 use Rattle.jury.specs.Inner.{winsIn}
 use Rattle.jury.proofs.Cases.{same-or-not, below-or-not}
 use Rattle.jury.proofs.Flags.{and-both, never-true}
@@ -108,10 +109,6 @@ closing-from-at earlier (a ∷ rows) (suc i) h =
 pub closing-at : (rows : List (List ℕ)) (i : ℕ) → i < length rows → getD (closingOf rows) i 0 ≡ cond (winsIn rows i) 1 0
 unfolding closingOf
 closing-at rows i h = closing-from-at [] rows i h ∙ ap (λ (n : ℕ). cond {A = ℕ} (winsIn rows n) 1 0) {x = 0 + i} {y = i} (omega arith)
-
--- row i beats every other row
-abbrev pub BeatsOthers : List (List ℕ) → ℕ → Type 0
-BeatsOthers rows i = (j : ℕ) → j < length rows → j ≢ i → beats (getD rows i []) (getD rows j []) ≡ true
 
 module _ (rows : List (List ℕ)) (i : ℕ) (h : i < length rows) where
   winner-beats : winsIn rows i ≡ true → BeatsOthers rows i

@@ -4,6 +4,7 @@ pub mod Reason
 pub mod Ballots
 pub mod Counts
 pub mod Gauge
+pub mod Winner
 pub mod Panels
 pub mod Accepted
 pub mod Inner

@@ -4,3 +4,6 @@ pub mod Edges
 pub mod TestReasons
 pub mod RunReasons
 pub mod Hiding
+pub mod OwnList
+pub mod Writing
+pub mod Demands

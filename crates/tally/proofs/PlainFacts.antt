@@ -18,7 +18,8 @@ use Rattle.jury.proofs.Cases.{below-or-not}
 use Rattle.jury.proofs.Limits.{within}
 use Rattle.tally.proofs.CountReason.{count-accepts}
 use Rattle.jury.proofs.CountFacts.{counts-length}
-use Rattle.jury.proofs.Closing.{BeatsOthers, closing-length, closing-one}
+use Rattle.jury.specs.Winner.{BeatsOthers}
+use Rattle.jury.proofs.Closing.{closing-length, closing-one}
 use Rattle.jury.proofs.Rows.{eight-at, eight-length}
 
 after-length : (r : Option Reason) (bytes : List ℕ) → length (closingAfter r bytes) ≡ 8

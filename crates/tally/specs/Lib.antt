@@ -4,3 +4,5 @@ pub mod Test
 pub mod Run
 pub mod Hiding
 pub mod Examples
+pub mod Write
+pub mod Demands

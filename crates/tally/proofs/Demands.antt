@@ -1,0 +1,191 @@
+-- The three demands hold.
+-- Assumes nothing.
+use mathlib.Core.Path.{_≡_, _∙_, refl, sym, ap, subst}
+use mathlib.Core.Bool.{Bool, true, false}
+use mathlib.Core.Option.{Option, none, some}
+use mathlib.Core.Logic.{_≢_, _↔_}
+use mathlib.Core.List.{List}
+use Prim.Native.Nat.{ℕ, _+_, _≤_, _<_}
+use native.Mathlib.Omega.{arith}
+use lib.Dec.{eqb}
+use lib.ListN.{length, getD, take}
+use Rattle.gates.specs.Gate.{Gate, gatesOf}
+use Rattle.gates.specs.Wires.{wiresOf, outputsOf}
+use Rattle.gates.specs.Board.{MaskTape}
+use Rattle.gates.specs.Test.{firstAboveOne}
+use Rattle.gates.specs.declared.place.Place.{Place}
+use Rattle.gates.specs.declared.place.Place.the-variants.{At, Nowhere}
+use Rattle.gates.proofs.WireLaws.{length-wires}
+use Rattle.jury.specs.declared.shape.Shape.{Shape}
+use Rattle.jury.specs.Shape.{ballotBytes}
+use Rattle.jury.specs.Reason.{Reason, reasonAt, unless, foundAt, firstOf}
+use Rattle.jury.specs.Ballots.{rowsOf, firstBadRow, ballotReasons}
+use Rattle.jury.specs.Accepted.{AcceptedBallots}
+use Rattle.jury.specs.Counts.{countsOf}
+use Rattle.jury.specs.Gauge.{closingOf}
+use Rattle.jury.specs.Winner.{BeatsOthers}
+use Rattle.jury.proofs.BallotLaws.{judged, judged-by}
+use Rattle.jury.proofs.CountFacts.{counts-length}
+use Rattle.jury.proofs.Closing.{closing-one, closing-zero}
+use Rattle.circuit.specs.OwnList.{ownList}
+use Rattle.circuit.proofs.Accuracy.{own-list-is-accurate}
+use Rattle.tally.specs.Answer.{refused, accepted, said, Size, sizeOf}
+use Rattle.tally.specs.Count.{plainClosing}
+use Rattle.tally.specs.Test.{testReasons, testSaid}
+use Rattle.tally.specs.Write.{writeReasons, writeSaid, written, OwnListHolds}
+use Rattle.tally.specs.Run.{Ran, lentReasons, runReasons, ranAfter, ran}
+use Rattle.tally.specs.Hiding.{closingBytes}
+use Rattle.tally.specs.Demands.{Memory, listIn, Accuracy, ThreeDemands}
+use Rattle.tally.proofs.PlainFacts.{plain-first}
+use Rattle.tally.proofs.TestReasons.{never, orElse, TestPassed, test-passed}
+use Rattle.tally.proofs.RunReasons.{lentFound, lent-by, firstOfThree, run-first, said-refused, RunPassed, run-passed, ran-by}
+use Rattle.tally.proofs.Hiding.{ran-accepted, run-answer, run-wires, run-finished, run-closing, board-tells-no-more}
+use Rattle.tally.proofs.OwnList.{own-list-holds}
+use Rattle.tally.proofs.Writing as writing
+
+-- the whole of a call that was refused
+module _ (s : Shape) (table ballots tape wires board : List ℕ) where
+  after-refusal : (o : Option Reason) (r : Reason) → ranAfter o s (gatesOf table) ballots tape wires board .answer ≡ refused r
+      → (o ≡ some r) × (ranAfter o s (gatesOf table) ballots tape wires board .wires ≡ wires) × (ranAfter o s (gatesOf table) ballots tape wires board .board ≡ board)
+  unfolding ranAfter
+  after-refusal none r e = never (sizeOf (gatesOf table)) r (sym e)
+  after-refusal (some q) r e = let same : q ≡ r = cc in (ap some same, refl, refl)
+
+  whole : ran s table ballots tape wires board ≡ ranAfter (firstOf (runReasons s table ballots tape wires board)) s (gatesOf table) ballots tape wires board
+  whole = ran-by s table ballots tape wires board (firstOf (runReasons s table ballots tape wires board)) refl
+
+  ran-refused : (r : Reason) → ran s table ballots tape wires board .answer ≡ refused r
+      → (firstOf (runReasons s table ballots tape wires board) ≡ some r) × (ran s table ballots tape wires board .wires ≡ wires) × (ran s table ballots tape wires board .board ≡ board)
+  ran-refused r e =
+      let o = firstOf (runReasons s table ballots tape wires board) in
+      let q = after-refusal o r (sym (ap (λ (z : Ran). z .answer) whole) ∙ e) in
+      (q .0, ap (λ (z : Ran). z .wires) whole ∙ q .1, ap (λ (z : Ran). z .board) whole ∙ q .2)
+
+  -- no run changes a length
+  lengths : (o : Option Reason) → firstOf (runReasons s table ballots tape wires board) ≡ o
+      → (length (ran s table ballots tape wires board .wires) ≡ length wires) × (length (ran s table ballots tape wires board .board) ≡ length board)
+  unfolding ranAfter
+  lengths (some r) e =
+      let f = ran-by s table ballots tape wires board (some r) e in
+      (ap (λ (z : Ran). length (z .wires)) f, ap (λ (z : Ran). length (z .board)) f)
+  lengths none e =
+      let p = run-passed s table ballots tape wires board e in
+      let f = run-finished s table ballots wires board tape p tape (p .mask) in (
+        ap length (run-wires s table ballots wires board tape p tape (p .mask)) ∙ omega (arith, length-wires ballots (gatesOf table), p .ballotsPassed .size, p .wiresLength),
+        omega (arith, f .size, p .boardLength),
+      )
+
+-- reasons past the third have larger numbers
+ballots-number : (size : Bool) (byte row : Place) (r : Reason) → judged size byte row ≡ some r → 4 ≤ r .number
+unfolding judged unless foundAt firstOf reasonAt
+ballots-number false byte row r e = let n : 4 ≡ r .number = cc in omega arith
+ballots-number true (At i) row r e = let n : 5 ≡ r .number = cc in omega arith
+ballots-number true Nowhere (At i) r e = let n : 6 ≡ r .number = cc in omega arith
+ballots-number true Nowhere Nowhere r e = let z : _≡_ {A = ℕ} 0 1 = cc in absurd (omega arith)
+
+lent-number : (t : Bool) (p : Place) (u v : Bool) (r : Reason) → lentFound t p u v ≡ some r → 4 ≤ r .number
+unfolding lentFound unless foundAt firstOf reasonAt
+lent-number false p u v r e = let n : 7 ≡ r .number = cc in omega arith
+lent-number true (At i) u v r e = let n : 8 ≡ r .number = cc in omega arith
+lent-number true Nowhere false v r e = let n : 9 ≡ r .number = cc in omega arith
+lent-number true Nowhere true false r e = let n : 10 ≡ r .number = cc in omega arith
+lent-number true Nowhere true true r e = let z : _≡_ {A = ℕ} 0 1 = cc in absurd (omega arith)
+
+-- where the list passes its test, the first reason is past the third
+late : (a b c : Option Reason) (r : Reason) → a ≡ none → ((q : Reason) → b ≡ some q → 4 ≤ q .number) → ((q : Reason) → c ≡ some q → 4 ≤ q .number)
+    → firstOfThree a b c ≡ some r → 4 ≤ r .number
+unfolding firstOfThree orElse
+late none none c r p f g e = g r e
+late none (some q) c r p f g e = f r e
+late (some q) b c r p f g e = let z : _≡_ {A = ℕ} 0 1 = cc in absurd (omega arith)
+
+module _ (s : Shape) (table : List ℕ) (size : Size) (p : writing.WritePassed s table size) where
+  list : List ℕ
+  list = listIn s size table
+
+  gates : gatesOf list ≡ ownList s
+  unfolding list
+  gates = writing.gates-in s table size p
+
+  own-size : sizeOf (gatesOf list) ≡ size
+  own-size = ap sizeOf gates ∙ sym (p .own-size)
+
+  test : TestPassed s list (sizeOf (gatesOf list))
+  unfolding list
+  test =
+      test-passed s list (sizeOf (gatesOf list))
+      (ap (testSaid s) (writing.list-in s table size p) ∙ own-list-holds s (p .within) .passes ∙ ap accepted (ap sizeOf (sym gates)))
+
+  number : (ballots tape wires board : List ℕ) (r : Reason) → ran s list ballots tape wires board .answer ≡ refused r → 4 ≤ r .number
+  number ballots tape wires board r e =
+      let lent = lentReasons (ballotBytes s) (s .candidates) (sizeOf (gatesOf list)) tape wires board in
+      late (firstOf (testReasons s list)) (firstOf (ballotReasons s ballots)) (firstOf lent) r (test .reasons)
+      (λ q f. ballots-number _ _ _ q (sym (judged-by s ballots _ _ _ refl refl refl) ∙ f))
+      (λ q f. lent-number _ _ _ _ q (sym (lent-by (ballotBytes s) (s .candidates) (sizeOf (gatesOf list)) tape wires board _ _ _ _ refl refl refl refl) ∙ f))
+      (sym (run-first s list ballots tape wires board) ∙ ran-refused s list ballots tape wires board r e .0)
+
+  accepts : (ballots tape wires board : List ℕ) → AcceptedBallots s ballots → MaskTape (gatesOf list) tape
+      → length wires ≡ ballotBytes s + size .gates → length board ≡ size .conditional + s .candidates → ran s list ballots tape wires board .answer ≡ accepted size
+  unfolding sizeOf
+  accepts ballots tape wires board a m w b =
+      let q : RunPassed s list ballots tape wires board = record {
+        test = test;
+        ballotsPassed = a;
+        mask = m;
+        wiresLength = w ∙ ap (λ (z : Size). ballotBytes s + z .gates) (sym own-size);
+        boardLength = b ∙ ap (λ (z : Size). z .conditional + s .candidates) (sym own-size);
+      } in
+      run-answer s list ballots wires board tape q tape m ∙ ap accepted own-size
+
+  module _ (ballots tape wires board : List ℕ) (answer : Size) (e : ran s list ballots tape wires board .answer ≡ accepted answer) where
+    passed : RunPassed s list ballots tape wires board
+    passed = run-passed s list ballots tape wires board (ran-accepted s list ballots wires board tape answer e .0)
+
+    closing : closingBytes s (ran s list ballots tape wires board .board) ≡ closingOf (countsOf s ballots)
+    closing =
+        run-closing s list ballots wires board tape passed tape (passed .mask)
+        ∙ ap (λ (gs : List Gate). outputsOf (s .candidates) (wiresOf ballots gs)) gates
+        ∙ own-list-is-accurate s ballots (passed .ballotsPassed)
+
+    plain : closingBytes s (ran s list ballots tape wires board .board) ≡ take (s .candidates) (plainClosing s ballots)
+    plain = closing ∙ sym (plain-first s ballots (passed .ballotsPassed))
+
+    module _ (i : ℕ) (h : i < s .candidates) where
+      byte : getD (closingBytes s (ran s list ballots tape wires board .board)) i 0 ≡ getD (closingOf (countsOf s ballots)) i 0
+      byte = ap (λ (bytes : List ℕ). getD bytes i 0) closing
+
+      inside : i < length (countsOf s ballots)
+      inside = omega (arith, counts-length s ballots)
+
+      winner : (getD (closingBytes s (ran s list ballots tape wires board .board)) i 0 ≡ 1) ↔ BeatsOthers (countsOf s ballots) i
+      winner = let iff = closing-one (countsOf s ballots) i inside in (λ one. iff .0 (sym byte ∙ one), λ beaten. byte ∙ iff .1 beaten)
+
+      loser : (getD (closingBytes s (ran s list ballots tape wires board .board)) i 0 ≡ 0) ↔ (¬ BeatsOthers (countsOf s ballots) i)
+      loser = let iff = closing-zero (countsOf s ballots) i inside in (λ zero. iff .0 (sym byte ∙ zero), λ unbeaten. byte ∙ iff .1 unbeaten)
+
+memory : Memory
+memory =
+    record {
+      write-refused = λ s table r e. writing.write-refused s table r (refused-reason s table r e) .1;
+      write-length = writing.write-length;
+      run-refused = λ s table ballots tape wires board r e. let q = ran-refused s table ballots tape wires board r e in (q .1, q .2);
+      run-length = λ s table ballots tape wires board. lengths s table ballots tape wires board (firstOf (runReasons s table ballots tape wires board)) refl;
+    }
+  where
+    refused-reason : (s : Shape) (table : List ℕ) (r : Reason) → writeSaid s table ≡ refused r → firstOf (writeReasons s table) ≡ some r
+    refused-reason s table r e = said-refused (firstOf (writeReasons s table)) (sizeOf (ownList s)) r (unfold writeSaid in e)
+
+accuracy : (s : Shape) (table : List ℕ) (size : Size) → writeSaid s table ≡ accepted size → Accuracy s table size
+unfolding list
+accuracy s table size e =
+    let p = writing.write-passed s table size e in
+    record {
+      never-2-or-3 = λ ballots tape wires board r f. let n = number s table size p ballots tape wires board r f in (λ two. omega (arith, two), λ three. omega (arith, three));
+      runs = accepts s table size p;
+      plain = plain s table size p;
+      winners = winner s table size p;
+      losers = loser s table size p;
+    }
+
+pub three-demands : ThreeDemands
+three-demands = record { memory = memory; accuracy = accuracy; hiding = board-tells-no-more }

@@ -1,0 +1,52 @@
+-- The three demands side by side, over the definitions that the entry points' contracts equate with the program's answers and with all that is lent. That every entry point ends, and reads and writes lent memory only inside its length, is part of what is proved of every function.
+use mathlib.Core.Path.{_≡_}
+use mathlib.Core.Logic.{_≢_, _↔_}
+use mathlib.Core.List.{List}
+use Prim.Native.Nat.{ℕ, _+_, _*_, _<_}
+use lib.ListN.{length, getD, take}
+use Rattle.gates.specs.Gate.{gatesOf}
+use Rattle.gates.specs.Board.{conditionalCount, MaskTape}
+use Rattle.jury.specs.declared.shape.Shape.{Shape}
+use Rattle.jury.specs.Shape.{ballotBytes}
+use Rattle.jury.specs.Reason.{Reason}
+use Rattle.jury.specs.Accepted.{AcceptedBallots}
+use Rattle.jury.specs.Counts.{countsOf}
+use Rattle.jury.specs.Winner.{BeatsOthers}
+use Rattle.tally.specs.Answer.{refused, accepted, Size}
+use Rattle.tally.specs.Count.{plainClosing}
+use Rattle.tally.specs.Write.{writeSaid, written}
+use Rattle.tally.specs.Run.{ran}
+use Rattle.tally.specs.Hiding.{closingBytes, BoardTellsNoMore}
+
+-- Demand 1: "a refusal gives a number and a place and alters no lent byte", and no call changes a length.
+pub record Memory : Type 0 where
+  pub write-refused : (s : Shape) (table : List ℕ) (r : Reason) → writeSaid s table ≡ refused r → written s table ≡ table
+  pub write-length : (s : Shape) (table : List ℕ) → length (written s table) ≡ length table
+  pub run-refused : (s : Shape) (table ballots tape wires board : List ℕ) (r : Reason) → ran s table ballots tape wires board .answer ≡ refused r
+      → (ran s table ballots tape wires board .wires ≡ wires) × (ran s table ballots tape wires board .board ≡ board)
+  pub run-length : (s : Shape) (table ballots tape wires board : List ℕ)
+      → (length (ran s table ballots tape wires board .wires) ≡ length wires) × (length (ran s table ballots tape wires board .board) ≡ length board)
+
+-- The list that was written: the first 4G numbers of the table after an accepted write.
+unfoldable pub listIn : Shape → Size → List ℕ → List ℕ
+listIn s size table = take (4 * size .gates) (written s table)
+
+-- Demand 2: "Under the list that the core writes for a shape, candidate i's closing byte is 1 exactly when i beats each other candidate by the four conditions of the majority gauge [..], else 0. The plain count gives the same bytes." It holds after an accepted write into a table of any earlier contents, G and C being what the write answered.
+pub record Accuracy (s : Shape) (table : List ℕ) (size : Size) : Type 0 where
+  -- a run of the list is never refused for 2 or 3
+  pub never-2-or-3 : (ballots tape wires board : List ℕ) (r : Reason) → ran s (listIn s size table) ballots tape wires board .answer ≡ refused r → (r .number ≢ 2) × (r .number ≢ 3)
+  -- with accepted ballots, a mask tape and buffers of the right lengths it is accepted, and answers the same G and C
+  pub runs : (ballots tape wires board : List ℕ) → AcceptedBallots s ballots → MaskTape (gatesOf (listIn s size table)) tape
+      → length wires ≡ ballotBytes s + size .gates → length board ≡ size .conditional + s .candidates → ran s (listIn s size table) ballots tape wires board .answer ≡ accepted size
+  -- an accepted run: its k closing bytes are the plain count's, and say who wins
+  pub plain : (ballots tape wires board : List ℕ) (answer : Size) → ran s (listIn s size table) ballots tape wires board .answer ≡ accepted answer
+      → closingBytes s (ran s (listIn s size table) ballots tape wires board .board) ≡ take (s .candidates) (plainClosing s ballots)
+  pub winners : (ballots tape wires board : List ℕ) (answer : Size) → ran s (listIn s size table) ballots tape wires board .answer ≡ accepted answer
+      → (i : ℕ) → i < s .candidates → (getD (closingBytes s (ran s (listIn s size table) ballots tape wires board .board)) i 0 ≡ 1) ↔ BeatsOthers (countsOf s ballots) i
+  pub losers : (ballots tape wires board : List ℕ) (answer : Size) → ran s (listIn s size table) ballots tape wires board .answer ≡ accepted answer
+      → (i : ℕ) → i < s .candidates → (getD (closingBytes s (ran s (listIn s size table) ballots tape wires board .board)) i 0 ≡ 0) ↔ (¬ BeatsOthers (countsOf s ballots) i)
+
+pub record ThreeDemands : Type 0 where
+  pub memory : Memory
+  pub accuracy : (s : Shape) (table : List ℕ) (size : Size) → writeSaid s table ≡ accepted size → Accuracy s table size
+  pub hiding : BoardTellsNoMore

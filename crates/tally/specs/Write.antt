@@ -1,0 +1,43 @@
+-- The entry point "Write the list of a shape".
+use mathlib.Core.Path.{_≡_}
+use mathlib.Core.Option.{Option, none, some}
+use mathlib.Core.List.{List, [], _∷_, _++_}
+use Prim.Native.Nat.{ℕ, _*_, _≤_}
+use lib.Dec.{leb}
+use lib.ListN.{length, drop}
+use Rattle.gates.specs.Gate.{numbersOf}
+use Rattle.gates.specs.Wires.{wiresOf, outputsOf}
+use Rattle.jury.specs.declared.shape.Shape.{Shape}
+use Rattle.jury.specs.Shape.{withinLimits}
+use Rattle.jury.specs.Reason.{Reason, unless, firstOf}
+use Rattle.jury.specs.Accepted.{AcceptedBallots}
+use Rattle.jury.specs.Counts.{countsOf}
+use Rattle.jury.specs.Gauge.{closingOf}
+use Rattle.circuit.specs.OwnList.{ownList}
+use Rattle.circuit.specs.Bound.{gateBound}
+use Rattle.tally.specs.Answer.{Said, accepted, said, Size, sizeOf}
+use Rattle.tally.specs.Test.{testSaid}
+
+-- The reasons that concern writing, in checking order: 1, and 2, "The gate table is too short for four numbers a gate when a list is written".
+unfoldable pub writeReasons : Shape → List ℕ → List (Option Reason)
+writeReasons s table = unless (withinLimits s) 1 ∷ unless (leb (4 * length (ownList s)) (length table)) 2 ∷ []
+
+unfoldable pub writeSaid : Shape → List ℕ → Said Size
+writeSaid s table = said (firstOf (writeReasons s table)) (sizeOf (ownList s))
+
+-- The table afterwards: the list's numbers, and "Numbers after the list are not touched"; "Nothing lent is altered" by a refusal.
+unfoldable pub writtenAfter : Option Reason → List ℕ → List ℕ → List ℕ
+writtenAfter (some r) numbers table = table
+writtenAfter none numbers table = numbers ++ drop (length numbers) table
+
+unfoldable pub written : Shape → List ℕ → List ℕ
+written s table = writtenAfter (firstOf (writeReasons s table)) (numbersOf (ownList s)) table
+
+-- What holds of the own list of a shape within its limits.
+pub record OwnListHolds (s : Shape) : Type 0 where
+  -- the tester accepts its numbers for that shape, with its own G and C, C being the count of conditional marks in it
+  pub passes : testSaid s (numbersOf (ownList s)) ≡ accepted (sizeOf (ownList s))
+  -- "G for a shape is at most 2kdnw + kd(30w + 20) + k²(20w + 6d + 20) + 2"
+  pub bounded : length (ownList s) ≤ gateBound s
+  -- its closing bytes are the gauge's, whatever the accepted ballots
+  pub closing : (ballots : List ℕ) → AcceptedBallots s ballots → outputsOf (s .candidates) (wiresOf ballots (ownList s)) ≡ closingOf (countsOf s ballots)
