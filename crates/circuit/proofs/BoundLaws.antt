@@ -145,6 +145,13 @@ module _ (p : Plan) (f : Planned p) where
   pub candidate-small : candidateGates p ≤ 35000
   candidate-small = let h : p .grades * share ≤ 7 * 5000 = mul-le-mul (f .d-most) share-small in omega (arith, candidate-most)
 
+  pub contest-small : contestGates p ≤ 100
+  unfolding contestGates
+  contest-small = omega (arith, digits-most, f .d-most)
+
+  pub merged-small : (t : ℕ) → mergedGates p t ≤ 100
+  merged-small t = omega (arith, merged-most t, digits-most, f .d-most)
+
   pub rounds-small : roundsGates p 1 (p .candidates - 1) ≤ 280000
   unfolding w
   rounds-small =

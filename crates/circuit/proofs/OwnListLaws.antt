@@ -7,10 +7,12 @@ use Prim.Native.Nat.{ℕ, suc, _+_, _-_, _≤_}
 use native.Mathlib.Omega.{arith}
 use lib.Dec.{eqb}
 use lib.ListN.{length}
+use borrow.Author.Tests.{eq-eqb, ne-eqb}
 use Rattle.gates.specs.Gate.{Gate}
 use Rattle.gates.specs.Board.{conditionalCount}
 use Rattle.gates.proofs.Counting.{count-most}
 use Rattle.words.specs.Gates.{constant}
+use Rattle.words.proofs.CostLaws.{free-bit}
 use Rattle.jury.specs.declared.shape.Shape.{Shape}
 use Rattle.jury.specs.Shape.{withinLimits}
 use Rattle.jury.specs.Width.{widthOf}
@@ -19,8 +21,21 @@ use Rattle.circuit.specs.Plan.{planOf}
 use Rattle.circuit.specs.OwnList.{circuit, ownList}
 use Rattle.circuit.specs.Bound.{boundOf, gateBound}
 use Rattle.circuit.proofs.Planning.{planned, top-width}
-use Rattle.circuit.proofs.Costs.{circuit-costs}
+use Rattle.circuit.proofs.Costs.{Costs, nothing, one-more, costs, circuit-costs}
 use Rattle.circuit.proofs.BoundLaws.{gates-most, candidate-small, rounds-small}
+
+-- "A single candidate wins": one gate, which is free
+pub single-list : (s : Shape) → s .candidates ≡ 1 → ownList s ≡ constant 1 ∷ []
+unfolding ownList
+single-list s e = rw (eq-eqb (s .candidates) 1 e)
+
+pub single-costs : Costs (constant 1 ∷ []) 1 0
+single-costs = costs (omega arith) (omega (arith, free-bit 1 (omega arith))) (one-more (constant 1) nothing)
+
+-- else the circuit of the plan
+pub circuit-list : (s : Shape) → (s .candidates ≡ 1 → ⊥) → ownList s ≡ circuit (planOf s)
+unfolding ownList
+circuit-list s e = rw (ne-eqb (s .candidates) 1 e)
 
 -- what holds of the length of both the circuit and one gate alone holds of the own list's
 either : (s : Shape) (bound : ℕ) → 1 ≤ bound → length (circuit (planOf s)) ≤ bound → length (ownList s) ≤ bound

@@ -1,3 +1,4 @@
 // The own list of a shape: the majority gauge as a circuit.
 mod contest;
+pub mod measure;
 pub mod plan;
