@@ -16,3 +16,4 @@ pub mod BoundLaws
 pub mod Measuring
 pub mod OwnListLaws
 pub mod ContestWriters
+pub mod Writers

@@ -2,3 +2,4 @@
 mod contest;
 pub mod measure;
 pub mod plan;
+mod sums;
