@@ -1,5 +1,6 @@
 pub mod Answer
 pub mod Count
+pub mod Measure
 pub mod Test
 pub mod Run
 pub mod Hiding

@@ -1,5 +1,6 @@
 // The counting core's entry points.
 pub mod answer;
 pub mod count;
+pub mod measure;
 pub mod run;
 pub mod test;

@@ -1,0 +1,62 @@
+-- `tally::measure::measure` meets its contract: the circuit layer measures the own list of a shape within its limits.
+-- Assumes nothing.
+use mathlib.Core.Path.{_≡_, _∙_, refl, sym, ap}
+use mathlib.Core.Bool.{Bool, true, false}
+use mathlib.Core.List.{[], _∷_}
+use Prim.Native.Nat.{ℕ}
+use borrow.Author.Needs.{needs}
+use borrow.Author.Tests.{not-true, not-false}
+use Rattle.jury.specs.declared.shape.Shape.{Shape}
+use Rattle.jury.specs.Shape.{withinLimits, ballotBytes}
+use Rattle.jury.specs.Reason.{reasonOf, reasonAt, unless, firstOf}
+use Rattle.jury.proofs.Flags.{true-T}
+use Rattle.words.specs.declared.cost.Cost.{Cost}
+use Rattle.circuit.specs.OwnList.{ownList}
+use Rattle.circuit.specs.Measure.{costOf}
+use Rattle.tally.specs.Answer.{refused, accepted, said}
+use Rattle.tally.specs.Measure.{Measures, measuresOf, measureSaid, measuredBy}
+use Rattle.tally.proofs.measure.measure.Statement.{statement}
+use Rattle.tally.proofs.measure.measure.Tie as tie
+
+outside : (s : Shape) → withinLimits s ≡ false → measureSaid s ≡ refused (reasonAt 1 0)
+unfolding measureSaid said unless firstOf
+outside s e = ap (λ (b : Bool). said (firstOf (unless b 1 ∷ [])) (measuresOf s)) e
+
+inside : (s : Shape) → withinLimits s ≡ true → measureSaid s ≡ accepted (measuresOf s)
+unfolding measureSaid said unless firstOf
+inside s e = ap (λ (b : Bool). said (firstOf (unless b 1 ∷ [])) (measuresOf s)) e
+
+-- the cost of the own list, and I
+measured : (s : Shape) (cost : Cost) (inputs : ℕ) → cost ≡ costOf (ownList s) → inputs ≡ ballotBytes s → record { gates = cost .gates; conditional = cost .conditional; inputs = inputs } ≡ measuresOf s
+unfolding measuresOf costOf
+measured s cost inputs e f =
+    ap (λ (c : Cost). record { gates = c .gates; conditional = c .conditional; inputs = inputs }) e
+    ∙ ap (λ (i : ℕ). record { gates = costOf (ownList s) .gates; conditional = costOf (ownList s) .conditional; inputs = i }) f
+
+is-within-limits-requires : tie.Need-is-within-limits-requires
+is-within-limits-requires c κs = search needs
+
+returns : tie.Need-returns
+unfolding measuredBy reasonOf
+returns c = sym (outside (c .before .before .args .shape) (sym (c .before .is-within-limits .ensures) ∙ not-true (c .before .is-within-limits .result) (c .if1 .taken)))
+
+-- the shape is within its limits
+limits : (c : tie.Else1) → withinLimits (c .before .before .args .shape) ≡ true
+limits c = sym (c .before .is-within-limits .ensures) ∙ not-false (c .before .is-within-limits .result) (c .if1 .left)
+
+own-list-requires : tie.Need-own-list-requires
+own-list-requires c κs = true-T (withinLimits (c .before .before .args .shape)) (limits c)
+
+ballot-bytes-requires : tie.Need-ballot-bytes-requires
+ballot-bytes-requires c κs = true-T (withinLimits (c .before .before .before .args .shape)) (limits (c .before))
+
+returns-2 : tie.Need-returns-2
+unfolding measuredBy
+returns-2 c =
+    let s = c .before .before .before .before .args .shape in
+    ap accepted (measured s (c .before .own-list .result) (c .ballot-bytes .result) (c .before .own-list .ensures) (c .ballot-bytes .ensures)) ∙ sym (inside s (limits (c .before .before)))
+
+pub measure-spec : {M : Type 1} → statement M
+measure-spec =
+    tie.close
+    (tie.spec is-within-limits-requires returns own-list-requires ballot-bytes-requires returns-2)

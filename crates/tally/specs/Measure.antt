@@ -1,0 +1,30 @@
+-- The entry point "Measure a shape".
+use mathlib.Core.List.{[], _∷_}
+use Prim.Native.Nat.{ℕ}
+use lib.ListN.{length}
+use Rattle.gates.specs.Board.{conditionalCount}
+use Rattle.jury.specs.declared.shape.Shape.{Shape}
+use Rattle.jury.specs.Shape.{withinLimits, ballotBytes}
+use Rattle.jury.specs.Reason.{reasonOf, unless, firstOf}
+use Rattle.circuit.specs.OwnList.{ownList}
+use Rattle.tally.specs.Answer.{Said, refused, accepted, said}
+use Rattle.tally.specs.declared.measure.Measured.{Measured}
+use Rattle.tally.specs.declared.measure.Measured.the-variants.{Accepted, Refused}
+
+-- "G, C and I of its own list".
+pub record Measures : Type 0 where
+  pub gates : ℕ
+  pub conditional : ℕ
+  pub inputs : ℕ
+
+unfoldable pub measuresOf : Shape → Measures
+measuresOf s = record { gates = length (ownList s); conditional = conditionalCount (ownList s); inputs = ballotBytes s }
+
+-- Only reason 1 concerns a measure.
+unfoldable pub measureSaid : Shape → Said Measures
+measureSaid s = said (firstOf (unless (withinLimits s) 1 ∷ [])) (measuresOf s)
+
+-- Document 01's number and values for each case of the program's enum.
+unfoldable pub measuredBy : Measured → Said Measures
+measuredBy (Accepted gates conditional inputs) = accepted (record { gates = gates; conditional = conditional; inputs = inputs })
+measuredBy (Refused r) = refused (reasonOf r)

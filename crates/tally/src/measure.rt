@@ -1,0 +1,30 @@
+// The entry point "Measure a shape".
+use jury::reason::Refusal;
+use jury::shape::Shape;
+ghost use mathlib.Core.Path.{_≡_};
+ghost use Rattle.tally.specs.Measure.{measuredBy, measureSaid};
+
+// G, C and I of the own list, or the reason that applies.
+pub enum Measured {
+    Accepted {
+        gates: usize,
+        conditional: usize,
+        inputs: usize,
+    },
+    Refused(Refusal),
+}
+
+// Measures the own list of a shape without writing it.
+pub fn measure(shape: Shape) -> Measured
+    ensures { λ r. ⌜ measuredBy r ≡ measureSaid shape ⌝ }
+{
+    if !shape.is_within_limits() {
+        return Measured::Refused(Refusal::Shape);
+    }
+    let cost = circuit::measure::own_list(shape);
+    Measured::Accepted {
+        gates: cost.gates,
+        conditional: cost.conditional,
+        inputs: shape.ballot_bytes(),
+    }
+}
