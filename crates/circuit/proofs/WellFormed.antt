@@ -122,7 +122,7 @@ module _ (p : Plan) (f : Planned p) where
       (add-bit-block (balanceAt p b) (beforeMedian p b) (upTo p b) (p .ballots % 2) (p .digits) (omega arith) (omega arith))) (omega arith)
       (some-block m (balanceAt p b + 1) (p .digits) (omega arith)))
 
-  some-below : (n none at m k : ℕ) → none < k → at + 3 * m < k + 3 → n + (m - 1) ≤ k → someEnd n none at m < k
+  pub some-below : (n none at m k : ℕ) → none < k → at + 3 * m < k + 3 → n + (m - 1) ≤ k → someEnd n none at m < k
   unfolding someEnd
   some-below n none at zero k h hat l = h
   some-below n none at (suc m) k h hat l = chain-below n at m k (omega arith) (omega arith)
@@ -131,7 +131,7 @@ module _ (p : Plan) (f : Planned p) where
   carry-below b h = top-below (balanceAt p b) (p .inputs + p .ballots % 2) (p .digits) (keyAt p b) (omega arith) (omega arith)
 
   -- a flag wire of an earlier grade
-  flags-below : (a t n : ℕ) → lastSum p a t + p .digits < n → Below n (a + p .digits) (middleSpan p) t
+  pub flags-below : (a t n : ℕ) → lastSum p a t + p .digits < n → Below n (a + p .digits) (middleSpan p) t
   unfolding lastSum
   flags-below a zero n h = tt
   flags-below a (suc t) n h = all-below n (a + p .digits) (middleSpan p) (suc t) (omega (arith, suc-mul t (middleSpan p)))

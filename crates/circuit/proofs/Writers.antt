@@ -2,22 +2,25 @@
 -- Assumes nothing.
 use mathlib.Core.Path.{_≡_, _∙_, refl, sym, ap}
 use mathlib.Core.List.{List, _++_}
-use Prim.Native.Nat.{ℕ, zero, suc, _+_, _-_, _*_, _^_, _≤_, _<_}
+use Prim.Native.Nat.{ℕ, zero, suc, _+_, _-_, _*_, _/_, _%_, _^_, _≤_, _<_}
 use native.Mathlib.Nat.{pow-succ', mul-le-mul}
 use native.Mathlib.Omega.{arith}
-use lib.ListN.{length}
+use lib.ListN.{length, length-append}
 use Rattle.gates.specs.Gate.{Gate}
 use Rattle.words.specs.declared.writer.Writer.{Writer}
 use Rattle.words.specs.Writing.{Room, Wrote}
+use Rattle.words.specs.Adder.{addWithBit}
 use Rattle.words.specs.Choice.{constants, copies, complements, choose}
 use Rattle.words.specs.Counter.{counter, countSize, accumulator, addSize}
-use Rattle.words.proofs.Laws.{length-constants, length-each, length-counter, length-accumulator}
+use Rattle.words.proofs.Laws.{length-constants, length-each, length-choose, length-add-bit, length-counter, length-accumulator}
 use Rattle.words.proofs.CounterSteps.{add-size-most}
 use Rattle.words.proofs.Writing.{wrote-both, wrote-as}
 use Rattle.circuit.specs.declared.plan.Plan.{Plan}
 use Rattle.circuit.specs.Plan.{Planned, bitsAt, apart}
-use Rattle.circuit.specs.RunningSums.{behind, firstSum, firstGrade, chosen, middleSpan, middleGrade, lastSpan, lastGrade}
+use Rattle.circuit.specs.RunningSums.{beforeMedian, behind, firstSum, firstGrade, chosen, middleSpan, middleGrade, lastSpan, lastGrade, laterGrades, lastSum}
+use Rattle.circuit.specs.Key.{someOf, copiesApart, upTo, balanceAt, carryAt, differAt, balance, key, candidate}
 use Rattle.circuit.proofs.PlanFacts.{row-below}
+use Rattle.circuit.proofs.Costs.{balance-costs, key-costs}
 use Rattle.circuit.proofs.WellFormed.{middle-span, last-span}
 
 -- a block, and the next one under another name
@@ -116,3 +119,73 @@ module _ (p : Plan) (f : Planned p) where
       (wrote-as w t _ _ t₁ w₁ (ap (λ (n : ℕ). counter n (bitsAt p c (p .grades - 1)) (apart p) (p .ballots) (p .worst) (p .digits)) e) h₁)
       h₂ (ap (λ (n : ℕ). complements n (p .digits + 1)) e₁))
       h₃ (ap (chosen p a) e₂)
+
+-- the sum up to the median and the difference of the two sums, behind the last sum's words
+pub balance-wrote : (p : Plan) (w : Writer) (t : List ℕ) (b : ℕ) (t₁ : List ℕ) (w₁ : Writer) (t₂ : List ℕ) (w₂ : Writer) (t₃ : List ℕ) (w₃ : Writer) (t₄ : List ℕ) (w₄ : Writer) → w .wire ≡ behind p b
+    → Wrote w t (constants (p .ballots / 2) (p .digits)) t₁ w₁
+    → Wrote w₁ t₁ (choose (b + p .digits) (b + p .digits + 1) (w .wire) (p .digits)) t₂ w₂
+    → Wrote w₂ t₂ (addWithBit (w₂ .wire) (b + 2 * p .digits + 1) (w .wire + p .digits) (p .ballots % 2) (p .digits)) t₃ w₃
+    → Wrote w₃ t₃ (someOf (w₃ .wire) (w .wire + 2 * p .digits + 1) (p .digits)) t₄ w₄
+    → Wrote w t (balance p b) t₄ w₄
+unfolding balance
+balance-wrote p w t b t₁ w₁ t₂ w₂ t₃ w₃ t₄ w₄ e h₁ h₂ h₃ h₄ =
+    let r = p .digits in
+    let x = b + 2 * r + 1 in
+    let e₂ : w₂ .wire ≡ balanceAt p b = omega (arith, e, h₁ .wires, length-constants (p .ballots / 2) r, h₂ .wires, length-choose (b + r) (b + r + 1) (w .wire) r) in
+    let e₃ : w₃ .wire ≡ balanceAt p b + 3 * r = omega (arith, e₂, h₃ .wires, length-add-bit (w₂ .wire) x (w .wire + r) (p .ballots % 2) r) in
+    wrote-then w t _ t₃ w₃ _ _ t₄ w₄
+    (wrote-then w t _ t₂ w₂ _ _ t₃ w₃
+    (wrote-then w t _ t₁ w₁ _ _ t₂ w₂ h₁ h₂ (ap (λ (y : ℕ). choose (b + r) (b + r + 1) y r) e))
+    h₃ (ap (λ (n : ℕ). addWithBit n x (w .wire + r) (p .ballots % 2) r) e₂ ∙ ap (λ (y : ℕ). addWithBit (balanceAt p b) x (y + r) (p .ballots % 2) r) e))
+    h₄ (ap (λ (n : ℕ). someOf n (w .wire + 2 * r + 1) r) e₃ ∙ ap (λ (y : ℕ). someOf (balanceAt p b + 3 * r) (y + 2 * r + 1) r) e)
+
+-- the lowest part of the key
+pub sum-long : (p : Plan) (b : ℕ) → length (choose (carryAt p b) (beforeMedian p b) (upTo p b) (p .digits) ++ copies (carryAt p b) 1) ≡ p .digits + 1
+sum-long p b =
+    omega (arith, length-append (choose (carryAt p b) (beforeMedian p b) (upTo p b) (p .digits)) (copies (carryAt p b) 1), length-choose (carryAt p b) (beforeMedian p b) (upTo p b) (p .digits), length-each 2 (carryAt p b) 1)
+
+-- the key, by the wires that its code computes
+pub key-wrote : (p : Plan) (w : Writer) (t : List ℕ) (a b : ℕ) (t₁ : List ℕ) (w₁ : Writer) (d : ℕ) (t₂ : List ℕ) (w₂ : Writer) (t₃ : List ℕ) (w₃ : Writer) (x : ℕ) (t₄ : List ℕ) (w₄ : Writer)
+    → Wrote w t (choose (carryAt p b) (beforeMedian p b) (upTo p b) (p .digits) ++ copies (carryAt p b) 1) t₁ w₁
+    → d ≡ middleSpan p
+    → Wrote w₁ t₁ (copiesApart (a + p .digits) d (p .grades - 2)) t₂ w₂
+    → Wrote w₂ t₂ (copies (b + p .digits) 1) t₃ w₃
+    → x ≡ differAt p b
+    → Wrote w₃ t₃ (copies x 1) t₄ w₄
+    → Wrote w t (key p a b) t₄ w₄
+unfolding key
+key-wrote p w t a b t₁ w₁ d t₂ w₂ t₃ w₃ x t₄ w₄ h₁ ed h₂ h₃ ex h₄ =
+    wrote-then w t _ t₃ w₃ _ _ t₄ w₄
+    (wrote-both w t _ t₂ w₂ _ t₃ w₃
+    (wrote-then w t _ t₁ w₁ _ _ t₂ w₂ h₁ h₂ (ap (λ (s : ℕ). copiesApart (a + p .digits) s (p .grades - 2)) ed))
+    h₃)
+    h₄ (ap (λ (y : ℕ). copies y 1) ex)
+
+-- the whole of a candidate
+pub candidate-long : (p : Plan) (n c : ℕ) → length (candidate p n c)
+    ≡ length (firstGrade p n c) + length (laterGrades p (firstSum p n) c (p .grades - 2)) + (5 * p .digits + (p .digits - 1)) + (p .digits + (p .grades - 2) + 3)
+unfolding candidate
+candidate-long p n c =
+    let a = firstSum p n in
+    let b = lastSum p a (p .grades - 2) in
+    let F = firstGrade p n c in
+    let L = laterGrades p a c (p .grades - 2) in
+    omega (arith, length-append (F ++ L ++ balance p b) (key p a b), length-append (F ++ L) (balance p b), length-append F L, balance-costs p b .gates, key-costs p a b .gates)
+
+pub candidate-wrote : (p : Plan) (w : Writer) (t : List ℕ) (c : ℕ) (t₁ : List ℕ) (w₁ : Writer) (a : ℕ) (t₂ : List ℕ) (w₂ : Writer) (b : ℕ) (t₃ : List ℕ) (w₃ : Writer) (t₄ : List ℕ) (w₄ : Writer)
+    → Wrote w t (firstGrade p (w .wire) c) t₁ w₁
+    → a ≡ firstSum p (w .wire)
+    → Wrote w₁ t₁ (laterGrades p a c (p .grades - 2)) t₂ w₂
+    → b ≡ lastSum p a (p .grades - 2)
+    → Wrote w₂ t₂ (balance p b) t₃ w₃
+    → Wrote w₃ t₃ (key p a b) t₄ w₄
+    → Wrote w t (candidate p (w .wire) c) t₄ w₄
+unfolding candidate
+candidate-wrote p w t c t₁ w₁ a t₂ w₂ b t₃ w₃ t₄ w₄ h₁ ea h₂ eb h₃ h₄ =
+    let first = firstSum p (w .wire) in
+    let e : b ≡ lastSum p first (p .grades - 2) = eb ∙ ap (λ (x : ℕ). lastSum p x (p .grades - 2)) ea in
+    wrote-then w t _ t₃ w₃ _ _ t₄ w₄
+    (wrote-then w t _ t₂ w₂ _ _ t₃ w₃
+    (wrote-then w t _ t₁ w₁ _ _ t₂ w₂ h₁ h₂ (ap (λ (x : ℕ). laterGrades p x c (p .grades - 2)) ea))
+    h₃ (ap (balance p) e))
+    h₄ (ap (λ (x : ℕ). key p x b) ea ∙ ap (key p first) e)
