@@ -1,18 +1,15 @@
 -- A cost known by its two numbers, from the costs of blocks that make it up to the cost of the whole.
 -- Assumes nothing.
-use mathlib.Core.Path.{_≡_, _∙_, refl, sym, ap, ap₂}
+use mathlib.Core.Path.{_≡_, _∙_, sym, ap, ap₂}
 use mathlib.Core.Bool.{cond}
-use mathlib.Core.List.{List, [], _∷_}
-use Prim.Native.Nat.{ℕ, zero, suc, _+_, _-_, _*_, _^_, _≤_, _<_}
-use native.Mathlib.Nat.{suc-mul, zero-mul, mul-le-mul, mul-le-mul-left}
+use mathlib.Core.List.{List, []}
+use Prim.Native.Nat.{ℕ, _+_, _*_, _≤_}
+use native.Mathlib.Nat.{mul-le-mul-left}
 use native.Mathlib.Omega.{arith}
-use lib.ListN.{length}
 use Rattle.gates.specs.Gate.{Gate}
 use Rattle.gates.specs.Kind.{conditionalOf}
-use Rattle.gates.specs.Board.{conditionalCount}
 use Rattle.gates.proofs.Counting.{count-one, count-nil, count-most}
 use Rattle.words.specs.declared.cost.Cost.{Cost}
-use Rattle.words.specs.Gates.{andOf}
 use Rattle.words.specs.Cost.{markOf}
 use Rattle.words.proofs.CostLaws.{cost-cons, mark-most}
 use Rattle.circuit.specs.Measure.{costOf, Modest}

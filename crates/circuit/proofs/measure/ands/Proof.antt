@@ -3,7 +3,6 @@
 use mathlib.Core.Path.{_∙_, refl, sym, ap}
 use Prim.Native.Nat.{ℕ, _*_}
 use native.Mathlib.Omega.{arith}
-use Rattle.words.specs.Cost.{markOf}
 use Rattle.circuit.proofs.Measuring.{same-cost, mark-is, marks-most}
 use borrow.Author.Needs.{needs}
 use Rattle.circuit.proofs.measure.ands.Statement.{statement}
@@ -13,7 +12,9 @@ mark-requires : tie.Need-mark-requires
 mark-requires c κs = search needs
 
 mul-t5 : tie.Need-mul-t5
-mul-t5 c = let t = c .before .args .count in omega (arith, ap (λ (n : ℕ). t * n) (c .mark .ensures ∙ sym (mark-is 4)), marks-most t 4)
+mul-t5 c =
+    let t = c .before .args .count in
+    omega (arith, ap (λ (n : ℕ). t * n) (c .mark .ensures ∙ sym (mark-is 4)), marks-most t 4)
 
 returns : tie.Need-returns
 returns c = same-cost refl (ap (λ (n : ℕ). c .before .args .count * n) (c .mark .ensures ∙ sym (mark-is 4)))

@@ -1,7 +1,7 @@
 -- `circuit::measure::balance` meets its contract: free constants, a choice for each digit, an adder, and an "or" for each digit but one.
 -- Assumes nothing.
 use mathlib.Core.Path.{_∙_, ap}
-use Prim.Native.Nat.{ℕ, _+_, _-_, _*_, _/_, _%_, _≤_, _<_}
+use Prim.Native.Nat.{ℕ, _+_, _-_, _*_, _%_}
 use native.Mathlib.Omega.{arith}
 use Rattle.words.specs.Cost.{markOf}
 use Rattle.words.specs.Cost.{addBitCost}
@@ -37,7 +37,10 @@ choose-requires : tie.Need-choose-requires
 choose-requires c κs = search needs
 
 plus-requires : tie.Need-plus-requires
-plus-requires c κs = let s = c .before .before in let h = digits-most (s .args .p) (s .pre) in (modest (constants (c .before)) (omega arith), modest (chosen c) (omega arith))
+plus-requires c κs =
+    let s = c .before .before in
+    let h = digits-most (s .args .p) (s .pre) in
+    (modest (constants (c .before)) (omega arith), modest (chosen c) (omega arith))
 
 add-with-bit-requires : tie.Need-add-with-bit-requires
 add-with-bit-requires c κs = search needs
@@ -49,13 +52,21 @@ any-of-requires : tie.Need-any-of-requires
 any-of-requires c κs = search needs
 
 plus-requires-2 : tie.Need-plus-requires-2
-plus-requires-2 c κs = let s = c .before .before .before .before .before .before .before in let h = digits-most (s .args .p) (s .pre) in (modest (up-to (c .before .before .before .before)) (omega arith), modest (added (c .before .before)) (omega arith))
+plus-requires-2 c κs =
+    let s = c .before .before .before .before .before .before .before in
+    let h = digits-most (s .args .p) (s .pre) in
+    (modest (up-to (c .before .before .before .before)) (omega arith), modest (added (c .before .before)) (omega arith))
 
 plus-requires-3 : tie.Need-plus-requires-3
-plus-requires-3 c κs = let s = c .before .before .before .before .before .before .before .before in let h = digits-most (s .args .p) (s .pre) in (modest (compared c) (omega arith), modest (differing (c .before)) (omega arith))
+plus-requires-3 c κs =
+    let s = c .before .before .before .before .before .before .before .before in
+    let h = digits-most (s .args .p) (s .pre) in
+    (modest (compared c) (omega arith), modest (differing (c .before)) (omega arith))
 
 returns : tie.Need-returns
-returns c = let s = c .before .before .before .before .before .before .before .before .before in answers (sum (compared (c .before)) (differing (c .before .before)) (c .plus3 .ensures)) (balance-costs (s .args .p) 0) (omega arith) (omega arith)
+returns c =
+    let s = c .before .before .before .before .before .before .before .before .before in
+    answers (sum (compared (c .before)) (differing (c .before .before)) (c .plus3 .ensures)) (balance-costs (s .args .p) 0) (omega arith) (omega arith)
 
 pub balance-spec : {M : Type 1} → statement M
 balance-spec =

@@ -1,7 +1,7 @@
 -- `circuit::measure::candidate` meets its contract: the best grade, the other ones, the balance and the key.
 -- Assumes nothing.
-use mathlib.Core.Path.{_≡_, _∙_, refl, sym, ap}
-use Prim.Native.Nat.{ℕ, _+_, _-_, _*_, _/_, _%_, _≤_, _<_}
+use mathlib.Core.Path.{_≡_, refl, sym}
+use Prim.Native.Nat.{_+_, _-_, _*_, _%_}
 use native.Mathlib.Omega.{arith}
 use Rattle.words.specs.Cost.{markOf}
 use Rattle.circuit.specs.declared.plan.Plan.{Plan}
@@ -47,22 +47,36 @@ later-grades-requires : tie.Need-later-grades-requires
 later-grades-requires c κs = search needs
 
 plus-requires : tie.Need-plus-requires
-plus-requires c κs = let s = c .before .before in let h = candidate-small (s .args .p) (s .pre) in let e = sizes (s .args .p) in (modest (best (c .before)) (omega arith), modest (later c) (omega arith))
+plus-requires c κs =
+    let s = c .before .before in
+    let h = candidate-small (s .args .p) (s .pre) in
+    let e = sizes (s .args .p) in
+    (modest (best (c .before)) (omega arith), modest (later c) (omega arith))
 
 balance-requires : tie.Need-balance-requires
 balance-requires c κs = search needs
 
 plus-requires-2 : tie.Need-plus-requires-2
-plus-requires-2 c κs = let s = c .before .before .before .before in let h = candidate-small (s .args .p) (s .pre) in let e = sizes (s .args .p) in (modest (sums (c .before)) (omega arith), modest (balanced c) (omega arith))
+plus-requires-2 c κs =
+    let s = c .before .before .before .before in
+    let h = candidate-small (s .args .p) (s .pre) in
+    let e = sizes (s .args .p) in
+    (modest (sums (c .before)) (omega arith), modest (balanced c) (omega arith))
 
 key-requires : tie.Need-key-requires
 key-requires c κs = search needs
 
 plus-requires-3 : tie.Need-plus-requires-3
-plus-requires-3 c κs = let s = c .before .before .before .before .before .before in let h = candidate-small (s .args .p) (s .pre) in let e = sizes (s .args .p) in (modest (compared (c .before)) (omega arith), modest (keyed c) (omega arith))
+plus-requires-3 c κs =
+    let s = c .before .before .before .before .before .before in
+    let h = candidate-small (s .args .p) (s .pre) in
+    let e = sizes (s .args .p) in
+    (modest (compared (c .before)) (omega arith), modest (keyed c) (omega arith))
 
 returns : tie.Need-returns
-returns c = let p = c .before .before .before .before .before .before .before .args .p in answers (sum (compared (c .before .before)) (keyed (c .before)) (c .plus3 .ensures)) (candidate-costs p 0 0) (sym (sizes p)) (sym (marks p))
+returns c =
+    let p = c .before .before .before .before .before .before .before .args .p in
+    answers (sum (compared (c .before .before)) (keyed (c .before)) (c .plus3 .ensures)) (candidate-costs p 0 0) (sym (sizes p)) (sym (marks p))
 
 pub candidate-spec : {M : Type 1} → statement M
 candidate-spec =

@@ -1,10 +1,8 @@
 -- `circuit::measure::circuit` meets its contract: two constants, a candidate and the rounds of the others.
 -- Assumes nothing.
-use mathlib.Core.Path.{_≡_, _∙_, refl, sym, ap}
-use Prim.Native.Nat.{ℕ, _+_, _-_, _*_, _/_, _%_, _≤_, _<_}
+use mathlib.Core.Path.{refl}
+use Prim.Native.Nat.{_+_, _-_}
 use native.Mathlib.Omega.{arith}
-use Rattle.words.specs.Cost.{markOf}
-use Rattle.circuit.specs.declared.plan.Plan.{Plan}
 use Rattle.circuit.proofs.Costs.{candidateGates, candidateCost, candidate-costs, roundsGates, roundsCost, rounds-costs, circuit-costs}
 use Rattle.circuit.proofs.BoundLaws.{candidate-small, rounds-small}
 use Rattle.circuit.proofs.Measuring.{Sized, sized, known, sum, modest, answers}
@@ -31,13 +29,17 @@ candidate-requires : tie.Need-candidate-requires
 candidate-requires c κs = search needs
 
 plus-requires : tie.Need-plus-requires
-plus-requires c κs = let s = c .before .before in (modest (constants (c .before)) (omega arith), modest (one c) (omega (arith, candidate-small (s .args .p) (s .pre))))
+plus-requires c κs =
+    let s = c .before .before in
+    (modest (constants (c .before)) (omega arith), modest (one c) (omega (arith, candidate-small (s .args .p) (s .pre))))
 
 rounds-requires : tie.Need-rounds-requires
 rounds-requires c κs = search needs
 
 plus-requires-2 : tie.Need-plus-requires-2
-plus-requires-2 c κs = let s = c .before .before .before .before in (modest (first (c .before)) (omega (arith, candidate-small (s .args .p) (s .pre))), modest (others c) (omega (arith, rounds-small (s .args .p) (s .pre))))
+plus-requires-2 c κs =
+    let s = c .before .before .before .before in
+    (modest (first (c .before)) (omega (arith, candidate-small (s .args .p) (s .pre))), modest (others c) (omega (arith, rounds-small (s .args .p) (s .pre))))
 
 returns : tie.Need-returns
 returns c = answers (sum (first (c .before .before)) (others (c .before)) (c .plus2 .ensures)) (circuit-costs (c .before .before .before .before .before .args .p)) refl (omega arith)

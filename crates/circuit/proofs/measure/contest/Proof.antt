@@ -1,7 +1,7 @@
 -- `circuit::measure::contest` meets its contract: ranks compared, three gates that join them with p and q, and flags compared.
 -- Assumes nothing.
-use mathlib.Core.Path.{_≡_, _∙_, refl, sym, ap}
-use Prim.Native.Nat.{ℕ, _+_, _-_, _*_, _/_, _%_, _≤_, _<_}
+use mathlib.Core.Path.{_≡_, refl, sym}
+use Prim.Native.Nat.{_+_, _-_, _*_}
 use native.Mathlib.Omega.{arith}
 use Rattle.words.specs.Cost.{markOf}
 use Rattle.circuit.specs.declared.plan.Plan.{Plan}
@@ -45,7 +45,10 @@ compare-words-requires : tie.Need-compare-words-requires
 compare-words-requires c κs = search needs
 
 plus-requires : tie.Need-plus-requires
-plus-requires c κs = let s = c .before .before in let h = digits-most (s .args .p) (s .pre) in (modest (digit (c .before)) (omega arith), modest (digits c) (omega arith))
+plus-requires c κs =
+    let s = c .before .before in
+    let h = digits-most (s .args .p) (s .pre) in
+    (modest (digit (c .before)) (omega arith), modest (digits c) (omega arith))
 
 sub-compare-words : tie.Need-sub-compare-words
 sub-compare-words c = search needs
@@ -57,13 +60,21 @@ ands-requires : tie.Need-ands-requires
 ands-requires c κs = search needs
 
 plus-requires-2 : tie.Need-plus-requires-2
-plus-requires-2 c κs = let s = c .before .before .before .before .before .before in let h = digits-most (s .args .p) (s .pre) in (modest (ranks (c .before .before .before)) (omega arith), modest (joins c) (omega arith))
+plus-requires-2 c κs =
+    let s = c .before .before .before .before .before .before in
+    let h = digits-most (s .args .p) (s .pre) in
+    (modest (ranks (c .before .before .before)) (omega arith), modest (joins c) (omega arith))
 
 plus-requires-3 : tie.Need-plus-requires-3
-plus-requires-3 c κs = let s = c .before .before .before .before .before .before .before in let h = digits-most (s .args .p) (s .pre) in (modest (joined c) (omega arith), modest (flags (c .before .before)) (omega (arith, s .pre .d-most)))
+plus-requires-3 c κs =
+    let s = c .before .before .before .before .before .before .before in
+    let h = digits-most (s .args .p) (s .pre) in
+    (modest (joined c) (omega arith), modest (flags (c .before .before)) (omega (arith, s .pre .d-most)))
 
 returns : tie.Need-returns
-returns c = let p = c .before .before .before .before .before .before .before .before .args .p in answers (sum (joined (c .before)) (flags (c .before .before .before)) (c .plus3 .ensures)) (contest-costs p 0 0 0) (sym (sizes p)) (sym (marks p))
+returns c =
+    let p = c .before .before .before .before .before .before .before .before .args .p in
+    answers (sum (joined (c .before)) (flags (c .before .before .before)) (c .plus3 .ensures)) (contest-costs p 0 0 0) (sym (sizes p)) (sym (marks p))
 
 pub contest-spec : {M : Type 1} → statement M
 contest-spec =

@@ -1,6 +1,6 @@
 -- `circuit::measure::first_grade` meets its contract: a counter, free constants and copies, and a choice for each digit.
 -- Assumes nothing.
-use Prim.Native.Nat.{ℕ, _+_, _-_, _*_, _/_, _%_, _≤_, _<_}
+use Prim.Native.Nat.{_+_, _*_}
 use native.Mathlib.Omega.{arith}
 use Rattle.words.specs.Cost.{markOf}
 use Rattle.words.specs.Counter.{countSize}
@@ -37,13 +37,21 @@ free-requires : tie.Need-free-requires
 free-requires c κs = search needs
 
 plus-requires : tie.Need-plus-requires
-plus-requires c κs = let s = c .before .before .before .before in let h = first-small (s .args .p) (s .pre) in (modest (counted (c .before .before .before)) (omega arith), modest (copied c) (omega arith))
+plus-requires c κs =
+    let s = c .before .before .before .before in
+    let h = first-small (s .args .p) (s .pre) in
+    (modest (counted (c .before .before .before)) (omega arith), modest (copied c) (omega arith))
 
 plus-requires-2 : tie.Need-plus-requires-2
-plus-requires-2 c κs = let s = c .before .before .before .before .before in let h = first-small (s .args .p) (s .pre) in (modest (both-counted c) (omega arith), modest (chosen (c .before .before .before)) (omega arith))
+plus-requires-2 c κs =
+    let s = c .before .before .before .before .before in
+    let h = first-small (s .args .p) (s .pre) in
+    (modest (both-counted c) (omega arith), modest (chosen (c .before .before .before)) (omega arith))
 
 returns : tie.Need-returns
-returns c = let s = c .before .before .before .before .before .before in answers (sum (both-counted (c .before)) (chosen (c .before .before .before .before)) (c .plus2 .ensures)) (first-costs (s .args .p) 0 0) (omega arith) (omega arith)
+returns c =
+    let s = c .before .before .before .before .before .before in
+    answers (sum (both-counted (c .before)) (chosen (c .before .before .before .before)) (c .plus2 .ensures)) (first-costs (s .args .p) 0 0) (omega arith) (omega arith)
 
 pub first-grade-spec : {M : Type 1} → statement M
 first-grade-spec =

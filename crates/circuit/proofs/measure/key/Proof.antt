@@ -1,6 +1,6 @@
 -- `circuit::measure::key` meets its contract: a choice for each digit, and free copies.
 -- Assumes nothing.
-use Prim.Native.Nat.{ℕ, _+_, _-_, _*_, _/_, _%_, _≤_, _<_}
+use Prim.Native.Nat.{_+_, _*_}
 use native.Mathlib.Omega.{arith}
 use Rattle.words.specs.Cost.{markOf}
 use Rattle.circuit.proofs.Costs.{choose-costs, key-costs}
@@ -26,10 +26,14 @@ free-requires : tie.Need-free-requires
 free-requires c κs = search needs
 
 plus-requires : tie.Need-plus-requires
-plus-requires c κs = let s = c .before .before .before in (modest (chosen (c .before .before)) (omega (arith, digits-most (s .args .p) (s .pre))), modest (copied c) (omega (arith, s .pre .d-most)))
+plus-requires c κs =
+    let s = c .before .before .before in
+    (modest (chosen (c .before .before)) (omega (arith, digits-most (s .args .p) (s .pre))), modest (copied c) (omega (arith, s .pre .d-most)))
 
 returns : tie.Need-returns
-returns c = let s = c .before .before .before .before in answers (sum (chosen (c .before .before .before)) (copied (c .before)) (c .plus .ensures)) (key-costs (s .args .p) 0 0) (omega (arith, s .pre .d-least)) (omega arith)
+returns c =
+    let s = c .before .before .before .before in
+    answers (sum (chosen (c .before .before .before)) (copied (c .before)) (c .plus .ensures)) (key-costs (s .args .p) 0 0) (omega (arith, s .pre .d-least)) (omega arith)
 
 pub key-spec : {M : Type 1} → statement M
 key-spec = tie.close (tie.spec choose-requires add-free free-requires plus-requires returns)

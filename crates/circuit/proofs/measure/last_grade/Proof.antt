@@ -1,7 +1,7 @@
 -- `circuit::measure::last_grade` meets its contract: a counter, free complements, and two choices for each digit.
 -- Assumes nothing.
-use mathlib.Core.Path.{_≡_, refl, sym}
-use Prim.Native.Nat.{ℕ, _+_, _-_, _*_, _/_, _%_, _≤_, _<_}
+use mathlib.Core.Path.{_≡_, refl}
+use Prim.Native.Nat.{_+_, _*_}
 use native.Mathlib.Omega.{arith}
 use Rattle.words.specs.Cost.{markOf}
 use Rattle.words.specs.Counter.{countSize}
@@ -50,13 +50,23 @@ free-requires : tie.Need-free-requires
 free-requires c κs = search needs
 
 plus-requires : tie.Need-plus-requires
-plus-requires c κs = let s = c .before .before .before .before .before in let h = last-small (s .args .p) (s .pre) in let e = sizes (s .args .p) in (modest (counted (c .before .before .before .before)) (omega arith), modest (complemented c) (omega arith))
+plus-requires c κs =
+    let s = c .before .before .before .before .before in
+    let h = last-small (s .args .p) (s .pre) in
+    let e = sizes (s .args .p) in
+    (modest (counted (c .before .before .before .before)) (omega arith), modest (complemented c) (omega arith))
 
 plus-requires-2 : tie.Need-plus-requires-2
-plus-requires-2 c κs = let s = c .before .before .before .before .before .before in let h = last-small (s .args .p) (s .pre) in let e = sizes (s .args .p) in (modest (both-counted c) (omega arith), modest (chosen (c .before .before .before)) (omega arith))
+plus-requires-2 c κs =
+    let s = c .before .before .before .before .before .before in
+    let h = last-small (s .args .p) (s .pre) in
+    let e = sizes (s .args .p) in
+    (modest (both-counted c) (omega arith), modest (chosen (c .before .before .before)) (omega arith))
 
 returns : tie.Need-returns
-returns c = let s = c .before .before .before .before .before .before .before in answers (sum (both-counted (c .before)) (chosen (c .before .before .before .before)) (c .plus2 .ensures)) (last-costs (s .args .p) 0 0) (omega (arith, sizes (s .args .p))) (omega (arith, marks (s .args .p)))
+returns c =
+    let s = c .before .before .before .before .before .before .before in
+    answers (sum (both-counted (c .before)) (chosen (c .before .before .before .before)) (c .plus2 .ensures)) (last-costs (s .args .p) 0 0) (omega (arith, sizes (s .args .p))) (omega (arith, marks (s .args .p)))
 
 pub last-grade-spec : {M : Type 1} → statement M
 last-grade-spec =

@@ -1,7 +1,7 @@
 -- `circuit::measure::merged` meets its contract: a choice for each wire of a key and for one beside it, where a candidate is left.
 -- Assumes nothing.
-use mathlib.Core.Path.{_≡_, _∙_, refl, sym, ap}
-use Prim.Native.Nat.{ℕ, zero, suc, _+_, _-_, _*_, _/_, _%_, _≤_, _<_}
+use mathlib.Core.Path.{_≡_, refl}
+use Prim.Native.Nat.{ℕ, zero, suc, _+_, _*_}
 use native.Mathlib.Omega.{arith}
 use Rattle.words.specs.Cost.{markOf}
 use Rattle.circuit.specs.declared.plan.Plan.{Plan}
@@ -26,19 +26,27 @@ none-requires : tie.Need-none-requires
 none-requires c κs = search needs
 
 returns : tie.Need-returns
-returns c = let s = c .before .before .args in let e = no-more (s .p) (s .left) (c .before .if1 .taken) in answers (sized (omega arith) (c .none .ensures)) (merged-costs (s .p) 0 0 0 (s .left)) (e .0) (e .1)
+returns c =
+    let s = c .before .before .args in
+    let e = no-more (s .p) (s .left) (c .before .if1 .taken) in
+    answers (sized (omega arith) (c .none .ensures)) (merged-costs (s .p) 0 0 0 (s .left)) (e .0) (e .1)
 
 add-choose : tie.Need-add-choose
 add-choose c = let s = c .before .before in omega (arith, digits-most (s .args .p) (s .pre))
 
 add-choose-2 : tie.Need-add-choose-2
-add-choose-2 c = let s = c .before .before .before in omega (arith, digits-most (s .args .p) (s .pre), s .pre .d-most)
+add-choose-2 c =
+    let s = c .before .before .before in
+    omega (arith, digits-most (s .args .p) (s .pre), s .pre .d-most)
 
 choose-requires : tie.Need-choose-requires
 choose-requires c κs = search needs
 
 returns-2 : tie.Need-returns-2
-returns-2 c = let s = c .before .before .before .before .args in let e = more (s .p) (s .left) (c .before .before .before .if1 .left) in answers (block (choose-costs 0 0 0 (2 + s .p .digits + s .p .grades)) (c .choose .ensures)) (merged-costs (s .p) 0 0 0 (s .left)) (e .0) (e .1)
+returns-2 c =
+    let s = c .before .before .before .before .args in
+    let e = more (s .p) (s .left) (c .before .before .before .if1 .left) in
+    answers (block (choose-costs 0 0 0 (2 + s .p .digits + s .p .grades)) (c .choose .ensures)) (merged-costs (s .p) 0 0 0 (s .left)) (e .0) (e .1)
 
 pub merged-spec : {M : Type 1} → statement M
 merged-spec =

@@ -1,7 +1,7 @@
 -- `circuit::measure::middle_grade` meets its contract: an accumulator, and two choices for each digit.
 -- Assumes nothing.
 use mathlib.Core.Path.{_≡_, refl, sym}
-use Prim.Native.Nat.{ℕ, _+_, _-_, _*_, _/_, _%_, _≤_, _<_}
+use Prim.Native.Nat.{_+_, _*_}
 use native.Mathlib.Omega.{arith}
 use Rattle.words.specs.Cost.{markOf}
 use Rattle.words.specs.Counter.{addSize}
@@ -38,10 +38,16 @@ choose-requires : tie.Need-choose-requires
 choose-requires c κs = search needs
 
 plus-requires : tie.Need-plus-requires
-plus-requires c κs = let s = c .before .before .before in let h = middle-small (s .args .p) (s .pre) in let e = sizes (s .args .p) in (modest (added (c .before .before)) (omega arith), modest (chosen c) (omega arith))
+plus-requires c κs =
+    let s = c .before .before .before in
+    let h = middle-small (s .args .p) (s .pre) in
+    let e = sizes (s .args .p) in
+    (modest (added (c .before .before)) (omega arith), modest (chosen c) (omega arith))
 
 returns : tie.Need-returns
-returns c = let s = c .before .before .before .before in answers (sum (added (c .before .before .before)) (chosen (c .before)) (c .plus .ensures)) (middle-costs (s .args .p) 0 0 0) (sym (sizes (s .args .p))) (marks (s .args .p))
+returns c =
+    let s = c .before .before .before .before in
+    answers (sum (added (c .before .before .before)) (chosen (c .before)) (c .plus .ensures)) (middle-costs (s .args .p) 0 0 0) (sym (sizes (s .args .p))) (marks (s .args .p))
 
 pub middle-grade-spec : {M : Type 1} → statement M
 middle-grade-spec =

@@ -1,9 +1,8 @@
 -- `circuit::measure::round` meets its contract: a candidate, its contest, the merged key and who has won.
 -- Assumes nothing.
-use mathlib.Core.Path.{_≡_, _∙_, refl, sym, ap}
-use Prim.Native.Nat.{ℕ, _+_, _-_, _*_, _/_, _%_, _≤_, _<_}
+use mathlib.Core.Path.{_≡_, refl}
+use Prim.Native.Nat.{ℕ, _+_, _-_}
 use native.Mathlib.Omega.{arith}
-use Rattle.words.specs.Cost.{markOf}
 use Rattle.circuit.specs.declared.plan.Plan.{Plan}
 use Rattle.circuit.proofs.Costs.{candidateGates, candidateCost, candidate-costs, contestGates, contestCost, contest-costs, mergedGates, mergedCost, merged-costs, wonCost, won-costs, roundGates, roundCost, round-costs}
 use Rattle.circuit.proofs.BoundLaws.{candidate-small, contest-small, merged-small}
@@ -45,7 +44,11 @@ contest-requires : tie.Need-contest-requires
 contest-requires c κs = search needs
 
 plus-requires : tie.Need-plus-requires
-plus-requires c κs = let s = c .before .before in let h = candidate-small (s .args .p) (s .pre .0) in let l = contest-small (s .args .p) (s .pre .0) in (modest (one (c .before)) (omega arith), modest (against c) (omega arith))
+plus-requires c κs =
+    let s = c .before .before in
+    let h = candidate-small (s .args .p) (s .pre .0) in
+    let l = contest-small (s .args .p) (s .pre .0) in
+    (modest (one (c .before)) (omega arith), modest (against c) (omega arith))
 
 sub-merged : tie.Need-sub-merged
 sub-merged c = search needs
@@ -57,16 +60,28 @@ merged-requires : tie.Need-merged-requires
 merged-requires c κs = search needs
 
 won-requires : tie.Need-won-requires
-won-requires c κs = let s = c .before .before .before .before .before in omega (arith, s .pre .1, s .pre .0 .k-most)
+won-requires c κs =
+    let s = c .before .before .before .before .before in
+    omega (arith, s .pre .1, s .pre .0 .k-most)
 
 plus-requires-2 : tie.Need-plus-requires-2
-plus-requires-2 c κs = let s = c .before .before .before .before .before .before in let l = merged-small (s .args .p) (s .pre .0) (c .before .before .before .before .before .before .args .p .candidates - 1 - c .before .before .before .before .before .before .args .j) in (modest (both (c .before)) (omega arith), modest (winners c) (omega (arith, s .pre .1, s .pre .0 .k-most)))
+plus-requires-2 c κs =
+    let s = c .before .before .before .before .before .before in
+    let l = merged-small (s .args .p) (s .pre .0) (c .before .before .before .before .before .before .args .p .candidates - 1 - c .before .before .before .before .before .before .args .j) in
+    (modest (both (c .before)) (omega arith), modest (winners c) (omega (arith, s .pre .1, s .pre .0 .k-most)))
 
 plus-requires-3 : tie.Need-plus-requires-3
-plus-requires-3 c κs = let s = c .before .before .before .before .before .before .before in let h = candidate-small (s .args .p) (s .pre .0) in let l = contest-small (s .args .p) (s .pre .0) in let m = merged-small (s .args .p) (s .pre .0) (c .before .before .before .before .before .before .before .args .p .candidates - 1 - c .before .before .before .before .before .before .before .args .j) in (modest (alike (c .before .before .before .before)) (omega arith), modest (other c) (omega (arith, s .pre .1, s .pre .0 .k-most)))
+plus-requires-3 c κs =
+    let s = c .before .before .before .before .before .before .before in
+    let h = candidate-small (s .args .p) (s .pre .0) in
+    let l = contest-small (s .args .p) (s .pre .0) in
+    let m = merged-small (s .args .p) (s .pre .0) (c .before .before .before .before .before .before .before .args .p .candidates - 1 - c .before .before .before .before .before .before .before .args .j) in
+    (modest (alike (c .before .before .before .before)) (omega arith), modest (other c) (omega (arith, s .pre .1, s .pre .0 .k-most)))
 
 returns : tie.Need-returns
-returns c = let s = c .before .before .before .before .before .before .before .before .args in answers (sum (alike (c .before .before .before .before .before)) (other (c .before)) (c .plus3 .ensures)) (round-costs (s .p) 0 0 0 (s .j) (s .p .candidates - 1 - s .j)) (omega (arith, sizes (s .p) (s .j) (s .p .candidates - 1 - s .j))) (omega (arith, marks (s .p) (s .j) (s .p .candidates - 1 - s .j)))
+returns c =
+    let s = c .before .before .before .before .before .before .before .before .args in
+    answers (sum (alike (c .before .before .before .before .before)) (other (c .before)) (c .plus3 .ensures)) (round-costs (s .p) 0 0 0 (s .j) (s .p .candidates - 1 - s .j)) (omega (arith, sizes (s .p) (s .j) (s .p .candidates - 1 - s .j))) (omega (arith, marks (s .p) (s .j) (s .p .candidates - 1 - s .j)))
 
 pub round-spec : {M : Type 1} → statement M
 round-spec =

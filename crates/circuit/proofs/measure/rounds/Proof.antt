@@ -1,6 +1,6 @@
 -- `circuit::measure::rounds` meets its contract: after each round, what is counted and the rounds left make the whole.
 -- Assumes nothing.
-use mathlib.Core.Path.{_≡_, _∙_, refl, sym, ap}
+use mathlib.Core.Path.{_≡_, _∙_, refl, ap}
 use Prim.Native.Nat.{ℕ, zero, suc, _+_, _-_, _≤_, _<_}
 use native.Mathlib.Omega.{arith}
 use Rattle.words.specs.declared.cost.Cost.{Cost}
@@ -76,7 +76,9 @@ abbrev μ-loop : tie.MeasureT-loop
 μ-loop p total₀ j₀ total j = p .candidates - j
 
 next : (c : tie.After-round Inv-loop μ-loop) → Sized (c .round .result) (roundGates (c .before .before .before .before .before .args .p) (c .before .before .before .loop .j) (c .before .before .before .before .before .args .p .candidates - 1 - c .before .before .before .loop .j)) (roundCost (c .before .before .before .before .before .args .p) (c .before .before .before .loop .j) (c .before .before .before .before .before .args .p .candidates - 1 - c .before .before .before .loop .j))
-next c = let j = c .before .before .before .loop .j in known (round-costs (c .before .before .before .before .before .args .p) 0 0 0 j (c .before .before .before .before .before .args .p .candidates - 1 - j)) (c .round .ensures)
+next c =
+    let j = c .before .before .before .loop .j in
+    known (round-costs (c .before .before .before .before .before .args .p) 0 0 0 j (c .before .before .before .before .before .args .p .candidates - 1 - j)) (c .round .ensures)
 
 none-requires : tie.Need-none-requires Inv-loop μ-loop
 none-requires c κs = tt
@@ -88,7 +90,12 @@ round-requires : tie.Need-round-requires Inv-loop μ-loop
 round-requires c κs = (c .before .before .before .before .pre, c .if1 .taken)
 
 plus-requires : tie.Need-plus-requires Inv-loop μ-loop
-plus-requires c κs = let s = c .before .before .before .before .before in let l = c .before .before .before .loop in let p = s .args .p in let h = rounds-small p (s .pre) in (modest (so-far (l .inv)) (omega (arith, l .inv .gates)), modest (next (c)) (omega (arith, l .inv .gates, gates-step p (l .j) (c .before .if1 .taken))))
+plus-requires c κs =
+    let s = c .before .before .before .before .before in
+    let l = c .before .before .before .loop in
+    let p = s .args .p in
+    let h = rounds-small p (s .pre) in
+    (modest (so-far (l .inv)) (omega (arith, l .inv .gates)), modest (next (c)) (omega (arith, l .inv .gates, gates-step p (l .j) (c .before .if1 .taken))))
 
 add-j : tie.Need-add-j Inv-loop μ-loop
 add-j c = omega (arith, c .before .before .before .before .before .before .pre .k-most, c .before .before .if1 .taken)
@@ -97,10 +104,14 @@ loop-less : tie.Need-loop-less Inv-loop μ-loop
 loop-less c = omega (arith, c .before .before .if1 .taken)
 
 loop-again : tie.Need-loop-again Inv-loop μ-loop
-loop-again c = let l = c .before .before .before .before .loop in again (c .before .before .before .before .before .before .args .p) (l .total) (c .plus .result) (l .j) (c .before .before .if1 .taken) (l .inv) (sum (so-far (l .inv)) (next (c .before)) (c .plus .ensures))
+loop-again c =
+    let l = c .before .before .before .before .loop in
+    again (c .before .before .before .before .before .before .args .p) (l .total) (c .plus .result) (l .j) (c .before .before .if1 .taken) (l .inv) (sum (so-far (l .inv)) (next (c .before)) (c .plus .ensures))
 
 returns : tie.Need-returns Inv-loop μ-loop
-returns c = let l = c .before .before .loop in ends (c .before .before .before .before .args .p) (l .total) (l .j) (c .if1 .left) (l .inv)
+returns c =
+    let l = c .before .before .loop in
+    ends (c .before .before .before .before .args .p) (l .total) (l .j) (c .if1 .left) (l .inv)
 
 pub rounds-spec : {M : Type 1} → statement M
 rounds-spec =

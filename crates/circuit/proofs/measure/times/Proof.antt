@@ -14,10 +14,14 @@ few t n h l =
     omega arith
 
 mul-t4 : tie.Need-mul-t4
-mul-t4 c = let s = c .before in omega (arith, few (s .args .count) (s .args .a .gates) (s .pre .0) (s .pre .1 .gates))
+mul-t4 c =
+    let s = c .before in
+    omega (arith, few (s .args .count) (s .args .a .gates) (s .pre .0) (s .pre .1 .gates))
 
 mul-t6 : tie.Need-mul-t6
-mul-t6 c = let s = c .before .before in omega (arith, few (s .args .count) (s .args .a .conditional) (s .pre .0) (s .pre .1 .conditional))
+mul-t6 c =
+    let s = c .before .before in
+    omega (arith, few (s .args .count) (s .args .a .conditional) (s .pre .0) (s .pre .1 .conditional))
 
 returns : tie.Need-returns
 returns c = search needs

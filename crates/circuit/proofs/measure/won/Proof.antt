@@ -1,7 +1,7 @@
 -- `circuit::measure::won` meets its contract: copies while fewer than two candidates stand before, else an "and" for each of them.
 -- Assumes nothing.
-use mathlib.Core.Path.{_≡_, _∙_, refl, sym, ap}
-use Prim.Native.Nat.{ℕ, zero, suc, _+_, _-_, _*_, _/_, _%_, _≤_, _<_}
+use mathlib.Core.Path.{_≡_, refl}
+use Prim.Native.Nat.{ℕ, zero, suc, _*_, _≤_, _<_}
 use native.Mathlib.Omega.{arith}
 use Rattle.words.specs.Cost.{markOf}
 use Rattle.circuit.proofs.Costs.{wonCost, won-costs}
@@ -44,7 +44,9 @@ free-requires-2 : tie.Need-free-requires-2
 free-requires-2 c κs = search needs
 
 plus-requires : tie.Need-plus-requires
-plus-requires c κs = let s = c .before .before .before in (modest (before (c .before)) (omega (arith, s .pre)), modest (itself c) (omega arith))
+plus-requires c κs =
+    let s = c .before .before .before in
+    (modest (before (c .before)) (omega (arith, s .pre)), modest (itself c) (omega arith))
 
 returns-2 : tie.Need-returns-2
 returns-2 c = answers (sum (before (c .before .before)) (itself (c .before)) (c .plus .ensures)) (won-costs 0 0 0 (c .before .before .before .before .args .count)) refl (omega (arith, still (c .before .before .before .before .args .count) (omega (arith, c .before .before .before .if1 .left))))
