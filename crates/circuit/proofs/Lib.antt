@@ -17,3 +17,4 @@ pub mod Measuring
 pub mod OwnListLaws
 pub mod ContestWriters
 pub mod Writers
+pub mod ListWriters
