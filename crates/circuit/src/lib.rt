@@ -1,7 +1,7 @@
 // The own list of a shape: the majority gauge as a circuit.
 mod contest;
+mod key;
 pub mod list;
 pub mod measure;
-mod key;
 pub mod plan;
 mod sums;
