@@ -8,7 +8,7 @@ use Prim.Native.Nat.{ℕ, _+_, _*_, _≤_}
 use native.Mathlib.Omega.{arith}
 use lib.Dec.{leb}
 use lib.ListN.{length, take, drop, length-append, length-drop}
-use lib.Seq.{take-at}
+use lib.Seq.{sets, sets-eq, take-at}
 use borrow.Author.Tests.{leb-true}
 use Rattle.gates.specs.Gate.{numbersOf, gatesOf}
 use Rattle.gates.proofs.Laws.{length-numbers, read-whole}
@@ -98,3 +98,10 @@ module _ (s : Shape) (table : List ℕ) where
 
   pub write-length : length (written s table) ≡ length table
   write-length = long-after (firstOf (writeReasons s table)) refl
+
+  -- what the circuit layer leaves of the table is what the definition says
+  pub stored : 4 * length (ownList s) ≤ length table → sets table (4 * 0) (numbersOf (ownList s)) ≡ numbersOf (ownList s) ++ drop (length (numbersOf (ownList s))) table
+  stored h =
+      let ns = numbersOf (ownList s) in
+      let from : 0 + length ns ≡ length ns = omega arith in
+      sets-eq ns table 0 (omega (arith, length-numbers (ownList s))) ∙ ap (λ (n : ℕ). ns ++ drop n table) from

@@ -4,3 +4,4 @@ pub mod count;
 pub mod measure;
 pub mod run;
 pub mod test;
+pub mod write;

@@ -1,0 +1,29 @@
+// The entry point "Write the list of a shape".
+use crate::answer::Answer;
+use jury::reason::Refusal;
+use jury::shape::Shape;
+ghost use mathlib.Core.Path.{_≡_};
+ghost use lib.Dec.{T};
+ghost use Rattle.jury.specs.Shape.{withinLimits};
+ghost use Rattle.tally.specs.Answer.{saidBy};
+ghost use Rattle.tally.specs.Write.{writeSaid, written, OwnListHolds};
+
+// Writes the own list of a shape, a function of the shape alone, into a table of at least its length.
+pub fn write(shape: Shape, table: &mut [u32]) -> Answer
+    ensures { λ r. ⌜ saidBy r ≡ writeSaid shape (now (table .entry)) ⌝ }
+    ensures { λ _. ⌜ now (table .exit) ≡ written shape (now (table .entry)) ⌝ }
+    ensures { λ _. ⌜ (T (withinLimits shape) → OwnListHolds shape) ⌝ }
+{
+    if !shape.is_within_limits() {
+        return Answer::Refused(Refusal::Shape);
+    }
+    // Four numbers a gate, without a product that could wrap.
+    if table.len() / 4 < circuit::measure::own_list(shape).gates {
+        return Answer::Refused(Refusal::Table);
+    }
+    let end = circuit::list::own_list(shape, table);
+    Answer::Accepted {
+        gates: end.gate,
+        conditional: end.conditional,
+    }
+}
