@@ -104,13 +104,9 @@ fn key_sum(w: Writer, table: &mut [u32], p: Plan, b: u32) -> Writer
     ensures { λ r. ⌜ Wrote w (now (table .entry)) (choose (carryAt p b) (beforeMedian p b) (upTo p b) (p .digits) ++ copies (carryAt p b) 1) (now (table .exit)) r ⌝ }
 {
     let carry = carry_at(p, b);
-    let low = w.choose(
-        table,
-        carry,
-        b + 2 * p.digits + 1,
-        b + 4 * p.digits + 1,
-        p.digits,
-    );
+    let before = b + 2 * p.digits + 1;
+    let up_to = b + 4 * p.digits + 1;
+    let low = w.choose(table, carry, before, up_to, p.digits);
     low.copies(table, carry, 1)
 }
 

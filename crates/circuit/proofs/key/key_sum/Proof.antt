@@ -17,23 +17,23 @@ use Rattle.circuit.proofs.key.key_sum.Tie as tie
 carry-at-requires : tie.Need-carry-at-requires
 carry-at-requires c κs = let s = c .before in omega (arith, s .pre .0 .small, s .pre .1)
 
-mul-choose : tie.Need-mul-choose
-mul-choose c = let s = c .before .before .before .before in omega (arith, s .pre .0 .small, s .pre .1)
+mul-before : tie.Need-mul-before
+mul-before c = let s = c .before .before .before in omega (arith, s .pre .0 .small, s .pre .1)
 
-add-choose : tie.Need-add-choose
-add-choose c = let s = c .before .before .before .before in omega (arith, s .pre .0 .small, s .pre .1)
+add-before : tie.Need-add-before
+add-before c = let s = c .before .before .before in omega (arith, s .pre .0 .small, s .pre .1)
 
-add-choose-2 : tie.Need-add-choose-2
-add-choose-2 c = let s = c .before .before .before .before in omega (arith, s .pre .0 .small, s .pre .1)
+add-before-2 : tie.Need-add-before-2
+add-before-2 c = let s = c .before .before .before in omega (arith, s .pre .0 .small, s .pre .1)
 
-mul-choose-2 : tie.Need-mul-choose-2
-mul-choose-2 c = let s = c .before .before .before .before .before in omega (arith, s .pre .0 .small, s .pre .1)
+mul-up-to : tie.Need-mul-up-to
+mul-up-to c = let s = c .before .before .before .before in omega (arith, s .pre .0 .small, s .pre .1)
 
-add-choose-3 : tie.Need-add-choose-3
-add-choose-3 c = let s = c .before .before .before .before .before in omega (arith, s .pre .0 .small, s .pre .1)
+add-up-to : tie.Need-add-up-to
+add-up-to c = let s = c .before .before .before .before in omega (arith, s .pre .0 .small, s .pre .1)
 
-add-choose-4 : tie.Need-add-choose-4
-add-choose-4 c = let s = c .before .before .before .before .before in omega (arith, s .pre .0 .small, s .pre .1)
+add-up-to-2 : tie.Need-add-up-to-2
+add-up-to-2 c = let s = c .before .before .before .before in omega (arith, s .pre .0 .small, s .pre .1)
 
 choose-requires : tie.Need-choose-requires
 choose-requires c κs = let s = c .before .before .before .before .before in (room-less (s .args .w) (s .args .table .now) _ _ (omega arith) (s .pre .0), omega (arith, s .pre .1))
@@ -65,4 +65,4 @@ returns c =
 pub key-sum-spec : {M : Type 1} → statement M
 key-sum-spec =
     tie.close
-    (tie.spec carry-at-requires mul-choose add-choose add-choose-2 mul-choose-2 add-choose-3 add-choose-4 choose-requires copies-requires same-length returns)
+    (tie.spec carry-at-requires mul-before add-before add-before-2 mul-up-to add-up-to add-up-to-2 choose-requires copies-requires same-length returns)
