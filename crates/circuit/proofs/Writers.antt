@@ -1,6 +1,6 @@
 -- What the writers of a candidate's blocks share: numbers that do not wrap, where the next block stands, and blocks put one behind the other.
 -- Assumes nothing.
-use mathlib.Core.Path.{_≡_, _∙_, refl, sym, ap}
+use mathlib.Core.Path.{_≡_, _∙_, ap}
 use mathlib.Core.List.{List, _++_}
 use Prim.Native.Nat.{ℕ, zero, suc, _+_, _-_, _*_, _/_, _%_, _^_, _≤_, _<_}
 use native.Mathlib.Nat.{pow-succ', mul-le-mul}
@@ -8,10 +8,10 @@ use native.Mathlib.Omega.{arith}
 use lib.ListN.{length, length-append}
 use Rattle.gates.specs.Gate.{Gate}
 use Rattle.words.specs.declared.writer.Writer.{Writer}
-use Rattle.words.specs.Writing.{Room, Wrote}
+use Rattle.words.specs.Writing.{Wrote}
 use Rattle.words.specs.Adder.{addWithBit}
 use Rattle.words.specs.Choice.{constants, copies, complements, choose}
-use Rattle.words.specs.Counter.{counter, countSize, accumulator, addSize}
+use Rattle.words.specs.Counter.{counter, countSize, accumulator}
 use Rattle.words.proofs.Laws.{length-constants, length-each, length-choose, length-add-bit, length-counter, length-accumulator}
 use Rattle.words.proofs.CounterSteps.{add-size-most}
 use Rattle.words.proofs.Writing.{wrote-both, wrote-as}

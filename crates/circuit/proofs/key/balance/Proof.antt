@@ -3,7 +3,8 @@
 use mathlib.Core.Path.{_≡_}
 use Prim.Native.Nat.{_+_, _-_, _*_, _/_, _%_}
 use native.Mathlib.Omega.{arith}
-use borrow.Author.Needs.{needs}
+use lib.ListN.{length}
+use Rattle.words.specs.Adder.{addWithBit}
 use Rattle.words.specs.Writing.{Room}
 use Rattle.words.proofs.Laws.{length-constants, length-choose, length-add-bit}
 use Rattle.words.proofs.Writing.{room-less, room-after, wrote-long}
@@ -60,7 +61,7 @@ add-with-bit-requires c κs =
     let s = c .before .before .before .before .before .before .before .before .before .before .before .before .before .before .before .before in
     let a = s .args in
     let h = c .before .before .before .before .before .before .choose in
-    (room-less (h .result) (h .last .1 .0) _ _ (omega (arith, length-add-bit (h .result .wire) (a .b + 2 * a .p .digits + 1) (a .w .wire + a .p .digits) (a .p .ballots % 2) (a .p .digits))) (room2 (c .before .before .before .before .before .before)), omega (arith, place2 (c .before .before .before .before .before .before), s .pre .1))
+    (room-less (h .result) (h .last .1 .0) (length (addWithBit (h .result .wire) (a .b + 2 * a .p .digits + 1) (a .w .wire + a .p .digits) (a .p .ballots % 2) (a .p .digits))) _ (omega (arith, length-add-bit (h .result .wire) (a .b + 2 * a .p .digits + 1) (a .w .wire + a .p .digits) (a .p .ballots % 2) (a .p .digits))) (room2 (c .before .before .before .before .before .before)), omega (arith, place2 (c .before .before .before .before .before .before), s .pre .1))
 
 mul-some-of : tie.Need-mul-some-of
 mul-some-of c = let s = c .before .before .before .before .before .before .before .before .before .before .before .before .before .before .before .before .before .before .before .before .before in omega (arith, s .pre .0 .small, s .pre .1)
@@ -78,7 +79,7 @@ some-of-requires c κs =
     let h = c .before .before .before .before .before .before .before .before .before .before .before .choose in
     let k = c .before .before .before .before .add-with-bit in
     let e = length-add-bit (h .result .wire) (a .b + 2 * a .p .digits + 1) (a .w .wire + a .p .digits) (a .p .ballots % 2) (a .p .digits) in
-    (room-after (h .result) (h .last .1 .0) _ (k .last .1 .0) (k .result) _ _ (k .ensures) (omega (arith, e)) (room2 (c .before .before .before .before .before .before .before .before .before .before .before)), omega (arith, e, k .ensures .wires, place2 (c .before .before .before .before .before .before .before .before .before .before .before), s .pre .1))
+    (room-after (h .result) (h .last .1 .0) (addWithBit (h .result .wire) (a .b + 2 * a .p .digits + 1) (a .w .wire + a .p .digits) (a .p .ballots % 2) (a .p .digits)) (k .last .1 .0) (k .result) _ _ (k .ensures) (omega (arith, e)) (room2 (c .before .before .before .before .before .before .before .before .before .before .before)), omega (arith, e, k .ensures .wires, place2 (c .before .before .before .before .before .before .before .before .before .before .before), s .pre .1))
 
 returns : tie.Need-returns
 returns c =

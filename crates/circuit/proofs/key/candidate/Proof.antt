@@ -1,7 +1,7 @@
 -- `circuit::key::candidate` meets its contract: the sums, the balance and the key, each where the one before ends.
 -- Assumes nothing.
 use mathlib.Core.Path.{_≡_}
-use Prim.Native.Nat.{ℕ, _+_, _-_, _*_, _≤_, _<_}
+use Prim.Native.Nat.{_+_, _-_, _*_}
 use native.Mathlib.Omega.{arith}
 use lib.ListN.{length}
 use Rattle.words.specs.Writing.{Room}

@@ -1,16 +1,18 @@
 -- `circuit::key::key` meets its contract: its lowest part, the flags, and whether p and q differ.
 -- Assumes nothing.
 use mathlib.Core.Path.{_≡_, sym, subst}
+use mathlib.Core.List.{_++_}
 use Prim.Native.Nat.{ℕ, _+_, _-_, _*_, _≤_, _<_}
 use native.Mathlib.Omega.{arith}
 use Rattle.words.specs.Word.{Below}
 use Rattle.words.specs.Writing.{Room}
+use Rattle.words.specs.Choice.{copies, choose}
 use Rattle.words.proofs.Laws.{length-each}
 use Rattle.words.proofs.Writing.{room-less, room-after, wrote-long}
 use Rattle.circuit.specs.declared.plan.Plan.{Plan}
 use Rattle.circuit.specs.Plan.{Planned}
-use Rattle.circuit.specs.RunningSums.{middleSpan, lastSum}
-use Rattle.circuit.specs.Key.{balanceAt, differAt, keyAt, key}
+use Rattle.circuit.specs.RunningSums.{beforeMedian, lastSum}
+use Rattle.circuit.specs.Key.{upTo, balanceAt, carryAt, differAt, keyAt, key}
 use Rattle.circuit.proofs.WellFormed.{last-sum, flags-below, some-below, length-copies-apart}
 use Rattle.circuit.proofs.Writers.{span-most, sum-long, key-wrote}
 use Rattle.circuit.proofs.key.key.Statement.{statement}
@@ -35,7 +37,7 @@ place1 : (c : tie.After-key-sum) → c .key-sum .result .wire ≡ keyAt (c .befo
 place1 c = let s = c .before .before .before in omega (arith, s .pre .1 .1 .2, c .key-sum .ensures .wires, sum-long (s .args .p) (s .args .b))
 
 room1 : (c : tie.After-key-sum) → Room (c .key-sum .result) (c .key-sum .last .1 .0) (c .before .before .before .args .p .grades - 2 + 2)
-room1 c = let s = c .before .before .before in let a = s .args in room-after (a .w) (a .table .now) _ _ (c .key-sum .result) _ _ (c .key-sum .ensures) (omega (arith, sum-long (a .p) (a .b))) (s .pre .1 .0)
+room1 c = let s = c .before .before .before in let a = s .args in room-after (a .w) (a .table .now) (choose (carryAt (a .p) (a .b)) (beforeMedian (a .p) (a .b)) (upTo (a .p) (a .b)) (a .p .digits) ++ copies (carryAt (a .p) (a .b)) 1) _ (c .key-sum .result) _ _ (c .key-sum .ensures) (omega (arith, sum-long (a .p) (a .b))) (s .pre .1 .0)
 
 add-copies-apart : tie.Need-add-copies-apart
 add-copies-apart c = let s = c .before .before .before .before .before .before .before .before in let a = s .args in omega (arith, s .pre .1 .0 .small, s .pre .1 .1 .2, later (a .p) (s .pre .0) (a .a) (a .b) (s .pre .1 .1 .1))

@@ -1,8 +1,9 @@
 -- `circuit::sums::chosen` meets its contract: two choices, one behind the other.
 -- Assumes nothing.
-use Prim.Native.Nat.{_+_}
+use Prim.Native.Nat.{_+_, _*_}
 use native.Mathlib.Omega.{arith}
 use borrow.Author.Needs.{needs}
+use Rattle.words.specs.Choice.{choose}
 use Rattle.words.proofs.Laws.{length-choose}
 use Rattle.words.proofs.Writing.{wrote-both, room-less, room-after}
 use Rattle.circuit.specs.RunningSums.{chosen}
@@ -46,7 +47,7 @@ same-length c = search needs
 
 returns : tie.Need-returns
 unfolding chosen
-returns c = let a = c .before .before .before .before .before .before .before .before .before .before .before .before .before .args in wrote-both (a .w) (a .table .now) _ _ _ _ _ _ (c .before .before .before .before .before .before .before .before .choose .ensures) (c .before .before .choose2 .ensures)
+returns c = let a = c .before .before .before .before .before .before .before .before .before .before .before .before .before .args in wrote-both (a .w) (a .table .now) (choose (a .a + a .p .digits) (a .a + a .p .digits + 1) (a .b) (a .p .digits)) _ _ (choose (a .b + a .p .digits) (a .a + 2 * a .p .digits + 1) (a .b) (a .p .digits)) _ _ (c .before .before .before .before .before .before .before .before .choose .ensures) (c .before .before .choose2 .ensures)
 
 pub chosen-spec : {M : Type 1} → statement M
 chosen-spec =

@@ -5,7 +5,7 @@ use Prim.Native.Nat.{_+_, _-_}
 use native.Mathlib.Omega.{arith}
 use borrow.Author.Needs.{needs}
 use Rattle.words.specs.Writing.{Room}
-use Rattle.words.specs.Counter.{countSize}
+use Rattle.words.specs.Counter.{counter, countSize}
 use Rattle.words.proofs.Laws.{length-constants, length-counter, length-each}
 use Rattle.words.proofs.Writing.{room-less, room-after}
 use Rattle.circuit.specs.Plan.{bitsAt, apart}
@@ -37,7 +37,7 @@ room2 : (c : tie.After-count-grade) → Room (c .count-grade .result) (c .count-
 room2 c =
     let a = c .before .before .before .before .before .before .before .args in
     let h = c .before .before .before .before .constants in
-    room-after (h .result) (h .last .1 .0) _ _ (c .count-grade .result) _ _ (c .count-grade .ensures) (omega (arith, length-counter (h .result .wire) (bitsAt (a .p) (a .c) 0) (apart (a .p)) (a .p .ballots) (a .p .offset) (a .p .digits))) (room1 (c .before .before .before .before))
+    room-after (h .result) (h .last .1 .0) (counter (h .result .wire) (bitsAt (a .p) (a .c) 0) (apart (a .p)) (a .p .ballots) (a .p .offset) (a .p .digits)) _ (c .count-grade .result) _ _ (c .count-grade .ensures) (omega (arith, length-counter (h .result .wire) (bitsAt (a .p) (a .c) 0) (apart (a .p)) (a .p .ballots) (a .p .offset) (a .p .digits))) (room1 (c .before .before .before .before))
 
 -- where the sum stands
 place : (c : tie.After-count-grade) → c .count-grade .result .wire ≡ firstSum (c .before .before .before .before .before .before .before .args .p) (c .before .before .before .before .before .before .before .args .w .wire) + (c .before .before .before .before .before .before .before .args .p .digits + 1)

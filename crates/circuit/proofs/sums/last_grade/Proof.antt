@@ -5,7 +5,7 @@ use Prim.Native.Nat.{_+_, _-_}
 use native.Mathlib.Omega.{arith}
 use borrow.Author.Needs.{needs}
 use Rattle.words.specs.Writing.{Room}
-use Rattle.words.specs.Counter.{countSize}
+use Rattle.words.specs.Counter.{counter, countSize}
 use Rattle.words.proofs.Laws.{length-counter, length-each}
 use Rattle.words.proofs.Writing.{room-less, room-after}
 use Rattle.circuit.specs.Plan.{bitsAt, apart}
@@ -34,7 +34,7 @@ room : (c : tie.After-count-grade) → Room (c .count-grade .result) (c .count-g
 room c =
     let s = c .before .before .before .before in
     let a = s .args in
-    room-after (a .w) (a .table .now) _ _ (c .count-grade .result) _ _ (c .count-grade .ensures) (omega (arith, last-span (a .p), length-counter (a .w .wire) (bitsAt (a .p) (a .c) (a .p .grades - 1)) (apart (a .p)) (a .p .ballots) (a .p .worst) (a .p .digits))) (s .pre .1 .0)
+    room-after (a .w) (a .table .now) (counter (a .w .wire) (bitsAt (a .p) (a .c) (a .p .grades - 1)) (apart (a .p)) (a .p .ballots) (a .p .worst) (a .p .digits)) _ (c .count-grade .result) _ _ (c .count-grade .ensures) (omega (arith, last-span (a .p), length-counter (a .w .wire) (bitsAt (a .p) (a .c) (a .p .grades - 1)) (apart (a .p)) (a .p .ballots) (a .p .worst) (a .p .digits))) (s .pre .1 .0)
 
 add-complements : tie.Need-add-complements
 add-complements c = let s = c .before .before .before .before .before .before .before .before in omega (arith, few-digits (s .args .p) (s .pre .0))

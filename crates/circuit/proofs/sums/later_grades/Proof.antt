@@ -93,7 +93,7 @@ returns-2 c =
     let h = c .before .before .before .before .before .before .before .middle-grades in
     let e : c .before .before .before .sum-before .result ≡ a .a + (a .p .grades - 3) * middleSpan (a .p) = omega (arith, place (c .before .before .before .before .before .before .before), c .before .before .before .sum-before .ensures) in
     wrote-as (a .w) (a .table .now) _ _ _ _ (sym (grades-are (a .p) (a .a) (a .c) (more (c .before .before .before .before .before .before .before .before .before .before))))
-    (wrote-then (a .w) (a .table .now) _ _ (h .result) _ _ _ _ (h .ensures) (c .before .before .last-grade .ensures) (ap (λ (x : ℕ). lastGrade (a .p) x (a .c)) e))
+    (wrote-then (a .w) (a .table .now) (middleGrades (a .p) (a .a) (a .c) 1 (a .p .grades - 3)) _ (h .result) (lastGrade (a .p) (c .before .before .before .sum-before .result) (a .c)) _ _ _ (h .ensures) (c .before .before .last-grade .ensures) (ap (λ (x : ℕ). lastGrade (a .p) x (a .c)) e))
 
 pub later-grades-spec : {M : Type 1} → statement M
 later-grades-spec = tie.close (tie.spec returns sub-middle-grades middle-grades-requires sum-before-requires last-grade-requires same-length returns-2)

@@ -4,6 +4,7 @@ use mathlib.Core.Path.{_≡_, refl}
 use Prim.Native.Nat.{_+_}
 use native.Mathlib.Omega.{arith}
 use borrow.Author.Needs.{needs}
+use Rattle.words.specs.Counter.{accumulator}
 use Rattle.words.proofs.Laws.{length-accumulator}
 use Rattle.words.proofs.Writing.{room-less, room-after}
 use Rattle.circuit.specs.Plan.{bitsAt, apart}
@@ -36,7 +37,7 @@ chosen-requires c κs =
     let a = s .args in
     let h = c .before .before .before .before .before .add-grade in
     let e = middle-span (a .p) in (
-      room-after (a .w) (a .table .now) _ (h .last .1 .0) (h .result) _ _ (h .ensures) (omega (arith, e, length-accumulator (a .w .wire) (a .a) (bitsAt (a .p) (a .c) (a .g)) (apart (a .p)) (a .p .ballots) (a .p .digits))) (s .pre .1 .0),
+      room-after (a .w) (a .table .now) (accumulator (a .w .wire) (a .a) (bitsAt (a .p) (a .c) (a .g)) (apart (a .p)) (a .p .ballots) (a .p .digits)) (h .last .1 .0) (h .result) _ _ (h .ensures) (omega (arith, e, length-accumulator (a .w .wire) (a .a) (bitsAt (a .p) (a .c) (a .g)) (apart (a .p)) (a .p .ballots) (a .p .digits))) (s .pre .1 .0),
       (omega (arith, e, place (c .before .before .before .before .before)), omega (arith, place (c .before .before .before .before .before))),
     )
 

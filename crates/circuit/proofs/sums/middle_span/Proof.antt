@@ -1,7 +1,7 @@
 -- `circuit::sums::middle_span` meets its contract: it is the accumulator's size and two words more.
 -- Assumes nothing.
 use mathlib.Core.Path.{_≡_, ap}
-use Prim.Native.Nat.{ℕ, _+_, _<_}
+use Prim.Native.Nat.{_+_, _<_}
 use native.Mathlib.Omega.{arith}
 use Rattle.words.specs.declared.cost.Cost.{Cost}
 use Rattle.words.specs.Counter.{addSize}
