@@ -7,3 +7,4 @@ pub mod Hiding
 pub mod OwnList
 pub mod Writing
 pub mod Demands
+pub mod OwnRun

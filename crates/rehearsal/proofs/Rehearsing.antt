@@ -1,0 +1,197 @@
+-- The lent buffers are long enough for every list that fits the table, and what the run answers is what the rehearsal answers.
+-- Assumes nothing.
+use mathlib.Core.Path.{_≡_, _∙_, refl, sym, ap, subst}
+use mathlib.Core.Bool.{true}
+use mathlib.Core.Option.{Option, none, some}
+use mathlib.Core.List.{List, [], _∷_, _++_}
+use Prim.Native.Nat.{ℕ, zero, suc, _+_, _-_, _*_, _≤_, _<_}
+use native.Mathlib.Omega.{arith}
+use lib.Dec.{T}
+use lib.ListN.{length, getD, take, drop, length-take, length-drop, length-append, drop-of-length-le}
+use lib.Seq.{drop-append-le, take-at, take-all}
+use Rattle.gates.specs.Gate.{numbersOf}
+use Rattle.gates.specs.Board.{conditionalCount, Bits, MaskTape}
+use Rattle.gates.proofs.Counting.{count-most}
+use Rattle.jury.specs.declared.shape.Shape.{Shape}
+use Rattle.jury.specs.Shape.{withinLimits, ballotBytes}
+use Rattle.jury.specs.Reason.{Reason, reasonOf, firstOf}
+use Rattle.jury.specs.Ballots.{ballotReasons}
+use Rattle.jury.specs.Counts.{countsOf}
+use Rattle.jury.specs.Gauge.{closingOf}
+use Rattle.jury.specs.declared.reason.Refusal.{Refusal}
+use Rattle.jury.proofs.Flags.{T-true, true-T}
+use Rattle.jury.proofs.Limits.{within-T, bytes-bound, bytes-are}
+use Rattle.jury.proofs.CountFacts.{counts-length}
+use Rattle.jury.proofs.Closing.{closing-length}
+use Rattle.circuit.specs.OwnList.{ownList}
+use Rattle.tally.specs.Answer.{Said, refused, accepted, said, Size, sizeOf, saidBy}
+use Rattle.tally.specs.declared.answer.Answer.the-variants as answer
+use Rattle.tally.specs.Run.{ran}
+use Rattle.tally.specs.Write.{writeReasons, writeSaid, written}
+use Rattle.tally.specs.Demands.{listIn}
+use Rattle.tally.proofs.TestReasons.{orElse, first-append}
+use Rattle.tally.proofs.Writing.{WritePassed, write-passed, write-length, list-in}
+use Rattle.tally.proofs.RunReasons.{said-refused, said-accepted}
+use Rattle.tally.proofs.OwnRun.{own-answer, own-closing}
+use Rattle.rehearsal.specs.Rehearsal.{Lent, Cut, shapeIn, ballotsIn, rehearsalReasons, rehearsalSaid, runSaid}
+
+bits-take : (n : ℕ) (xs : List ℕ) → Bits xs → Bits (take n xs)
+bits-take zero xs b i = omega arith
+bits-take (suc n) [] b i = omega arith
+bits-take (suc n) (x ∷ xs) b zero = b 0
+bits-take (suc n) (x ∷ xs) b (suc i) = bits-take n xs (λ (j : ℕ). b (suc j)) i
+
+-- the first bytes of a buffer that is long enough
+pub cut-long : (n : ℕ) (xs : List ℕ) → n ≤ length xs → n ≡ length (take n xs)
+cut-long n xs h = omega (arith, length-take n xs)
+
+module _ (s : Shape) (list : List ℕ) (gates conditional : ℕ) (tape wires board : List ℕ) (u : Cut s list gates conditional tape wires board) where
+  fewer : conditional ≤ gates
+  fewer = omega (arith, u .gates-are, u .conditional-are, count-most (ownList s))
+
+  pub inputs-most : ballotBytes s ≤ 14280
+  inputs-most = omega (arith, bytes-bound s (within-T s (u .within)), bytes-are s)
+
+  pub tape-fits : conditional ≤ length tape
+  tape-fits = omega (arith, fewer, u .few, u .tapeLength)
+
+  pub wires-fit : (inputs : ℕ) → inputs ≡ ballotBytes s → inputs + gates ≤ length wires
+  wires-fit inputs e = omega (arith, inputs-most, u .few, u .wiresLength)
+
+  pub board-fits : conditional + s .candidates ≤ length board
+  board-fits = omega (arith, fewer, u .few, u .boardLength, within-T s (u .within) .k-most)
+
+  pub board-most : conditional + s .candidates ≤ 4008
+  board-most = omega (arith, fewer, u .few, within-T s (u .within) .k-most)
+
+  module _ (ballots : List ℕ) (inputs : ℕ) (i : inputs ≡ ballotBytes s) where
+    -- what the run is lent
+    tape′ : List ℕ
+    tape′ = take conditional tape
+
+    wires′ : List ℕ
+    wires′ = take (inputs + gates) wires
+
+    board′ : List ℕ
+    board′ = take (conditional + s .candidates) board
+
+    mask : MaskTape (ownList s) tape′
+    unfolding tape′
+    mask = record { size = sym (cut-long conditional tape tape-fits) ∙ u .conditional-are; bits = bits-take conditional tape (u .tapeBits) }
+
+    wires-long : length wires′ ≡ ballotBytes s + length (ownList s)
+    unfolding wires′
+    wires-long = omega (arith, cut-long (inputs + gates) wires (wires-fit inputs i), u .gates-are)
+
+    board-long : length board′ ≡ conditionalCount (ownList s) + s .candidates
+    unfolding board′
+    board-long = omega (arith, cut-long (conditional + s .candidates) board board-fits, u .conditional-are)
+
+    answers : ran s list ballots tape′ wires′ board′ .answer ≡ said (firstOf (ballotReasons s ballots)) (sizeOf (ownList s))
+    answers =
+        ap (λ (l : List ℕ). ran s l ballots tape′ wires′ board′ .answer) (u .list-is)
+        ∙ own-answer s (T-true (withinLimits s) (u .within)) ballots tape′ wires′ board′ mask wires-long board-long
+
+    pub refusal-said : (reason : Refusal) → saidBy (answer.Refused reason) ≡ ran s list ballots (take conditional tape) (take (inputs + gates) wires) (take (conditional + s .candidates) board) .answer
+        → refused (reasonOf reason) ≡ runSaid s ballots
+    unfolding saidBy runSaid said tape′ wires′ board′
+    refusal-said reason e =
+        let o = firstOf (ballotReasons s ballots) in
+        sym (ap (λ (o : Option Reason). said o (closingOf (countsOf s ballots))) (said-refused o (sizeOf (ownList s)) (reasonOf reason) (sym (e ∙ answers))))
+
+    -- the closing bytes on the board, whatever stands behind
+    placed : (b rest : List ℕ) → b ≡ ran s list ballots tape′ wires′ board′ .board → firstOf (ballotReasons s ballots) ≡ none
+        → take (s .candidates) (drop (conditionalCount (ownList s)) (b ++ rest)) ≡ closingOf (countsOf s ballots)
+    placed b rest e none-applies =
+        let n = conditionalCount (ownList s) in
+        let p = own-closing s (T-true (withinLimits s) (u .within)) ballots tape′ wires′ board′ mask wires-long board-long none-applies in
+        let f : b ≡ ran s (numbersOf (ownList s)) ballots tape′ wires′ board′ .board = e ∙ ap (λ (l : List ℕ). ran s l ballots tape′ wires′ board′ .board) (u .list-is) in
+        let closing = closingOf (countsOf s ballots) in
+        let long : length b ≡ n + s .candidates = ap length f ∙ p .0 in
+        ap (take (s .candidates)) (drop-append-le n b rest (omega arith) ∙ ap (λ (l : List ℕ). drop n l ++ rest) f ∙ ap (λ (l : List ℕ). l ++ rest) (p .1))
+        ∙ take-at closing rest (s .candidates) (closing-length (countsOf s ballots) ∙ counts-length s ballots)
+
+    pub winners-said : (g c : ℕ) (b rest : List ℕ) → saidBy (answer.Accepted g c) ≡ ran s list ballots (take conditional tape) (take (inputs + gates) wires) (take (conditional + s .candidates) board) .answer
+        → b ≡ ran s list ballots (take conditional tape) (take (inputs + gates) wires) (take (conditional + s .candidates) board) .board
+        → accepted (take (s .candidates) (drop c (b ++ rest))) ≡ runSaid s ballots
+    unfolding saidBy runSaid said sizeOf tape′ wires′ board′
+    winners-said g c b rest e f =
+        let o = firstOf (ballotReasons s ballots) in
+        let h = said-accepted o (sizeOf (ownList s)) (record { gates = g; conditional = c }) (sym (e ∙ answers)) in
+        let same : accepted (record { gates = g; conditional = c }) ≡ accepted (sizeOf (ownList s)) = e ∙ answers ∙ ap (λ (o : Option Reason). said o (sizeOf (ownList s))) h in
+        let size : record { gates = g; conditional = c } ≡ sizeOf (ownList s) = cc in
+        let n : c ≡ conditionalCount (ownList s) = ap (λ (z : Size). z .conditional) size in
+        ap accepted (ap (λ (m : ℕ). take (s .candidates) (drop m (b ++ rest))) n ∙ placed b rest f h)
+        ∙ sym (ap (λ (o : Option Reason). said o (closingOf (countsOf s ballots))) h)
+
+    -- they lie on the board
+    pub winners-end : (g c : ℕ) (b rest : List ℕ) → saidBy (answer.Accepted g c) ≡ ran s list ballots (take conditional tape) (take (inputs + gates) wires) (take (conditional + s .candidates) board) .answer
+        → b ≡ ran s list ballots (take conditional tape) (take (inputs + gates) wires) (take (conditional + s .candidates) board) .board
+        → c + s .candidates ≤ length (b ++ rest)
+    unfolding saidBy sizeOf said tape′ wires′ board′
+    winners-end g c b rest e f =
+        let o = firstOf (ballotReasons s ballots) in
+        let h = said-accepted o (sizeOf (ownList s)) (record { gates = g; conditional = c }) (sym (e ∙ answers)) in
+        let same : accepted (record { gates = g; conditional = c }) ≡ accepted (sizeOf (ownList s)) = e ∙ answers ∙ ap (λ (o : Option Reason). said o (sizeOf (ownList s))) h in
+        let size : record { gates = g; conditional = c } ≡ sizeOf (ownList s) = cc in
+        let n : c ≡ conditionalCount (ownList s) = ap (λ (z : Size). z .conditional) size in
+        let p = own-closing s (T-true (withinLimits s) (u .within)) ballots tape′ wires′ board′ mask wires-long board-long h in
+        let long : length b ≡ conditionalCount (ownList s) + s .candidates = ap length (f ∙ ap (λ (l : List ℕ). ran s l ballots tape′ wires′ board′ .board) (u .list-is)) ∙ p .0 in
+        omega (arith, length-append b rest)
+
+-- after an accepted write, the list's numbers and the buffers are what the run asks
+module _ (s : Shape) (table tape wires board : List ℕ) (l : Lent table tape wires board) (g c : ℕ) (e : saidBy (answer.Accepted g c) ≡ writeSaid s table) where
+  passed : WritePassed s table (record { gates = g; conditional = c })
+  passed = unfold saidBy in (write-passed s table (record { gates = g; conditional = c }) (sym e))
+
+  gates-own : g ≡ length (ownList s)
+  gates-own = unfold sizeOf in (ap (λ (z : Size). z .gates) (passed .own-size))
+
+  pub gates-few : g ≤ 4000
+  gates-few = omega (arith, passed .room, gates-own, l .tableLength)
+
+  pub list-fits : 4 * g ≤ length (written s table)
+  list-fits = omega (arith, passed .room, gates-own, write-length s table)
+
+  pub write-cut : (list : List ℕ) → list ≡ take (4 * g) (written s table) → Cut s list g c tape wires board
+  write-cut list f =
+      record {
+        within = true-T (withinLimits s) (passed .within);
+        list-is = f ∙ own-numbers;
+        gates-are = gates-own;
+        conditional-are = unfold sizeOf in (ap (λ (z : Size). z .conditional) (passed .own-size));
+        few = gates-few;
+        tapeLength = l .tapeLength;
+        tapeBits = l .tapeBits;
+        wiresLength = l .wiresLength;
+        boardLength = l .boardLength;
+      }
+    where
+      own-numbers : take (4 * g) (written s table) ≡ numbersOf (ownList s)
+      own-numbers = unfold listIn in (list-in s table (record { gates = g; conditional = c }) passed)
+
+  pub by-the-run : (input : List ℕ) → s ≡ shapeIn input → runSaid s (ballotsIn input) ≡ rehearsalSaid input table
+  unfolding runSaid rehearsalSaid rehearsalReasons orElse
+  by-the-run input f =
+      let ballots = ballotReasons (shapeIn input) (ballotsIn input) in
+      let none-applies = ap (λ (z : Shape). firstOf (writeReasons z table)) (sym f) ∙ passed .reasons in
+      ap (λ (z : Shape). runSaid z (ballotsIn input)) f
+      ∙ sym (ap (λ (o : Option Reason). said o (closingOf (countsOf (shapeIn input) (ballotsIn input)))) (first-append (writeReasons (shapeIn input) table) ballots ∙ ap (λ (o : Option Reason). orElse o (firstOf ballots)) none-applies))
+
+-- a refused write decides
+pub by-the-write : (input table : List ℕ) (s : Shape) (reason : Refusal) → s ≡ shapeIn input → saidBy (answer.Refused reason) ≡ writeSaid s table → refused (reasonOf reason) ≡ rehearsalSaid input table
+unfolding saidBy writeSaid said rehearsalSaid rehearsalReasons orElse
+by-the-write input table s reason f e =
+    let ballots = ballotReasons (shapeIn input) (ballotsIn input) in
+    let r = said-refused (firstOf (writeReasons s table)) (sizeOf (ownList s)) (reasonOf reason) (sym e) in
+    let applies = ap (λ (z : Shape). firstOf (writeReasons z table)) (sym f) ∙ r in
+    sym (ap (λ (o : Option Reason). said o (closingOf (countsOf (shapeIn input) (ballotsIn input)))) (first-append (writeReasons (shapeIn input) table) ballots ∙ ap (λ (o : Option Reason). orElse o (firstOf ballots)) applies))
+
+-- the ballots behind the first three bytes
+pub no-ballots : (input : List ℕ) → length input < 3 → ballotsIn input ≡ []
+unfolding ballotsIn
+no-ballots input h = drop-of-length-le input {i = 3} (omega arith)
+
+pub some-ballots : (input : List ℕ) → take (length input - 3) (drop 3 input) ≡ ballotsIn input
+unfolding ballotsIn
+some-ballots input = take-all (length input - 3) (drop 3 input) (omega (arith, length-drop 3 input))

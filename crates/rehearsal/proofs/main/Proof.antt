@@ -1,0 +1,145 @@
+-- `rehearsal::main` is safe: the buffers are as long as the rehearsal asks, and the closing bytes lie on the board.
+-- Assumes nothing.
+use mathlib.Core.Path.{_≡_, ap, sym}
+use Prim.Native.Nat.{ℕ, _+_, _≤_}
+use native.Mathlib.Omega.{arith}
+use lib.ListN.{length}
+use borrow.Author.Needs.{needs}
+use Rattle.jury.specs.declared.shape.Shape.{Shape}
+use Rattle.rehearsal.specs.Rehearsal.{endOn}
+use Rattle.rehearsal.proofs.main.Statement.{statement}
+use Rattle.rehearsal.proofs.main.Tie as tie
+
+table-requires : tie.Need-table-requires
+table-requires c κs = search needs
+
+tape-requires : tie.Need-tape-requires
+tape-requires c κs = search needs
+
+wires-requires : tie.Need-wires-requires
+wires-requires c κs = search needs
+
+board-requires : tie.Need-board-requires
+board-requires c κs = search needs
+
+-- the closing bytes end on the board
+ends : (c : tie.After-known-told2) → c .before .first .given .0 .0 + c .before .before .before .before .before .before .before .before .before .before .before .before .shape .result .candidates
+    ≤ length (c .before .before .before .before .before .before .rehearse .last .1 .1 .1 .1 .0)
+unfolding endOn
+ends c =
+    let r = c .before .before .before .before .before .before in
+    let s = r .before .before .before .before .before .before in
+    omega (
+      arith,
+      r .rehearse .ensures .1,
+      ap (endOn (s .shape .result .candidates)) (c .before .first .given .1),
+      ap (λ (z : Shape). endOn (z .candidates) (r .rehearse .result)) (s .shape .ensures),
+    )
+
+slice-aggregate-read-full : tie.Need-slice-aggregate-read-full
+slice-aggregate-read-full c = search needs
+
+read-full-requires : tie.Need-read-full-requires
+read-full-requires c κs = search needs
+
+array-share-prefix-input : tie.Need-array-share-prefix-input
+array-share-prefix-input c = search needs
+
+slice-aggregate-shape : tie.Need-slice-aggregate-shape
+slice-aggregate-shape c = search needs
+
+shape-requires : tie.Need-shape-requires
+shape-requires c κs = search needs
+
+array-share-prefix-input-2 : tie.Need-array-share-prefix-input-2
+array-share-prefix-input-2 c = search needs
+
+slice-aggregate-rehearse : tie.Need-slice-aggregate-rehearse
+slice-aggregate-rehearse c = search needs
+
+slice-aggregate-rehearse-2 : tie.Need-slice-aggregate-rehearse-2
+slice-aggregate-rehearse-2 c = search needs
+
+slice-aggregate-rehearse-3 : tie.Need-slice-aggregate-rehearse-3
+slice-aggregate-rehearse-3 c = search needs
+
+slice-aggregate-rehearse-4 : tie.Need-slice-aggregate-rehearse-4
+slice-aggregate-rehearse-4 c = search needs
+
+slice-aggregate-rehearse-5 : tie.Need-slice-aggregate-rehearse-5
+slice-aggregate-rehearse-5 c = search needs
+
+rehearse-requires : tie.Need-rehearse-requires
+rehearse-requires c κs = search needs
+
+enum-known-reason : tie.Need-enum-known-reason
+enum-known-reason c = search needs
+
+print-refused-requires : tie.Need-print-refused-requires
+print-refused-requires c κs = search needs
+
+enum-known-first : tie.Need-enum-known-first
+enum-known-first c = search needs
+
+print-jury-requires : tie.Need-print-jury-requires
+print-jury-requires c κs = search needs
+
+slice-aggregate-print-bytes : tie.Need-slice-aggregate-print-bytes
+slice-aggregate-print-bytes c = search needs
+
+add-print-bytes : tie.Need-add-print-bytes
+add-print-bytes c =
+    let told = c .before .before .before in
+    let r = told .before .before .before .before .before .before in
+    record { fits = omega (arith, ends told, r .rehearse .kept .1 .1 .1 .1 .0) }
+
+sub-print-bytes : tie.Need-sub-print-bytes
+sub-print-bytes c = search needs
+
+part-print-bytes-start : tie.Need-part-print-bytes-start
+part-print-bytes-start c = search needs
+
+part-print-bytes-end : tie.Need-part-print-bytes-end
+part-print-bytes-end c = ends (c .before .before .before .before)
+
+print-bytes-requires : tie.Need-print-bytes-requires
+print-bytes-requires c κs = search needs
+
+returns : tie.Need-returns
+returns c = search needs
+
+returns-2 : tie.Need-returns-2
+returns-2 c = search needs
+
+pub main-spec : {M : Type 1} → statement M
+main-spec =
+    tie.close
+    (tie.spec
+    table-requires
+    tape-requires
+    wires-requires
+    board-requires
+    slice-aggregate-read-full
+    read-full-requires
+    array-share-prefix-input
+    slice-aggregate-shape
+    shape-requires
+    array-share-prefix-input-2
+    slice-aggregate-rehearse
+    slice-aggregate-rehearse-2
+    slice-aggregate-rehearse-3
+    slice-aggregate-rehearse-4
+    slice-aggregate-rehearse-5
+    rehearse-requires
+    enum-known-reason
+    print-refused-requires
+    enum-known-first
+    print-jury-requires
+    slice-aggregate-print-bytes
+    add-print-bytes
+    sub-print-bytes
+    part-print-bytes-start
+    part-print-bytes-end
+    print-bytes-requires
+    returns
+    returns-2)

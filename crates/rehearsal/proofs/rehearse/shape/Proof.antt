@@ -1,0 +1,22 @@
+-- `rehearsal::rehearse::shape` meets its contract.
+-- Assumes nothing.
+use borrow.Author.Needs.{needs}
+use Rattle.rehearsal.specs.Rehearsal.{shapeIn}
+use Rattle.rehearsal.proofs.rehearse.shape.Statement.{statement}
+use Rattle.rehearsal.proofs.rehearse.shape.Tie as tie
+
+byte-requires : tie.Need-byte-requires
+byte-requires c κs = search needs
+
+byte-requires-2 : tie.Need-byte-requires-2
+byte-requires-2 c κs = search needs
+
+byte-requires-3 : tie.Need-byte-requires-3
+byte-requires-3 c κs = search needs
+
+returns : tie.Need-returns
+unfolding shapeIn
+returns c = rw (c .before .before .byte .ensures, c .before .byte2 .ensures, c .byte3 .ensures)
+
+pub shape-spec : {M : Type 1} → statement M
+shape-spec = tie.close (tie.spec byte-requires byte-requires-2 byte-requires-3 returns)

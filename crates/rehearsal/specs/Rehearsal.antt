@@ -1,0 +1,69 @@
+-- What the rehearsal program answers for its input.
+use mathlib.Core.Path.{_≡_}
+use mathlib.Core.Option.{Option}
+use mathlib.Core.List.{List, _++_}
+use Prim.Native.Nat.{ℕ, _+_, _≤_}
+use lib.Dec.{T}
+use lib.ListN.{length, getD, take, drop}
+use Rattle.gates.specs.Gate.{numbersOf}
+use Rattle.gates.specs.Board.{conditionalCount, Bits}
+use Rattle.jury.specs.declared.shape.Shape.{Shape}
+use Rattle.jury.specs.Shape.{withinLimits}
+use Rattle.jury.specs.Reason.{Reason, reasonOf, firstOf}
+use Rattle.jury.specs.Ballots.{ballotReasons}
+use Rattle.jury.specs.Counts.{countsOf}
+use Rattle.jury.specs.Gauge.{closingOf}
+use Rattle.circuit.specs.OwnList.{ownList}
+use Rattle.tally.specs.Answer.{Said, refused, accepted, said}
+use Rattle.tally.specs.Write.{writeReasons}
+use Rattle.rehearsal.specs.declared.rehearse.Rehearsed.{Rehearsed}
+use Rattle.rehearsal.specs.declared.rehearse.Rehearsed.the-variants.{Winners, Refused}
+
+-- "one byte each for k, d, n, a missing one counting as 0, then the ballots".
+unfoldable pub shapeIn : List ℕ → Shape
+shapeIn input = record { candidates = getD input 0 0; grades = getD input 1 0; ballots = getD input 2 0 }
+
+unfoldable pub ballotsIn : List ℕ → List ℕ
+ballotsIn input = drop 3 input
+
+-- "It writes the list, runs it": the reasons that concern writing come first. The list that was written passes its test, and tape, wire table and board are cut to their lengths, so only the ballots can turn the run away.
+unfoldable pub rehearsalReasons : List ℕ → List ℕ → List (Option Reason)
+rehearsalReasons input table = writeReasons (shapeIn input) table ++ ballotReasons (shapeIn input) (ballotsIn input)
+
+-- The winners are the closing bytes, and these are the gauge's.
+unfoldable pub rehearsalSaid : List ℕ → List ℕ → Said (List ℕ)
+rehearsalSaid input table = said (firstOf (rehearsalReasons input table)) (closingOf (countsOf (shapeIn input) (ballotsIn input)))
+
+-- Document 01's number and values for each case of the program's enum: the k closing bytes stand on the board from a place on.
+unfoldable pub saidOn : List ℕ → ℕ → Rehearsed → Said (List ℕ)
+saidOn board k (Winners first) = accepted (take k (drop first board))
+saidOn board k (Refused r) = refused (reasonOf r)
+
+-- Where the closing bytes end.
+unfoldable pub endOn : ℕ → Rehearsed → ℕ
+endOn k (Winners first) = first + k
+endOn k (Refused r) = 0
+
+-- What the program lends: "a tape of zeros and a gate table of 16,000 numbers", so at most 4,000 gates, and a wire table and a board that are long enough for them.
+pub record Lent (table tape wires board : List ℕ) : Type 0 where
+  pub tableLength : length table ≤ 16000
+  pub tapeLength : 4000 ≤ length tape
+  pub tapeBits : Bits tape
+  pub wiresLength : 18280 ≤ length wires
+  pub boardLength : 4008 ≤ length board
+
+-- What a run of the own list is lent: its numbers, a mask tape and buffers that are long enough.
+pub record Cut (s : Shape) (list : List ℕ) (gates conditional : ℕ) (tape wires board : List ℕ) : Type 0 where
+  pub within : T (withinLimits s)
+  pub list-is : list ≡ numbersOf (ownList s)
+  pub gates-are : gates ≡ length (ownList s)
+  pub conditional-are : conditional ≡ conditionalCount (ownList s)
+  pub few : gates ≤ 4000
+  pub tapeLength : 4000 ≤ length tape
+  pub tapeBits : Bits tape
+  pub wiresLength : 18280 ≤ length wires
+  pub boardLength : 4008 ≤ length board
+
+-- What it answers.
+unfoldable pub runSaid : Shape → List ℕ → Said (List ℕ)
+runSaid s ballots = said (firstOf (ballotReasons s ballots)) (closingOf (countsOf s ballots))

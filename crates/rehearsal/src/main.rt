@@ -1,0 +1,69 @@
+// Rehearses one jury: reads its shape and its ballots from standard input and prints who wins.
+mod rehearse;
+
+use crate::rehearse::Rehearsed;
+use jury::reason::Refusal;
+use jury::shape::Shape;
+use libc::STDIN_FILENO;
+ghost use mathlib.Core.Path.{_≡_};
+ghost use lib.ListN.{length};
+ghost use Rattle.gates.specs.Board.{Bits};
+
+fn print_jury(shape: Shape) {
+    cases::print_text(b"jury");
+    cases::print_number(shape.candidates);
+    cases::print_number(shape.grades);
+    cases::print_number(shape.ballots);
+    cases::print_text(b"\n");
+}
+
+fn print_refused(reason: Refusal) {
+    cases::print_text(b"refused");
+    cases::print_number(reason.number());
+    cases::print_number(reason.place());
+    cases::print_text(b"\n");
+}
+
+fn table() -> [u32; 16000]
+    ensures { λ r. ⌜ 16000 ≡ length r ⌝ }
+{
+    [0u32; 16000]
+}
+
+// The table holds 4,000 gates, and each may be conditional.
+fn tape() -> [u8; 4000]
+    ensures { λ r. ⌜ 4000 ≡ length r ⌝ }
+    ensures { λ r. ⌜ Bits r ⌝ }
+{
+    [0u8; 4000]
+}
+
+// With the largest jury's 14,280 ballot bytes they make 18,280 wires.
+fn wires() -> [u8; 18280]
+    ensures { λ r. ⌜ 18280 ≡ length r ⌝ }
+{
+    [0u8; 18280]
+}
+
+fn board() -> [u8; 4008]
+    ensures { λ r. ⌜ 4008 ≡ length r ⌝ }
+{
+    [0u8; 4008]
+}
+
+fn main() {
+    let mut input = [0u8; 16384];
+    let mut table = table();
+    let tape = tape();
+    let mut wires = wires();
+    let mut board = board();
+    let got = io::read_full(STDIN_FILENO, &mut input);
+    let shape = rehearse::shape(&input[..got]);
+    match rehearse::rehearse(&input[..got], &mut table, &tape, &mut wires, &mut board) {
+        Rehearsed::Refused(reason) => print_refused(reason),
+        Rehearsed::Winners { first } => {
+            print_jury(shape);
+            cases::print_bytes(b"winners", &board[first..first + shape.candidates]);
+        }
+    }
+}
