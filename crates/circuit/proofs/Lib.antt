@@ -15,6 +15,3 @@ pub mod Costs
 pub mod BoundLaws
 pub mod Measuring
 pub mod OwnListLaws
-pub mod ContestWriters
-pub mod Writers
-pub mod ListWriters

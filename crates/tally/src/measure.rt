@@ -21,7 +21,7 @@ pub fn measure(shape: Shape) -> Measured
     if !shape.is_within_limits() {
         return Measured::Refused(Refusal::Shape);
     }
-    let cost = circuit::measure::own_list(shape);
+    let cost = costs::list::own_list(shape);
     Measured::Accepted {
         gates: cost.gates,
         conditional: cost.conditional,

@@ -18,10 +18,10 @@ pub fn write(shape: Shape, table: &mut [u32]) -> Answer
         return Answer::Refused(Refusal::Shape);
     }
     // Four numbers a gate, without a product that could wrap.
-    if table.len() / 4 < circuit::measure::own_list(shape).gates {
+    if table.len() / 4 < costs::list::own_list(shape).gates {
         return Answer::Refused(Refusal::Table);
     }
-    let end = circuit::list::own_list(shape, table);
+    let end = writer::list::own_list(shape, table);
     Answer::Accepted {
         gates: end.gate,
         conditional: end.conditional,

@@ -1,4 +1,4 @@
--- `tally::measure::measure` meets its contract: the circuit layer measures the own list of a shape within its limits.
+-- `tally::measure::measure` meets its contract: `costs` measures the own list of a shape within its limits.
 -- Assumes nothing.
 use mathlib.Core.Path.{_≡_, _∙_, refl, sym, ap}
 use mathlib.Core.Bool.{Bool, true, false}

@@ -1,0 +1,2 @@
+// What the own list of a shape costs.
+pub mod list;

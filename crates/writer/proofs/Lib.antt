@@ -1,0 +1,2 @@
+pub mod ContestWriters
+pub mod ListWriters
