@@ -1,7 +1,8 @@
 """Makes the committed test inputs and expected outputs anew.
 
     python3 tests/make.py           writes them
-    python3 tests/make.py --check   compares them with what is committed, and fails on any difference
+    python3 tests/make.py --check   compares them with what is committed, evaluates the committed blocks of gates, and fails
+                                    on any difference
 """
 
 import pathlib
@@ -9,8 +10,9 @@ import sys
 
 import count_cases
 import gate_cases
+import words_cases
 
-MAKERS = [gate_cases, count_cases]
+MAKERS = [gate_cases, count_cases, words_cases]
 ROOT = pathlib.Path(__file__).resolve().parent.parent
 
 
@@ -25,6 +27,8 @@ def main():
                     different.append(name)
             else:
                 path.write_bytes(data)
+    if check:
+        words_cases.check()
     for name in different:
         print(f"differs from what tests/make.py makes: {name}")
     if different:
