@@ -30,7 +30,7 @@ slice-aggregate-run-case : tie.Need-slice-aggregate-run-case Inv-loop μ-loop
 slice-aggregate-run-case c = omega arith
 
 run-case-requires : tie.Need-run-case-requires Inv-loop μ-loop
-run-case-requires c κs = search needs
+run-case-requires c κs = tt
 
 add-turn : tie.Need-add-turn Inv-loop μ-loop
 add-turn c = omega arith

@@ -3,7 +3,6 @@
 use Prim.Native.Nat.{_-_, _≤_}
 use native.Mathlib.Omega.{arith}
 use lib.ListN.{length}
-use borrow.Author.Needs.{needs}
 use Rattle.words_cases.proofs.print_table.Statement.{statement}
 use Rattle.words_cases.proofs.print_table.Tie as tie
 
@@ -17,7 +16,7 @@ slice-aggregate-print-text : tie.Need-slice-aggregate-print-text Inv-loop μ-loo
 slice-aggregate-print-text c = omega arith
 
 print-text-requires : tie.Need-print-text-requires Inv-loop μ-loop
-print-text-requires c κs = search needs
+print-text-requires c κs = tt
 
 loop-holds : tie.Need-loop-holds Inv-loop μ-loop
 loop-holds c = omega arith
@@ -26,7 +25,7 @@ slice-aggregate-print-text-2 : tie.Need-slice-aggregate-print-text-2 Inv-loop μ
 slice-aggregate-print-text-2 c = omega arith
 
 print-text-requires-2 : tie.Need-print-text-requires-2 Inv-loop μ-loop
-print-text-requires-2 c κs = search needs
+print-text-requires-2 c κs = tt
 
 returns : tie.Need-returns Inv-loop μ-loop
 returns c = tt
@@ -38,10 +37,10 @@ shared-slice-read-wide : tie.Need-shared-slice-read-wide Inv-loop μ-loop
 shared-slice-read-wide c = omega arith
 
 wide-requires : tie.Need-wide-requires Inv-loop μ-loop
-wide-requires c κs = search needs
+wide-requires c κs = tt
 
 print-number-requires : tie.Need-print-number-requires Inv-loop μ-loop
-print-number-requires c κs = search needs
+print-number-requires c κs = tt
 
 add-i : tie.Need-add-i Inv-loop μ-loop
 add-i c = omega arith
@@ -56,7 +55,7 @@ slice-aggregate-print-text-3 : tie.Need-slice-aggregate-print-text-3 Inv-loop μ
 slice-aggregate-print-text-3 c = omega arith
 
 print-text-requires-3 : tie.Need-print-text-requires-3 Inv-loop μ-loop
-print-text-requires-3 c κs = search needs
+print-text-requires-3 c κs = tt
 
 returns-2 : tie.Need-returns-2 Inv-loop μ-loop
 returns-2 c = tt

@@ -10,31 +10,31 @@ use Rattle.words_cases.proofs.blocks.accumulator.Statement.{statement}
 use Rattle.words_cases.proofs.blocks.accumulator.Tie as tie
 
 are-bits-requires : tie.Need-are-bits-requires
-are-bits-requires c κs = search needs
+are-bits-requires c κs = tt
 
 refused-requires : tie.Need-refused-requires
-refused-requires c κs = search needs
+refused-requires c κs = tt
 
 returns : tie.Need-returns
-returns c = search needs
+returns c = tt
 
 refused-requires-2 : tie.Need-refused-requires-2
-refused-requires-2 c κs = search needs
+refused-requires-2 c κs = tt
 
 returns-2 : tie.Need-returns-2
-returns-2 c = search needs
+returns-2 c = tt
 
 add-is-word : tie.Need-add-is-word
 add-is-word c = search needs
 
 is-word-requires : tie.Need-is-word-requires
-is-word-requires c κs = search needs
+is-word-requires c κs = tt
 
 refused-requires-3 : tie.Need-refused-requires-3
-refused-requires-3 c κs = search needs
+refused-requires-3 c κs = tt
 
 returns-3 : tie.Need-returns-3
-returns-3 c = search needs
+returns-3 c = tt
 
 accumulator-requires : tie.Need-accumulator-requires
 accumulator-requires c κs =
@@ -44,16 +44,16 @@ accumulator-requires c κs =
     )
 
 has-room-requires : tie.Need-has-room-requires
-has-room-requires c κs = search needs
+has-room-requires c κs = tt
 
 refused-requires-4 : tie.Need-refused-requires-4
-refused-requires-4 c κs = search needs
+refused-requires-4 c κs = tt
 
 same-length : tie.Need-same-length
-same-length c = search needs
+same-length c = omega arith
 
 returns-4 : tie.Need-returns-4
-returns-4 c = search needs
+returns-4 c = tt
 
 accumulator-requires-2 : tie.Need-accumulator-requires-2
 accumulator-requires-2 c κs =
@@ -68,10 +68,10 @@ accumulator-requires-2 c κs =
     )
 
 same-length-2 : tie.Need-same-length-2
-same-length-2 c = search needs
+same-length-2 c = omega arith
 
 returns-5 : tie.Need-returns-5
-returns-5 c = search needs
+returns-5 c = tt
 
 pub accumulator-spec : {M : Type 1} → statement M
 accumulator-spec =

@@ -10,28 +10,28 @@ cast-has-room : tie.Need-cast-has-room
 cast-has-room c = search needs
 
 has-room-requires : tie.Need-has-room-requires
-has-room-requires c κs = search needs
+has-room-requires c κs = tt
 
 refused-requires : tie.Need-refused-requires
-refused-requires c κs = search needs
+refused-requires c κs = tt
 
 same-length : tie.Need-same-length
-same-length c = search needs
+same-length c = omega arith
 
 returns : tie.Need-returns
-returns c = search needs
+returns c = tt
 
 are-bits-requires : tie.Need-are-bits-requires
-are-bits-requires c κs = search needs
+are-bits-requires c κs = tt
 
 refused-requires-2 : tie.Need-refused-requires-2
-refused-requires-2 c κs = search needs
+refused-requires-2 c κs = tt
 
 same-length-2 : tie.Need-same-length-2
-same-length-2 c = search needs
+same-length-2 c = omega arith
 
 returns-2 : tie.Need-returns-2
-returns-2 c = search needs
+returns-2 c = tt
 
 any-of-requires : tie.Need-any-of-requires
 any-of-requires c κs =
@@ -46,16 +46,16 @@ parity-requires c κs =
     (when (e .before .before .before .has-room .result) (e .before .before .before .has-room .ensures) (e .before .before .if1 .left), (b .0, omega (arith, b .1)))
 
 same-length-3 : tie.Need-same-length-3
-same-length-3 c = search needs
+same-length-3 c = omega arith
 
 returns-3 : tie.Need-returns-3
-returns-3 c = search needs
+returns-3 c = tt
 
 same-length-4 : tie.Need-same-length-4
-same-length-4 c = search needs
+same-length-4 c = omega arith
 
 returns-4 : tie.Need-returns-4
-returns-4 c = search needs
+returns-4 c = tt
 
 pub chain-spec : {M : Type 1} → statement M
 chain-spec =

@@ -2,7 +2,6 @@
 -- Assumes nothing.
 use mathlib.Core.Path.{ap}
 use native.Mathlib.Omega.{arith}
-use borrow.Author.Needs.{needs}
 use Rattle.words.specs.declared.cost.Cost.{Cost}
 use Rattle.words.proofs.Writing.{room-less}
 use Rattle.words_cases.proofs.Tests.{when}
@@ -10,22 +9,22 @@ use Rattle.words_cases.proofs.blocks.counter.Statement.{statement}
 use Rattle.words_cases.proofs.blocks.counter.Tie as tie
 
 are-bits-requires : tie.Need-are-bits-requires
-are-bits-requires c κs = search needs
+are-bits-requires c κs = tt
 
 refused-requires : tie.Need-refused-requires
-refused-requires c κs = search needs
+refused-requires c κs = tt
 
 returns : tie.Need-returns
-returns c = search needs
+returns c = tt
 
 is-countable-requires : tie.Need-is-countable-requires
-is-countable-requires c κs = search needs
+is-countable-requires c κs = tt
 
 refused-requires-2 : tie.Need-refused-requires-2
-refused-requires-2 c κs = search needs
+refused-requires-2 c κs = tt
 
 returns-2 : tie.Need-returns-2
-returns-2 c = search needs
+returns-2 c = tt
 
 counter-requires : tie.Need-counter-requires
 counter-requires c κs =
@@ -35,16 +34,16 @@ counter-requires c κs =
     )
 
 has-room-requires : tie.Need-has-room-requires
-has-room-requires c κs = search needs
+has-room-requires c κs = tt
 
 refused-requires-3 : tie.Need-refused-requires-3
-refused-requires-3 c κs = search needs
+refused-requires-3 c κs = tt
 
 same-length : tie.Need-same-length
-same-length c = search needs
+same-length c = omega arith
 
 returns-3 : tie.Need-returns-3
-returns-3 c = search needs
+returns-3 c = tt
 
 counter-requires-2 : tie.Need-counter-requires-2
 counter-requires-2 c κs =
@@ -58,10 +57,10 @@ counter-requires-2 c κs =
     )
 
 same-length-2 : tie.Need-same-length-2
-same-length-2 c = search needs
+same-length-2 c = omega arith
 
 returns-4 : tie.Need-returns-4
-returns-4 c = search needs
+returns-4 c = tt
 
 pub counter-spec : {M : Type 1} → statement M
 counter-spec =

@@ -1,30 +1,30 @@
 -- `words_cases::blocks::emit` writes only where there is room.
 -- Assumes nothing.
-use borrow.Author.Needs.{needs}
+use native.Mathlib.Omega.{arith}
 use Rattle.words_cases.proofs.Tests.{is-true}
 use Rattle.words_cases.proofs.blocks.emit.Statement.{statement}
 use Rattle.words_cases.proofs.blocks.emit.Tie as tie
 
 has-room-requires : tie.Need-has-room-requires
-has-room-requires c κs = search needs
+has-room-requires c κs = tt
 
 emit-requires : tie.Need-emit-requires
 emit-requires c κs = c .before .before .has-room .ensures (is-true _ (c .before .if1 .taken))
 
 same-length : tie.Need-same-length
-same-length c = search needs
+same-length c = omega arith
 
 returns : tie.Need-returns
-returns c = search needs
+returns c = tt
 
 refused-requires : tie.Need-refused-requires
-refused-requires c κs = search needs
+refused-requires c κs = tt
 
 same-length-2 : tie.Need-same-length-2
-same-length-2 c = search needs
+same-length-2 c = omega arith
 
 returns-2 : tie.Need-returns-2
-returns-2 c = search needs
+returns-2 c = tt
 
 pub emit-spec : {M : Type 1} → statement M
 emit-spec =
