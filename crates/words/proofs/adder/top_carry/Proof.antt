@@ -4,18 +4,17 @@ use mathlib.Core.Path.{_≡_, _∙_, sym, ap}
 use Prim.Native.Nat.{ℕ, suc, _+_, _-_, _*_}
 use native.Mathlib.Omega.{arith}
 use Rattle.words.specs.Adder.{topCarry}
-use borrow.Author.Needs.{needs}
 use Rattle.words.proofs.adder.top_carry.Statement.{statement}
 use Rattle.words.proofs.adder.top_carry.Tie as tie
 
 mul-result : tie.Need-mul-result
-mul-result c = search needs
+mul-result c = omega arith
 
 add-result : tie.Need-add-result
-add-result c = search needs
+add-result c = omega arith
 
 sub-result : tie.Need-sub-result
-sub-result c = search needs
+sub-result c = omega arith
 
 returns : tie.Need-returns
 returns c = let a = c .before .args in none (a .n) (a .carry) (a .digits) (c .if1 .taken)

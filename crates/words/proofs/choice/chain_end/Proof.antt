@@ -4,15 +4,14 @@ use mathlib.Core.Path.{_≡_, refl}
 use Prim.Native.Nat.{ℕ, zero, suc, _+_, _-_}
 use native.Mathlib.Omega.{arith}
 use Rattle.words.specs.Choice.{chainEnd}
-use borrow.Author.Needs.{needs}
 use Rattle.words.proofs.choice.chain_end.Statement.{statement}
 use Rattle.words.proofs.choice.chain_end.Tie as tie
 
 add-result : tie.Need-add-result
-add-result c = search needs
+add-result c = omega arith
 
 sub-result : tie.Need-sub-result
-sub-result c = search needs
+sub-result c = omega arith
 
 no-gate : (n s m : ℕ) → m ≡ 0 → s ≡ chainEnd n s m
 unfolding chainEnd

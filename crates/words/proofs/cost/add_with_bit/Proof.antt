@@ -5,7 +5,6 @@ use Prim.Native.Nat.{ℕ, suc, _+_, _-_, _*_}
 use native.Mathlib.Omega.{arith}
 use Rattle.words.specs.Cost.{fullCost, halfCost, addBitCost}
 use Rattle.words.proofs.CostSteps.{same-cost, times-most}
-use borrow.Author.Needs.{needs}
 use Rattle.words.proofs.cost.add_with_bit.Statement.{statement}
 use Rattle.words.proofs.cost.add_with_bit.Tie as tie
 
@@ -26,19 +25,19 @@ returns c =
     same-cost (omega arith) (sym (no-digit (a .e) (a .digits) z))
 
 mul-t5 : tie.Need-mul-t5
-mul-t5 c = search needs
+mul-t5 c = omega arith
 
 half-requires : tie.Need-half-requires
-half-requires c κs = search needs
+half-requires c κs = tt
 
 sub-t7 : tie.Need-sub-t7
-sub-t7 c = search needs
+sub-t7 c = omega arith
 
 cast-t8 : tie.Need-cast-t8
-cast-t8 c = search needs
+cast-t8 c = omega arith
 
 full-requires : tie.Need-full-requires
-full-requires c κs = search needs
+full-requires c κs = tt
 
 mul-t10 : tie.Need-mul-t10
 mul-t10 c = omega (arith, times-most (c .before .before .before .args .digits - 1) (c .full .result) 3 (c .full .ensures .1))

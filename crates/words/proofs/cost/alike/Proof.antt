@@ -3,13 +3,12 @@
 use mathlib.Core.Path.{refl, ap}
 use Prim.Native.Nat.{ℕ, _*_}
 use native.Mathlib.Omega.{arith}
-use borrow.Author.Needs.{needs}
 use Rattle.words.proofs.CostSteps.{same-cost, times-most}
 use Rattle.words.proofs.cost.alike.Statement.{statement}
 use Rattle.words.proofs.cost.alike.Tie as tie
 
 mark-requires : tie.Need-mark-requires
-mark-requires c κs = search needs
+mark-requires c κs = tt
 
 mul-t6 : tie.Need-mul-t6
 mul-t6 c = omega (arith, times-most (c .before .args .count) (c .mark .result) 1 (c .mark .ensures .1))

@@ -4,24 +4,23 @@ use mathlib.Core.Path.{refl, ap₂}
 use Prim.Native.Nat.{ℕ, _+_, _*_}
 use native.Mathlib.Omega.{arith}
 use Rattle.words.proofs.CostSteps.{same-cost, times-most}
-use borrow.Author.Needs.{needs}
 use Rattle.words.proofs.cost.compare_words.Statement.{statement}
 use Rattle.words.proofs.cost.compare_words.Tie as tie
 
 mul-t3 : tie.Need-mul-t3
-mul-t3 c = search needs
+mul-t3 c = omega arith
 
 mark-requires : tie.Need-mark-requires
-mark-requires c κs = search needs
+mark-requires c κs = tt
 
 mark-requires-2 : tie.Need-mark-requires-2
-mark-requires-2 c κs = search needs
+mark-requires-2 c κs = tt
 
 mul-t7 : tie.Need-mul-t7
-mul-t7 c = search needs
+mul-t7 c = omega arith
 
 add-t8 : tie.Need-add-t8
-add-t8 c = search needs
+add-t8 c = omega arith
 
 mul-t9 : tie.Need-mul-t9
 mul-t9 c = omega (arith, times-most (c .before .before .args .digits) (c .before .mark .result + 2 * c .mark2 .result) 3 (omega arith))

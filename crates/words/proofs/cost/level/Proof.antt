@@ -5,24 +5,23 @@ use Prim.Native.Nat.{ℕ, _+_, _*_, _/_, _%_}
 use native.Mathlib.Omega.{arith}
 use Rattle.words.specs.Cost.{levelCost}
 use Rattle.words.proofs.CostSteps.{times-most}
-use borrow.Author.Needs.{needs}
 use Rattle.words.proofs.cost.level.Statement.{statement}
 use Rattle.words.proofs.cost.level.Tie as tie
 
 cast-result : tie.Need-cast-result
-cast-result c = search needs
+cast-result c = omega arith
 
 full-requires : tie.Need-full-requires
-full-requires c κs = search needs
+full-requires c κs = tt
 
 mul-result : tie.Need-mul-result
 mul-result c = omega (arith, times-most (c .before .args .count / 2) (c .full .result) 3 (c .full .ensures .1))
 
 cast-result-2 : tie.Need-cast-result-2
-cast-result-2 c = search needs
+cast-result-2 c = omega arith
 
 half-requires : tie.Need-half-requires
-half-requires c κs = search needs
+half-requires c κs = tt
 
 mul-result-2 : tie.Need-mul-result-2
 mul-result-2 c = omega (arith, times-most (c .before .before .args .count % 2) (c .half .result) 2 (c .half .ensures .1))

@@ -1,14 +1,13 @@
 -- `words::cost::mark` meets its contract: it reads the table of kinds, whose marks count once.
 -- Assumes nothing.
 use native.Mathlib.Omega.{arith}
-use borrow.Author.Needs.{needs}
 use Rattle.words.specs.Cost.{markOf}
 use Rattle.words.proofs.CostLaws.{mark-most}
 use Rattle.words.proofs.cost.mark.Statement.{statement}
 use Rattle.words.proofs.cost.mark.Tie as tie
 
 mark-requires : tie.Need-mark-requires
-mark-requires c κs = search needs
+mark-requires c κs = tt
 
 returns : tie.Need-returns
 unfolding markOf

@@ -2,15 +2,15 @@
 -- Assumes nothing.
 use mathlib.Core.Path.{refl}
 use Rattle.words.specs.Counter.{adders}
-use borrow.Author.Needs.{needs}
+use native.Mathlib.Omega.{arith}
 use Rattle.words.proofs.counter.adders_of.Statement.{statement}
 use Rattle.words.proofs.counter.adders_of.Tie as tie
 
 add-result : tie.Need-add-result
-add-result c = search needs
+add-result c = omega arith
 
 add-result-2 : tie.Need-add-result-2
-add-result-2 c = search needs
+add-result-2 c = omega arith
 
 returns : tie.Need-returns
 unfolding adders

@@ -4,6 +4,7 @@ use mathlib.Core.Path.{_≡_, _∙_, sym, ap}
 use Prim.Native.Nat.{ℕ, _+_, _-_, _*_}
 use borrow.Author.Tests.{eq-eqb, ne-eqb}
 use Rattle.words.specs.Counter.{adders, levelSum}
+use native.Mathlib.Omega.{arith}
 use borrow.Author.Needs.{needs}
 use Rattle.words.proofs.counter.level_sum.Statement.{statement}
 use Rattle.words.proofs.counter.level_sum.Tie as tie
@@ -12,13 +13,13 @@ adders-of-requires : tie.Need-adders-of-requires
 adders-of-requires c κs = search needs
 
 mul-result : tie.Need-mul-result
-mul-result c = search needs
+mul-result c = omega arith
 
 add-result : tie.Need-add-result
-add-result c = search needs
+add-result c = omega arith
 
 sub-result : tie.Need-sub-result
-sub-result c = search needs
+sub-result c = omega arith
 
 no-adder : (n s m e t : ℕ) → t ≡ adders m e → t ≡ 0 → s ≡ levelSum n s m e
 unfolding levelSum

@@ -7,7 +7,6 @@ use native.Mathlib.Omega.{arith}
 use Rattle.words.specs.Adder.{addWords, topCarry, topDigit, addModulo}
 use Rattle.words.proofs.Writing.{wrote-nothing, wrote-both, wrote-as, room-less, room-after}
 use Rattle.words.proofs.WordSteps.{length-add, length-modulo, modulo-step, modulo-none}
-use borrow.Author.Needs.{needs}
 use Rattle.words.proofs.writer.Writer.add_modulo.Statement.{statement}
 use Rattle.words.proofs.writer.Writer.add_modulo.Tie as tie
 
@@ -21,7 +20,7 @@ returns c =
     wrote-as (a .self) (a .table .now) [] _ (a .table .now) (a .self) (sym (modulo-none (a .self .wire) (a .x) (a .y) (a .carry) (a .digits) (c .if1 .taken))) (wrote-nothing (a .self) (a .table .now))
 
 sub-top : tie.Need-sub-top
-sub-top c = search needs
+sub-top c = omega arith
 
 add-words-requires : tie.Need-add-words-requires
 add-words-requires c κs =
@@ -30,10 +29,10 @@ add-words-requires c κs =
     (room-less (a .self) (a .table .now) _ _ (omega (arith, length-add (a .self .wire) (a .x) (a .y) (a .carry) (a .digits - 1), length-modulo (a .self .wire) (a .x) (a .y) (a .carry) (a .digits))) (s .pre .0), omega arith)
 
 add-top-digit : tie.Need-add-top-digit
-add-top-digit c = search needs
+add-top-digit c = omega arith
 
 add-top-digit-2 : tie.Need-add-top-digit-2
-add-top-digit-2 c = search needs
+add-top-digit-2 c = omega arith
 
 top-carry-requires : tie.Need-top-carry-requires
 top-carry-requires c κs =
@@ -51,7 +50,7 @@ top-digit-requires c κs =
     (omega (arith, d, length-add (a .self .wire) (a .x) (a .y) (a .carry) (a .digits - 1), length-modulo (a .self .wire) (a .x) (a .y) (a .carry) (a .digits))) (s .pre .0)
 
 same-length : tie.Need-same-length
-same-length c = search needs
+same-length c = omega arith
 
 returns-2 : tie.Need-returns-2
 returns-2 c =

@@ -4,7 +4,6 @@ use mathlib.Core.Path.{_≡_, _∙_, refl, ap}
 use mathlib.Core.List.{[], _++_}
 use Prim.Native.Nat.{ℕ, zero, suc, _+_, _-_}
 use native.Mathlib.Omega.{arith}
-use borrow.Author.Needs.{needs}
 use Rattle.words.specs.Adder.{halfAdder, addWords, addWithBit}
 use Rattle.words.proofs.Writing.{wrote-nothing, wrote-both, wrote-as, room-less, room-after}
 use Rattle.words.proofs.WordSteps.{length-half, length-add, length-add-bit}
@@ -30,16 +29,16 @@ half-adder-requires c κs =
     room-less (a .self) (a .table .now) 3 _ (omega (arith, length-add-bit (a .self .wire) (a .x) (a .y) (a .e) (a .digits), c .before .if1 .left)) (s .pre .0)
 
 add-add-words : tie.Need-add-add-words
-add-add-words c = search needs
+add-add-words c = omega arith
 
 add-add-words-2 : tie.Need-add-add-words-2
-add-add-words-2 c = search needs
+add-add-words-2 c = omega arith
 
 add-add-words-3 : tie.Need-add-add-words-3
-add-add-words-3 c = search needs
+add-add-words-3 c = omega arith
 
 sub-add-words : tie.Need-sub-add-words
-sub-add-words c = search needs
+sub-add-words c = omega arith
 
 add-words-requires : tie.Need-add-words-requires
 add-words-requires c κs =
@@ -53,7 +52,7 @@ add-words-requires c κs =
     )
 
 same-length : tie.Need-same-length
-same-length c = search needs
+same-length c = omega arith
 
 returns-2 : tie.Need-returns-2
 returns-2 c =

@@ -10,7 +10,7 @@ chain-requires : tie.Need-chain-requires
 chain-requires c κs = let p = c .before .before .pre in (p .0, (p .1 .0, (p .1 .1, omega (arith, operand-counts))))
 
 same-length : tie.Need-same-length
-same-length c = search needs
+same-length c = omega arith
 
 returns : tie.Need-returns
 returns c = search needs

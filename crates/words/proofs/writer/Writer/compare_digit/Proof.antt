@@ -28,7 +28,7 @@ emit-requires-2 : tie.Need-emit-requires-2
 emit-requires-2 c κs = let r = first (c .before .before .before) in record { inTable = omega (arith, r .inTable); small = omega (arith, r .small); counted = r .counted }
 
 add-emit : tie.Need-add-emit
-add-emit c = search needs
+add-emit c = omega arith
 
 emit-requires-3 : tie.Need-emit-requires-3
 emit-requires-3 c κs = let r = second (c .before .before .before) in record { inTable = omega (arith, r .inTable); small = omega (arith, r .small); counted = r .counted }
@@ -37,7 +37,7 @@ emit-requires-4 : tie.Need-emit-requires-4
 emit-requires-4 c κs = third (c .before .before .before)
 
 same-length : tie.Need-same-length
-same-length c = search needs
+same-length c = omega arith
 
 returns : tie.Need-returns
 unfolding compareDigit

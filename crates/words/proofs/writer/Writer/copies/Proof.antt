@@ -10,7 +10,7 @@ each-requires : tie.Need-each-requires
 each-requires c κs = let p = c .before .before .pre in (p .0, (omega (arith, operand-counts), p .1))
 
 same-length : tie.Need-same-length
-same-length c = search needs
+same-length c = omega arith
 
 returns : tie.Need-returns
 returns c = search needs

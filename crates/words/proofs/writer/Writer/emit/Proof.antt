@@ -9,61 +9,61 @@ use Rattle.words.proofs.writer.Writer.emit.Statement.{statement}
 use Rattle.words.proofs.writer.Writer.emit.Tie as tie
 
 operands-requires : tie.Need-operands-requires
-operands-requires c κs = search needs
+operands-requires c κs = tt
 
 mul-at : tie.Need-mul-at
-mul-at c = search needs
+mul-at c = omega arith
 
 mul-table : tie.Need-mul-table
-mul-table c = search needs
+mul-table c = omega arith
 
 slice-write-table : tie.Need-slice-write-table
 slice-write-table c = search needs
 
 operand-requires : tie.Need-operand-requires
-operand-requires c κs = search needs
+operand-requires c κs = tt
 
 add-table : tie.Need-add-table
-add-table c = search needs
+add-table c = omega arith
 
 mul-table-2 : tie.Need-mul-table-2
-mul-table-2 c = search needs
+mul-table-2 c = omega arith
 
 slice-write-table-2 : tie.Need-slice-write-table-2
 slice-write-table-2 c = simp length-set (omega (arith, c .before .before .before .before .pre .inTable))
 
 operand-requires-2 : tie.Need-operand-requires-2
-operand-requires-2 c κs = search needs
+operand-requires-2 c κs = tt
 
 add-table-2 : tie.Need-add-table-2
-add-table-2 c = search needs
+add-table-2 c = omega arith
 
 mul-table-3 : tie.Need-mul-table-3
-mul-table-3 c = search needs
+mul-table-3 c = omega arith
 
 slice-write-table-3 : tie.Need-slice-write-table-3
 slice-write-table-3 c = simp length-set (omega (arith, c .before .before .before .before .before .pre .inTable))
 
 operand-requires-3 : tie.Need-operand-requires-3
-operand-requires-3 c κs = search needs
+operand-requires-3 c κs = tt
 
 add-table-3 : tie.Need-add-table-3
-add-table-3 c = search needs
+add-table-3 c = omega arith
 
 mul-table-4 : tie.Need-mul-table-4
-mul-table-4 c = search needs
+mul-table-4 c = omega arith
 
 slice-write-table-4 : tie.Need-slice-write-table-4
 slice-write-table-4 c = simp length-set (omega (arith, c .before .before .before .before .before .before .pre .inTable))
 
 add-t9 : tie.Need-add-t9
-add-t9 c = search needs
+add-t9 c = omega arith
 
 add-t11 : tie.Need-add-t11
-add-t11 c = search needs
+add-t11 c = omega arith
 
 mark-requires : tie.Need-mark-requires
-mark-requires c κs = search needs
+mark-requires c κs = tt
 
 add-t16 : tie.Need-add-t16
 add-t16 c = let s = c .before .before .before .before .before .before .before .before .before .before in omega (arith, c .before .mark .ensures, mark-at-most-one (s .args .kind), s .pre .counted, s .pre .inTable)

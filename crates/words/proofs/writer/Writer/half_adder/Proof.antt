@@ -43,7 +43,7 @@ emit-requires-3 : tie.Need-emit-requires-3
 emit-requires-3 c κs = second (c .before .before .before)
 
 same-length : tie.Need-same-length
-same-length c = search needs
+same-length c = omega arith
 
 returns : tie.Need-returns
 returns c =
@@ -61,7 +61,7 @@ emit-requires-5 : tie.Need-emit-requires-5
 emit-requires-5 c κs = second-with-bit (c .before .before .before)
 
 same-length-2 : tie.Need-same-length-2
-same-length-2 c = search needs
+same-length-2 c = omega arith
 
 returns-2 : tie.Need-returns-2
 returns-2 c =

@@ -27,7 +27,7 @@ emit-requires-3 : tie.Need-emit-requires-3
 emit-requires-3 c κs = second (c .before .before .before)
 
 same-length : tie.Need-same-length
-same-length c = search needs
+same-length c = omega arith
 
 returns : tie.Need-returns
 unfolding increment

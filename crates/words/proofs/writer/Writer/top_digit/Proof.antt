@@ -18,7 +18,7 @@ emit-requires-2 c κs =
     room-after (s .args .self) (s .args .table .now) _ (e .last .1 .0) (e .result) 1 2 (e .ensures) (omega arith) (s .pre)
 
 same-length : tie.Need-same-length
-same-length c = search needs
+same-length c = omega arith
 
 returns : tie.Need-returns
 unfolding topDigit
