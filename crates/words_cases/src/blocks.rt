@@ -35,10 +35,7 @@ fn constants(table: &mut [u32], w: Writer, case: Case) -> Writer {
 
 // A gate for each digit of a word.
 fn one_word(table: &mut [u32], w: Writer, case: Case) -> Writer {
-    if !limits::has_room(table, w, case.count as usize) {
-        return refused(w);
-    }
-    if !limits::is_word(w.wire, case.a, case.count) {
+    if !limits::fits_words(table, w, case.count as usize, case.a, case.a, case.count) {
         return refused(w);
     }
     let task = case.task;
@@ -50,16 +47,10 @@ fn one_word(table: &mut [u32], w: Writer, case: Case) -> Writer {
 }
 
 fn choose(table: &mut [u32], w: Writer, case: Case) -> Writer {
-    if !limits::has_room(table, w, case.count as usize) {
-        return refused(w);
+    if limits::fits_words(table, w, case.count as usize, case.b, case.c, case.count) {
+        return w.choose(table, case.a, case.b, case.c, case.count);
     }
-    if !limits::is_word(w.wire, case.b, case.count) {
-        return refused(w);
-    }
-    if !limits::is_word(w.wire, case.c, case.count) {
-        return refused(w);
-    }
-    w.choose(table, case.a, case.b, case.c, case.count)
+    refused(w)
 }
 
 // A gate for each of some bits.
@@ -108,13 +99,14 @@ fn accumulator(table: &mut [u32], w: Writer, case: Case) -> Writer {
 
 // Three gates for each digit of two words.
 fn two_words(table: &mut [u32], w: Writer, case: Case) -> Writer {
-    if !limits::has_room(table, w, 3 * case.count as usize) {
-        return refused(w);
-    }
-    if !limits::is_word(w.wire, case.a, case.count) {
-        return refused(w);
-    }
-    if !limits::is_word(w.wire, case.b, case.count) {
+    if !limits::fits_words(
+        table,
+        w,
+        3 * case.count as usize,
+        case.a,
+        case.b,
+        case.count,
+    ) {
         return refused(w);
     }
     let task = case.task;

@@ -39,6 +39,19 @@ pub fn is_word(n: u32, x: u32, digits: u32) -> bool
     true
 }
 
+// Whether a table has room for so many gates, and both words lie below the writer's wire.
+pub fn fits_words(table: &[u32], w: Writer, gates: usize, x: u32, y: u32, digits: u32) -> bool
+    ensures { λ r. ⌜ (T r → Room w (now (table .entry)) gates × (x + digits ≤ w .wire) × (y + digits ≤ w .wire)) ⌝ }
+{
+    if !is_word(w.wire, x, digits) {
+        return false;
+    }
+    if !is_word(w.wire, y, digits) {
+        return false;
+    }
+    has_room(table, w, gates)
+}
+
 // Whether so many wires a stride apart lie below wire n, in numbers that are small enough.
 pub fn are_bits(n: u32, first: u32, stride: u32, count: u32) -> bool
     ensures { λ r. ⌜ (T r → Below n first stride count × (stride < 65536) × (count < 65536)) ⌝ }
