@@ -387,9 +387,9 @@ def evaluate(cases, output):
 PLACES = [(0, 0), (0, 0), (1, 0), (1, 1), (3, 2), (6, 0)]
 
 
-def placed(rng, name, count, wire, **parameters):
+def placed(rng, name, count, wire, **rest):
     gate, conditional = rng.choice(PLACES)
-    return Case(name, count, wire=wire, gate=gate, conditional=conditional, **parameters)
+    return Case(name, count, wire=wire, gate=gate, conditional=conditional, **rest)
 
 
 def single_gates(rng):
@@ -404,10 +404,9 @@ def words(rng):
     """Each block on words at each width, its words and wires at random places: they may overlap."""
     for width, turn in itertools.product(WIDTHS, range(3)):
         wire = 2 * width + 2 if turn == 0 else rng.choice([2 * width + 3, 40, 1000])
-        wires = lambda many: [rng.randrange(wire) for _ in range(many)]
         starts = (0, width) if turn == 0 else (wire - width, rng.randrange(wire - width + 1))
         a, b = rng.sample(starts, 2)
-        s, t = (2 * width, 2 * width + 1) if turn == 0 else wires(2)
+        s, t = (2 * width, 2 * width + 1) if turn == 0 else (rng.randrange(wire), rng.randrange(wire))
         value = [0, 2 ** width - 1, rng.randrange(2 ** (width + 2))][turn]
         yield placed(rng, "constants", width, wire, a=value)
         yield placed(rng, "copies", width, wire, a=a)
@@ -463,12 +462,12 @@ def sums(rng):
 def limits():
     """Each limit from both sides."""
     full = TABLE // 4
-    for name, size, rest in [("constants", 5, {"a": 21}), ("counter", 12, {"b": 1, "d": 2})]:
-        count = 5
+    for name, rest in [("constants", {"a": 21}), ("counter", {"b": 1, "d": 2})]:
+        size = len(Case(name, 5, wire=5, **rest).builder.gates)
         for gate in (full - size, full - size + 1):
-            yield Case(name, count, wire=5, gate=gate, **rest)
-        for wire in (2 ** 31 - size - 1, 2 ** 31 - size):
-            yield Case(name, count, wire=wire, **rest)
+            yield Case(name, 5, wire=5, gate=gate, **rest)
+        for wire in (MOST_WIRE - size, MOST_WIRE - size + 1):
+            yield Case(name, 5, wire=wire, **rest)
     yield Case("emit", a=1, gate=full)
     yield Case("emit", a=1, gate=4_294_967_295)
     yield Case("emit", a=1, gate=2, conditional=3)
