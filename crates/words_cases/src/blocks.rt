@@ -33,7 +33,7 @@ fn constants(table: &mut [u32], w: Writer, case: Case) -> Writer {
     refused(w)
 }
 
-// A gate for each digit of a word.
+// A gate for each digit of a word, which is tested as both of two.
 fn one_word(table: &mut [u32], w: Writer, case: Case) -> Writer {
     if !limits::fits_words(table, w, case.count as usize, case.a, case.a, case.count) {
         return refused(w);
