@@ -27,12 +27,12 @@ def main():
                     different.append(name)
             else:
                 path.write_bytes(data)
-    if check:
-        words_cases.check()
     for name in different:
         print(f"differs from what tests/make.py makes: {name}")
     if different:
         sys.exit(1)
+    if check:
+        words_cases.check()
 
 
 if __name__ == "__main__":

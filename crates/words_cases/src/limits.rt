@@ -1,6 +1,6 @@
 // Tests of what the blocks require.
 use words::writer::Writer;
-ghost use Prim.Native.Nat.{_+_, _*_, _≤_, _<_};
+ghost use Prim.Native.Nat.{_+_, _≤_, _<_};
 ghost use lib.Dec.{T};
 ghost use Rattle.words.specs.Word.{Below};
 ghost use Rattle.words.specs.Writing.{Room};
