@@ -178,3 +178,61 @@ def count_plainly(k, d, n, ballots):
     fault = ballots_fault(k, d, n, ballots) if shape_is_within(k, d, n) else (1, 0)
     closing = closing_bytes(grade_counts(k, d, n, ballots)) if fault is None else []
     return fault, closing + [0] * (8 - len(closing))
+
+
+def test_fault(k, d, n, table):
+    """Reasons 1, 2 and 3: a number and a place, or None."""
+    if not shape_is_within(k, d, n):
+        return (1, 0)
+    fault = list_fault(n * k * d, k, table)
+    if fault is None:
+        return None
+    name, place = fault
+    return (3, place) if name == "bad-gate" else (2, 0)
+
+
+def lent_fault(inputs, k, gates, tape, wires, board):
+    """Reasons 7 to 10 for a well-formed list: a number and a place, or None."""
+    count = conditional_count(gates)
+    if len(tape) != count:
+        return (7, 0)
+    place = first_above_one(tape)
+    if place is not None:
+        return (8, place)
+    if len(wires) != inputs + len(gates):
+        return (9, 0)
+    if len(board) != count + k:
+        return (10, 0)
+    return None
+
+
+def run_fault(k, d, n, table, ballots, tape, wires, board):
+    """Reasons 1 to 10: a number and a place, or None."""
+    fault = test_fault(k, d, n, table)
+    if fault is None:
+        fault = ballots_fault(k, d, n, ballots)
+    if fault is None:
+        fault = lent_fault(n * k * d, k, gates_of(table), tape, wires, board)
+    return fault
+
+
+def answer(fault, table):
+    """What writing, testing and running say: number and place of the fault, or G and C."""
+    if fault is not None:
+        return ["refused", *fault]
+    gates = gates_of(table)
+    return ["accepted", len(gates), conditional_count(gates)]
+
+
+def test_list(k, d, n, table):
+    """The entry point "Test a list"."""
+    return answer(test_fault(k, d, n, table), table)
+
+
+def run_list(k, d, n, table, ballots, tape, wires, board):
+    """The entry point "Run a list": its answer, and wire table and board afterwards."""
+    fault = run_fault(k, d, n, table, ballots, tape, wires, board)
+    if fault is not None:
+        return answer(fault, table), wires, board
+    values, shown = run_gates(ballots, gates_of(table), tape)
+    return answer(None, table), values, shown + values[len(values) - k:]

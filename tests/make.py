@@ -13,6 +13,9 @@ import gate_cases
 import words_cases
 
 MAKERS = [gate_cases, count_cases, words_cases]
+import run_cases
+
+MAKERS = [gate_cases, count_cases, run_cases]
 ROOT = pathlib.Path(__file__).resolve().parent.parent
 
 

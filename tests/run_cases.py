@@ -1,0 +1,380 @@
+"""Cases for the program crate run_cases: anyone's lists, tested and run for juries, accepted and refused.
+
+    python3 tests/run_cases.py    prints how many cases there are, by call and answer
+"""
+
+import itertools
+import random
+
+import document01 as doc
+from case_data import word
+from gate_cases import random_gates
+
+HUGE = 4_294_967_295
+TEST, RUN = 0, 1
+OLD = 9                                                      # what wire table and board hold before a call
+LONGEST_LINE = 40                                            # longer ones are printed by their digests
+
+
+def flat(gates):
+    return [x for gate in gates for x in gate]
+
+
+def period(items):
+    """The least p such that each item from place p on is the one p places before it."""
+    border = [0] * len(items)
+    for i in range(1, len(items)):
+        b = border[i - 1]
+        while b > 0 and items[b] != items[i]:
+            b = border[b - 1]
+        border[i] = b + 1 if items[b] == items[i] else 0
+    return len(items) - border[-1] if items else 0
+
+
+def digest(data):
+    total = 0
+    for x in data:
+        total = (total * 257 + x + 1) % 4_294_967_291
+    return total
+
+
+class Case:
+    """A call. Wire table and board are given by their lengths; what is not given is such that a run is accepted."""
+
+    def __init__(self, k, d, n, gates, ballots=None, tape=None, call=RUN, old=OLD):
+        self.k, self.d, self.n, self.call, self.old = k, d, n, call, old
+        self.table = flat(gates)
+        self.ballots = list(ballots) if ballots is not None else any_ballots(k, d, n)
+        count = doc.conditional_count(gates)
+        self.tape = list(tape) if tape is not None else [i % 3 % 2 for i in range(count)]
+        self.wires = len(self.ballots) + len(gates)
+        self.board = count + k
+
+    def but(self, **changes):
+        """The same with other numbers or lists."""
+        case = Case(self.k, self.d, self.n, [], self.ballots, self.tape, self.call, self.old)
+        case.table, case.wires, case.board = self.table, self.wires, self.board
+        for name, value in changes.items():
+            assert hasattr(case, name), name
+            setattr(case, name, value)
+        return case
+
+    def by_digest(self):
+        return max(self.wires, self.board) > LONGEST_LINE
+
+    def data(self):
+        table = self.table[:period(self.table)]
+        ballots = self.ballots[:period(self.ballots)]
+        tape = self.tape[:period(self.tape)]
+        head = [self.call, self.k, self.d, self.n]
+        head += [4 * len(table), len(self.table), len(ballots), len(self.ballots), len(tape), len(self.tape)]
+        head += [self.wires, self.board, self.old, int(self.by_digest())]
+        return b"".join(map(word, head)) + b"".join(map(word, table)) + bytes(ballots) + bytes(tape)
+
+    def outcome(self):
+        if self.call == TEST:
+            return doc.test_list(self.k, self.d, self.n, self.table), None, None
+        wires, board = [self.old] * self.wires, [self.old] * self.board
+        return doc.run_list(self.k, self.d, self.n, self.table, self.ballots, self.tape, wires, board)
+
+    def expected(self):
+        words, wires, board = self.outcome()
+        lines = [words]
+        if self.call == RUN:
+            lines += [self.shown("wires", wires), self.shown("board", board)]
+        return "".join(" ".join(map(str, line)) + "\n" for line in lines)
+
+    def shown(self, name, data):
+        return [name, len(data), digest(data), "last", *data[-8:]] if self.by_digest() else [name, *data]
+
+
+def row(d, grade):
+    return [1 if g == grade else 0 for g in range(d)]
+
+
+def any_ballots(k, d, n):
+    """Ballots that are accepted where the shape is; none where a shape outside its limits would have very many."""
+    if d == 0 or k * d * n > 16_384:
+        return []
+    return [x for i in range(k * n) for x in row(d, i * 5 % d)]
+
+
+def both(case):
+    """A test and a run of one list."""
+    return [case.but(call=TEST), case]
+
+
+def some_gates(k, inputs):
+    """A well-formed list with every kind, of at least k gates."""
+    last = max(inputs - 1, 0)
+    gates = [(0, 0, 0, 0), (1, 0, 0, 0), (2, last, 0, 0), (3, 0, 0, 0), (4, 0, last, 0), (5, last, inputs + 3, 0)]
+    return gates + [(6, inputs + 4, 0, 0), (7, inputs + 6, last, inputs + 5)] + [(6, 1, last, 0)] * max(k - 8, 0)
+
+
+def jury(k, d, n):
+    return Case(k, d, n, some_gates(k, n * k * d))
+
+
+def shapes():
+    """Limits from both sides. What lies outside has a list, ballots and lengths that would fit."""
+    for k, d, n in itertools.product((1, 8), (2, 7), (1, 255)):
+        yield from both(jury(k, d, n))
+    for k, d, n in [(0, 2, 1), (9, 2, 1), (9, 7, 3), (1, 1, 2), (8, 1, 2), (1, 8, 1), (3, 8, 2), (1, 2, 256), (2, 3, 256), (9, 8, 56)]:
+        yield from both(jury(k, d, n))
+    for k, d, n in [(1, 0, 1), (1, 2, 0), (0, 7, 255), (8, 7, 0), (0, 0, 0), (HUGE, 2, 1), (1, HUGE, 1), (1, 2, HUGE), (HUGE, HUGE, HUGE)]:
+        yield from both(jury(1, 2, 1).but(k=k, d=d, n=n))
+    for k, d, n in [(257, 2, 1), (1, 258, 1), (1, 2, 257), (65_537, 2, 1), (1, 65_538, 1), (1, 2, 65_537)]:
+        yield from both(jury(1, 2, 1).but(k=k, d=d, n=n))     # within limits modulo 256 or 65,536
+
+
+def list_lengths():
+    for k in range(1, 9):
+        good = Case(k, 2, 1, [(6, 0, 1, 0)] * k)
+        for gates in (k - 1, k, k + 1):                      # k - 1 gates give 2
+            tape, wires, board = [1] * gates, 2 * k + gates, gates + k
+            yield from both(good.but(table=[6, 0, 1, 0] * gates, tape=tape, wires=wires, board=board))
+        for numbers in (4 * k - 3, 4 * k - 1, 4 * k + 1, 4 * k + 2, 4 * k + 3):
+            yield from both(good.but(table=([6, 0, 1, 0] * (k + 1))[:numbers]))
+    for numbers in range(4):
+        yield from both(Case(1, 2, 1, [(0, 0, 0, 0)]).but(table=[0] * numbers))
+
+
+def operands():
+    """Gates that name a wire too far on, or something where nothing is to be named."""
+    for k, d, n in [(1, 2, 1), (2, 3, 3)]:
+        inputs = n * k * d
+        rest = [(1, 0, 0, 0)] * (k + 2)
+        for kind in range(8):
+            used = doc.OPERANDS[kind]
+            for slot in range(3):
+                for g in (0, 2):
+                    own = inputs + g
+                    for x in ([own - 1, own, own + 1, HUGE] if slot < used else [1, HUGE]):
+                        gate = [kind, 0, 0, 0]
+                        gate[slot + 1] = x
+                        case = Case(k, d, n, rest[:g] + [tuple(gate)] + rest[g + 1:])
+                        yield case.but(call=TEST)
+                        if x in (own, own - 1, 1):
+                            yield case
+
+
+def kinds():
+    for kind in [8, 9, 12, 255, 256, 260, 263, 65_540, 65_543, 2_147_483_648, HUGE - 1, HUGE]:
+        for g in (0, 1, 2):
+            gates = [(1, 0, 0, 0)] * 3
+            gates[g] = (kind, 0, 0, 0)
+            yield from both(Case(1, 2, 1, gates))
+    many = [(6, 0, 1, 0)] * 30
+    for places in [(29,), (3, 4), (4, 29), (28, 29)]:        # the first bad gate is named
+        gates = list(many)
+        for g in places:
+            gates[g] = (6, 0, 2 + g, 0)
+        yield from both(Case(1, 2, 1, gates))
+
+
+def each_kind():
+    """Each kind on all values of its operands, under both masks. Wires 0, 2 and 4 are free."""
+    for kind, bits in itertools.product(range(8), itertools.product((0, 1), repeat=3)):
+        used = doc.OPERANDS[kind]
+        gate = (kind,) + tuple(2 * i if i < used else 0 for i in range(3))
+        for mask in (0, 1):
+            tape = [mask] if doc.CONDITIONAL[kind] else []
+            yield Case(1, 2, 3, [gate], [x for b in bits for x in (b, 1 - b)], tape)
+            if not tape:
+                break
+
+
+def every_tape():
+    """One list under each of its tapes: wires and closing bytes stay as they are."""
+    gates = [(6, 0, 3, 0), (2, 6, 0, 0), (7, 6, 1, 2), (4, 8, 5, 0), (5, 9, 0, 0), (3, 10, 0, 0)]
+    for ballots in ([1, 0, 0, 0, 0, 1], [0, 1, 0, 1, 0, 0]):
+        for tape in itertools.product((0, 1), repeat=4):
+            yield Case(2, 3, 1, gates, ballots, tape)
+
+
+def changed(items, place, item):
+    return items[:place] + [item] + items[place + 1:]
+
+
+def ballots():
+    for k, d, n in [(1, 2, 1), (2, 3, 3), (3, 7, 4)]:
+        good = jury(k, d, n)
+        whole = good.ballots
+        for other in (whole[:-1], whole + [0], whole + [1], whole + [2], whole[:-d], whole + row(d, 0), [], whole + whole):
+            yield good.but(ballots=other)
+        for place, byte in itertools.product((0, len(whole) // 2, len(whole) - 1), (2, 255)):
+            yield good.but(ballots=changed(whole, place, byte))
+        for place in (0, n * k // 2, n * k - 1):
+            for bad in ([0] * d, [1] * d, [1] + row(d - 1, d - 2)):
+                yield good.but(ballots=whole[:place * d] + bad + whole[place * d + d:])
+    yield Case(1, 2, 2, [(6, 0, 2, 0)], ballots=[0, 0, 2, 1])  # a byte 2 in the last ballot and an empty first row
+    largest = jury(8, 7, 255)
+    yield largest.but(ballots=any_ballots(8, 7, 256)[:14_281])
+    yield largest.but(ballots=largest.ballots[:-1])
+    yield largest.but(ballots=largest.ballots[:-1] + [2])
+    yield largest.but(ballots=largest.ballots[:-7] + [0] * 7)
+
+
+def lent():
+    """Tape, wire table and board: lengths, and bytes of the tape."""
+    for k, d, n in [(1, 2, 1), (2, 3, 3), (8, 2, 2)]:
+        good = jury(k, d, n)
+        for tape in (good.tape[:-1], good.tape + [0], good.tape + [2], [], good.tape + good.tape):
+            yield good.but(tape=tape)
+        for place, byte in itertools.product(range(len(good.tape)), (2, 3, 255)):
+            yield good.but(tape=changed(good.tape, place, byte))
+        for wires in (good.wires - 1, good.wires + 1, 0, good.wires - n * k * d, 2 * good.wires):
+            yield good.but(wires=wires)
+        for board in (good.board - 1, good.board + 1, 0, good.board - k, 2 * good.board):
+            yield good.but(board=board)
+    free = [(0, 0, 0, 0), (1, 0, 0, 0), (2, 1, 0, 0), (3, 1, 0, 0)]
+    for k in (1, 2):                                         # C = 0 with an empty tape
+        good = Case(k, 2, 1, free)
+        yield from both(good)
+        for changes in ({"tape": [0]}, {"tape": [2]}, {"board": 0}, {"board": k + 1}, {"wires": 4}):
+            yield good.but(**changes)
+    for old in (0, 1, 2, 255):                               # whatever stood there
+        yield jury(2, 2, 2).but(old=old)
+        yield jury(2, 2, 2).but(old=old, board=0)
+
+
+def empty_slices():
+    nothing = {"table": [], "ballots": [], "tape": [], "wires": 0, "board": 0}
+    for k, d, n in [(0, 0, 0), (1, 2, 1), (8, 7, 255), (9, 8, 256)]:
+        good = jury(k, d, n) if k in (1, 8) else jury(1, 2, 1).but(k=k, d=d, n=n)
+        yield from both(good.but(**nothing))
+        for name, empty in nothing.items():
+            yield good.but(**{name: empty})
+            yield good.but(**{x: y for x, y in nothing.items() if x != name})
+
+
+# A fault's reason, and what it does to a case of the shape 2, 3, 2 whose list has four gates, three of them conditional. A
+# fault that stands later leaves those before it in place as far as it can.
+FAULTS = [
+    (10, lambda c: c.but(board=4)),
+    (10, lambda c: c.but(board=6)),
+    (10, lambda c: c.but(board=0)),
+    (9, lambda c: c.but(wires=15)),
+    (9, lambda c: c.but(wires=17)),
+    (9, lambda c: c.but(wires=0)),
+    (8, lambda c: c.but(tape=changed(c.tape, 0, 2))),
+    (8, lambda c: c.but(tape=changed(c.tape, 2, 255))),
+    (7, lambda c: c.but(tape=c.tape[:2])),
+    (7, lambda c: c.but(tape=(c.tape * 2)[:4])),
+    (7, lambda c: c.but(tape=[])),
+    (6, lambda c: c.but(ballots=[0, 0, 0] + c.ballots[3:])),
+    (6, lambda c: c.but(ballots=c.ballots[:9] + [1, 0, 1])),
+    (5, lambda c: c.but(ballots=changed(c.ballots, 1, 2))),
+    (5, lambda c: c.but(ballots=changed(c.ballots, 11, 255))),
+    (4, lambda c: c.but(ballots=c.ballots[:11])),
+    (4, lambda c: c.but(ballots=(c.ballots * 2)[:13])),
+    (4, lambda c: c.but(ballots=[])),
+    (3, lambda c: c.but(table=changed(c.table, 0, 8))),
+    (3, lambda c: c.but(table=changed(c.table, 13, 15))),
+    (3, lambda c: c.but(table=changed(c.table, 11, 1))),
+    (2, lambda c: c.but(table=c.table + [0])),
+    (2, lambda c: c.but(table=c.table[:4])),
+    (2, lambda c: c.but(table=[])),
+    (1, lambda c: c.but(k=0)),
+    (1, lambda c: c.but(k=9)),
+    (1, lambda c: c.but(d=1)),
+    (1, lambda c: c.but(d=8)),
+    (1, lambda c: c.but(n=0)),
+    (1, lambda c: c.but(n=256)),
+]
+
+
+def pairs_of_faults():
+    """Every fault alone and every two at once: the answer is the first in checking order."""
+    good = Case(2, 3, 2, [(6, 0, 3, 0), (4, 12, 1, 0), (2, 13, 0, 0), (7, 12, 13, 14)])
+    assert good.outcome()[0] == ["accepted", 4, 3]
+    for (first, spoil), (second, spoil_too) in itertools.combinations_with_replacement(FAULTS, 2):
+        case = spoil(good)
+        if spoil_too is not spoil:
+            case = spoil_too(case)
+        assert case.outcome()[0][:2] == ["refused", min(first, second)], (first, second, case.data())
+        yield case
+        if min(first, second) <= 3:
+            yield case.but(call=TEST)
+
+
+def random_ballots(rng, k, d, n):
+    return [x for _ in range(k * n) for x in row(d, rng.randrange(d))]
+
+
+def random_shape(rng):
+    return rng.randrange(1, 9), rng.randrange(2, 8), rng.choice([1, 1, 2, 3, 4])
+
+
+def strangers(rng, count, most):
+    """Well-formed lists that nobody meant anything by."""
+    for _ in range(count):
+        k, d, n = random_shape(rng)
+        gates = random_gates(rng, n * k * d, rng.randrange(k, k + most))
+        tape = [rng.randrange(2) for _ in range(doc.conditional_count(gates))]
+        yield Case(k, d, n, gates, random_ballots(rng, k, d, n), tape, old=rng.choice([0, 1, 9, 255]))
+
+
+def damaged(rng, count):
+    """Strangers' lists, ballots and tapes with one to three things changed anywhere."""
+    for case in strangers(rng, count, 12):
+        for _ in range(rng.randrange(1, 4)):
+            name = rng.choice(["table", "table", "ballots", "tape", "wires", "board"])
+            value = getattr(case, name)
+            if name in ("wires", "board"):
+                value = max(value + rng.choice([-1, 0, 0, 1]), 0)
+            elif value:
+                items = [0, 1, 2, 3, 7, 8, 40, HUGE] if name == "table" else [0, 1, 1, 2, 255]
+                value = changed(value, rng.randrange(len(value)), rng.choice(items))
+            case = case.but(**{name: value})
+        yield from both(case)
+
+
+def long_lists(rng):
+    """What is printed by its digest: many gates, many ballots, and one tape byte or gate that is bad far on."""
+    for gate, gates in [((6, 0, 3, 0), 40_000), ((3, 1, 0, 0), 40_000), ((7, 0, 1, 2), 20_000)]:
+        good = Case(2, 2, 1, [gate] * gates)
+        yield from both(good)
+        yield good.but(wires=good.wires - 1)
+    far = Case(2, 2, 1, [(6, 0, 3, 0)] * 300)
+    yield far.but(tape=[1] * 299 + [2])
+    yield far.but(table=far.table[:-4] + [6, 0, 303, 0])
+    yield far.but(table=far.table[:-4] + [6, 0, 302, 0])
+    for k, d, n, gates in [(8, 7, 255, 300), (3, 5, 100, 300), (1, 2, 255, 400)]:
+        inputs = n * k * d
+        mixed = random_gates(rng, inputs, gates)
+        tape = [rng.randrange(2) for _ in range(doc.conditional_count(mixed))]
+        voters = random_ballots(rng, k, d, 3) * (n // 3)
+        voters += voters[:inputs - len(voters)]
+        yield Case(k, d, n, mixed, voters, tape)
+
+
+def cases():
+    rng = random.Random(4)
+    fixed = [shapes(), list_lengths(), operands(), kinds(), each_kind(), every_tape(), ballots(), lent(), empty_slices()]
+    made = [strangers(rng, 150, 20), damaged(rng, 110), long_lists(rng)]
+    return list(itertools.chain(*fixed, pairs_of_faults(), *made))
+
+
+def make():
+    made = cases()
+    return {
+        "crates/run_cases/stdin": b"".join(c.data() for c in made),
+        "crates/run_cases/stdout": "".join(c.expected() for c in made).encode(),
+    }
+
+
+def figures():
+    counts = {}
+    for case in cases():
+        words = case.outcome()[0]
+        name = " ".join(["run" if case.call == RUN else "test", words[0]] + ([str(words[1]).rjust(2)] if words[0] == "refused" else []))
+        counts[name] = counts.get(name, 0) + 1
+    return counts
+
+
+if __name__ == "__main__":
+    for name, count in sorted(figures().items()):
+        print(name, count)
+    for name, data in make().items():
+        print(name, len(data))
