@@ -136,6 +136,26 @@ fn run_one(
 }
 
 // Reads what is given for a case, makes the call and prints what it answers and leaves.
+fn call(
+    header: &[u8],
+    space: &mut [u8],
+    table: &mut [u32],
+    ballots: &mut [u8],
+    tape: &mut [u8],
+    wires: &mut [u8],
+    board: &mut [u8],
+) {
+    read_table(number(header, 4), space, table);
+    read_bytes(number(header, 6), ballots);
+    read_bytes(number(header, 8), tape);
+    if number(header, 0) == 0 {
+        print_answer(tally::test::test(shape_of(header), table));
+    } else {
+        run_one(header, table, ballots, tape, wires, board);
+    }
+}
+
+// Makes the call of a case, with each thing lent as long as the case says.
 fn run_case(
     header: &[u8],
     space: &mut [u8],
@@ -148,20 +168,14 @@ fn run_case(
     let numbers = size(header, 5, table.len());
     let ballot_bytes = size(header, 7, ballots.len());
     let masks = size(header, 9, tape.len());
-    read_table(number(header, 4), space, &mut table[0..numbers]);
-    read_bytes(number(header, 6), &mut ballots[0..ballot_bytes]);
-    read_bytes(number(header, 8), &mut tape[0..masks]);
-    if number(header, 0) == 0 {
-        print_answer(tally::test::test(shape_of(header), &table[0..numbers]));
-        return;
-    }
     let wires_size = size(header, 10, wires.len());
     let board_size = size(header, 11, board.len());
-    run_one(
+    call(
         header,
-        &table[0..numbers],
-        &ballots[0..ballot_bytes],
-        &tape[0..masks],
+        space,
+        &mut table[0..numbers],
+        &mut ballots[0..ballot_bytes],
+        &mut tape[0..masks],
         &mut wires[0..wires_size],
         &mut board[0..board_size],
     );
