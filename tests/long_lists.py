@@ -1,0 +1,108 @@
+"""The longest lists, tested and run through a static library, since no test program has room for them.
+
+    python3 tests/long_lists.py    builds crates/long_cases, calls it and compares what it answers and leaves
+
+It needs rt and a C compiler (cc), on x86-64 Linux.
+"""
+
+import ctypes
+import pathlib
+import random
+import subprocess
+
+import document01 as doc
+
+ROOT = pathlib.Path(__file__).resolve().parent.parent
+MOST = doc.MOST_GATES
+OLD = 9
+
+
+class Lent(ctypes.Structure):
+    """A slice: where it starts, and how many elements it has."""
+
+    _fields_ = [("start", ctypes.c_void_p), ("length", ctypes.c_size_t)]
+
+
+def array(kind, items):
+    return (kind * len(items))(*items)
+
+
+def lent(items):
+    return Lent(ctypes.addressof(items), len(items))
+
+
+def load():
+    subprocess.run(["rt", "staticlib", "long_cases"], cwd=ROOT, check=True, stdout=subprocess.DEVNULL)
+    archive, shared = (ROOT / "target/staticlib" / name for name in ("liblong_cases.a", "long_cases.so"))
+    subprocess.run(["cc", "-shared", "-o", shared, "-Wl,--whole-archive", archive, "-Wl,--no-whole-archive"], check=True)
+    library = ctypes.CDLL(str(shared))
+    for name in ("long_cases_test", "long_cases_run"):
+        getattr(library, name).restype = None
+    return library
+
+
+def words(said):
+    number, first, second = said
+    return ["accepted", first, second] if number == 0 else ["refused", number, first]
+
+
+class Core:
+    def __init__(self):
+        self.library = load()
+
+    def call(self, name, shape, *slices):
+        said = (ctypes.c_uint64 * 3)()
+        getattr(self.library, name)(*map(ctypes.c_size_t, shape), ctypes.byref(said), *map(lent, slices))
+        return words(said)
+
+    def test(self, shape, table):
+        return self.call("long_cases_test", shape, array(ctypes.c_uint32, table))
+
+    def run(self, shape, table, ballots, tape, wires, board):
+        data = [array(ctypes.c_uint8, x) for x in (ballots, tape, wires, board)]
+        answer = self.call("long_cases_run", shape, array(ctypes.c_uint32, table), *data)
+        return answer, list(data[2]), list(data[3])
+
+
+def mixed(rng, inputs, count):
+    """Gates of every kind over any earlier wires."""
+    gates = []
+    for own in range(inputs, inputs + count):
+        kind = rng.randrange(8)
+        used = doc.OPERANDS[kind]
+        gates.append((kind,) + tuple(rng.randrange(own) if i < used else 0 for i in range(3)))
+    return gates
+
+
+def tables(rng, inputs):
+    """Names and tables at the edge of the length."""
+    random_list = [x for gate in mixed(rng, inputs, MOST) for x in gate]
+    yield "the most gates", random_list
+    yield "the most gates, the last one naming the wire before", random_list[:-4] + [2, inputs + MOST - 2, 0, 0]
+    yield "the most gates, the last one naming itself", random_list[:-4] + [2, inputs + MOST - 1, 0, 0]
+    yield "one gate more", random_list + [0, 0, 0, 0]
+    yield "one gate more, and a bad gate", [8, 0, 0, 0] + random_list
+    yield "the most gates and a part of one", random_list + [0]
+    yield "one number less than the most gates", random_list[:-1]
+    yield "twice as many", random_list * 2
+
+
+def main():
+    core = Core()
+    rng = random.Random(5)
+    shape = k, d, n = 2, 3, 2
+    ballots = [1, 0, 0, 0, 1, 0, 0, 0, 1, 1, 0, 0]
+    for name, table in tables(rng, n * k * d):
+        expected = doc.test_list(k, d, n, table)
+        assert core.test(shape, table) == expected, ("test", name)
+        gates = doc.gates_of(table)
+        count = doc.conditional_count(gates)
+        tape = [rng.randrange(2) for _ in range(count)]
+        wires, board = [OLD] * (len(ballots) + len(gates)), [OLD] * (count + k)
+        expected_run = doc.run_list(k, d, n, table, ballots, tape, wires, board)
+        assert core.run(shape, table, ballots, tape, wires, board) == expected_run, ("run", name)
+        print(name + ":", *expected)
+
+
+if __name__ == "__main__":
+    main()
