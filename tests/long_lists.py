@@ -5,6 +5,7 @@
 It needs rt and a C compiler (cc), on x86-64 Linux.
 """
 
+import array
 import ctypes
 import pathlib
 import random
@@ -23,12 +24,14 @@ class Lent(ctypes.Structure):
     _fields_ = [("start", ctypes.c_void_p), ("length", ctypes.c_size_t)]
 
 
-def array(kind, items):
-    return (kind * len(items))(*items)
+def numbers(items):
+    data = array.array("I", items)
+    assert data.itemsize == 4
+    return data
 
 
-def lent(items):
-    return Lent(ctypes.addressof(items), len(items))
+def lent(data):
+    return Lent(*data.buffer_info())
 
 
 def load():
@@ -56,11 +59,11 @@ class Core:
         return words(said)
 
     def test(self, shape, table):
-        return self.call("long_cases_test", shape, array(ctypes.c_uint32, table))
+        return self.call("long_cases_test", shape, numbers(table))
 
     def run(self, shape, table, ballots, tape, wires, board):
-        data = [array(ctypes.c_uint8, x) for x in (ballots, tape, wires, board)]
-        answer = self.call("long_cases_run", shape, array(ctypes.c_uint32, table), *data)
+        data = [array.array("B", x) for x in (ballots, tape, wires, board)]
+        answer = self.call("long_cases_run", shape, numbers(table), *data)
         return answer, list(data[2]), list(data[3])
 
 
