@@ -204,15 +204,16 @@ def cases():
 
 
 def bounded():
-    """No list of a shape within its limits is longer than document 01's bound. The lists that are built measure as they should."""
+    """Document 01's bound on G for all shapes: G is less than a fifth of it, as docs/OWN_LIST.md says."""
     for k, d, n in itertools.product(range(1, 9), range(2, 8), range(1, 256)):
-        assert own_list.measure(k, d, n)[0] <= own_list.bound(k, d, n), (k, d, n)
+        assert 5 * own_list.measure(k, d, n)[0] < own_list.bound(k, d, n), (k, d, n)
 
 
 def make():
     bounded()
     made = cases()
     return {
+        own_list.DOCUMENT: own_list.document().encode(),
         "crates/list_cases/stdin": b"".join(c.data() for c in made),
         "crates/list_cases/stdout": "".join(c.expected() for c in made).encode(),
     }

@@ -16,6 +16,9 @@ MAKERS = [gate_cases, count_cases, words_cases]
 import run_cases
 
 MAKERS = [gate_cases, count_cases, run_cases]
+import list_cases
+
+MAKERS = [gate_cases, count_cases, list_cases]
 ROOT = pathlib.Path(__file__).resolve().parent.parent
 
 

@@ -9,6 +9,7 @@ shared with the crates.
 import collections
 import functools
 import itertools
+import pathlib
 import sys
 
 import document01 as doc
@@ -323,6 +324,17 @@ def table():
         g, c, i = measure(k, d, n)
         rows.append(f"| {k} {d} {n} | {width(n)} | {g:,} | {c:,} | {i:,} | {bound(k, d, n):,} |")
     return "".join(row + "\n" for row in rows)
+
+
+DOCUMENT = "docs/OWN_LIST.md"
+
+
+def document():
+    """The text of the document as it stands, with the table made anew."""
+    text = (pathlib.Path(__file__).resolve().parent.parent / DOCUMENT).read_text()
+    lines = text.splitlines(keepends=True)
+    rows = [i for i, line in enumerate(lines) if line.startswith("|")]
+    return "".join(lines[:rows[0]]) + table() + "".join(lines[rows[-1] + 1:])
 
 
 if __name__ == "__main__":
