@@ -151,7 +151,7 @@ class Case:
         if not doc.shape_is_within(self.k, self.d, self.n):
             return line(*start, "refused 1 0") + self.left("refused 1 0", Digest(), [])
         made = own_lists()[self.k, self.d, self.n]
-        measured = line(*start, "measured", made.g, made.c, made.i)
+        measured = line(*start, "measured", made.g, made.c, made.i, "bound", own_list.bound(self.k, self.d, self.n), "kept")
         if self.lent < 4 * made.g:
             return measured + self.left("refused 2 0", Digest(), [])
         return measured + self.left(f"accepted {made.g} {made.c}", made.digest, made.numbers)
@@ -184,7 +184,7 @@ def edge_tables():
         need = 4 * own_lists()[shape].g
         for lent, filler in [(need - 1, HUGE), (need, 7), (need + 1, HUGE), (need + 2, 0), (need + 3, 8), (need + 4, 1)]:
             yield Case(*shape, lent, filler=filler)
-        for lent in {0, 3, 4, need - 4, TABLE - BEHIND} - {need}:
+        for lent in sorted({0, 3, 4, need - 4, TABLE - BEHIND} - {need}):
             yield Case(*shape, lent, filler=9)
 
 

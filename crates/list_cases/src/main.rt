@@ -9,7 +9,7 @@ use jury::shape::Shape;
 use libc::STDIN_FILENO;
 use tally::answer::Answer;
 use tally::measure::Measured;
-ghost use Prim.Native.Nat.{_≤_};
+ghost use Prim.Native.Nat.{_<_, _≤_};
 ghost use lib.ListN.{length};
 
 const PRIME: u64 = 4294967291;
@@ -67,7 +67,43 @@ fn print_refusal(refusal: Refusal) {
     cases::print_number(refusal.place());
 }
 
-fn print_measured(measured: Measured) {
+// A product of numbers so small that the remainders alter nothing, as those of a shape within its limits are.
+fn times(a: usize, b: usize) -> usize
+    ensures { λ r. ⌜ r < 16777216 ⌝ }
+{
+    (a % 16777216) * (b % 16777216) % 16777216
+}
+
+// 2kdnw + kd(30w + 20), of document 01's bound.
+fn bound_of_candidates(k: usize, d: usize, n: usize, w: usize) -> usize
+    ensures { λ r. ⌜ r < 16777216 ⌝ }
+{
+    times(times(k, d), times(times(2, n) + 30, w) + 20)
+}
+
+// k²(20w + 6d + 20), of the same.
+fn bound_of_pairs(k: usize, d: usize, w: usize) -> usize
+    ensures { λ r. ⌜ r < 16777216 ⌝ }
+{
+    times(times(k, k), times(20, w) + times(6, d) + 20)
+}
+
+fn print_bound(shape: Shape, gates: usize) {
+    let k = shape.candidates;
+    let d = shape.grades;
+    let n = shape.ballots;
+    let w = jury::width::width(n);
+    let bound = bound_of_candidates(k, d, n, w) + bound_of_pairs(k, d, w) + 2;
+    cases::print_text(b" bound");
+    cases::print_number(bound);
+    if gates <= bound {
+        cases::print_text(b" kept");
+    } else {
+        cases::print_text(b" broken");
+    }
+}
+
+fn print_measured(shape: Shape, measured: Measured) {
     match measured {
         Measured::Accepted {
             gates,
@@ -78,6 +114,7 @@ fn print_measured(measured: Measured) {
             cases::print_number(gates);
             cases::print_number(conditional);
             cases::print_number(inputs);
+            print_bound(shape, gates);
         }
         Measured::Refused(refusal) => print_refusal(refusal),
     }
@@ -172,7 +209,7 @@ fn run_case(header: &[u8; 24], table: &mut [u32]) {
         cases::print_text(b"\n");
         return;
     }
-    print_measured(tally::measure::measure(shape));
+    print_measured(shape, tally::measure::measure(shape));
     let size = cases::least(number(header, 3) + BEHIND, table.len());
     let lent = size - cases::least(BEHIND, size);
     write_case(
