@@ -77,9 +77,9 @@ class List:
 # Juries: the grades of each candidate.
 
 
-def random_juries(rng, k, d, n):
-    styles = [count_cases.uniform, count_cases.peaked, count_cases.tied, count_cases.level]
-    many = max(3, min(16, 2_000 // (k * n)))
+def random_juries(rng, k, d, n, many):
+    """Twelve times so many juries. Most have candidates that are nearly equal: these tell a wrong gate soonest."""
+    styles = [count_cases.uniform, count_cases.peaked] + 5 * [count_cases.tied, count_cases.level]
     return [style(rng, k, d, n) for style in styles for _ in range(many)]
 
 
@@ -101,6 +101,9 @@ def small_shapes():
             yield k, d, n
 
 
+# Shapes that meet more random juries than the others.
+DEEP = [(2, 3, 255), (3, 5, 15), (4, 4, 16), (2, 6, 100), (5, 6, 100), (8, 7, 255)]
+
 # Two candidates: grades and sizes whose pairs of counts are few enough.
 PAIRS = [(2, 31), (2, 64), (2, 100), (3, 7), (3, 8), (3, 15), (4, 7), (5, 4), (6, 3), (7, 2)]
 
@@ -109,7 +112,7 @@ def juries():
     """Shapes, and juries of each: a shape can come more than once."""
     rng = random.Random(5)
     for k, d, n in itertools.product(range(1, 9), range(2, 8), SIZES):
-        yield (k, d, n), random_juries(rng, k, d, n)
+        yield (k, d, n), random_juries(rng, k, d, n, 40 if (k, d, n) in DEEP else 4)
     for k, d, n in small_shapes():
         yield (k, d, n), every_jury(k, d, n)
     for d, n in PAIRS:
