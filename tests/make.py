@@ -10,15 +10,11 @@ import sys
 
 import count_cases
 import gate_cases
+import list_cases
+import run_cases
 import words_cases
 
-MAKERS = [gate_cases, count_cases, words_cases]
-import run_cases
-
-MAKERS = [gate_cases, count_cases, run_cases]
-import list_cases
-
-MAKERS = [gate_cases, count_cases, list_cases]
+MAKERS = [gate_cases, words_cases, count_cases, list_cases, run_cases]
 ROOT = pathlib.Path(__file__).resolve().parent.parent
 
 
