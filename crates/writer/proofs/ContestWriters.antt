@@ -5,17 +5,18 @@ use mathlib.Core.List.{List, [], _∷_, _++_}
 use Prim.Native.Nat.{ℕ, zero, suc, _+_, _-_, _*_, _≤_, _<_}
 use native.Mathlib.Omega.{arith}
 use lib.ListN.{length, length-append}
+use Rattle.gates.specs.Gate.{Gate}
 use Rattle.words.specs.Gates.{copyOf, andOf, muxOf}
 use Rattle.words.specs.Emitted.{emitted}
-use Rattle.words.specs.Comparison.{compareDigit, compareWords}
+use Rattle.words.specs.Comparison.{compareDigit, compareWords, upEnd, downEnd}
 use Rattle.words.specs.Writing.{Wrote}
 use Rattle.words.specs.declared.writer.Writer.{Writer}
 use Rattle.words.proofs.Writing.{wrote-as}
 use Rattle.words.proofs.Emitting.{and-wrote, mux-wrote}
 use Rattle.words.proofs.Laws.{length-compare-digit, length-compare}
 use Rattle.circuit.specs.declared.plan.Plan.{Plan}
-use Rattle.circuit.specs.Key.{flagsAt}
-use Rattle.circuit.specs.Contest.{contest, merge, stillWon, won}
+use Rattle.circuit.specs.Key.{flagsAt, strictAt}
+use Rattle.circuit.specs.Contest.{bothAt, contest, merge, stillWon, won}
 use Rattle.circuit.specs.OwnList.{merged}
 use Rattle.circuit.proofs.WellFormed.{length-still-won}
 use Rattle.circuit.proofs.Costs.{contestGates, contest-costs, mergedGates, merged-costs}
@@ -42,8 +43,14 @@ won-long at up down zero = omega arith
 won-long at up down (suc zero) = omega arith
 won-long at up down (suc (suc j)) = omega (arith, length-append (stillWon at down (suc (suc j))) (copyOf up ∷ []), length-still-won at down (suc (suc j)))
 
--- what stands below the flags
-pub ranks-long : (n x y r : ℕ) → length (compareDigit n x y ++ compareWords (n + 4) (x + 1) (y + 1) (n + 2) (n + 3) r) ≡ 4 + 3 * r
+-- what stands below the flags, and where it decides
+abbrev pub ranks : ℕ → ℕ → ℕ → ℕ → List Gate
+ranks n x y r = compareDigit n x y ++ compareWords (n + 4) (x + 1) (y + 1) (n + 2) (n + 3) r
+
+abbrev pub joins : Plan → ℕ → ℕ → ℕ → List Gate
+joins p n x y = andOf (strictAt p x) (strictAt p y) ∷ andOf (upEnd (n + 4) (n + 2) (p .digits)) (bothAt p n) ∷ andOf (downEnd (n + 4) (n + 3) (p .digits)) (bothAt p n) ∷ []
+
+pub ranks-long : (n x y r : ℕ) → length (ranks n x y r) ≡ 4 + 3 * r
 ranks-long n x y r =
     omega (arith, length-append (compareDigit n x y) (compareWords (n + 4) (x + 1) (y + 1) (n + 2) (n + 3) r), length-compare-digit n x y, length-compare (n + 4) (x + 1) (y + 1) (n + 2) (n + 3) r)
 

@@ -1,10 +1,11 @@
 -- `writer::contest::compare_ranks` meets its contract: the lowest digit, and then the others.
 -- Assumes nothing.
 use mathlib.Core.Path.{_∙_, ap}
-use Prim.Native.Nat.{ℕ, _+_}
+use Prim.Native.Nat.{ℕ, _+_, _*_}
 use native.Mathlib.Omega.{arith}
 use borrow.Author.Needs.{needs}
-use Rattle.words.specs.Comparison.{compareWords}
+use lib.ListN.{length}
+use Rattle.words.specs.Comparison.{compareDigit, compareWords}
 use Rattle.words.proofs.Writing.{wrote-both, wrote-as, room-after}
 use Rattle.words.proofs.Laws.{length-compare-digit, length-compare}
 use Rattle.writer.proofs.contest.compare_ranks.Statement.{statement}
@@ -32,7 +33,7 @@ compare-words-requires c κs =
     let h = c .before .before .before .compare-digit in
     let n = a .w .wire in
     let l = length-compare-digit n (a .x) (a .y) in (
-      room-after (a .w) (a .table .now) _ (h .last .1 .0) (h .result) _ _ (h .ensures)
+      room-after (a .w) (a .table .now) (compareDigit n (a .x) (a .y)) (h .last .1 .0) (h .result) (length (compareWords (h .result .wire) (a .x + 1) (a .y + 1) (n + 2) (n + 3) (a .p .digits))) (4 + 3 * a .p .digits) (h .ensures)
           (omega (arith, l, length-compare (h .result .wire) (a .x + 1) (a .y + 1) (n + 2) (n + 3) (a .p .digits))) (s .pre .0),
       omega (arith, h .ensures .wires, l, s .pre .1),
     )

@@ -1,14 +1,18 @@
 -- `writer::contest::contest` meets its contract: what stands below the flags, where it decides, and the flags.
 -- Assumes nothing.
 use mathlib.Core.Path.{_≡_}
+use mathlib.Core.List.{_++_}
 use Prim.Native.Nat.{_+_, _-_, _*_}
 use native.Mathlib.Omega.{arith}
 use borrow.Author.Needs.{needs}
+use lib.ListN.{length}
+use Rattle.words.specs.Comparison.{compareWords}
 use Rattle.words.specs.Writing.{Room}
 use Rattle.words.proofs.Writing.{wrote-both, room-less, room-after}
 use Rattle.words.proofs.Laws.{length-compare}
+use Rattle.circuit.specs.Key.{flagsAt}
 use Rattle.circuit.specs.Contest.{bothAt, contest}
-use Rattle.writer.proofs.ContestWriters.{contest-long, ranks-long, flags-wrote}
+use Rattle.writer.proofs.ContestWriters.{ranks, joins, contest-long, ranks-long, flags-wrote}
 use Rattle.writer.proofs.contest.contest.Statement.{statement}
 use Rattle.writer.proofs.contest.contest.Tie as tie
 
@@ -30,7 +34,7 @@ ranks-room c =
     let s = c .before .before .before in
     let a = s .args in
     let h = c .compare-ranks in
-    room-after (a .w) (a .table .now) _ (h .last .1 .0) (h .result) _ _ (h .ensures)
+    room-after (a .w) (a .table .now) (ranks (a .w .wire) (a .x) (a .y) (a .p .digits)) (h .last .1 .0) (h .result) _ _ (h .ensures)
     (omega (arith, ranks-long (a .w .wire) (a .x) (a .y) (a .p .digits), contest-long (a .p) (a .w .wire) (a .x) (a .y))) (s .pre .1 .0)
 
 where-both-requires : tie.Need-where-both-requires
@@ -64,7 +68,8 @@ compare-words-requires c κs =
     let h = c .before .before .before .before .before .before .before .before .before .before .compare-ranks in
     let b = c .before .before .before .before .before .before .where-both in
     let e = ranks-end (c .before .before .before .before .before .before .before .before .before .before) in (
-      room-after (h .result) (h .last .1 .0) _ (b .last .1 .0) (b .result) _ _ (b .ensures)
+      room-after (h .result) (h .last .1 .0) (joins (a .p) (a .w .wire) (a .x) (a .y)) (b .last .1 .0) (b .result)
+          (length (compareWords (b .result .wire) (c .before .before .flags-at .result) (c .before .flags-at2 .result) (h .result .wire + 1) (h .result .wire + 2) (a .p .grades - 1))) _ (b .ensures)
           (omega (arith, length-compare (b .result .wire) (c .before .before .flags-at .result) (c .before .flags-at2 .result) (h .result .wire + 1) (h .result .wire + 2) (a .p .grades - 1))) (ranks-room (c .before .before .before .before .before .before .before .before .before .before)),
       omega (arith, e, b .ensures .wires, s .pre .1 .1, s .pre .0 .d-least, c .before .before .flags-at .ensures, c .before .flags-at2 .ensures),
     )
@@ -80,7 +85,11 @@ returns c =
     let b = c .before .before .before .before .before .before .before .before .before .where-both in
     let f = c .before .before .compare-words in
     let e = ranks-end (c .before .before .before .before .before .before .before .before .before .before .before .before .before) in
-    wrote-both (a .w) (a .table .now) _ _ _ _ _ _ (wrote-both (a .w) (a .table .now) _ _ _ _ _ _ (h .ensures) (b .ensures))
+    let m = bothAt (a .p) (a .w .wire) in
+    let below = ranks (a .w .wire) (a .x) (a .y) (a .p .digits) in
+    let where-both = joins (a .p) (a .w .wire) (a .x) (a .y) in
+    wrote-both (a .w) (a .table .now) (below ++ where-both) (b .last .1 .0) (b .result) (compareWords (m + 3) (flagsAt (a .p) (a .x)) (flagsAt (a .p) (a .y)) (m + 1) (m + 2) (a .p .grades - 1)) (f .last .1 .0) (f .result)
+    (wrote-both (a .w) (a .table .now) below (h .last .1 .0) (h .result) where-both (b .last .1 .0) (b .result) (h .ensures) (b .ensures))
     (flags-wrote (a .p) (b .result) (b .last .1 .0) (f .last .1 .0) (f .result) (bothAt (a .p) (a .w .wire)) (h .result .wire) (a .x) (a .y) _ _ e (b .ensures .wires) (c .before .before .before .before .before .flags-at .ensures) (c .before .before .before .before .flags-at2 .ensures) (f .ensures))
 
 pub contest-spec : {M : Type 1} → statement M

@@ -1,5 +1,6 @@
 -- `writer::list::rounds` meets its contract: before round j, the rounds from there on make the whole.
 -- Assumes nothing.
+use mathlib.Core.List.{_++_}
 use Prim.Native.Nat.{_+_, _-_, _≤_, _<_}
 use native.Mathlib.Omega.{arith}
 use Rattle.words.proofs.Going.{Goes, goes-start, goes-as, goes-on, goes-room, goes-end}
@@ -85,13 +86,15 @@ loop-again c =
     let m = e .result .wire in
     let h = e .ensures .wires in
     let long = round-long (a .p) n (l .key) (l .at) (l .j) (a .p .candidates - 1 - l .j) in
-    let whole = rounds (a .p) (a .w .wire) (a .y) 0 1 (a .p .candidates - 1) in (
+    let whole = rounds (a .p) (a .w .wire) (a .y) 0 1 (a .p .candidates - 1) in
+    let here = round (a .p) n (l .key) (l .at) (l .j) (a .p .candidates - 1 - l .j) in
+    let rest = rounds (a .p) m (m - (l .j + 1) - (a .p .digits + a .p .grades + 1)) (m - (l .j + 1)) (l .j + 1) (a .p .candidates - (l .j + 1)) in (
       omega arith,
       omega (arith, h, i .1),
       omega (arith, h, i .2, long),
       omega (arith, h, long),
-      goes-on (a .w) (a .table .now) whole (l .next) (l .table) _ _ (e .last .1 .0) (e .result)
-          (goes-as (a .w) (a .table .now) whole (l .next) (l .table) _ _ (rounds-step (a .p) (s .pre .0) n (l .key) (l .at) (l .j) m t (i .1) (i .2) (i .3) h) (i .4))
+      goes-on (a .w) (a .table .now) whole (l .next) (l .table) here rest (e .last .1 .0) (e .result)
+          (goes-as (a .w) (a .table .now) whole (l .next) (l .table) (rounds (a .p) n (l .key) (l .at) (l .j) (a .p .candidates - l .j)) (here ++ rest) (rounds-step (a .p) (s .pre .0) n (l .key) (l .at) (l .j) m t (i .1) (i .2) (i .3) h) (i .4))
           (e .ensures),
     )
 
