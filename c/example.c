@@ -1,0 +1,56 @@
+/* Writes the list of a jury of two blends, three grades and three ballots, runs it and prints the winner.
+ * Build: cc -o example c/example.c target/staticlib/libunit.a */
+#include <stdio.h>
+#include <stdlib.h>
+#include "jugyvaros.h"
+
+/* Ends the program where a call was not accepted. */
+static void accepted(const char *call, size_t status, const size_t *answer) {
+    if (status == 0)
+        return;
+    fprintf(stderr, "%s: refused %zu %zu\n", call, status, status == JUGY_SHORT_ANSWER ? 0 : answer[1]);
+    exit(1);
+}
+
+static void *lent(size_t count, size_t size) {
+    void *p = calloc(count ? count : 1, size);
+    if (!p)
+        exit(1);
+    return p;
+}
+
+int main(void) {
+    const size_t k = 2, d = 3, n = 3;
+    const uint8_t ballots[] = {1, 0, 0, 0, 1, 0, /* first ballot: blend 0 best, blend 1 middle */
+                               0, 1, 0, 0, 1, 0, 0, 1, 0, 0, 0, 1};
+    size_t answer[JUGY_MEASURE_ANSWER];
+
+    accepted("measure", jugy_measure(k, d, n, answer, JUGY_MEASURE_ANSWER), answer);
+    const size_t gates = answer[2], conditional = answer[3], inputs = answer[4];
+    uint32_t *table = lent(4 * gates, sizeof *table);
+    uint8_t *tape = lent(conditional, 1); /* a real unit draws these bits */
+    uint8_t *wires = lent(inputs + gates, 1);
+    uint8_t *board = lent(conditional + k, 1);
+
+    accepted("write", jugy_write(k, d, n, table, 4 * gates, answer, JUGY_WRITE_ANSWER), answer);
+    accepted("run",
+             jugy_run(k, d, n, table, 4 * gates, ballots, sizeof ballots, tape, conditional, wires, inputs + gates, board,
+                      conditional + k, answer, JUGY_RUN_ANSWER),
+             answer);
+
+    printf("jury %zu %zu %zu: %zu gates, %zu conditional\n", k, d, n, gates, conditional);
+    size_t winner = k;
+    for (size_t i = 0; i < k; i++)
+        if (board[conditional + i])
+            winner = i;
+    if (winner < k)
+        printf("blend %zu wins\n", winner);
+    else
+        printf("no blend wins\n");
+
+    free(table);
+    free(tape);
+    free(wires);
+    free(board);
+    return 0;
+}

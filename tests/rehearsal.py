@@ -1,0 +1,136 @@
+"""Runs the rehearsal program on many inputs and compares what it prints with document 01, written apart.
+
+    python3 tests/rehearsal.py    needs target/bin/rehearsal (rt check rehearsal builds it)
+
+Inputs: document 01's own example, the examples of the repository with what they are said to show, empty and short inputs,
+inputs that come in pieces, inputs longer than what is kept, faults in shape and ballots, lists too large for the table
+beside faulty ballots, and random juries.
+"""
+
+import pathlib
+import random
+import subprocess
+import sys
+import time
+
+import document01 as doc
+import own_list
+
+ROOT = pathlib.Path(__file__).resolve().parent.parent
+PROGRAM = ROOT / "target" / "bin" / "rehearsal"
+KEPT = 16_384
+TABLE = 16_000
+
+EXAMPLES = {
+    "clear-winner": "jury 3 5 7\nwinners 1 0 0\n",
+    "silent-gauge": "jury 2 3 3\nwinners 0 0\n",
+    "even-jury": "jury 2 3 4\nwinners 1 0\n",
+    "yes-no": "jury 4 2 5\nwinners 0 0 1 0\n",
+}
+
+
+def expected(data):
+    """What document 01 has the program print for this input."""
+    kept = data[:KEPT]
+    k, d, n = [kept[i] if i < len(kept) else 0 for i in range(3)]
+    fault = None
+    if not doc.shape_is_within(k, d, n):
+        fault = 1, 0
+    elif 4 * own_list.measure(k, d, n)[0] > TABLE:
+        fault = 2, 0
+    else:
+        fault = doc.ballots_fault(k, d, n, kept[3:])
+    if fault:
+        return "refused %d %d\n" % tuple(fault)
+    winners = doc.closing_bytes(doc.grade_counts(k, d, n, kept[3:]))
+    return "jury %d %d %d\nwinners %s\n" % (k, d, n, " ".join(map(str, winners)))
+
+
+def said(data):
+    return subprocess.run([PROGRAM], input=data, stdout=subprocess.PIPE, check=True).stdout.decode()
+
+
+def said_in_pieces(pieces):
+    program = subprocess.Popen([PROGRAM], stdin=subprocess.PIPE, stdout=subprocess.PIPE)
+    for piece in pieces:
+        program.stdin.write(piece)
+        program.stdin.flush()
+        time.sleep(0.01)
+    program.stdin.close()
+    text = program.stdout.read().decode()
+    assert program.wait() == 0
+    return text
+
+
+def jury(rng, k, d, n):
+    rows = []
+    for _ in range(n * k):
+        row = [0] * d
+        row[rng.randrange(d)] = 1
+        rows += row
+    return bytes([k, d, n, *rows])
+
+
+def damaged(rng, data):
+    data = bytearray(data)
+    kind = rng.randrange(4)
+    if kind == 0 and len(data) > 3:
+        data[rng.randrange(3, len(data))] = rng.choice([1, 2, 255])
+    elif kind == 1:
+        del data[rng.randrange(len(data)) :]
+    elif kind == 2:
+        data += bytes(rng.randrange(1, 5))
+    else:
+        data[rng.randrange(3)] = rng.randrange(256)
+    return bytes(data)
+
+
+def inputs(rng):
+    example = bytes([2, 3, 3, 1, 0, 0, 0, 1, 0, 0, 1, 0, 0, 1, 0, 0, 1, 0, 0, 0, 1])
+    for size in range(len(example) + 1):
+        yield example[:size]
+    yield example + b"\0"
+    yield bytes(KEPT)
+    yield bytes([1, 2, 255]) + bytes(KEPT)
+    for k, d, n in [(0, 2, 1), (9, 2, 1), (1, 1, 1), (1, 8, 1), (1, 2, 0), (8, 7, 255), (5, 6, 100)]:
+        yield bytes([k, d, n])
+        yield bytes([k, d, n]) + b"\2" * (k * d * n)
+    # a list just in the table, and one just too large for it
+    k, d = 3, 5
+    for n in range(1, 256):
+        if 4 * own_list.measure(k, d, n)[0] <= TABLE < 4 * own_list.measure(k, d, n + 1)[0]:
+            yield jury(rng, k, d, n)
+            yield jury(rng, k, d, n + 1)
+    for _ in range(150):
+        yield jury(rng, rng.randint(1, 8), rng.randint(2, 7), rng.choice([1, 2, 3, 4, 5, 8, 15, 20]))
+    for _ in range(150):
+        yield damaged(rng, jury(rng, rng.randint(1, 4), rng.randint(2, 4), rng.randint(1, 9)))
+
+
+def main():
+    rng = random.Random(8)
+    count, wrong = 0, 0
+
+    def compare(what, text, wanted):
+        nonlocal count, wrong
+        count += 1
+        if text != wanted:
+            wrong += 1
+            print(f"{what}: printed {text!r}, not {wanted!r}")
+
+    for data in inputs(rng):
+        compare(data[:24].hex(" "), said(data), expected(data))
+    for data in [jury(rng, 2, 3, 3), jury(rng, 3, 5, 15), jury(rng, 8, 7, 3)]:
+        cut = rng.randrange(len(data))
+        for pieces in [[data[:cut], data[cut:]], [data[:1], data[1:2], data[2:4], data[4:]], [data[i : i + 1] for i in range(min(40, len(data)))] + [data[40:]]]:
+            compare("in pieces", said_in_pieces(pieces), expected(data))
+    for name, wanted in EXAMPLES.items():
+        data = subprocess.run([ROOT / "tools" / "jury", ROOT / "examples" / f"{name}.txt"], stdout=subprocess.PIPE, check=True).stdout
+        compare(name, said(data), wanted)
+        compare(name, expected(data), wanted)
+    print(f"rehearsal: {count} inputs, {wrong} wrong")
+    sys.exit(1 if wrong else 0)
+
+
+if __name__ == "__main__":
+    main()

@@ -1,0 +1,184 @@
+#include "reference.h"
+#include <string.h>
+
+int shape_within(size_t k, size_t d, size_t n) { return k >= 1 && k <= 8 && d >= 2 && d <= 7 && n >= 1 && n <= 255; }
+
+/* "the number of binary digits needed to write n" */
+static size_t digits(size_t n) {
+    size_t w = 0;
+    for (; n; n >>= 1)
+        w++;
+    return w;
+}
+
+size_t gate_bound(size_t k, size_t d, size_t n) {
+    size_t w = digits(n);
+    return 2 * k * d * n * w + k * d * (30 * w + 20) + k * k * (20 * w + 6 * d + 20) + 2;
+}
+
+static struct said refused(size_t reason, size_t place) {
+    struct said s = {reason, place, 0, 0, {0}};
+    return s;
+}
+
+/* How many operands a kind uses; kinds above 7 have none of their own. */
+static int uses(uint32_t kind) {
+    if (kind <= 1)
+        return 0;
+    if (kind <= 3)
+        return 1;
+    return kind == 7 ? 3 : 2;
+}
+
+static int gate_is_bad(const uint32_t *gate, size_t own) {
+    if (gate[0] > 7)
+        return 1;
+    for (int i = 0; i < 3; i++) {
+        if (i < uses(gate[0]) && gate[1 + i] >= own)
+            return 1;
+        if (i >= uses(gate[0]) && gate[1 + i] != 0)
+            return 1;
+    }
+    return 0;
+}
+
+struct said reference_test(size_t k, size_t d, size_t n, const uint32_t *table, size_t length) {
+    if (!shape_within(k, d, n))
+        return refused(1, 0);
+    if (length % 4 || length / 4 < k || length / 4 > 1048576)
+        return refused(2, 0);
+    struct said s = {0, 0, length / 4, 0, {0}};
+    for (size_t g = 0; g < length / 4; g++) {
+        if (gate_is_bad(table + 4 * g, n * k * d + g))
+            return refused(3, g);
+        s.conditional += table[4 * g] >= 4;
+    }
+    return s;
+}
+
+/* Reasons 4 to 6; reason 0 where the ballots are accepted. */
+static struct said test_ballots(size_t k, size_t d, size_t n, const uint8_t *ballots, size_t length) {
+    if (length != n * k * d)
+        return refused(4, 0);
+    for (size_t i = 0; i < length; i++)
+        if (ballots[i] > 1)
+            return refused(5, i);
+    for (size_t row = 0; row < n * k; row++) {
+        int ones = 0;
+        for (size_t g = 0; g < d; g++)
+            ones += ballots[row * d + g];
+        if (ones != 1)
+            return refused(6, row);
+    }
+    return refused(0, 0);
+}
+
+static uint8_t value(uint32_t kind, uint8_t a, uint8_t b, uint8_t c) {
+    switch (kind) {
+    case 0:
+        return 0;
+    case 1:
+        return 1;
+    case 2:
+        return a;
+    case 3:
+        return a ? 0 : 1;
+    case 4:
+        return a && b;
+    case 5:
+        return a || b;
+    case 6:
+        return a != b;
+    default:
+        return a ? b : c;
+    }
+}
+
+struct said reference_run(size_t k, size_t d, size_t n, const uint32_t *table, size_t length, const uint8_t *ballots,
+                          size_t ballots_length, const uint8_t *tape, size_t tape_length, uint8_t *wires,
+                          size_t wires_length, uint8_t *board, size_t board_length) {
+    struct said s = reference_test(k, d, n, table, length);
+    if (s.reason)
+        return s;
+    struct said t = test_ballots(k, d, n, ballots, ballots_length);
+    if (t.reason)
+        return t;
+    if (tape_length != s.conditional)
+        return refused(7, 0);
+    for (size_t i = 0; i < tape_length; i++)
+        if (tape[i] > 1)
+            return refused(8, i);
+    if (wires_length != ballots_length + s.gates)
+        return refused(9, 0);
+    if (board_length != s.conditional + k)
+        return refused(10, 0);
+    memcpy(wires, ballots, ballots_length);
+    size_t shown = 0;
+    for (size_t g = 0; g < s.gates; g++) {
+        const uint32_t *gate = table + 4 * g;
+        int used = uses(gate[0]);
+        uint8_t a = used > 0 ? wires[gate[1]] : 0, b = used > 1 ? wires[gate[2]] : 0, c = used > 2 ? wires[gate[3]] : 0;
+        if (gate[0] >= 4) {
+            board[shown] = (a + tape[shown]) % 2;
+            shown++;
+        }
+        wires[ballots_length + g] = value(gate[0], a, b, c);
+    }
+    for (size_t i = 0; i < k; i++)
+        board[shown + i] = wires[wires_length - k + i];
+    return s;
+}
+
+struct gauge {
+    size_t median, p, q;
+};
+
+static struct gauge gauge_of(const size_t *counts, size_t d, size_t n) {
+    struct gauge u = {0, 0, 0};
+    size_t running = 0;
+    for (size_t g = 0; g < d; g++) {
+        running += counts[g];
+        if (2 * running >= n) {
+            u.median = g;
+            break;
+        }
+    }
+    for (size_t g = 0; g < d; g++) {
+        if (g < u.median)
+            u.p += counts[g];
+        if (g > u.median)
+            u.q += counts[g];
+    }
+    return u;
+}
+
+/* The four conditions, in their order. */
+static int beats(struct gauge a, struct gauge b) {
+    if (a.median != b.median)
+        return a.median < b.median;
+    if (a.p > a.q && b.p < b.q)
+        return 1;
+    if (a.p > a.q && b.p > b.q)
+        return a.p > b.p;
+    if (a.p < a.q && b.p < b.q)
+        return a.q < b.q;
+    return 0;
+}
+
+struct said reference_count(size_t k, size_t d, size_t n, const uint8_t *ballots, size_t length) {
+    if (!shape_within(k, d, n))
+        return refused(1, 0);
+    struct said s = test_ballots(k, d, n, ballots, length);
+    if (s.reason)
+        return s;
+    size_t counts[8][7] = {{0}};
+    for (size_t i = 0; i < length; i++)
+        counts[i / d % k][i % d] += ballots[i];
+    for (size_t i = 0; i < k; i++) {
+        s.closing[i] = 1;
+        for (size_t j = 0; j < k; j++)
+            if (j != i && !beats(gauge_of(counts[i], d, n), gauge_of(counts[j], d, n)))
+                s.closing[i] = 0;
+    }
+    return s;
+}

@@ -1,0 +1,27 @@
+/* Document 01 in C, written apart from the core: what an entry point must answer, and what it must leave. Written for
+ * plainness. `struct said` holds document 01's answer; closing bytes only for a count. */
+#ifndef REFERENCE_H
+#define REFERENCE_H
+
+#include <stddef.h>
+#include <stdint.h>
+
+struct said {
+    size_t reason, place, gates, conditional;
+    uint8_t closing[8];
+};
+
+int shape_within(size_t k, size_t d, size_t n);
+
+/* The bound that document 01 gives for G. */
+size_t gate_bound(size_t k, size_t d, size_t n);
+
+struct said reference_test(size_t k, size_t d, size_t n, const uint32_t *table, size_t length);
+
+struct said reference_run(size_t k, size_t d, size_t n, const uint32_t *table, size_t length, const uint8_t *ballots,
+                          size_t ballots_length, const uint8_t *tape, size_t tape_length, uint8_t *wires,
+                          size_t wires_length, uint8_t *board, size_t board_length);
+
+struct said reference_count(size_t k, size_t d, size_t n, const uint8_t *ballots, size_t length);
+
+#endif
