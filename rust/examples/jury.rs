@@ -1,0 +1,32 @@
+//! Writes the list of a jury of two blends, three grades and three ballots, runs it and prints the winner.
+//! Run: cargo run --offline --manifest-path rust/Cargo.toml --example jury
+use jugyvaros::{measure, run, write, Refusal, Shape};
+
+fn main() -> Result<(), Refusal> {
+    let shape = Shape {
+        candidates: 2,
+        grades: 3,
+        ballots: 3,
+    };
+    let ballots = [
+        1, 0, 0, 0, 1, 0, // first ballot: blend 0 best, blend 1 middle
+        0, 1, 0, 0, 1, 0, //
+        0, 1, 0, 0, 0, 1,
+    ];
+    let m = measure(shape)?;
+    let mut table = vec![0; 4 * m.gates];
+    write(shape, &mut table)?;
+    let tape = vec![0; m.conditional]; // a real unit draws these bits
+    let mut wires = vec![0; m.inputs + m.gates];
+    let mut board = vec![0; m.conditional + shape.candidates];
+    run(shape, &table, &ballots, &tape, &mut wires, &mut board)?;
+    println!(
+        "jury {} {} {}: {} gates, {} conditional",
+        shape.candidates, shape.grades, shape.ballots, m.gates, m.conditional
+    );
+    match board[m.conditional..].iter().position(|&byte| byte == 1) {
+        Some(winner) => println!("blend {winner} wins"),
+        None => println!("no blend wins"),
+    }
+    Ok(())
+}

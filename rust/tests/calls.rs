@@ -1,0 +1,57 @@
+//! The wrapper's five functions, accepted and refused.
+use jugyvaros::*;
+
+const SHAPE: Shape = Shape {
+    candidates: 2,
+    grades: 3,
+    ballots: 3,
+};
+const BALLOTS: [u8; 18] = [1, 0, 0, 0, 1, 0, 0, 1, 0, 0, 1, 0, 0, 1, 0, 0, 0, 1];
+
+fn refusal(reason: usize, place: usize) -> Refusal {
+    Refusal { reason, place }
+}
+
+#[test]
+fn a_jury_is_measured_written_tested_run_and_counted() {
+    let m = measure(SHAPE).unwrap();
+    assert_eq!(m.inputs, 18);
+    let mut table = vec![9; 4 * m.gates + 3];
+    let size = write(SHAPE, &mut table).unwrap();
+    assert_eq!((size.gates, size.conditional), (m.gates, m.conditional));
+    assert_eq!(table[4 * m.gates..], [9, 9, 9]);
+    let table = &table[..4 * m.gates];
+    assert_eq!(test(SHAPE, table), Ok(size));
+    let tape = vec![1; m.conditional];
+    let mut wires = vec![7; m.inputs + m.gates];
+    let mut board = vec![7; m.conditional + 2];
+    assert_eq!(run(SHAPE, table, &BALLOTS, &tape, &mut wires, &mut board), Ok(size));
+    assert_eq!(board[m.conditional..], [1, 0]);
+    assert_eq!(wires[..18], BALLOTS);
+    assert_eq!(count(SHAPE, &BALLOTS), Ok([1, 0, 0, 0, 0, 0, 0, 0]));
+}
+
+#[test]
+fn refusals_have_number_and_place_and_alter_nothing() {
+    let outside = Shape { ballots: 256, ..SHAPE };
+    assert_eq!(measure(outside), Err(refusal(1, 0)));
+    let mut short = [5; 8];
+    assert_eq!(write(SHAPE, &mut short), Err(refusal(2, 0)));
+    assert_eq!(short, [5; 8]);
+    assert_eq!(test(SHAPE, &[2, 17, 0, 0, 2, 19, 0, 0]), Err(refusal(3, 1)));
+    assert_eq!(test(SHAPE, &[]), Err(refusal(2, 0)));
+    assert_eq!(count(SHAPE, &BALLOTS[..17]), Err(refusal(4, 0)));
+    let mut bad = BALLOTS;
+    bad[17] = 2;
+    assert_eq!(count(SHAPE, &bad), Err(refusal(5, 17)));
+    let list = [2, 17, 0, 0, 6, 0, 1, 0];
+    let (mut wires, mut board) = ([7; 20], [7; 3]);
+    assert_eq!(run(SHAPE, &list, &BALLOTS, &[2], &mut wires, &mut board), Err(refusal(8, 0)));
+    assert_eq!(run(SHAPE, &list, &BALLOTS, &[1], &mut wires[..19], &mut board), Err(refusal(9, 0)));
+    assert_eq!((wires, board), ([7; 20], [7; 3]));
+    assert_eq!(
+        run(SHAPE, &list, &BALLOTS, &[1], &mut wires, &mut board),
+        Ok(Size { gates: 2, conditional: 1 })
+    );
+    assert_eq!(board, [0, 1, 1]);
+}
