@@ -185,11 +185,14 @@ def each_kind():
 
 
 def every_tape():
-    """One list under each of its tapes: wires and closing bytes stay as they are."""
+    """One list on two sets of ballots under each tape: wires and closing bytes stay, and each board of one is one of the other."""
     gates = [(6, 0, 3, 0), (2, 6, 0, 0), (7, 6, 1, 2), (4, 8, 5, 0), (5, 9, 0, 0), (3, 10, 0, 0)]
-    for ballots in ([1, 0, 0, 0, 0, 1], [0, 1, 0, 1, 0, 0]):
-        for tape in itertools.product((0, 1), repeat=4):
-            yield Case(2, 3, 1, gates, ballots, tape)
+    boards = []
+    for voters in ([1, 0, 0, 0, 0, 1], [0, 0, 1, 0, 0, 1]):
+        runs = [Case(2, 3, 1, gates, voters, tape) for tape in itertools.product((0, 1), repeat=4)]
+        boards.append({tuple(run.outcome()[2]) for run in runs})
+        yield from runs
+    assert boards[0] == boards[1] and len(boards[0]) == 16
 
 
 def changed(items, place, item):

@@ -11,7 +11,7 @@ pub fn least(a: usize, b: usize) -> usize
     if a < b { a } else { b }
 }
 
-fn wide(x: u8) -> u32
+pub fn wide(x: u8) -> u32
     ensures { λ r. ⌜ r < 256 ⌝ }
 {
     x as u32

@@ -8,7 +8,7 @@
 use jury::shape::Shape;
 use libc::STDIN_FILENO;
 use tally::answer::Answer;
-ghost use Prim.Native.Nat.{_≤_, _<_};
+ghost use Prim.Native.Nat.{_≤_};
 
 // Sets each byte from a place on to the byte so many places before it.
 fn repeat_bytes(bytes: &mut [u8], given: usize) {
@@ -63,18 +63,12 @@ fn read_table(given: usize, space: &mut [u8], table: &mut [u32]) {
     repeat_numbers(table, got / 4);
 }
 
-fn wide(x: u8) -> u64
-    ensures { λ r. ⌜ r < 256 ⌝ }
-{
-    x as u64
-}
-
 // The bytes as digits of base 257, each one more, modulo a prime.
 fn digest(bytes: &[u8]) -> usize {
     let mut sum: u64 = 0;
     let mut i = 0;
     while i < bytes.len() {
-        sum = (257 * sum + wide(bytes[i]) + 1) % 4294967291;
+        sum = (257 * sum + cases::wide(bytes[i]) as u64 + 1) % 4294967291;
         i += 1;
     }
     sum as usize

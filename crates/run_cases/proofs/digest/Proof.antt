@@ -25,6 +25,9 @@ shared-slice-read-wide c = omega arith
 wide-requires : tie.Need-wide-requires Inv-loop μ-loop
 wide-requires c κs = search needs
 
+cast-sum : tie.Need-cast-sum Inv-loop μ-loop
+cast-sum c = omega arith
+
 add-sum : tie.Need-add-sum Inv-loop μ-loop
 add-sum c = omega arith
 
@@ -53,6 +56,7 @@ digest-spec =
     mul-sum
     shared-slice-read-wide
     wide-requires
+    cast-sum
     add-sum
     add-sum-2
     add-i
