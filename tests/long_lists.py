@@ -1,8 +1,6 @@
-"""The longest lists, tested and run through a static library, since no test program has room for them.
+"""The longest lists, tested and run through the static library, since no test program has room for them.
 
-    python3 tests/long_lists.py    builds crates/long_cases, calls it and compares what it answers and leaves
-
-It needs rt and a C compiler (cc), on x86-64 Linux.
+    python3 tests/long_lists.py    needs target/staticlib/libunit.a (rt staticlib unit makes it) and a C compiler (cc)
 """
 
 import array
@@ -18,52 +16,41 @@ MOST = doc.MOST_GATES
 OLD = 9
 
 
-class Lent(ctypes.Structure):
-    """A slice: where it starts, and how many elements it has."""
-
-    _fields_ = [("start", ctypes.c_void_p), ("length", ctypes.c_size_t)]
-
-
 def numbers(items):
     data = array.array("I", items)
     assert data.itemsize == 4
     return data
 
 
-def lent(data):
-    return Lent(*data.buffer_info())
-
-
 def load():
-    subprocess.run(["rt", "staticlib", "long_cases"], cwd=ROOT, check=True, stdout=subprocess.DEVNULL)
-    archive, shared = (ROOT / "target/staticlib" / name for name in ("liblong_cases.a", "long_cases.so"))
+    archive, shared = (ROOT / "target/staticlib" / name for name in ("libunit.a", "unit.so"))
     subprocess.run(["cc", "-shared", "-o", shared, "-Wl,--whole-archive", archive, "-Wl,--no-whole-archive"], check=True)
     library = ctypes.CDLL(str(shared))
-    for name in ("long_cases_test", "long_cases_run"):
-        getattr(library, name).restype = None
+    for name in ("jugy_test", "jugy_run"):
+        getattr(library, name).restype = ctypes.c_size_t
     return library
-
-
-def words(said):
-    number, first, second = said
-    return ["accepted", first, second] if number == 0 else ["refused", number, first]
 
 
 class Core:
     def __init__(self):
         self.library = load()
 
-    def call(self, name, shape, *slices):
-        said = (ctypes.c_uint64 * 3)()
-        getattr(self.library, name)(*map(ctypes.c_size_t, shape), ctypes.byref(said), *map(lent, slices))
-        return words(said)
+    def call(self, name, shape, *lent):
+        answer = (ctypes.c_size_t * 4)()
+        arguments = list(map(ctypes.c_size_t, shape))
+        for data in lent:
+            start, length = data.buffer_info()
+            arguments += [ctypes.c_void_p(start), ctypes.c_size_t(length)]
+        reason = getattr(self.library, name)(*arguments, answer, ctypes.c_size_t(4))
+        assert reason == answer[0]
+        return ["refused", reason, answer[1]] if reason else ["accepted", answer[2], answer[3]]
 
     def test(self, shape, table):
-        return self.call("long_cases_test", shape, numbers(table))
+        return self.call("jugy_test", shape, numbers(table))
 
     def run(self, shape, table, ballots, tape, wires, board):
         data = [array.array("B", x) for x in (ballots, tape, wires, board)]
-        answer = self.call("long_cases_run", shape, numbers(table), *data)
+        answer = self.call("jugy_run", shape, numbers(table), *data)
         return answer, list(data[2]), list(data[3])
 
 
