@@ -1,0 +1,100 @@
+"""Makes the benchmark's table and plot from what bench/run measured. Standard library only."""
+import pathlib
+import re
+import sys
+
+HERE = pathlib.Path(__file__).parent
+OPS = ["write", "test", "run", "count"]
+GOAL = 1.1
+
+
+def read_times(path):
+    rows = {}
+    for line in path.read_text().splitlines():
+        op, k, d, n, gates, core, c, ratio = line.split()
+        rows[op, (int(k), int(d), int(n))] = (int(gates), float(core), float(c), float(ratio))
+    return rows
+
+
+def read_counts(folder):
+    """Instructions of one call, by callgrind's dumps: (operation, shape, who)."""
+    counts = {}
+    for path in folder.glob("callgrind.*"):
+        text = path.read_text()
+        label = re.search(r"^desc: Trigger: Client Request: (\w+)-(\d+)-(\d+)-(\d+)-(\w+)$", text, re.M)
+        total = re.search(r"^(?:summary|totals): (\d+)", text, re.M)
+        if label and total:
+            op, k, d, n, who = label.groups()
+            counts[op, (int(k), int(d), int(n)), who] = int(total.group(1))
+    return counts
+
+
+def table(times, counts):
+    lines = [
+        "| call | shape | gates | core, µs | C, µs | time ratio | core, instructions | C, instructions | ratio |",
+        "|---|---|--:|--:|--:|--:|--:|--:|--:|",
+    ]
+    for op in OPS:
+        for (name, shape), (gates, core, c, ratio) in times.items():
+            if name == op:
+                a, b = counts[op, shape, "core"], counts[op, shape, "c"]
+                lines.append(
+                    f"| {op} | {' '.join(map(str, shape))} | {gates} | {core / 1000:.2f} | {c / 1000:.2f} | {ratio:.2f} | {a} | {b} | {a / b:.2f} |"
+                )
+    return "\n".join(lines)
+
+
+def plot(times, counts):
+    """Bars of the time ratios, with a mark for the ratio of instructions, by call and shape."""
+    shapes = sorted({shape for _, shape in times}, key=lambda s: s[0] * s[1] * s[2])
+    left, top, height, bar, gap = 60, 40, 260, 22, 30
+    group = bar * len(shapes) + gap
+    width = left + group * len(OPS) + 170
+    most = max([1.5] + [r[3] for r in times.values()] + [counts[o, s, "core"] / counts[o, s, "c"] for o, s in times]) * 1.08
+    y = lambda v: top + height * (1 - v / most)
+    colours = ["#c6dbef", "#9ecae1", "#6baed6", "#3182bd", "#08519c"]
+    out = [
+        f'<svg xmlns="http://www.w3.org/2000/svg" width="{width}" height="{top + height + 50}" font-family="sans-serif" font-size="12">',
+        '<rect width="100%" height="100%" fill="white"/>',
+        f'<text x="{left}" y="20" font-size="14">The core against the same work in C (gcc -O2): ratio, 1 is equal</text>',
+    ]
+    for tick in [0.5 * i for i in range(int(most / 0.5) + 1)]:
+        out.append(f'<line x1="{left}" x2="{left + group * len(OPS)}" y1="{y(tick):.1f}" y2="{y(tick):.1f}" stroke="#ddd"/>')
+        out.append(f'<text x="{left - 8}" y="{y(tick) + 4:.1f}" text-anchor="end">{tick:.1f}</text>')
+    for value, dash in ((1, ""), (GOAL, ' stroke-dasharray="4 3"')):
+        out.append(f'<line x1="{left}" x2="{left + group * len(OPS)}" y1="{y(value):.1f}" y2="{y(value):.1f}" stroke="#333"{dash}/>')
+    for i, op in enumerate(OPS):
+        for j, shape in enumerate(shapes):
+            x = left + gap / 2 + i * group + j * bar
+            ratio = times[op, shape][3]
+            work = counts[op, shape, "core"] / counts[op, shape, "c"]
+            out.append(f'<rect x="{x:.1f}" y="{y(ratio):.1f}" width="{bar - 3}" height="{y(0) - y(ratio):.1f}" fill="{colours[j]}"/>')
+            out.append(f'<line x1="{x - 1:.1f}" x2="{x + bar - 2:.1f}" y1="{y(work):.1f}" y2="{y(work):.1f}" stroke="#d7301f" stroke-width="2"/>')
+        out.append(f'<text x="{left + i * group + group / 2:.1f}" y="{top + height + 18}" text-anchor="middle">{op}</text>')
+    x = left + group * len(OPS) + 15
+    for j, shape in enumerate(shapes):
+        out.append(f'<rect x="{x}" y="{top + 20 * j}" width="14" height="14" fill="{colours[j]}"/>')
+        out.append(f'<text x="{x + 20}" y="{top + 20 * j + 12}">{" ".join(map(str, shape))}</text>')
+    end = top + 20 * len(shapes)
+    out.append(f'<line x1="{x}" x2="{x + 14}" y1="{end + 8}" y2="{end + 8}" stroke="#d7301f" stroke-width="2"/>')
+    out.append(f'<text x="{x + 20}" y="{end + 12}">instructions</text>')
+    out.append(f'<line x1="{x}" x2="{x + 14}" y1="{end + 28}" y2="{end + 28}" stroke="#333" stroke-dasharray="4 3"/>')
+    out.append(f'<text x="{x + 20}" y="{end + 32}">goal {GOAL} (test, run)</text>')
+    out.append("</svg>")
+    return "\n".join(out) + "\n"
+
+
+def main():
+    folder = pathlib.Path(sys.argv[1])
+    times, counts = read_times(folder / "times"), read_counts(folder)
+    text = table(times, counts)
+    print(text)
+    (HERE / "RESULT.md").write_text(
+        "# The core against the same work in C\n\nMade by `bench/run`: one call each, times of one run and machine, instructions by callgrind, which repeat.\n"
+        "C is `bench/core.c` by `gcc -O2`, with the same tests made.\n\n"
+        f"{text}\n\n![ratios](result.svg)\n"
+    )
+    (HERE / "result.svg").write_text(plot(times, counts))
+
+
+main()
