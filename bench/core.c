@@ -275,7 +275,7 @@ static size_t list_gates(const struct plan *p) {
 size_t core_write(size_t k, size_t d, size_t n, uint32_t *table, size_t table_length, size_t *answer,
                   size_t answer_length) {
     if (answer_length < 4)
-        return 11;
+        return 255;
     if (!within(k, d, n))
         return put(refused(1, 0), answer);
     uint32_t digits = 0;
@@ -325,7 +325,7 @@ static struct said test(size_t k, size_t d, size_t n, const uint32_t *table, siz
 size_t core_test(size_t k, size_t d, size_t n, const uint32_t *table, size_t table_length, size_t *answer,
                  size_t answer_length) {
     if (answer_length < 4)
-        return 11;
+        return 255;
     return put(test(k, d, n, table, table_length), answer);
 }
 
@@ -372,7 +372,7 @@ size_t core_run(size_t k, size_t d, size_t n, const uint32_t *table, size_t tabl
                 size_t bytes_length, const uint8_t *tape, size_t tape_length, uint8_t *wires, size_t wires_length,
                 uint8_t *board, size_t board_length, size_t *answer, size_t answer_length) {
     if (answer_length < 4)
-        return 11;
+        return 255;
     struct said s = test(k, d, n, table, table_length);
     if (s.reason)
         return put(s, answer);
@@ -435,7 +435,7 @@ static int beats(struct gauge a, struct gauge b) {
 size_t core_count(size_t k, size_t d, size_t n, const uint8_t *bytes, size_t bytes_length, size_t *answer,
                   size_t answer_length) {
     if (answer_length < 10)
-        return 11;
+        return 255;
     struct said s = within(k, d, n) ? test_ballots(k, d, n, bytes, bytes_length) : refused(1, 0);
     answer[0] = s.reason;
     answer[1] = s.place;

@@ -15,7 +15,7 @@
  *     reading and writing, for the time of the call; aligned for its type; and not NULL, even where the length is 0
  *   - what is lent for writing overlaps nothing else that is lent to the same call
  *   - no other thread writes what is lent, nor reads what is lent for writing, during the call
- * The functions hold no state: calls with different buffers may run at once. They need no stack worth mentioning, call
+ * The functions hold no state: calls with different buffers may run at once. They call
  * no other library and never allocate. */
 #ifndef JUGYVAROS_H
 #define JUGYVAROS_H
@@ -28,7 +28,7 @@ extern "C" {
 #endif
 
 /* What a function returns where its answer array is too short: none of the reasons. */
-#define JUGY_SHORT_ANSWER 11
+#define JUGY_SHORT_ANSWER 255
 
 /* The lengths of answer arrays that the functions need. */
 #define JUGY_MEASURE_ANSWER 5

@@ -116,7 +116,7 @@ static struct said call_run(size_t k, size_t d, size_t n, const uint32_t *list, 
                              board_length, answer, al);
     struct said s;
     if (al < 4)
-        s = (struct said){11, 0, 0, 0, {0}};
+        s = (struct said){JUGY_SHORT_ANSWER, 0, 0, 0, {0}};
     else /* it leaves the expected wires and board as they were where it refuses */
         s = reference_run(k, d, n, list, length, bytes, bytes_length, masks, tape_length, expected_wires, wires_length,
                           expected_board, board_length);

@@ -14,9 +14,9 @@ two a b c d rest e f = ap (λ (n : ℕ). n ∷ b ∷ rest) e ∙ ap (λ (n : ℕ
 
 module _ (needed : ℕ) (answer : List ℕ) where
   module _ (short : length answer < needed) where
-    pub short-status : (numbers : List ℕ) → status needed numbers answer ≡ 11
+    pub short-status : (numbers : List ℕ) → status needed numbers answer ≡ 255
     unfolding status
-    short-status numbers = ap (λ (b : Bool). cond b 11 (statusOf numbers)) (lt-ltb (length answer) needed short)
+    short-status numbers = ap (λ (b : Bool). cond b 255 (statusOf numbers)) (lt-ltb (length answer) needed short)
 
     pub short-answered : (numbers : List ℕ) → answered needed numbers answer ≡ answer
     unfolding answered
@@ -29,7 +29,7 @@ module _ (needed : ℕ) (answer : List ℕ) where
   module _ (enough : needed ≤ length answer) where
     pub room-status : (numbers : List ℕ) → status needed numbers answer ≡ statusOf numbers
     unfolding status
-    room-status numbers = ap (λ (b : Bool). cond b 11 (statusOf numbers)) (le-ltb (length answer) needed enough)
+    room-status numbers = ap (λ (b : Bool). cond b 255 (statusOf numbers)) (le-ltb (length answer) needed enough)
 
     pub room-answered : (numbers : List ℕ) → answered needed numbers answer ≡ numbers ++ drop needed answer
     unfolding answered

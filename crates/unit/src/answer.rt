@@ -13,7 +13,7 @@ ghost use Rattle.tally.specs.Measure.{measuredBy};
 ghost use Rattle.unit.specs.Numbers.{sizeNumbers, measureNumbers, countNumbers, statusOf};
 
 // The status of a call whose answer array is too short: none of document 01's numbers. Such a call alters nothing.
-pub const SHORT_ANSWER: usize = 11;
+pub const SHORT_ANSWER: usize = 255;
 
 // The numbers of an answer, at the start of the lent array.
 fn put(numbers: &[usize], answer: &mut [usize])
