@@ -1,0 +1,144 @@
+"""Makes the cost sheet, docs/COST.md, and its plot, docs/cost.svg, from the lists that the core writes.
+
+python3 docs/cost.py          builds the library (rt staticlib unit) and writes both
+python3 docs/cost.py --check  takes the library as it stands, and fails where the two files are not what it makes
+
+Needs gcc and the standard library only.
+"""
+import math
+import pathlib
+import subprocess
+import sys
+
+ROOT = pathlib.Path(__file__).resolve().parent.parent
+SHEET, PLOT = ROOT / "docs/COST.md", ROOT / "docs/cost.svg"
+SHAPES = [(1, 2, 1), (2, 2, 1), (2, 3, 3), (3, 4, 10), (3, 5, 15), (5, 5, 31), (5, 6, 100), (5, 6, 255), (8, 7, 31), (8, 7, 127), (8, 7, 255)]
+CURVES = [(3, 5), (5, 6), (8, 7)]
+
+
+def measure(shapes):
+    """(G, C, I, rounds) of each shape's own list."""
+    program = ROOT / "target/cost"
+    subprocess.run(["gcc", "-std=c11", "-O2", "-Wall", "-Wextra", "-Werror", "-o", program, ROOT / "docs/cost.c", ROOT / "target/staticlib/libunit.a"], check=True)
+    lines = "".join("%d %d %d\n" % shape for shape in shapes)
+    done = subprocess.run([program], input=lines, stdout=subprocess.PIPE, text=True, check=True).stdout
+    rows = [tuple(map(int, line.split())) for line in done.splitlines()]
+    assert [row[:3] for row in rows] == list(shapes)
+    return {row[:3]: row[3:] for row in rows}
+
+
+def bound(k, d, n):
+    """Document 01's bound on G."""
+    w = n.bit_length()
+    return 2 * k * d * n * w + k * d * (30 * w + 20) + k * k * (20 * w + 6 * d + 20) + 2
+
+
+def source_gates(k, d, n):
+    """Source 001, figure 3, ElGamal: 60nkda + 40kmda(10 + d) exponentiations, at 20a for a conditional gate (figure 9)."""
+    m = n.bit_length()
+    return 3 * n * k * d + 2 * k * m * d * (10 + d)
+
+
+def source_rounds(k, d, n):
+    """The same row's communications: m(m + 1) and d(6m + 2 log k log m), of which the first is figure 9's Aggreg."""
+    m = n.bit_length()
+    return m * (m + 1) + d * (6 * m + 2 * math.log2(k) * math.log2(m))
+
+
+def lent(shape, costs):
+    """Bytes that a run is lent: list, ballots, tape, wire table, board."""
+    gates, conditional, inputs, _ = costs
+    return 16 * gates + inputs + conditional + (inputs + gates) + (conditional + shape[0])
+
+
+def number(x):
+    return f"{x:,}"
+
+
+def sheet(costs):
+    lines = [
+        "# What a jury costs",
+        "",
+        "Made by `python3 docs/cost.py` from the lists that the core writes; `tests/unit` fails where this page is another.",
+        "Each conditional gate costs the sealing layer one opening, so C is the price of a jury, and the rounds, the longest",
+        "chain of conditional gates, say how often its openings wait for each other.",
+        "",
+        "| k d n | G | C | rounds | I | list, bytes | a run is lent, bytes | bound on G | G of the bound | 001's gates | C of 001's | 001's rounds |",
+        "|---|--:|--:|--:|--:|--:|--:|--:|--:|--:|--:|--:|",
+    ]
+    for shape in SHAPES:
+        gates, conditional, inputs, rounds = costs[shape]
+        lines.append(
+            "| " + " ".join(map(str, shape)) + " | " + " | ".join([
+                number(gates), number(conditional), number(rounds), number(inputs), number(16 * gates), number(lent(shape, costs[shape])),
+                number(bound(*shape)), f"{100 * gates / bound(*shape):.0f} %",
+                number(source_gates(*shape)), f"{100 * conditional / source_gates(*shape):.0f} %", f"{source_rounds(*shape):.0f}",
+            ]) + " |"
+        )
+    lines += [
+        "",
+        "- **Bound on G**: document 01's, 2kdnw + kd(30w + 20) + k²(20w + 6d + 20) + 2.",
+        "- **001's gates**: source 001, figure 3, prices its majority judgment under ElGamal at 60nkda + 40kmda(10 + d)",
+        "  exponentiations with a authorities, and a conditional gate at 20a (figure 9): 3nkd + 2kmd(10 + d) conditional gates,",
+        "  m being the width w. These are its leading terms. It is the same job but for juries on which the gauge is silent,",
+        "  where its judgment goes on.",
+        "- **001's rounds**: the same row's communications, read as the sum m(m + 1) + d(6m + 2 log k log m); the first term is",
+        "  the aggregation's.",
+        "- **A run is lent**: 16 G bytes of list, I of ballots, C of tape, I + G of wires, C + k of board.",
+        "",
+        "![C against n](cost.svg)",
+        "",
+    ]
+    return "\n".join(lines)
+
+
+def plot(costs):
+    left, top, width, height = 70, 40, 620, 360
+    most = max(source_gates(k, d, 255) for k, d in CURVES) * 1.05
+    x = lambda n: left + width * n / 255
+    y = lambda c: top + height * (1 - c / most)
+    colours = ["#3182bd", "#31a354", "#d7301f"]
+    out = [
+        f'<svg xmlns="http://www.w3.org/2000/svg" width="{left + width + 190}" height="{top + height + 60}" font-family="sans-serif" font-size="12">',
+        '<rect width="100%" height="100%" fill="white"/>',
+        f'<text x="{left}" y="22" font-size="14">Conditional gates C of the own list against the ballots n</text>',
+    ]
+    for tick in range(0, int(most) + 1, 10000):
+        out.append(f'<line x1="{left}" x2="{left + width}" y1="{y(tick):.1f}" y2="{y(tick):.1f}" stroke="#ddd"/>')
+        out.append(f'<text x="{left - 8}" y="{y(tick) + 4:.1f}" text-anchor="end">{tick:,}</text>')
+    for tick in range(0, 256, 32):
+        out.append(f'<line x1="{x(tick):.1f}" x2="{x(tick):.1f}" y1="{y(0):.1f}" y2="{y(0) + 5:.1f}" stroke="#333"/>')
+        out.append(f'<text x="{x(tick):.1f}" y="{y(0) + 20:.1f}" text-anchor="middle">{tick}</text>')
+    out.append(f'<text x="{left + width / 2}" y="{y(0) + 42:.1f}" text-anchor="middle">ballots n</text>')
+    out.append(f'<line x1="{left}" x2="{left + width}" y1="{y(0):.1f}" y2="{y(0):.1f}" stroke="#333"/>')
+    for i, (k, d) in enumerate(CURVES):
+        own = " ".join(f"{x(n):.1f},{y(costs[k, d, n][1]):.1f}" for n in range(1, 256))
+        theirs = " ".join(f"{x(n):.1f},{y(source_gates(k, d, n)):.1f}" for n in range(1, 256))
+        out.append(f'<polyline points="{own}" fill="none" stroke="{colours[i]}" stroke-width="2"/>')
+        out.append(f'<polyline points="{theirs}" fill="none" stroke="{colours[i]}" stroke-dasharray="5 4"/>')
+        for j, (text, dash) in enumerate(((f"k {k}, d {d}", ' stroke-width="2"'), ("source 001's formula", ' stroke-dasharray="5 4"'))):
+            at = top + 20 + 50 * i + 18 * j
+            out.append(f'<line x1="{left + width + 15}" x2="{left + width + 40}" y1="{at}" y2="{at}" stroke="{colours[i]}"{dash}/>')
+            out.append(f'<text x="{left + width + 46}" y="{at + 4}">{text}</text>')
+    out.append("</svg>")
+    return "\n".join(out) + "\n"
+
+
+def main():
+    check = sys.argv[1:] == ["--check"]
+    if not check:
+        subprocess.run(["rt", "staticlib", "unit"], cwd=ROOT, check=True, stdout=subprocess.DEVNULL)
+    shapes = SHAPES + [(k, d, n) for k, d in CURVES for n in range(1, 256) if (k, d, n) not in SHAPES]
+    costs = measure(shapes)
+    over = [shape for shape in shapes if costs[shape][0] > bound(*shape)]
+    if over:
+        sys.exit(f"docs/cost.py: above the bound: {over}")
+    made = {SHEET: sheet(costs), PLOT: plot(costs)}
+    for path, text in made.items():
+        if not check:
+            path.write_text(text)
+        elif not path.exists() or path.read_text() != text:
+            sys.exit(f"docs/cost.py: {path.relative_to(ROOT)} is not what the core's lists cost; make it anew: python3 docs/cost.py")
+
+
+main()
