@@ -1,4 +1,4 @@
-// What the test programs share: taking numbers out of their input, and printing.
+// What the programs share: taking numbers out of their input, and printing.
 use libc::STDOUT_FILENO;
 ghost use Prim.Native.Nat.{_<_, _≤_};
 ghost use lib.ListN.{length};

@@ -35,7 +35,7 @@ rounds p n y at j (suc t) =
     round p n y at j t
     ++ rounds p (mergedEnd p (candidateEnd p n) t + (j + 1)) (contestEnd p (candidateEnd p n) + 1) (mergedEnd p (candidateEnd p n) t) (j + 1) t
 
--- The circuit of a plan: "The two constants stand first", then candidate 0, then a round for each other candidate. The last round's last k gates say who has won.
+-- The circuit of a plan: the two constants stand first, then candidate 0, then a round for each other candidate. The last round's last k gates say who has won.
 unfoldable pub circuit : Plan → List Gate
 circuit p =
     constant 0 ∷ constant 1

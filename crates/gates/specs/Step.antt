@@ -15,7 +15,7 @@ use Rattle.gates.specs.declared.place.Place.the-variants.{Nowhere}
 unfoldable pub rangeOf : List ℕ → ℕ → ℕ → List Gate
 rangeOf table from to = take (to - from) (drop from (gatesOf table))
 
--- What the step asks of its caller: a range of good gates, room for their wiresOf, and a tape and a board that reach as far as their shown bits.
+-- What the step asks of its caller: a range of good gates, room for their wires, and a tape and a board that reach as far as their shown bits.
 pub record StepReady (inputs : ℕ) (table : List ℕ) (from to : ℕ) (tape : List ℕ) (shown : ℕ) (ws board : List ℕ) : Type 0 where
   pub order : from ≤ to
   pub inTable : to ≤ length (gatesOf table)

@@ -9,7 +9,7 @@ use Rattle.gates.specs.Gate.{Gate}
 unfoldable pub wire : List ℕ → ℕ → ℕ
 wire ws i = getD ws i 0
 
--- The value of a gate whose operands name the wiresOf ws.
+-- The value of a gate whose operands name the wires ws.
 unfoldable pub value : List ℕ → Gate → ℕ
 value ws g = valueOf (g .kind) (wire ws (g .a)) (wire ws (g .b)) (wire ws (g .c))
 

@@ -15,7 +15,7 @@ pub record Reason : Type 0 where
   pub number : ℕ
   pub place : ℕ
 
--- "where no place is named it is 0".
+-- The reason of that number at that place.
 unfoldable pub reasonAt : ℕ → ℕ → Reason
 reasonAt number place = record { number = number; place = place }
 
@@ -37,7 +37,7 @@ unfoldable pub refusedFor : Verdict → Option Reason
 refusedFor Accepted = none
 refusedFor (Refused r) = some (reasonOf r)
 
--- The reason of that number, at place 0, unless its test passes.
+-- The reason of that number unless its test passes: "where no place is named it is 0".
 unfoldable pub unless : Bool → ℕ → Option Reason
 unless true number = none
 unless false number = some (reasonAt number 0)
