@@ -1,8 +1,8 @@
 /* Times write, test, run and count of the core beside the same work in C (core.c), in one run.
  *   bench times   OP K D N GATES CORE_NS C_NS RATIO a line
  *   bench counts  one call each between callgrind's dumps, labelled OP-K-D-N-WHO
- * Each pair's results are compared first. A time is processor time, the least of many short rounds in which the two take
- * turns; the ratio is that of the two. */
+ * Each pair's results are compared first. A time is processor time, the least of many short rounds; the two take turns,
+ * and the ratio is the middle one of the rounds' ratios, so that a slow stretch of the machine meets both. */
 #include "../c/jugyvaros.h"
 #include "core.h"
 #include <stdio.h>
@@ -94,19 +94,29 @@ static double timed(int op, int in_c, size_t calls) {
     return (seconds() - start) / (double)calls;
 }
 
+static int by_size(const void *a, const void *b) {
+    double x = *(const double *)a, y = *(const double *)b;
+    return x < y ? -1 : x > y;
+}
+
 static void times(void) {
     for (size_t s = 0; s < sizeof shapes / sizeof *shapes; s++) {
         set_up(shapes[s]);
         for (int op = 0; op < 4; op++) {
             size_t calls = (size_t)(5e-4 / (timed(op, 1, 3) + 1e-8)) + 1;
-            double best[2] = {1e9, 1e9};
-            for (int turn = 0; turn < 2 * ROUNDS; turn++) {
-                double took = timed(op, turn % 2, calls);
-                if (took < best[turn % 2])
-                    best[turn % 2] = took;
+            double best[2] = {1e9, 1e9}, ratios[ROUNDS];
+            for (int round = 0; round < ROUNDS; round++) {
+                double took[2];
+                for (int in_c = 0; in_c < 2; in_c++) {
+                    took[in_c] = timed(op, in_c, calls);
+                    if (took[in_c] < best[in_c])
+                        best[in_c] = took[in_c];
+                }
+                ratios[round] = took[0] / took[1];
             }
+            qsort(ratios, ROUNDS, sizeof *ratios, by_size);
             printf("%s %zu %zu %zu %zu %.1f %.1f %.3f\n", ops[op], k, d, n, gates, 1e9 * best[0], 1e9 * best[1],
-                   best[0] / best[1]);
+                   ratios[ROUNDS / 2]);
             fflush(stdout);
         }
         take_down();
