@@ -1,20 +1,22 @@
--- A list of good gates that is neither too short nor too long is accepted, once it is written as numbers.
+-- A list of good gates that is neither too short nor too long is accepted, once it is written as numbers; and what is said of a table that is no list, or too long a one.
 -- Assumes nothing.
-use mathlib.Core.Path.{_≡_, _∙_, sym, ap, subst}
+use mathlib.Core.Path.{_≡_, _∙_, refl, sym, ap, subst}
+use mathlib.Core.Bool.{true, false}
 use mathlib.Core.List.{List}
-use Prim.Native.Nat.{ℕ, _+_, _*_, _/_, _%_, _≤_}
+use Prim.Native.Nat.{ℕ, zero, suc, _+_, _*_, _/_, _%_, _≤_, _<_}
 use native.Mathlib.Nat.{add-zero}
 use native.Mathlib.Omega.{arith}
 use lib.Dec.{eqb, ltb}
-use lib.ListN.{length}
-use borrow.Author.Tests.{eq-eqb, le-ltb}
+use lib.ListN.{length, replicate, length-replicate}
+use borrow.Author.Tests.{eq-eqb, eqb-true, le-ltb, lt-ltb}
+use Rattle.gates.specs.Kind.{operandsOf, conditionalOf}
 use Rattle.gates.specs.Gate.{Gate, gatesOf, numbersOf}
-use Rattle.gates.specs.Board.{conditionalCount}
+use Rattle.gates.specs.Board.{conditionals, conditionalCount}
 use Rattle.gates.specs.Test.{firstBad, judged, tested}
 use Rattle.gates.specs.declared.place.Place.{Place}
 use Rattle.gates.specs.declared.place.Place.the-variants.{Nowhere}
-use Rattle.gates.specs.declared.list.Tested.the-variants.{Accepted}
-use Rattle.gates.proofs.Laws.{AllGood, none-bad, length-numbers, read-whole}
+use Rattle.gates.specs.declared.list.Tested.the-variants.{Accepted, PartOfAGate, TooManyGates}
+use Rattle.gates.proofs.Laws.{AllGood, good-none, none-bad, length-numbers, read-whole}
 
 pub good-list-accepted : (inputs k : ℕ) (gs : List Gate) → AllGood inputs gs → k ≤ length gs → length gs ≤ 1048576
     → tested inputs k (numbersOf gs) ≡ Accepted (length gs) (conditionalCount gs)
@@ -30,3 +32,33 @@ good-list-accepted inputs k gs good enough few =
       found,
       read-whole gs,
     )
+
+-- so many gates that make 0
+pub zeros : ℕ → List Gate
+zeros n = replicate n (record { kind = 0; a = 0; b = 0; c = 0 })
+
+pub zeros-good : (own n : ℕ) → AllGood own (zeros n)
+unfolding zeros operandsOf
+zeros-good own zero = tt
+zeros-good own (suc n) = (good-none own 0 (omega arith) refl, zeros-good (suc own) n)
+
+pub zeros-free : (n : ℕ) → conditionalCount (zeros n) ≡ 0
+unfolding zeros conditionalCount conditionals conditionalOf
+zeros-free zero = refl
+zeros-free (suc n) = zeros-free n
+
+pub zeros-length : (n : ℕ) → length (zeros n) ≡ n
+unfolding zeros
+zeros-length n = length-replicate n _
+
+-- a table that ends in a part of a gate
+pub part-of-a-gate : (inputs k : ℕ) (table : List ℕ) → eqb (length table % 4) 0 ≡ false → tested inputs k table ≡ PartOfAGate
+unfolding tested
+part-of-a-gate inputs k table e = rw e
+
+-- a list of too many gates
+pub too-many : (inputs k : ℕ) (table : List ℕ) → eqb (length table % 4) 0 ≡ true → k ≤ 8 → 4194304 < length table → tested inputs k table ≡ TooManyGates
+unfolding tested
+too-many inputs k table e few long =
+    let whole = eqb-true (length table % 4) 0 e in
+    rw (e, le-ltb (length table / 4) k (omega arith), lt-ltb 1048576 (length table / 4) (omega arith))

@@ -7,6 +7,8 @@ use Rattle.gates.specs.declared.place.Place.{Place}
 use Rattle.gates.specs.declared.place.Place.the-variants.{At, Nowhere}
 use Rattle.jury.specs.declared.reason.Refusal.{Refusal}
 use Rattle.jury.specs.declared.reason.Refusal.the-variants.{Shape, Table, Gate, BallotsLength, BallotByte, BallotRow, TapeLength, TapeByte, WiresLength, BoardLength}
+use Rattle.jury.specs.declared.shape.Shaped.{Shaped}
+use Rattle.jury.specs.declared.shape.Shaped.the-variants.{Within, Outside}
 use Rattle.jury.specs.declared.reason.Verdict.{Verdict}
 use Rattle.jury.specs.declared.reason.Verdict.the-variants.{Accepted, Refused}
 
@@ -36,6 +38,11 @@ reasonOf BoardLength = reasonAt 10 0
 unfoldable pub refusedFor : Verdict → Option Reason
 refusedFor Accepted = none
 refusedFor (Refused r) = some (reasonOf r)
+
+-- The reason of what the constructor of shapes answers, where it refuses.
+unfoldable pub shapedFor : Shaped → Option Reason
+shapedFor (Within s) = none
+shapedFor Outside = some (reasonAt 1 0)
 
 -- The reason of that number unless its test passes: "where no place is named it is 0".
 unfoldable pub unless : Bool → ℕ → Option Reason

@@ -2,6 +2,7 @@
 ghost use mathlib.Core.Path.{_≡_};
 ghost use mathlib.Core.Bool.{cond};
 ghost use lib.Dec.{T};
+ghost use Rattle.jury.specs.Reason.{shapedFor, unless};
 ghost use Rattle.jury.specs.Shape.{withinLimits, ballotBytes};
 
 // A candidate is a blend. The numbers are wide enough to hold what lies outside the limits.
@@ -33,6 +34,7 @@ impl Shape {
     // A shape within the limits, or its refusal.
     pub fn new(candidates: usize, grades: usize, ballots: usize) -> Shaped
         ensures { λ r. ⌜ r ≡ cond (withinLimits (record { candidates = candidates; grades = grades; ballots = ballots })) (Shaped.Within (record { candidates = candidates; grades = grades; ballots = ballots })) Shaped.Outside ⌝ }
+        ensures { λ r. ⌜ shapedFor r ≡ unless (withinLimits (record { candidates = candidates; grades = grades; ballots = ballots })) 1 ⌝ }
     {
         let shape = Shape {
             candidates,

@@ -6,7 +6,7 @@ use jury::reason::Refusal;
 use jury::shape::Shape;
 use libc::STDIN_FILENO;
 ghost use mathlib.Core.Path.{_≡_};
-ghost use lib.ListN.{length};
+ghost use lib.ListN.{length, replicate};
 ghost use Rattle.gates.specs.Board.{Bits};
 
 fn print_jury(shape: Shape) {
@@ -26,6 +26,7 @@ fn print_refused(reason: Refusal) {
 
 fn table() -> [u32; 16000]
     ensures { λ r. ⌜ 16000 ≡ length r ⌝ }
+    ensures { λ r. ⌜ r ≡ replicate 16000 0 ⌝ }
 {
     [0u32; 16000]
 }
@@ -33,6 +34,7 @@ fn table() -> [u32; 16000]
 // The table holds 4,000 gates, and each may be conditional.
 fn tape() -> [u8; 4000]
     ensures { λ r. ⌜ 4000 ≡ length r ⌝ }
+    ensures { λ r. ⌜ r ≡ replicate 4000 0 ⌝ }
     ensures { λ r. ⌜ Bits r ⌝ }
 {
     [0u8; 4000]
@@ -41,12 +43,14 @@ fn tape() -> [u8; 4000]
 // With the largest jury's 14,280 ballot bytes they make 18,280 wires.
 fn wires() -> [u8; 18280]
     ensures { λ r. ⌜ 18280 ≡ length r ⌝ }
+    ensures { λ r. ⌜ r ≡ replicate 18280 0 ⌝ }
 {
     [0u8; 18280]
 }
 
 fn board() -> [u8; 4008]
     ensures { λ r. ⌜ 4008 ≡ length r ⌝ }
+    ensures { λ r. ⌜ r ≡ replicate 4008 0 ⌝ }
 {
     [0u8; 4008]
 }

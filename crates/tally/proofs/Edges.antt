@@ -4,18 +4,14 @@ use mathlib.Core.Path.{_≡_, refl}
 use mathlib.Core.Bool.{Bool, true, false}
 use mathlib.Core.Option.{Option, none, some}
 use mathlib.Core.List.{List, [], _∷_, map}
-use Prim.Native.Nat.{ℕ, zero, suc, _<_, _≤_, _%_, _/_}
+use Prim.Native.Nat.{ℕ, _<_, _≤_, _%_}
 use native.Mathlib.Omega.{arith}
 use lib.Dec.{eqb}
-use lib.ListN.{length, replicate, length-replicate}
-use borrow.Author.Tests.{eqb-true, lt-ltb, le-ltb}
-use Rattle.gates.specs.Kind.{operandsOf, conditionalOf}
-use Rattle.gates.specs.Gate.{Gate, numbersOf}
-use Rattle.gates.specs.Board.{conditionals, conditionalCount}
-use Rattle.gates.specs.Test.{tested, firstAboveOne}
+use lib.ListN.{length}
+use Rattle.gates.specs.Gate.{numbersOf}
+use Rattle.gates.specs.Test.{firstAboveOne}
 use Rattle.gates.specs.declared.list.Tested.the-variants.{PartOfAGate, TooManyGates}
-use Rattle.gates.proofs.Laws.{AllGood, good-none}
-use Rattle.gates.proofs.Accepting.{good-list-accepted}
+use Rattle.gates.proofs.Accepting.{zeros, zeros-length, zeros-free, zeros-good, good-list-accepted, part-of-a-gate, too-many}
 use Rattle.jury.specs.declared.shape.Shape.{Shape}
 use Rattle.jury.specs.Shape.{withinLimits, ballotBytes}
 use Rattle.jury.specs.Reason.{Reason, reasonAt, unless, foundAt, firstOf}
@@ -73,40 +69,12 @@ pub edges-closing : map (λ (e : Edge). plainClosing (e .shape) (e .ballots)) ed
 unfolding edges refused countReason withinLimits ballotBytes reasonAt unless foundAt firstOf ones rowsOf firstBadRow ballotReasons firstAboveOne byteOf countUpTo countOf tabulate countsOf sum medianFrom medianOf pOf qOf betterMedian equalMedians strongerMedian largerP smallerQ beats beatsAll closingFrom closingOf eightBytes closingAfter plainClosing
 edges-closing = refl
 
--- So many gates that make 0.
-pub zeros : ℕ → List Gate
-zeros n = replicate n (record { kind = 0; a = 0; b = 0; c = 0 })
-
-zeros-good : (own n : ℕ) → AllGood own (zeros n)
-unfolding zeros operandsOf
-zeros-good own zero = tt
-zeros-good own (suc n) = (good-none own 0 (omega arith) refl, zeros-good (suc own) n)
-
-zeros-free : (n : ℕ) → conditionalCount (zeros n) ≡ 0
-unfolding zeros conditionalCount conditionals conditionalOf
-zeros-free zero = refl
-zeros-free (suc n) = zeros-free n
-
-zeros-length : (n : ℕ) → length (zeros n) ≡ n
-unfolding zeros
-zeros-length n = length-replicate n _
-
 -- 1,048,576 gates are not too many.
 pub most-gates : (s : Shape) (n : ℕ) → withinLimits s ≡ true → s .candidates ≤ n → n ≤ 1048576 → testSaid s (numbersOf (zeros n)) ≡ accepted (record { gates = n; conditional = 0 })
 most-gates s n w enough few =
     let l = zeros-length n in
     let t = good-list-accepted (ballotBytes s) (s .candidates) (zeros n) (zeros-good (ballotBytes s) n) (omega arith) (omega arith) in
     list-accepted s (numbersOf (zeros n)) w n 0 (rw (zeros-length n, zeros-free n) at t)
-
-part-of-a-gate : (inputs k : ℕ) (table : List ℕ) → eqb (length table % 4) 0 ≡ false → tested inputs k table ≡ PartOfAGate
-unfolding tested
-part-of-a-gate inputs k table e = rw e
-
-too-many : (inputs k : ℕ) (table : List ℕ) → eqb (length table % 4) 0 ≡ true → k ≤ 8 → 4194304 < length table → tested inputs k table ≡ TooManyGates
-unfolding tested
-too-many inputs k table e few long =
-    let whole = eqb-true (length table % 4) 0 e in
-    rw (e, le-ltb (length table / 4) k (omega arith), lt-ltb 1048576 (length table / 4) (omega arith))
 
 -- 1,048,577 are, whatever they are.
 pub one-gate-more : (s : Shape) (table : List ℕ) → withinLimits s ≡ true → 4194304 < length table → testSaid s table ≡ turnedAway (reasonAt 2 0)

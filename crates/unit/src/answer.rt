@@ -28,7 +28,7 @@ fn put(numbers: &[usize], answer: &mut [usize])
 }
 
 // The answer of writing, testing or running, and its status.
-pub fn put_size(said: Answer, answer: &mut [usize]) -> usize
+pub(crate) fn put_size(said: Answer, answer: &mut [usize]) -> usize
     requires { ⌜ 4 ≤ length (now answer) ⌝ }
     ensures { λ r. ⌜ r ≡ statusOf (sizeNumbers (saidBy said)) ⌝ }
     ensures { λ _. ⌜ now (answer .exit) ≡ sizeNumbers (saidBy said) ++ drop 4 (now (answer .entry)) ⌝ }
@@ -48,7 +48,7 @@ pub fn put_size(said: Answer, answer: &mut [usize]) -> usize
 }
 
 // The answer of measuring, and its status.
-pub fn put_measures(said: Measured, answer: &mut [usize]) -> usize
+pub(crate) fn put_measures(said: Measured, answer: &mut [usize]) -> usize
     requires { ⌜ 5 ≤ length (now answer) ⌝ }
     ensures { λ r. ⌜ r ≡ statusOf (measureNumbers (measuredBy said)) ⌝ }
     ensures { λ _. ⌜ now (answer .exit) ≡ measureNumbers (measuredBy said) ++ drop 5 (now (answer .entry)) ⌝ }
@@ -96,7 +96,7 @@ fn ten(reason: usize, place: usize, closing: [u8; 8]) -> [usize; 10]
 }
 
 // The answer of a plain count, and its status.
-pub fn put_count(counted: Counted, answer: &mut [usize]) -> usize
+pub(crate) fn put_count(counted: Counted, answer: &mut [usize]) -> usize
     requires { ⌜ 10 ≤ length (now answer) ⌝ }
     ensures { λ r. ⌜ r ≡ statusOf (countNumbers (refusedFor (counted .verdict)) (counted .closing)) ⌝ }
     ensures { λ _. ⌜ now (answer .exit) ≡ countNumbers (refusedFor (counted .verdict)) (counted .closing) ++ drop 10 (now (answer .entry)) ⌝ }

@@ -1,6 +1,6 @@
 // The five entry points for programs in C and Rust: numbers, and pointer with length for each lent slice. The answer stands
 // in the lent array `answer`, and its first number, the reason, is returned too.
-pub mod answer;
+mod answer;
 pub mod count;
 pub mod measure;
 pub mod run;
