@@ -2,10 +2,10 @@
 -- Assumes nothing.
 use mathlib.Core.Path.{_≡_, _∙_, refl, sym}
 use mathlib.Core.Bool.{Bool, true, false}
-use Prim.Native.Nat.{ℕ, _+_, _-_, _<_, _≤_}
+use Prim.Native.Nat.{ℕ, _+_, _-_, _≤_}
 use native.Mathlib.Omega.{arith}
-use lib.Dec.{ltb, eqb}
-use borrow.Author.Tests.{lt-ltb, le-ltb, eq-eqb, ne-eqb, ltb-true, ltb-false, eqb-true, eqb-false}
+use lib.Dec.{eqb}
+use borrow.Author.Tests.{eq-eqb, ne-eqb, eqb-true, eqb-false}
 
 pub eqb-iff : (a b c d : ℕ) → (a ≡ b → c ≡ d) → (c ≡ d → a ≡ b) → eqb a b ≡ eqb c d
 eqb-iff a b c d to back = go (eqb a b) refl
@@ -14,19 +14,6 @@ eqb-iff a b c d to back = go (eqb a b) refl
     go true e = e ∙ sym (eq-eqb c d (to (eqb-true a b e)))
     go false e = e ∙ sym (ne-eqb c d (λ h. eqb-false a b e (back h)))
 
-pub ltb-iff : (a b c d : ℕ) → (a < b → c < d) → (c < d → a < b) → ltb a b ≡ ltb c d
-ltb-iff a b c d to back = go (ltb a b) refl
-  where
-    not-below : b ≤ a → d ≤ c
-    not-below l = let h : ¬ (c < d) = λ h. let k : a < b = back h in omega arith in omega arith
-
-    go : (t : Bool) → ltb a b ≡ t → ltb a b ≡ ltb c d
-    go true e = e ∙ sym (lt-ltb c d (to (ltb-true a b e)))
-    go false e = e ∙ sym (le-ltb c d (not-below (ltb-false a b e)))
-
 -- a sum is never formed: its second part is what the whole exceeds the first part by
 pub rest-eqb : (x a b : ℕ) → a ≤ x → eqb (x - a) b ≡ eqb x (a + b)
 rest-eqb x a b l = eqb-iff (x - a) b x (a + b) (λ h. omega arith) (λ h. omega arith)
-
-pub rest-ltb : (x a b : ℕ) → a ≤ x → ltb (x - a) b ≡ ltb x (a + b)
-rest-ltb x a b l = ltb-iff (x - a) b x (a + b) (λ h. omega arith) (λ h. omega arith)

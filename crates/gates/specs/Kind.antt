@@ -1,20 +1,26 @@
 -- The eight kinds of gates, as the table of document 01, "Gates and wires", has them.
 use mathlib.Core.Bool.{Bool, true, false, cond}
-use mathlib.Core.List.{[], _∷_}
+use mathlib.Core.List.{List, [], _∷_}
 use Prim.Native.Nat.{ℕ, _-_, min, max}
 use lib.Dec.{ltb, eqb}
 use lib.ListN.{getD}
 use Rattle.gates.specs.declared.kind.Applied.{Applied}
 use Rattle.gates.specs.declared.kind.Applied.the-variants.{Value, NoSuchKind}
 
+-- The columns "operands" and "conditional" as the program's constant arrays have them.
+abbrev pub operandCounts : List ℕ
+operandCounts = 0 ∷ 0 ∷ 1 ∷ 1 ∷ 2 ∷ 2 ∷ 2 ∷ 3 ∷ []
+
+abbrev pub conditionalMarks : List Bool
+conditionalMarks = false ∷ false ∷ false ∷ false ∷ true ∷ true ∷ true ∷ true ∷ []
+
 -- The column "operands": how many a kind uses, of a, b, c in this order.
 unfoldable pub operandsOf : ℕ → ℕ
-operandsOf kind = getD (0 ∷ 0 ∷ 1 ∷ 1 ∷ 2 ∷ 2 ∷ 2 ∷ 3 ∷ []) kind 0
+operandsOf kind = getD operandCounts kind 0
 
 -- The column "conditional".
 unfoldable pub conditionalOf : ℕ → Bool
-conditionalOf kind =
-    getD (false ∷ false ∷ false ∷ false ∷ true ∷ true ∷ true ∷ true ∷ []) kind false
+conditionalOf kind = getD conditionalMarks kind false
 
 -- "1 exactly when a and b differ".
 unfoldable pub differ : ℕ → ℕ → ℕ

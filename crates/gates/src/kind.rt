@@ -1,11 +1,11 @@
 // The eight kinds of gates. Every other part reads operand counts and conditional marks here.
 ghost use mathlib.Core.Path.{_≡_};
 ghost use mathlib.Core.Bool.{cond};
-ghost use Rattle.gates.specs.Kind.{operandsOf, conditionalOf, valueOf, applied};
+ghost use Rattle.gates.specs.Kind.{operandCounts, operandsOf, conditionalMarks, conditionalOf, valueOf, applied};
 
-const OPERANDS: [u32; 8] = [0, 0, 1, 1, 2, 2, 2, 3];
+pub(crate) const OPERANDS: [u32; 8] = [0, 0, 1, 1, 2, 2, 2, 3];
 
-const CONDITIONAL: [bool; 8] = [false, false, false, false, true, true, true, true];
+pub(crate) const CONDITIONAL: [bool; 8] = [false, false, false, false, true, true, true, true];
 
 // A gate's value, or its refusal: no kind above 7 has a value.
 pub enum Applied {
@@ -20,6 +20,14 @@ pub fn operands(kind: u32) -> u32
     if kind < 8 { OPERANDS[kind as usize] } else { 0 }
 }
 
+// The same from the table itself, which a loop has at hand.
+pub(crate) fn operands_in(counts: &[u32; 8], kind: u32) -> u32
+    requires { ⌜ now counts ≡ operandCounts ⌝ }
+    ensures { λ r. ⌜ r ≡ operandsOf kind ⌝ }
+{
+    if kind < 8 { counts[kind as usize] } else { 0 }
+}
+
 // Whether a kind is conditional, so that its gate shows wire a under a mask.
 pub(crate) fn conditional(kind: u32) -> bool
     ensures { λ r. ⌜ r ≡ conditionalOf kind ⌝ }
@@ -28,6 +36,18 @@ pub(crate) fn conditional(kind: u32) -> bool
         CONDITIONAL[kind as usize]
     } else {
         false
+    }
+}
+
+// The same from the table itself, as the number of conditional gates that one gate of a kind is.
+pub(crate) fn mark_in(marks: &[bool; 8], kind: u32) -> usize
+    requires { ⌜ now marks ≡ conditionalMarks ⌝ }
+    ensures { λ r. ⌜ r ≡ cond (conditionalOf kind) 1 0 ⌝ }
+{
+    if kind < 8 {
+        if marks[kind as usize] { 1 } else { 0 }
+    } else {
+        0
     }
 }
 

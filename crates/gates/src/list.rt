@@ -2,11 +2,14 @@
 use crate::kind;
 use crate::kind::Applied;
 ghost use mathlib.Core.Path.{_≡_};
-ghost use Prim.Native.Nat.{_+_};
+ghost use mathlib.Core.Bool.{_&&_};
+ghost use Prim.Native.Nat.{ℕ, _+_, _<_};
+ghost use lib.Dec.{ltb, eqb};
+ghost use Rattle.gates.specs.Kind.{operandCounts};
 ghost use Rattle.gates.specs.Gate.{Gate, gatesOf};
 ghost use lib.ListN.{length};
 ghost use Rattle.gates.specs.Board.{conditionalCount};
-ghost use Rattle.gates.specs.Test.{goodOperand, goodGate, firstBad, judged, tested};
+ghost use Rattle.gates.specs.Test.{goodGate, firstBad, judged, tested};
 
 // The most gates that a list may have.
 pub const MOST_GATES: usize = 1048576;
@@ -20,37 +23,66 @@ pub enum Tested {
     BadGate(usize),
 }
 
-// Whether one operand of gate g is good. The gate's own wire, inputs + g, is never formed: it could wrap.
-fn operand_is_good(used: bool, inputs: usize, g: usize, x: u32) -> bool
-    ensures { λ r. ⌜ r ≡ goodOperand used (inputs + g) x ⌝ }
+// Whether operands that are not in use are good.
+fn are_zero(a: u32, b: u32, c: u32) -> bool
+    ensures { λ r. ⌜ r ≡ (eqb a 0 && eqb b 0 && eqb c 0) ⌝ }
 {
-    if used {
-        let wire = x as usize;
-        if wire < inputs {
-            true
-        } else {
-            wire - inputs < g
-        }
+    if a != 0 {
+        return false;
+    }
+    if b != 0 {
+        return false;
+    }
+    c == 0
+}
+
+// What an operand is compared with for the own wire of gate g, inputs + g, which could wrap: no operand reaches 2 ^ 32.
+fn own_wire(inputs: usize, g: usize) -> usize
+    requires { ⌜ g < 4611686018427387904 ⌝ }
+    ensures { λ r. ⌜ ((x : ℕ) → x < 4294967296 → ltb x r ≡ ltb x (inputs + g)) ⌝ }
+{
+    if inputs < 4294967296 {
+        inputs + g
     } else {
-        x == 0
+        4294967296
     }
 }
 
 // Whether gate g, of these four numbers, is good.
-fn gate_is_good(inputs: usize, g: usize, kind: u32, a: u32, b: u32, c: u32) -> bool
+fn gate_is_good(
+    inputs: usize,
+    g: usize,
+    counts: &[u32; 8],
+    kind: u32,
+    a: u32,
+    b: u32,
+    c: u32,
+) -> bool
+    requires { ⌜ g < 4611686018427387904 ⌝ }
+    requires { ⌜ now counts ≡ operandCounts ⌝ }
     ensures { λ r. ⌜ r ≡ goodGate (inputs + g) (record { kind = kind; a = a; b = b; c = c }) ⌝ }
 {
     let Applied::Value(_) = kind::apply(kind, 0, 0, 0) else {
         return false;
     };
-    let count = kind::operands(kind);
-    if !operand_is_good(0 < count, inputs, g, a) {
+    let count = kind::operands_in(counts, kind);
+    let own = own_wire(inputs, g);
+    if count == 0 {
+        return are_zero(a, b, c);
+    }
+    if own <= a as usize {
         return false;
     }
-    if !operand_is_good(1 < count, inputs, g, b) {
+    if count == 1 {
+        return are_zero(0, b, c);
+    }
+    if own <= b as usize {
         return false;
     }
-    operand_is_good(2 < count, inputs, g, c)
+    if count == 2 {
+        return c == 0;
+    }
+    (c as usize) < own
 }
 
 // Tests the gates of a table one after the other, and counts the conditional ones.
@@ -58,15 +90,25 @@ fn test_gates(inputs: usize, table: &[u32]) -> Tested
     ensures { λ r. ⌜ r ≡ judged (firstBad inputs 0 (gatesOf (now (table .entry)))) (length (gatesOf (now (table .entry)))) (conditionalCount (gatesOf (now (table .entry)))) ⌝ }
 {
     let gates = table.len() / 4;
+    let counts = kind::OPERANDS;
+    let marks = kind::CONDITIONAL;
     let mut conditional: usize = 0;
     let mut g: usize = 0;
     while g < gates {
         let at = 4 * g;
         let kind = table[at];
-        if !gate_is_good(inputs, g, kind, table[at + 1], table[at + 2], table[at + 3]) {
+        if !gate_is_good(
+            inputs,
+            g,
+            &counts,
+            kind,
+            table[at + 1],
+            table[at + 2],
+            table[at + 3],
+        ) {
             return Tested::BadGate(g);
         }
-        conditional += kind::mark(kind);
+        conditional += kind::mark_in(&marks, kind);
         g += 1;
     }
     Tested::Accepted { gates, conditional }

@@ -1,10 +1,11 @@
--- `gates::list::gate_is_good` meets its contract: each early return is one part of the test that fails.
+-- `gates::list::gate_is_good` meets its contract: each return is the test of the operands that the kind uses, and of those that it does not.
 -- Assumes nothing.
-use mathlib.Core.Path.{_≡_, _∙_, refl, sym}
+use mathlib.Core.Path.{_≡_, _∙_, refl, sym, ap}
 use mathlib.Core.Bool.{Bool, true, false, _&&_}
-use Prim.Native.Nat.{ℕ, _+_}
-use lib.Dec.{ltb}
-use borrow.Author.Tests.{not-true, not-false}
+use Prim.Native.Nat.{ℕ, _+_, _<_, _≤_}
+use native.Mathlib.Omega.{arith}
+use lib.Dec.{ltb, eqb}
+use borrow.Author.Tests.{lt-ltb, le-ltb}
 use Rattle.gates.specs.Kind.{operandsOf}
 use Rattle.gates.specs.Test.{goodOperand, goodGate}
 use Rattle.gates.proofs.Applying.{has-value, has-no-value}
@@ -19,9 +20,33 @@ parts : (own kind a b c count : ℕ) (k x y z : Bool) → ltb kind 8 ≡ k → c
 unfolding goodGate
 parts own kind a b c count k x y z ek ec ex ey ez = rw (← ec, ek, ← ex, ← ey, ← ez)
 
+-- an operand that is in use, and one that is not
+used : (i count own x : ℕ) → i < count → ltb x own ≡ goodOperand (ltb i count) own x
+unfolding goodOperand
+used i count own x h = sym (ap (λ (u : Bool). goodOperand u own x) (lt-ltb i count h))
+
+unused : (i count own x : ℕ) → count ≤ i → eqb x 0 ≡ goodOperand (ltb i count) own x
+unfolding goodOperand
+unused i count own x h = sym (ap (λ (u : Bool). goodOperand u own x) (le-ltb i count h))
+
 -- past the first test the kind has a value
 known : (c : tie.After-enum-told) → ltb (c .before .before .before .args .kind) 8 ≡ true
 known c = has-value (c .before .before .before .args .kind) 0 0 0 _ (sym (c .before .before .apply .ensures) ∙ c .enum-told .given .1)
+
+-- the test from those of its operands, once the kind is known
+operands : (w : tie.After-own-wire) (x y z : Bool) → let a = w .before .before .before .before .before .args in let n = w .before .operands-in .result in
+    x ≡ goodOperand (ltb 0 n) (a .inputs + a .g) (a .a) → y ≡ goodOperand (ltb 1 n) (a .inputs + a .g) (a .b) → z ≡ goodOperand (ltb 2 n) (a .inputs + a .g) (a .c)
+    → (true && x && y && z) ≡ goodGate (a .inputs + a .g) (record { kind = a .kind; a = a .a; b = a .b; c = a .c })
+operands w x y z ex ey ez =
+    let a = w .before .before .before .before .before .args in
+    parts (a .inputs + a .g) (a .kind) (a .a) (a .b) (a .c) (w .before .operands-in .result) true x y z (known (w .before .before)) (w .before .operands-in .ensures) ex ey ez
+
+-- an operand in use is tested as if the sum were formed
+below : (w : tie.After-own-wire) (i x : ℕ) → x < 4294967296 → x < w .own-wire .result → i < w .before .operands-in .result → let a = w .before .before .before .before .before .args in true ≡ goodOperand (ltb i (w .before .operands-in .result)) (a .inputs + a .g) x
+below w i x small l h = let a = w .before .before .before .before .before .args in sym (lt-ltb x (w .own-wire .result) l) ∙ w .own-wire .ensures x small ∙ used i (w .before .operands-in .result) (a .inputs + a .g) x h
+
+beyond : (w : tie.After-own-wire) (i x : ℕ) → x < 4294967296 → w .own-wire .result ≤ x → i < w .before .operands-in .result → let a = w .before .before .before .before .before .args in false ≡ goodOperand (ltb i (w .before .operands-in .result)) (a .inputs + a .g) x
+beyond w i x small l h = let a = w .before .before .before .before .before .args in sym (le-ltb x (w .own-wire .result) l) ∙ w .own-wire .ensures x small ∙ used i (w .before .operands-in .result) (a .inputs + a .g) x h
 
 apply-requires : tie.Need-apply-requires
 apply-requires c κs = search needs
@@ -39,45 +64,72 @@ returns c =
     parts (a .inputs + a .g) (a .kind) (a .a) (a .b) (a .c) _ false _ _ _
     (has-no-value (a .kind) 0 0 0 (sym (at .apply .ensures) ∙ c .enum-told2 .given .1)) refl refl refl refl
 
-operands-requires : tie.Need-operands-requires
-operands-requires c κs = search needs
+operands-in-requires : tie.Need-operands-in-requires
+operands-in-requires c κs = c .before .before .before .pre .1
 
-operand-is-good-requires : tie.Need-operand-is-good-requires
-operand-is-good-requires c κs = search needs
+own-wire-requires : tie.Need-own-wire-requires
+own-wire-requires c κs = c .before .before .before .before .pre .0
+
+are-zero-requires : tie.Need-are-zero-requires
+are-zero-requires c κs = search needs
 
 returns-2 : tie.Need-returns-2
 returns-2 c =
-    let o = c .before in
-    let n = o .before in
-    let a = n .before .before .before .before .args in
-    parts (a .inputs + a .g) (a .kind) (a .a) (a .b) (a .c) (n .operands .result) true false _ _ (known (n .before)) (n .operands .ensures)
-    (sym (not-true _ (c .if1 .taken)) ∙ o .operand-is-good .ensures) refl refl
-
-operand-is-good-requires-2 : tie.Need-operand-is-good-requires-2
-operand-is-good-requires-2 c κs = search needs
+    let w = c .before .before in
+    let a = w .before .before .before .before .before .args in
+    let n = w .before .operands-in .result in
+    let h = c .before .if1 .taken in
+    c .are-zero .ensures
+    ∙ operands w (eqb (a .a) 0) (eqb (a .b) 0) (eqb (a .c) 0) (unused 0 n _ (a .a) (omega (arith, h))) (unused 1 n _ (a .b) (omega (arith, h))) (unused 2 n _ (a .c) (omega (arith, h)))
 
 returns-3 : tie.Need-returns-3
 returns-3 c =
-    let o2 = c .before in
-    let o = o2 .before .before in
-    let n = o .before in
-    let a = n .before .before .before .before .args in
-    parts (a .inputs + a .g) (a .kind) (a .a) (a .b) (a .c) (n .operands .result) true true false _ (known (n .before)) (n .operands .ensures)
-    (sym (not-false _ (o2 .before .if1 .left)) ∙ o .operand-is-good .ensures)
-    (sym (not-true _ (c .if2 .taken)) ∙ o2 .operand-is-good2 .ensures) refl
+    let w = c .before .before in
+    let s = w .before .before .before .before .before in
+    operands w false _ _ (beyond w 0 (s .args .a) (s .fits .a .fits) (c .if2 .taken) (omega (arith, c .before .if1 .left))) refl refl
 
-operand-is-good-requires-3 : tie.Need-operand-is-good-requires-3
-operand-is-good-requires-3 c κs = search needs
+are-zero-requires-2 : tie.Need-are-zero-requires-2
+are-zero-requires-2 c κs = search needs
 
 returns-4 : tie.Need-returns-4
 returns-4 c =
-    let o2 = c .before .before in
-    let o = o2 .before .before in
-    let n = o .before in
-    let a = n .before .before .before .before .args in
-    parts (a .inputs + a .g) (a .kind) (a .a) (a .b) (a .c) (n .operands .result) true true true (c .operand-is-good3 .result) (known (n .before)) (n .operands .ensures)
-    (sym (not-false _ (o2 .before .if1 .left)) ∙ o .operand-is-good .ensures)
-    (sym (not-false _ (c .before .if2 .left)) ∙ o2 .operand-is-good2 .ensures) (c .operand-is-good3 .ensures)
+    let w = c .before .before .before .before in
+    let s = w .before .before .before .before .before in
+    let a = s .args in
+    let n = w .before .operands-in .result in
+    let h = c .before .if3 .taken in
+    c .are-zero2 .ensures
+    ∙ operands w true (eqb (a .b) 0) (eqb (a .c) 0) (below w 0 (a .a) (s .fits .a .fits) (c .before .before .if2 .left) (omega (arith, h))) (unused 1 n _ (a .b) (omega (arith, h))) (unused 2 n _ (a .c) (omega (arith, h)))
+
+-- past the tests of the first operand
+second : (c : tie.Else3) → 1 < c .before .before .before .before .operands-in .result
+second c = omega (arith, c .if3 .left, c .before .before .if1 .left)
+
+first : (c : tie.Else3) → let w = c .before .before .before in let a = w .before .before .before .before .before .args in true ≡ goodOperand (ltb 0 (w .before .operands-in .result)) (a .inputs + a .g) (a .a)
+first c = let w = c .before .before .before in let s = w .before .before .before .before .before in below w 0 (s .args .a) (s .fits .a .fits) (c .before .if2 .left) (omega (arith, second c))
+
+returns-5 : tie.Need-returns-5
+returns-5 c =
+    let w = c .before .before .before .before in
+    let s = w .before .before .before .before .before in
+    operands w true false _ (first (c .before)) (beyond w 1 (s .args .b) (s .fits .b .fits) (c .if4 .taken) (second (c .before))) refl
+
+both : (c : tie.Else4) → let w = c .before .before .before .before in let a = w .before .before .before .before .before .args in true ≡ goodOperand (ltb 1 (w .before .operands-in .result)) (a .inputs + a .g) (a .b)
+both c = let w = c .before .before .before .before in let s = w .before .before .before .before .before in below w 1 (s .args .b) (s .fits .b .fits) (c .if4 .left) (second (c .before))
+
+returns-6 : tie.Need-returns-6
+returns-6 c =
+    let w = c .before .before .before .before .before in
+    let a = w .before .before .before .before .before .args in
+    operands w true true (eqb (a .c) 0) (first (c .before .before)) (both (c .before)) (unused 2 (w .before .operands-in .result) _ (a .c) (omega (arith, c .if5 .taken)))
+
+returns-7 : tie.Need-returns-7
+returns-7 c =
+    let w = c .before .before .before .before .before in
+    let s = w .before .before .before .before .before in
+    let a = s .args in
+    operands w true true (ltb (a .c) (w .own-wire .result)) (first (c .before .before)) (both (c .before))
+    (w .own-wire .ensures (a .c) (s .fits .c .fits) ∙ used 2 (w .before .operands-in .result) (a .inputs + a .g) (a .c) (omega (arith, c .if5 .left, second (c .before .before))))
 
 pub gate-is-good-spec : {M : Type 1} → statement M
 gate-is-good-spec =
@@ -87,10 +139,13 @@ gate-is-good-spec =
     enum-told
     enum-told-2
     returns
-    operands-requires
-    operand-is-good-requires
+    operands-in-requires
+    own-wire-requires
+    are-zero-requires
     returns-2
-    operand-is-good-requires-2
     returns-3
-    operand-is-good-requires-3
-    returns-4)
+    are-zero-requires-2
+    returns-4
+    returns-5
+    returns-6
+    returns-7)

@@ -1,6 +1,6 @@
 -- `gates::list::test_gates` meets its contract: judging the rest from here, with the conditional gates counted so far, is judging all from the start.
 -- Assumes nothing.
-use mathlib.Core.Path.{_∙_, sym, ap}
+use mathlib.Core.Path.{_∙_, refl, sym, ap}
 use mathlib.Core.List.{List}
 use Prim.Native.Nat.{ℕ, _+_, _-_, _*_, _≤_}
 use native.Mathlib.Nat.{zero-add}
@@ -25,16 +25,16 @@ abbrev answer : ℕ → List ℕ → Tested
 answer inputs table = judged (firstBad inputs 0 (gatesOf table)) (length (gatesOf table)) (conditionalCount (gatesOf table))
 
 abbrev Inv-loop : tie.InvT-loop
-Inv-loop inputs table gates conditional₀ g₀ conditional g =
+Inv-loop inputs table gates counts marks conditional₀ g₀ conditional g =
     (g ≤ gates) × (conditional ≤ g) × Judges inputs table g conditional (answer inputs table)
 
 abbrev μ-loop : tie.MeasureT-loop
-μ-loop inputs table gates conditional₀ g₀ conditional g = gates - g
+μ-loop inputs table gates counts marks conditional₀ g₀ conditional g = gates - g
 
-mark-small : (c : tie.After-mark Inv-loop μ-loop) → c .mark .result ≤ 1
+mark-small : (c : tie.After-mark-in Inv-loop μ-loop) → c .mark-in .result ≤ 1
 mark-small c =
-    let at = c .before .before .before .before .before .before .before .before in
-    omega (arith, c .mark .ensures, mark-at-most-one (getD (at .before .before .args .table .now) (4 * at .loop .g) 0))
+    let at = c .before .before .before .before .before .before .before .before .before .before in
+    omega (arith, c .mark-in .ensures, mark-at-most-one (getD (at .before .before .args .table .now) (4 * at .loop .g) 0))
 
 loop-holds : tie.Need-loop-holds Inv-loop μ-loop
 loop-holds c =
@@ -78,18 +78,18 @@ shared-slice-read-gate-is-good-3 : tie.Need-shared-slice-read-gate-is-good-3 Inv
 shared-slice-read-gate-is-good-3 c = omega arith
 
 gate-is-good-requires : tie.Need-gate-is-good-requires Inv-loop μ-loop
-gate-is-good-requires c κs = search needs
+gate-is-good-requires c κs = (omega arith, refl)
 
 returns : tie.Need-returns Inv-loop μ-loop
 unfolding gateAt
 returns c =
-    let at = c .before .before .before .before .before .before .before in
+    let at = c .before .before .before .before .before .before .before .before in
     let a = at .before .before .args in
     judges-bad (a .inputs) (a .table .now) (at .loop .g) (at .loop .conditional) (answer (a .inputs) (a .table .now)) (omega (arith, length-gates (a .table .now)))
     (sym (not-true _ (c .if1 .taken)) ∙ c .before .gate-is-good .ensures) (at .loop .inv .2)
 
-mark-requires : tie.Need-mark-requires Inv-loop μ-loop
-mark-requires c κs = search needs
+mark-in-requires : tie.Need-mark-in-requires Inv-loop μ-loop
+mark-in-requires c κs = refl
 
 add-conditional : tie.Need-add-conditional Inv-loop μ-loop
 add-conditional c = omega (arith, mark-small c)
@@ -103,13 +103,13 @@ loop-less c = omega arith
 loop-again : tie.Need-loop-again Inv-loop μ-loop
 unfolding gateAt
 loop-again c =
-    let at = c .before .before .before .before .before .before .before .before in
+    let at = c .before .before .before .before .before .before .before .before .before .before in
     let a = at .before .before .args in (
       omega arith,
       omega (arith, mark-small c),
-      ap (λ (k : ℕ). judged (firstBad (a .inputs) k (drop k (gatesOf (a .table .now)))) (length (gatesOf (a .table .now))) (at .loop .conditional + c .mark .result + conditionalCount (drop k (gatesOf (a .table .now))))) (add-one (at .loop .g))
-          ∙ judges-good (a .inputs) (a .table .now) (at .loop .g) (at .loop .conditional) (c .mark .result) (answer (a .inputs) (a .table .now)) (omega (arith, length-gates (a .table .now)))
-          (sym (not-false _ (c .before .if1 .left)) ∙ c .before .before .gate-is-good .ensures) (c .mark .ensures) (at .loop .inv .2),
+      ap (λ (k : ℕ). judged (firstBad (a .inputs) k (drop k (gatesOf (a .table .now)))) (length (gatesOf (a .table .now))) (at .loop .conditional + c .mark-in .result + conditionalCount (drop k (gatesOf (a .table .now))))) (add-one (at .loop .g))
+          ∙ judges-good (a .inputs) (a .table .now) (at .loop .g) (at .loop .conditional) (c .mark-in .result) (answer (a .inputs) (a .table .now)) (omega (arith, length-gates (a .table .now)))
+          (sym (not-false _ (c .before .before .if1 .left)) ∙ c .before .before .before .gate-is-good .ensures) (c .mark-in .ensures) (at .loop .inv .2),
     )
 
 returns-2 : tie.Need-returns-2 Inv-loop μ-loop
@@ -139,7 +139,7 @@ test-gates-spec =
     shared-slice-read-gate-is-good-3
     gate-is-good-requires
     returns
-    mark-requires
+    mark-in-requires
     add-conditional
     add-g
     loop-less
