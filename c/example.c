@@ -1,5 +1,5 @@
 /* Writes the list of a jury of two blends, three grades and three ballots, runs it and prints the winner.
- * Build: cc -o example c/example.c target/staticlib/libunit.a */
+ * Build: cc -o example c/example.c target/staticlib/libjugyvaros.a */
 #include <stdio.h>
 #include <stdlib.h>
 #include "jugyvaros.h"

@@ -1,4 +1,4 @@
-/* The counting core of tasting-jury units, for C. Link target/staticlib/libunit.a, which `rt staticlib unit` makes.
+/* The counting core of tasting-jury units, for C. Link target/staticlib/libjugyvaros.a, which `rt staticlib jugyvaros` makes.
  *
  * Shape: candidates 1 to 8, grades 2 to 7, ballots 1 to 255; other numbers are refused with reason 1.
  *

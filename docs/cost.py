@@ -1,6 +1,6 @@
 """Makes the cost sheet, docs/COST.md, and its plot, docs/cost.svg, from the lists that the core writes.
 
-python3 docs/cost.py          builds the library (rt staticlib unit) and writes both
+python3 docs/cost.py          builds the library (rt staticlib jugyvaros) and writes both
 python3 docs/cost.py --check  takes the library as it stands, and fails where the two files are not what it makes
 
 Needs gcc and the standard library only.
@@ -19,7 +19,7 @@ CURVES = [(3, 5), (5, 6), (8, 7)]
 def measure(shapes):
     """(G, C, I, rounds) of each shape's own list."""
     program = ROOT / "target/cost"
-    subprocess.run(["gcc", "-std=c11", "-O2", "-Wall", "-Wextra", "-Werror", "-o", program, ROOT / "docs/cost.c", ROOT / "target/staticlib/libunit.a"], check=True)
+    subprocess.run(["gcc", "-std=c11", "-O2", "-Wall", "-Wextra", "-Werror", "-o", program, ROOT / "docs/cost.c", ROOT / "target/staticlib/libjugyvaros.a"], check=True)
     lines = "".join("%d %d %d\n" % shape for shape in shapes)
     done = subprocess.run([program], input=lines, stdout=subprocess.PIPE, text=True, check=True).stdout
     rows = [tuple(map(int, line.split())) for line in done.splitlines()]
@@ -59,7 +59,7 @@ def sheet(costs):
     lines = [
         "# What a jury costs",
         "",
-        "Made by `python3 docs/cost.py` from the lists that the core writes; `tests/unit` fails where this page is another.",
+        "Made by `python3 docs/cost.py` from the lists that the core writes; `tests/library` fails where this page is another.",
         "Each conditional gate costs the sealing layer one opening, so C is the price of a jury, and the rounds, the longest",
         "chain of conditional gates, say how often its openings wait for each other.",
         "",
@@ -127,7 +127,7 @@ def plot(costs):
 def main():
     check = sys.argv[1:] == ["--check"]
     if not check:
-        subprocess.run(["rt", "staticlib", "unit"], cwd=ROOT, check=True, stdout=subprocess.DEVNULL)
+        subprocess.run(["rt", "staticlib", "jugyvaros"], cwd=ROOT, check=True, stdout=subprocess.DEVNULL)
     shapes = SHAPES + [(k, d, n) for k, d in CURVES for n in range(1, 256) if (k, d, n) not in SHAPES]
     costs = measure(shapes)
     over = [shape for shape in shapes if costs[shape][0] > bound(*shape)]

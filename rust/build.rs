@@ -1,4 +1,4 @@
-//! Links libunit.a, which `rt staticlib unit` makes. JUGYVAROS_LIB names another folder that holds it.
+//! Links libjugyvaros.a, which `rt staticlib jugyvaros` makes. JUGYVAROS_LIB names another folder that holds it.
 use std::path::PathBuf;
 
 fn main() {
@@ -7,7 +7,7 @@ fn main() {
         Some(folder) => PathBuf::from(folder),
         None => PathBuf::from(env!("CARGO_MANIFEST_DIR")).join("../target/staticlib"),
     };
-    println!("cargo:rerun-if-changed={}", folder.join("libunit.a").display());
+    println!("cargo:rerun-if-changed={}", folder.join("libjugyvaros.a").display());
     println!("cargo:rustc-link-search=native={}", folder.display());
-    println!("cargo:rustc-link-lib=static=unit");
+    println!("cargo:rustc-link-lib=static=jugyvaros");
 }

@@ -1,6 +1,6 @@
 """The longest lists, tested and run through the static library, since no test program has room for them.
 
-    python3 tests/long_lists.py    needs target/staticlib/libunit.a (rt staticlib unit makes it) and a C compiler (cc)
+    python3 tests/long_lists.py    needs target/staticlib/libjugyvaros.a (rt staticlib jugyvaros makes it) and a C compiler (cc)
 """
 
 import array
@@ -23,7 +23,7 @@ def numbers(items):
 
 
 def load():
-    archive, shared = (ROOT / "target/staticlib" / name for name in ("libunit.a", "unit.so"))
+    archive, shared = (ROOT / "target/staticlib" / name for name in ("libjugyvaros.a", "jugyvaros.so"))
     subprocess.run(["cc", "-shared", "-o", shared, "-Wl,--whole-archive", archive, "-Wl,--no-whole-archive"], check=True)
     library = ctypes.CDLL(str(shared))
     for name in ("jugy_test", "jugy_run"):

@@ -1,0 +1,31 @@
+// "Count plainly" as a C program calls it.
+use crate::answer::SHORT_ANSWER;
+use crate::answer::put_count;
+use jury::shape::Shape;
+ghost use mathlib.Core.Path.{_≡_};
+ghost use Rattle.tally.specs.Count.{countReason, plainClosing};
+ghost use Rattle.jugyvaros.specs.Numbers.{shapeOf, countNumbers, status, answered};
+
+// Counts plainly: reason, place and the eight closing bytes.
+#[no_mangle]
+pub extern "C" fn jugy_count(
+    candidates: usize,
+    grades: usize,
+    ballots: usize,
+    bytes: &[u8],
+    answer: &mut [usize],
+) -> usize
+    ensures { λ r. ⌜ r ≡ status 10 (countNumbers (countReason (shapeOf candidates grades ballots) (now (bytes .entry))) (plainClosing (shapeOf candidates grades ballots) (now (bytes .entry)))) (now (answer .entry)) ⌝ }
+    ensures { λ _. ⌜ now (answer .exit) ≡ answered 10 (countNumbers (countReason (shapeOf candidates grades ballots) (now (bytes .entry))) (plainClosing (shapeOf candidates grades ballots) (now (bytes .entry)))) (now (answer .entry)) ⌝ }
+{
+    if answer.len() < 10 {
+        return SHORT_ANSWER;
+    }
+    let shape = Shape {
+        candidates,
+        grades,
+        ballots,
+    };
+    let counted = tally::count::count(shape, bytes);
+    put_count(counted, answer)
+}

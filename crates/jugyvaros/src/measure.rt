@@ -1,0 +1,30 @@
+// "Measure a shape" as a C program calls it.
+use crate::answer::SHORT_ANSWER;
+use crate::answer::put_measures;
+use jury::shape::Shape;
+ghost use mathlib.Core.Path.{_≡_};
+ghost use Rattle.tally.specs.Measure.{measureSaid};
+ghost use Rattle.jugyvaros.specs.Numbers.{shapeOf, measureNumbers, status, answered};
+
+// Measures the own list of a shape: reason, place, G, C and I.
+#[no_mangle]
+pub extern "C" fn jugy_measure(
+    candidates: usize,
+    grades: usize,
+    ballots: usize,
+    answer: &mut [usize],
+) -> usize
+    ensures { λ r. ⌜ r ≡ status 5 (measureNumbers (measureSaid (shapeOf candidates grades ballots))) (now (answer .entry)) ⌝ }
+    ensures { λ _. ⌜ now (answer .exit) ≡ answered 5 (measureNumbers (measureSaid (shapeOf candidates grades ballots))) (now (answer .entry)) ⌝ }
+{
+    if answer.len() < 5 {
+        return SHORT_ANSWER;
+    }
+    let shape = Shape {
+        candidates,
+        grades,
+        ballots,
+    };
+    let said = tally::measure::measure(shape);
+    put_measures(said, answer)
+}

@@ -1,0 +1,37 @@
+// "Run a list" as a C program calls it.
+use crate::answer::SHORT_ANSWER;
+use crate::answer::put_size;
+use jury::shape::Shape;
+ghost use mathlib.Core.Path.{_≡_};
+ghost use Rattle.tally.specs.Run.{ran};
+ghost use Rattle.jugyvaros.specs.Numbers.{shapeOf, sizeNumbers, status, answered, altered};
+
+// Runs a list on the bytes of the ballots: reason, place, G and C.
+#[no_mangle]
+pub extern "C" fn jugy_run(
+    candidates: usize,
+    grades: usize,
+    ballots: usize,
+    table: &[u32],
+    bytes: &[u8],
+    tape: &[u8],
+    wires: &mut [u8],
+    board: &mut [u8],
+    answer: &mut [usize],
+) -> usize
+    ensures { λ r. ⌜ r ≡ status 4 (sizeNumbers ((ran (shapeOf candidates grades ballots) (now (table .entry)) (now (bytes .entry)) (now (tape .entry)) (now (wires .entry)) (now (board .entry))) .answer)) (now (answer .entry)) ⌝ }
+    ensures { λ _. ⌜ now (answer .exit) ≡ answered 4 (sizeNumbers ((ran (shapeOf candidates grades ballots) (now (table .entry)) (now (bytes .entry)) (now (tape .entry)) (now (wires .entry)) (now (board .entry))) .answer)) (now (answer .entry)) ⌝ }
+    ensures { λ _. ⌜ now (wires .exit) ≡ altered 4 (now (answer .entry)) ((ran (shapeOf candidates grades ballots) (now (table .entry)) (now (bytes .entry)) (now (tape .entry)) (now (wires .entry)) (now (board .entry))) .wires) (now (wires .entry)) ⌝ }
+    ensures { λ _. ⌜ now (board .exit) ≡ altered 4 (now (answer .entry)) ((ran (shapeOf candidates grades ballots) (now (table .entry)) (now (bytes .entry)) (now (tape .entry)) (now (wires .entry)) (now (board .entry))) .board) (now (board .entry)) ⌝ }
+{
+    if answer.len() < 4 {
+        return SHORT_ANSWER;
+    }
+    let shape = Shape {
+        candidates,
+        grades,
+        ballots,
+    };
+    let said = tally::run::run(shape, table, bytes, tape, wires, board);
+    put_size(said, answer)
+}

@@ -1,0 +1,31 @@
+// "Test a list" as a C program calls it.
+use crate::answer::SHORT_ANSWER;
+use crate::answer::put_size;
+use jury::shape::Shape;
+ghost use mathlib.Core.Path.{_≡_};
+ghost use Rattle.tally.specs.Test.{testSaid};
+ghost use Rattle.jugyvaros.specs.Numbers.{shapeOf, sizeNumbers, status, answered};
+
+// Tests a list, whoever wrote it, for a shape: reason, place, G and C.
+#[no_mangle]
+pub extern "C" fn jugy_test(
+    candidates: usize,
+    grades: usize,
+    ballots: usize,
+    table: &[u32],
+    answer: &mut [usize],
+) -> usize
+    ensures { λ r. ⌜ r ≡ status 4 (sizeNumbers (testSaid (shapeOf candidates grades ballots) (now (table .entry)))) (now (answer .entry)) ⌝ }
+    ensures { λ _. ⌜ now (answer .exit) ≡ answered 4 (sizeNumbers (testSaid (shapeOf candidates grades ballots) (now (table .entry)))) (now (answer .entry)) ⌝ }
+{
+    if answer.len() < 4 {
+        return SHORT_ANSWER;
+    }
+    let shape = Shape {
+        candidates,
+        grades,
+        ballots,
+    };
+    let said = tally::test::test(shape, table);
+    put_size(said, answer)
+}

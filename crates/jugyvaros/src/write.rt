@@ -1,0 +1,35 @@
+// "Write the list of a shape" as a C program calls it.
+use crate::answer::SHORT_ANSWER;
+use crate::answer::put_size;
+use jury::shape::Shape;
+ghost use mathlib.Core.Path.{_≡_};
+ghost use lib.Dec.{T};
+ghost use Rattle.jury.specs.Shape.{withinLimits};
+ghost use Rattle.tally.specs.Write.{writeSaid, written, OwnListHolds};
+ghost use Rattle.jugyvaros.specs.Numbers.{shapeOf, sizeNumbers, status, answered, altered};
+
+// Writes the own list of a shape: reason, place, G and C.
+#[no_mangle]
+pub extern "C" fn jugy_write(
+    candidates: usize,
+    grades: usize,
+    ballots: usize,
+    table: &mut [u32],
+    answer: &mut [usize],
+) -> usize
+    ensures { λ r. ⌜ r ≡ status 4 (sizeNumbers (writeSaid (shapeOf candidates grades ballots) (now (table .entry)))) (now (answer .entry)) ⌝ }
+    ensures { λ _. ⌜ now (answer .exit) ≡ answered 4 (sizeNumbers (writeSaid (shapeOf candidates grades ballots) (now (table .entry)))) (now (answer .entry)) ⌝ }
+    ensures { λ _. ⌜ now (table .exit) ≡ altered 4 (now (answer .entry)) (written (shapeOf candidates grades ballots) (now (table .entry))) (now (table .entry)) ⌝ }
+    ensures { λ _. ⌜ (T (withinLimits (shapeOf candidates grades ballots)) → OwnListHolds (shapeOf candidates grades ballots)) ⌝ }
+{
+    if answer.len() < 4 {
+        return SHORT_ANSWER;
+    }
+    let shape = Shape {
+        candidates,
+        grades,
+        ballots,
+    };
+    let said = tally::write::write(shape, table);
+    put_size(said, answer)
+}

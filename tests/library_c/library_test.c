@@ -1,0 +1,432 @@
+/* The five exported functions against the reference, on exact-size heap buffers.
+ *   library_test edges          each entry point, accepted and for each reason
+ *   library_test random N SEED  N random juries, each with calls of every kind, long and short, valid and damaged
+ * It prints how many calls it compared, and ends with 1 at the first that differs. */
+#include "../../c/jugyvaros.h"
+#include "reference.h"
+#include <stdio.h>
+#include <stdlib.h>
+#include <string.h>
+
+static size_t calls, accepted_calls, reasons[12];
+static const char *what = "";
+
+#define CHECK(test)                                                                                                  \
+    do {                                                                                                             \
+        if (!(test)) {                                                                                               \
+            printf("library_test: line %d, %s: %s\n", __LINE__, what, #test);                                           \
+            exit(1);                                                                                                 \
+        }                                                                                                            \
+    } while (0)
+
+/* ---- random numbers, the same in every run of one seed */
+static uint64_t state = 1;
+
+static uint64_t draw(uint64_t below) {
+    state ^= state << 13;
+    state ^= state >> 7;
+    state ^= state << 17;
+    return (state >> 11) % below;
+}
+
+/* ---- heap buffers of exactly the length that is lent, filled with noise */
+static void *take(size_t bytes) {
+    void *p = malloc(bytes);
+    CHECK(p != NULL);
+    for (size_t i = 0; i < bytes; i++)
+        ((uint8_t *)p)[i] = (uint8_t)draw(256);
+    return p;
+}
+
+static void *copy(const void *from, size_t bytes) {
+    void *p = malloc(bytes);
+    CHECK(p != NULL);
+    memcpy(p, from, bytes);
+    return p;
+}
+
+static int same(const void *a, const void *b, size_t bytes) { return bytes == 0 || memcmp(a, b, bytes) == 0; }
+
+/* ---- one call each: the answer array, exact, too short or longer, and everything lent, against the reference */
+
+/* A status and an answer array against what should have been said in `needed` numbers, `rest` being those from 2 on. */
+static void compare(struct said s, const size_t *rest, size_t needed, size_t status, const size_t *answer,
+                    const size_t *before, size_t length) {
+    calls++;
+    if (length < needed) {
+        CHECK(status == JUGY_SHORT_ANSWER);
+        CHECK(same(answer, before, length * sizeof *answer));
+        reasons[11]++;
+        return;
+    }
+    CHECK(s.reason <= 10);
+    CHECK(status == s.reason);
+    CHECK(answer[0] == s.reason && answer[1] == s.place);
+    for (size_t i = 2; i < needed; i++)
+        CHECK(answer[i] == (s.reason && needed < 10 ? 0 : rest[i - 2]));
+    CHECK(same(answer + needed, before + needed, (length - needed) * sizeof *answer));
+    reasons[s.reason]++;
+    accepted_calls += s.reason == 0;
+}
+
+/* The length of an answer array: mostly what is needed, else shorter or longer. */
+static size_t answer_length(size_t needed) {
+    uint64_t way = draw(8);
+    return way == 0 ? draw(needed) : way == 1 ? needed + draw(5) : needed;
+}
+
+static struct said call_test(size_t k, size_t d, size_t n, const uint32_t *list, size_t length, size_t al) {
+    what = "test";
+    uint32_t *table = copy(list, length * 4);
+    size_t *answer = take(al * sizeof *answer), *before = copy(answer, al * sizeof *answer);
+    size_t status = jugy_test(k, d, n, table, length, answer, al);
+    struct said s = reference_test(k, d, n, list, length);
+    size_t rest[2] = {s.gates, s.conditional};
+    compare(s, rest, 4, status, answer, before, al);
+    CHECK(same(table, list, length * 4));
+    free(table), free(answer), free(before);
+    return s;
+}
+
+static struct said call_count(size_t k, size_t d, size_t n, const uint8_t *bytes, size_t length, size_t al) {
+    what = "count";
+    uint8_t *ballots = copy(bytes, length);
+    size_t *answer = take(al * sizeof *answer), *before = copy(answer, al * sizeof *answer);
+    size_t status = jugy_count(k, d, n, ballots, length, answer, al);
+    struct said s = reference_count(k, d, n, bytes, length);
+    size_t rest[8];
+    for (int i = 0; i < 8; i++)
+        rest[i] = s.closing[i];
+    compare(s, rest, 10, status, answer, before, al);
+    CHECK(same(ballots, bytes, length));
+    free(ballots), free(answer), free(before);
+    return s;
+}
+
+static struct said call_run(size_t k, size_t d, size_t n, const uint32_t *list, size_t length, const uint8_t *bytes,
+                            size_t bytes_length, const uint8_t *masks, size_t tape_length, size_t wires_length,
+                            size_t board_length, size_t al, uint8_t *closing) {
+    what = "run";
+    uint32_t *table = copy(list, length * 4);
+    uint8_t *ballots = copy(bytes, bytes_length), *tape = copy(masks, tape_length);
+    uint8_t *wires = take(wires_length), *board = take(board_length);
+    uint8_t *expected_wires = copy(wires, wires_length), *expected_board = copy(board, board_length);
+    size_t *answer = take(al * sizeof *answer), *before = copy(answer, al * sizeof *answer);
+    size_t status = jugy_run(k, d, n, table, length, ballots, bytes_length, tape, tape_length, wires, wires_length, board,
+                             board_length, answer, al);
+    struct said s;
+    if (al < 4)
+        s = (struct said){JUGY_SHORT_ANSWER, 0, 0, 0, {0}};
+    else /* it leaves the expected wires and board as they were where it refuses */
+        s = reference_run(k, d, n, list, length, bytes, bytes_length, masks, tape_length, expected_wires, wires_length,
+                          expected_board, board_length);
+    size_t rest[2] = {s.gates, s.conditional};
+    compare(s, rest, 4, status, answer, before, al);
+    CHECK(same(wires, expected_wires, wires_length));
+    CHECK(same(board, expected_board, board_length));
+    CHECK(same(table, list, length * 4) && same(ballots, bytes, bytes_length) && same(tape, masks, tape_length));
+    if (closing && s.reason == 0)
+        memcpy(closing, board + board_length - k, k);
+    free(table), free(ballots), free(tape), free(wires), free(board), free(expected_wires), free(expected_board);
+    free(answer), free(before);
+    return s;
+}
+
+/* Measures a shape; G, C and I are held to what writing says by call_write. */
+static struct said call_measure(size_t k, size_t d, size_t n, size_t al) {
+    what = "measure";
+    size_t *answer = take(al * sizeof *answer), *before = copy(answer, al * sizeof *answer);
+    size_t status = jugy_measure(k, d, n, answer, al);
+    struct said s = {shape_within(k, d, n) ? 0 : 1, 0, 0, 0, {0}};
+    size_t rest[3] = {0, 0, n * k * d};
+    if (s.reason == 0 && al >= 5) {
+        s.gates = rest[0] = answer[2];
+        s.conditional = rest[1] = answer[3];
+    }
+    compare(s, rest, 5, status, answer, before, al);
+    free(answer), free(before);
+    return s;
+}
+
+/* Writes the own list into a table of some length over noise. The list itself is left to the core: it is held to the
+ * measure, to the bound, to the tester, and by the callers to the gauge. Returns the table where the call is accepted. */
+static uint32_t *call_write(size_t k, size_t d, size_t n, size_t length, struct said measured, size_t al) {
+    what = "write";
+    uint32_t *table = take(length * 4), *before_table = copy(table, length * 4);
+    size_t *answer = take(al * sizeof *answer), *before = copy(answer, al * sizeof *answer);
+    size_t status = jugy_write(k, d, n, table, length, answer, al);
+    struct said s = measured;
+    if (s.reason == 0 && length < 4 * measured.gates)
+        s = (struct said){2, 0, 0, 0, {0}};
+    size_t rest[2] = {s.gates, s.conditional};
+    compare(s, rest, 4, status, answer, before, al);
+    int wrote = al >= 4 && s.reason == 0;
+    if (wrote) {
+        CHECK(measured.gates <= gate_bound(k, d, n));
+        CHECK(same(table + 4 * measured.gates, before_table + 4 * measured.gates, (length - 4 * measured.gates) * 4));
+        struct said t = reference_test(k, d, n, table, 4 * measured.gates);
+        CHECK(t.reason == 0 && t.gates == measured.gates && t.conditional == measured.conditional);
+    } else
+        CHECK(same(table, before_table, length * 4));
+    free(before_table), free(answer), free(before);
+    if (wrote)
+        return table;
+    free(table);
+    return NULL;
+}
+
+/* ---- lists and ballots */
+
+static void fill_ballots(uint8_t *b, size_t k, size_t d, size_t n) {
+    /* a few grades only, so that medians meet */
+    size_t favourite = draw(d), spread = 1 + draw(d);
+    for (size_t row = 0; row < n * k; row++) {
+        memset(b + row * d, 0, d);
+        b[row * d + (favourite + draw(spread)) % d] = 1;
+    }
+}
+
+static void fill_tape(uint8_t *t, size_t length) {
+    for (size_t i = 0; i < length; i++)
+        t[i] = (uint8_t)draw(2);
+}
+
+/* A stranger's list of `gates` gates that the tester accepts. */
+static uint32_t *stranger(size_t inputs, size_t gates) {
+    uint32_t *t = malloc(gates * 16);
+    CHECK(t != NULL);
+    for (size_t g = 0; g < gates; g++) {
+        uint32_t kind = (uint32_t)draw(8);
+        int used = kind <= 1 ? 0 : kind <= 3 ? 1 : kind == 7 ? 3 : 2;
+        t[4 * g] = kind;
+        for (int i = 0; i < 3; i++)
+            t[4 * g + 1 + i] = i < used ? (uint32_t)(draw(4) ? draw(inputs + g) : inputs + g - 1) : 0;
+    }
+    return t;
+}
+
+static size_t count_marks(const uint32_t *t, size_t gates) {
+    size_t c = 0;
+    for (size_t g = 0; g < gates; g++)
+        c += t[4 * g] >= 4 && t[4 * g] <= 7;
+    return c;
+}
+
+/* A length near the right one. */
+static size_t near(size_t length) {
+    uint64_t way = draw(4);
+    return way == 0 ? length + 1 + draw(9) : way == 1 ? draw(length + 1) : way == 2 && length ? length - 1 : length + 1;
+}
+
+/* One run of a list on ballots, with up to two things damaged. */
+static void damaged_run(size_t k, size_t d, size_t n, const uint32_t *list, size_t gates) {
+    size_t inputs = n * k * d, conditional = count_marks(list, gates), length = 4 * gates;
+    size_t bytes_length = inputs, tape_length = conditional, wires_length = inputs + gates, board_length = conditional + k;
+    size_t al = answer_length(4);
+    uint32_t *t = malloc((length + 16) * 4);
+    uint8_t *b = malloc(inputs + 16), *m = malloc(conditional + 16);
+    CHECK(t && b && m);
+    memcpy(t, list, length * 4);
+    memset(t + length, 0, 64);
+    fill_ballots(b, k, d, n);
+    memset(b + inputs, 0, 16);
+    fill_tape(m, conditional + 16);
+    for (uint64_t faults = draw(3); faults > 0; faults--) {
+        size_t g = draw(gates);
+        switch (draw(14)) {
+        case 0: t[4 * g] = draw(2) ? 8 : (uint32_t)(8 + draw(1u << 31)); break;
+        case 1: t[4 * g + 1 + draw(3)] = (uint32_t)(inputs + g); break;
+        case 2: t[4 * g + 1 + draw(3)] = (uint32_t)(inputs + g + draw(1u << 31)); break;
+        case 3: t[4 * g] = (uint32_t)draw(4), t[4 * g + 3] = 1; break;
+        case 4: length = near(4 * gates) > 4 * gates + 16 ? 4 * gates : near(4 * gates); break;
+        case 5: length = 4 * draw(k + 1) > 4 * gates ? 4 * gates : 4 * (k - 1 < gates ? k - 1 : gates); break;
+        case 6: bytes_length = near(inputs); break;
+        case 7: b[draw(inputs)] = (uint8_t)(2 + draw(254)); break;
+        case 8: memset(b + d * draw(n * k), 0, d); break;
+        case 9: b[draw(inputs)] ^= 1; break;
+        case 10: tape_length = near(conditional); break;
+        case 11: m[draw(conditional + 1)] = (uint8_t)(2 + draw(254)); break;
+        case 12: wires_length = near(wires_length); break;
+        default: board_length = near(board_length); break;
+        }
+        if (length > 4 * gates + 16)
+            length = 4 * gates;
+        if (bytes_length > inputs + 16)
+            bytes_length = inputs;
+        if (tape_length > conditional + 16)
+            tape_length = conditional;
+    }
+    /* now and then a shape that is not this list's */
+    size_t k2 = draw(12) ? k : draw(10), d2 = draw(12) ? d : draw(9), n2 = draw(12) ? n : draw(258);
+    call_test(k2, d2, n2, t, length, answer_length(4));
+    call_count(k2, d2, n2, b, bytes_length, answer_length(10));
+    call_run(k2, d2, n2, t, length, b, bytes_length, m, tape_length, wires_length, board_length, al, NULL);
+    free(t), free(b), free(m);
+}
+
+/* The own list of a shape, measured and written; NULL outside the limits. */
+static uint32_t *own_list(size_t k, size_t d, size_t n, struct said *measured) {
+    *measured = call_measure(k, d, n, 5);
+    if (measured->reason)
+        return NULL;
+    return call_write(k, d, n, 4 * measured->gates, *measured, 4);
+}
+
+static void good_run(size_t k, size_t d, size_t n, const uint32_t *list, size_t gates, int own) {
+    size_t inputs = n * k * d, conditional = count_marks(list, gates);
+    uint8_t *b = malloc(inputs), *m = malloc(conditional), closing[8] = {0};
+    CHECK(b && m);
+    fill_ballots(b, k, d, n);
+    fill_tape(m, conditional);
+    struct said s = call_run(k, d, n, list, 4 * gates, b, inputs, m, conditional, inputs + gates, conditional + k, 4, closing);
+    CHECK(s.reason == 0 && s.gates == gates && s.conditional == conditional);
+    struct said c = call_count(k, d, n, b, inputs, 10);
+    CHECK(c.reason == 0);
+    what = "closing bytes";
+    if (own)
+        CHECK(same(closing, c.closing, k));
+    free(b), free(m);
+}
+
+/* ---- the edges */
+
+static void edges(void) {
+    struct said m;
+    /* reason 1: each number just outside */
+    static const size_t outside[][3] = {{0, 3, 3}, {9, 3, 3}, {2, 1, 3}, {2, 8, 3}, {2, 3, 0}, {2, 3, 256},
+                                        {SIZE_MAX, 3, 3}, {2, SIZE_MAX, 3}, {2, 3, SIZE_MAX}, {SIZE_MAX, SIZE_MAX, SIZE_MAX}};
+    uint32_t none[4] = {1, 0, 0, 0};
+    for (size_t i = 0; i < sizeof outside / sizeof *outside; i++) {
+        size_t k = outside[i][0], d = outside[i][1], n = outside[i][2];
+        CHECK(own_list(k, d, n, &m) == NULL && m.reason == 1);
+        call_write(k, d, n, 16, m, 4);
+        CHECK(call_test(k, d, n, none, 4, 4).reason == 1);
+        CHECK(call_count(k, d, n, (uint8_t *)none, 6, 10).reason == 1);
+        CHECK(call_run(k, d, n, none, 4, (uint8_t *)none, 6, (uint8_t *)none, 0, 1, 1, 4, NULL).reason == 1);
+    }
+    /* every length of answer array up to what is needed, and one more */
+    for (size_t al = 0; al <= 11; al++) {
+        m = call_measure(2, 3, 3, al);
+        struct said whole = call_measure(2, 3, 3, 5);
+        free(call_write(2, 3, 3, 4 * whole.gates, whole, al));
+        call_test(2, 3, 3, none, 4, al);
+        call_count(2, 3, 3, (uint8_t *)none, 6, al);
+        call_run(2, 3, 3, none, 4, (uint8_t *)none, 6, (uint8_t *)none, 0, 1, 1, al, NULL);
+    }
+    /* document 01's jury: writing into tables around its length, running */
+    uint32_t *list = own_list(2, 3, 3, &m);
+    CHECK(list != NULL);
+    for (size_t length = 0; length <= 8; length++)
+        free(call_write(2, 3, 3, length, m, 4));
+    for (size_t more = 0; more <= 8; more++)
+        free(call_write(2, 3, 3, 4 * m.gates - 4 + more, m, 4));
+    const size_t g = m.gates, c = m.conditional;
+    uint8_t tape[8192] = {0}, ballots[18] = {1, 0, 0, 0, 1, 0, 0, 1, 0, 0, 1, 0, 0, 1, 0, 0, 0, 1}, closing[8] = {9, 9};
+    CHECK(c < sizeof tape);
+    CHECK(call_run(2, 3, 3, list, 4 * g, ballots, 18, tape, c, 18 + g, c + 2, 4, closing).reason == 0);
+    CHECK(closing[0] == 1 && closing[1] == 0);
+    CHECK(call_count(2, 3, 3, ballots, 18, 10).reason == 0);
+    /* reason 2: part of a gate, one gate too few, none */
+    CHECK(call_test(2, 3, 3, list, 4 * g - 1, 4).reason == 2);
+    CHECK(call_test(2, 3, 3, list, 4, 4).reason == 2);
+    CHECK(call_test(2, 3, 3, list, 0, 4).reason == 2);
+    CHECK(call_run(2, 3, 3, list, 4, ballots, 18, tape, c, 18 + g, c + 2, 4, NULL).reason == 2);
+    /* reason 3: gate 0 naming wire I; naming I − 1 is accepted; kind 8; an operand not in use; the place is the first */
+    uint32_t two[8] = {2, 18, 0, 0, 3, 18, 0, 0};
+    struct said s = call_test(2, 3, 3, two, 8, 4);
+    CHECK(s.reason == 3 && s.place == 0);
+    two[1] = 17;
+    CHECK(call_test(2, 3, 3, two, 8, 4).reason == 0);
+    two[4] = 8;
+    s = call_test(2, 3, 3, two, 8, 4);
+    CHECK(s.reason == 3 && s.place == 1);
+    two[4] = 3, two[6] = 1;
+    s = call_run(2, 3, 3, two, 8, ballots, 18, tape, 0, 20, 2, 4, NULL);
+    CHECK(s.reason == 3 && s.place == 1);
+    two[6] = 0;
+    CHECK(call_run(2, 3, 3, two, 8, ballots, 18, tape, 0, 20, 2, 4, NULL).reason == 0);
+    /* reasons 4 to 6, for a count and for a run */
+    for (size_t length = 0; length < 18; length++) {
+        CHECK(call_count(2, 3, 3, ballots, length, 10).reason == 4);
+        CHECK(call_run(2, 3, 3, two, 8, ballots, length, tape, 0, 20, 2, 4, NULL).reason == 4);
+    }
+    uint8_t bad[18];
+    memcpy(bad, ballots, 18);
+    bad[17] = 2, bad[0] = 0; /* a byte 2 in the last ballot and an empty first row */
+    s = call_count(2, 3, 3, bad, 18, 10);
+    CHECK(s.reason == 5 && s.place == 17);
+    bad[17] = 1;
+    s = call_count(2, 3, 3, bad, 18, 10);
+    CHECK(s.reason == 6 && s.place == 0);
+    bad[0] = 1, bad[16] = 1;
+    s = call_run(2, 3, 3, two, 8, bad, 18, tape, 0, 20, 2, 4, NULL);
+    CHECK(s.reason == 6 && s.place == 5);
+    /* reasons 7 to 10 */
+    CHECK(call_run(2, 3, 3, list, 4 * g, ballots, 18, tape, c - 1, 18 + g, c + 2, 4, NULL).reason == 7);
+    CHECK(call_run(2, 3, 3, list, 4 * g, ballots, 18, tape, c + 1, 18 + g, c + 2, 4, NULL).reason == 7);
+    tape[c - 1] = 2;
+    s = call_run(2, 3, 3, list, 4 * g, ballots, 18, tape, c, 18 + g, c + 2, 4, NULL);
+    CHECK(s.reason == 8 && s.place == c - 1);
+    tape[c - 1] = 0;
+    CHECK(call_run(2, 3, 3, list, 4 * g, ballots, 18, tape, c, 18 + g - 1, c + 2, 4, NULL).reason == 9);
+    CHECK(call_run(2, 3, 3, list, 4 * g, ballots, 18, tape, c, 18 + g + 1, c + 2, 4, NULL).reason == 9);
+    CHECK(call_run(2, 3, 3, list, 4 * g, ballots, 18, tape, c, 18 + g, c + 1, 4, NULL).reason == 10);
+    CHECK(call_run(2, 3, 3, list, 4 * g, ballots, 18, tape, c, 18 + g, c + 3, 4, NULL).reason == 10);
+    free(list);
+    /* the smallest shape, and the largest number of gates and one more */
+    list = own_list(1, 2, 1, &m);
+    good_run(1, 2, 1, list, m.gates, 1);
+    free(list);
+    const size_t most = 1048576;
+    list = calloc(most + 1, 16);
+    CHECK(list != NULL);
+    CHECK(call_test(1, 2, 1, list, 4 * most, 4).reason == 0);
+    CHECK(call_test(1, 2, 1, list, 4 * most + 4, 4).reason == 2);
+    free(list);
+}
+
+/* ---- random juries */
+
+static void random_juries(size_t juries) {
+    for (size_t i = 0; i < juries; i++) {
+        /* mostly small, now and then as large as can be */
+        uint64_t way = draw(40);
+        size_t k = 1 + draw(way < 30 ? 4 : 8), d = 2 + draw(way < 30 ? 3 : 6), n = 1 + draw(way < 30 ? 9 : way < 39 ? 40 : 255);
+        struct said m;
+        uint32_t *list = own_list(k, d, n, &m);
+        CHECK(list != NULL);
+        call_measure(draw(10), draw(9), draw(258), answer_length(5));
+        free(call_write(k, d, n, near(4 * m.gates), m, answer_length(4)));
+        good_run(k, d, n, list, m.gates, 1);
+        good_run(k, d, n, list, m.gates, 1);
+        damaged_run(k, d, n, list, m.gates);
+        free(list);
+        for (int j = 0; j < 4; j++) {
+            size_t gates = k + draw(draw(10) ? 60 : 2000);
+            uint32_t *other = stranger(n * k * d, gates);
+            good_run(k, d, n, other, gates, 0);
+            damaged_run(k, d, n, other, gates);
+            damaged_run(k, d, n, other, gates);
+            free(other);
+        }
+    }
+}
+
+int main(int argc, char **argv) {
+    if (argc == 2 && strcmp(argv[1], "edges") == 0)
+        edges();
+    else if (argc == 4 && strcmp(argv[1], "random") == 0) {
+        state = strtoull(argv[3], NULL, 10) * 2 + 1;
+        for (int i = 0; i < 20; i++)
+            draw(2);
+        random_juries(strtoull(argv[2], NULL, 10));
+    } else {
+        printf("library_test: edges, or random N SEED\n");
+        return 2;
+    }
+    printf("library_test %s: %zu calls agree, %zu accepted, refused for reasons 1 to 10:", argv[1], calls, accepted_calls);
+    for (int r = 1; r <= 10; r++)
+        printf(" %zu", reasons[r]);
+    printf(", short answers: %zu\n", reasons[11]);
+    return 0;
+}
