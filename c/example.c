@@ -2,6 +2,7 @@
  * Build: cc -o example c/example.c target/staticlib/libjugyvaros.a */
 #include <stdio.h>
 #include <stdlib.h>
+#include <sys/random.h>
 #include "jugyvaros.h"
 
 /* Ends the program where a call was not accepted. */
@@ -19,6 +20,20 @@ static void *lent(size_t count, size_t size) {
     return p;
 }
 
+/* A fresh tape: secret random bits, which no other run may use. */
+static uint8_t *random_bits(size_t count) {
+    uint8_t *bits = lent(count, 1);
+    for (size_t done = 0; done < count;) {
+        ssize_t got = getrandom(bits + done, count - done, 0);
+        if (got < 0)
+            exit(1);
+        done += (size_t)got;
+    }
+    for (size_t i = 0; i < count; i++)
+        bits[i] %= 2;
+    return bits;
+}
+
 int main(void) {
     const size_t k = 2, d = 3, n = 3;
     const uint8_t ballots[] = {1, 0, 0, 0, 1, 0, /* first ballot: blend 0 best, blend 1 middle */
@@ -28,7 +43,7 @@ int main(void) {
     accepted("measure", jugy_measure(k, d, n, answer, JUGY_MEASURE_ANSWER), answer);
     const size_t gates = answer[2], conditional = answer[3], inputs = answer[4];
     uint32_t *table = lent(4 * gates, sizeof *table);
-    uint8_t *tape = lent(conditional, 1); /* a real unit draws these bits */
+    uint8_t *tape = random_bits(conditional);
     uint8_t *wires = lent(inputs + gates, 1);
     uint8_t *board = lent(conditional + k, 1);
 

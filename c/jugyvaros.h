@@ -1,9 +1,25 @@
 /* The counting core of tasting-jury units, for C. Link target/staticlib/libjugyvaros.a, which `rt staticlib jugyvaros` makes.
  *
- * Shape: candidates 1 to 8, grades 2 to 7, ballots 1 to 255; other numbers are refused with reason 1.
+ * Shape: candidates (k) 1 to 8, grades (d) 2 to 7, ballots (n) 1 to 255; other numbers are refused with reason 1.
+ *
+ * Ballots: I = n k d bytes of 0 or 1. A ballot is k rows of d bytes, a row for each candidate in order, the best grade
+ * first; a row holds one 1. The byte of ballot b, candidate c and grade g is bytes[(b k + c) d + g].
+ *
+ * Gates: four numbers each, kind, a, b, c; gate g stands at table[4 g] to table[4 g + 3]. Wires 0 to I - 1 are the ballot
+ * bytes, gate g makes wire I + g. An operand in use is a wire below the gate's own, an operand not in use is 0.
+ *
+ *   kind  operands  value                     conditional
+ *   0     none      0                         no
+ *   1     none      1                         no
+ *   2     a         a                         no
+ *   3     a         1 - a                     no
+ *   4     a b       a and b                   yes
+ *   5     a b       a or b                    yes
+ *   6     a b       a and b differ            yes
+ *   7     a b c     b where a is 1, else c    yes
  *
  * Answer: each function writes its answer into the lent array `answer` and returns answer[0] too.
- *   answer[0]  the reason: 0 where the call is accepted, else the number 1 to 10 of the first reason that applies
+ *   answer[0]  the reason: JUGY_ACCEPTED, or the first reason that applies, in the order in which they stand below
  *   answer[1]  the place that belongs to the reason, counted from 0; 0 where none is named and where the call is accepted
  *   answer[2]  and what follows: what the function's comment says; all 0 on a refusal
  * Numbers behind those are not touched. An answer array that is shorter than the function needs gives
@@ -27,6 +43,19 @@
 extern "C" {
 #endif
 
+/* The reasons, in checking order, with what their place counts. */
+#define JUGY_ACCEPTED 0
+#define JUGY_SHAPE 1          /* the shape is outside its limits */
+#define JUGY_TABLE 2          /* the gate table is too short to write in, or no list of k to 1,048,576 whole gates */
+#define JUGY_GATE 3           /* a bad kind or operand; place: the gate */
+#define JUGY_BALLOTS_LENGTH 4 /* the ballots are not I bytes */
+#define JUGY_BALLOT_BYTE 5    /* a ballot byte is above 1; place: the byte */
+#define JUGY_BALLOT_ROW 6     /* a row does not hold exactly one 1; place: the row, b k + c */
+#define JUGY_TAPE_LENGTH 7    /* the tape is not C bytes */
+#define JUGY_TAPE_BYTE 8      /* a tape byte is above 1; place: the byte */
+#define JUGY_WIRES_LENGTH 9   /* the wire table is not I + G bytes */
+#define JUGY_BOARD_LENGTH 10  /* the board is not C + k bytes */
+
 /* What a function returns where its answer array is too short: none of the reasons. */
 #define JUGY_SHORT_ANSWER 255
 
@@ -38,27 +67,34 @@ extern "C" {
 #define JUGY_COUNT_ANSWER 10
 
 /* Measures the shape's own list: answer[2] is G, its gates, answer[3] is C, the conditional ones, answer[4] is I, the
- * ballot bytes. Reason 1. A list takes 4 G numbers, a tape C bytes, a wire table I + G bytes, a board C + k bytes. */
+ * ballot bytes. Reason 1. */
 size_t jugy_measure(size_t candidates, size_t grades, size_t ballots, size_t *answer, size_t answer_length);
 
-/* Writes the shape's own list at the start of the gate table, four numbers a gate: answer[2] is G, answer[3] is C. Numbers
+/* Writes the shape's own list at the start of the gate table, 4 G numbers or more: answer[2] is G, answer[3] is C. Numbers
  * after the list are not touched. Reasons 1 and 2. */
 size_t jugy_write(size_t candidates, size_t grades, size_t ballots, uint32_t *table, size_t table_length,
                   size_t *answer, size_t answer_length);
 
-/* Tests a list, whoever wrote it, for a shape; table_length is the list's own, 4 G: answer[2] is G, answer[3] is C.
- * Reasons 1 to 3. */
+/* Tests a list, whoever wrote it, for a shape: answer[2] is G, answer[3] is C. table_length is the list's own, 4 G: what
+ * stands behind a list in a longer table would be tested as gates too. Reasons 1 to 3. */
 size_t jugy_test(size_t candidates, size_t grades, size_t ballots, const uint32_t *table, size_t table_length,
                  size_t *answer, size_t answer_length);
 
-/* Runs a list on the ballots, with one tape byte for each conditional gate: answer[2] is G, answer[3] is C. Afterwards the
- * wire table holds every wire's value, and the board C shown bits and k closing bytes. Reasons 1 to 10. */
+/* Runs a list on the ballots: answer[2] is G, answer[3] is C. Reasons 1 to 10.
+ *   table  4 G numbers, the list's own length. A longer table filled up with zeros is another list: its last k gates, which
+ *          give the closing bytes, are then constants 0, and nobody wins.
+ *   bytes  I ballot bytes
+ *   tape   C bytes of 0 or 1, one for each conditional gate in order: fresh, secret random bits that are never used again.
+ *          A tape that is used twice, or known, lets the board tell what the wires hold.
+ *   wires  I + G bytes, whatever they held. Afterwards every wire in clear, the ballots first: as secret as the ballots.
+ *   board  C + k bytes, whatever they held. Afterwards board[i], i below C, is the masked wire a of the i-th conditional
+ *          gate, and board[C + i], i below k, is candidate i's closing byte: 1 where it wins, else 0. This may be published. */
 size_t jugy_run(size_t candidates, size_t grades, size_t ballots, const uint32_t *table, size_t table_length,
                 const uint8_t *bytes, size_t bytes_length, const uint8_t *tape, size_t tape_length, uint8_t *wires,
                 size_t wires_length, uint8_t *board, size_t board_length, size_t *answer, size_t answer_length);
 
-/* Counts the ballots plainly: answer[2] to answer[9] are eight closing bytes, 1 for the winner, 0 from place k on.
- * Reasons 1, 4, 5 and 6. */
+/* Counts I ballot bytes plainly: answer[2 + i], i below 8, is candidate i's closing byte: 1 where it wins, else 0, and 0 from
+ * place k on. Reasons 1, 4, 5 and 6. */
 size_t jugy_count(size_t candidates, size_t grades, size_t ballots, const uint8_t *bytes, size_t bytes_length,
                   size_t *answer, size_t answer_length);
 

@@ -1,7 +1,6 @@
 //! Safe calls of the counting core: Rust's slices and borrows are all that `c/jugyvaros.h` asks of a caller.
 //!
-//! Each function answers what document 01's entry point of that name answers, or its refusal, in which case nothing lent
-//! is altered.
+//! Each function answers what the entry point of that name answers, or its refusal, in which case nothing lent is altered.
 
 mod c {
     extern "C" {
@@ -64,16 +63,81 @@ pub struct Shape {
     pub ballots: usize,
 }
 
-/// The first reason that applies: its number, 1 to 10, and its place, counted from 0.
+/// Why a call is turned away, in checking order. The numbers are those of docs/REQUIREMENTS.md.
+#[derive(Clone, Copy, Debug, PartialEq, Eq)]
+#[repr(usize)]
+pub enum Reason {
+    Shape = 1,
+    Table = 2,
+    Gate = 3,
+    BallotsLength = 4,
+    BallotByte = 5,
+    BallotRow = 6,
+    TapeLength = 7,
+    TapeByte = 8,
+    WiresLength = 9,
+    BoardLength = 10,
+}
+
+impl Reason {
+    const ALL: [Reason; 10] = [
+        Reason::Shape,
+        Reason::Table,
+        Reason::Gate,
+        Reason::BallotsLength,
+        Reason::BallotByte,
+        Reason::BallotRow,
+        Reason::TapeLength,
+        Reason::TapeByte,
+        Reason::WiresLength,
+        Reason::BoardLength,
+    ];
+
+    /// The reason of that number, if there is one.
+    pub fn of(number: usize) -> Option<Reason> {
+        Reason::ALL.into_iter().find(|reason| reason.number() == number)
+    }
+
+    pub fn number(self) -> usize {
+        self as usize
+    }
+
+    /// What is wrong, in words. Where the place counts something, the words end in what it counts.
+    pub fn words(self) -> &'static str {
+        match self {
+            Reason::Shape => "the shape is outside its limits",
+            Reason::Table => "the gate table has a length that no list of this shape has",
+            Reason::Gate => "bad kind or operand in gate",
+            Reason::BallotsLength => "the ballots have another length than the shape needs",
+            Reason::BallotByte => "neither 0 nor 1 in ballot byte",
+            Reason::BallotRow => "not exactly one 1 in row",
+            Reason::TapeLength => "the tape is not as long as the list has conditional gates",
+            Reason::TapeByte => "neither 0 nor 1 in tape byte",
+            Reason::WiresLength => "the wire table has another length than ballots and gates together",
+            Reason::BoardLength => "the board has another length than conditional gates and candidates together",
+        }
+    }
+
+    /// Whether the place of this reason counts something.
+    pub fn has_place(self) -> bool {
+        matches!(self, Reason::Gate | Reason::BallotByte | Reason::BallotRow | Reason::TapeByte)
+    }
+}
+
+/// The first reason that applies, and its place, counted from 0.
 #[derive(Clone, Copy, Debug, PartialEq, Eq)]
 pub struct Refusal {
-    pub reason: usize,
+    pub reason: Reason,
     pub place: usize,
 }
 
 impl std::fmt::Display for Refusal {
     fn fmt(&self, f: &mut std::fmt::Formatter<'_>) -> std::fmt::Result {
-        write!(f, "refused {} {}", self.reason, self.place)
+        write!(f, "refused {} {}: {}", self.reason.number(), self.place, self.reason.words())?;
+        if self.reason.has_place() {
+            write!(f, " {}", self.place)?;
+        }
+        Ok(())
     }
 }
 
@@ -95,16 +159,14 @@ pub struct Measures {
 }
 
 fn checked(status: usize, answer: &[usize]) -> Result<(), Refusal> {
-    // the answer arrays here are as long as the functions need, so the status is a reason or 0
-    debug_assert!(status == answer[0] && status <= 10);
     if status == 0 {
-        Ok(())
-    } else {
-        Err(Refusal {
-            reason: answer[0],
-            place: answer[1],
-        })
+        return Ok(());
     }
+    // the answer arrays here are as long as the functions need, so the status is one of the reasons
+    Err(Refusal {
+        reason: Reason::of(status).expect("a reason of the list"),
+        place: answer[1],
+    })
 }
 
 fn size(status: usize, answer: &[usize; 4]) -> Result<Size, Refusal> {
@@ -172,7 +234,9 @@ pub fn test(shape: Shape, table: &[u32]) -> Result<Size, Refusal> {
     size(status, &answer)
 }
 
-/// Runs a list on the ballots, with one tape byte for each conditional gate.
+/// Runs a list on the ballots, with one tape byte for each conditional gate. The tape is fresh, secret random bits, never
+/// used again; afterwards `wires` holds every ballot in clear, and `board` may be published. The table is the list and
+/// nothing behind it.
 pub fn run(
     shape: Shape,
     table: &[u32],

@@ -8,7 +8,9 @@ const SHAPE: Shape = Shape {
 };
 const BALLOTS: [u8; 18] = [1, 0, 0, 0, 1, 0, 0, 1, 0, 0, 1, 0, 0, 1, 0, 0, 0, 1];
 
-fn refusal(reason: usize, place: usize) -> Refusal {
+fn refusal(number: usize, place: usize) -> Refusal {
+    let reason = Reason::of(number).unwrap();
+    assert_eq!(reason.number(), number);
     Refusal { reason, place }
 }
 
@@ -54,4 +56,12 @@ fn refusals_have_number_and_place_and_alter_nothing() {
         Ok(Size { gates: 2, conditional: 1 })
     );
     assert_eq!(board, [0, 1, 1]);
+}
+
+#[test]
+fn a_refusal_says_what_is_wrong() {
+    assert_eq!(refusal(3, 7).to_string(), "refused 3 7: bad kind or operand in gate 7");
+    assert_eq!(refusal(1, 0).to_string(), "refused 1 0: the shape is outside its limits");
+    assert_eq!(Reason::of(0), None);
+    assert_eq!(Reason::of(255), None);
 }
