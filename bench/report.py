@@ -1,5 +1,7 @@
 """Makes the benchmark's table and plot from what bench/run measured. Standard library only."""
+import os
 import pathlib
+import platform
 import re
 import sys
 
@@ -71,6 +73,8 @@ def plot(times, counts):
             out.append(f'<rect x="{x:.1f}" y="{y(ratio):.1f}" width="{bar - 3}" height="{y(0) - y(ratio):.1f}" fill="{colours[j]}"/>')
             out.append(f'<line x1="{x - 1:.1f}" x2="{x + bar - 2:.1f}" y1="{y(work):.1f}" y2="{y(work):.1f}" stroke="#d7301f" stroke-width="2"/>')
         out.append(f'<text x="{left + i * group + group / 2:.1f}" y="{top + height + 18}" text-anchor="middle">{op}</text>')
+    out.append(f'<text x="{left + group * len(OPS) / 2:.1f}" y="{top + height + 40}" text-anchor="middle">call, at each shape k d n</text>')
+    out.append(f'<text transform="translate(18 {top + height / 2:.1f}) rotate(-90)" text-anchor="middle">core / C</text>')
     x = left + group * len(OPS) + 15
     for j, shape in enumerate(shapes):
         out.append(f'<rect x="{x}" y="{top + 20 * j}" width="14" height="14" fill="{colours[j]}"/>')
@@ -84,14 +88,25 @@ def plot(times, counts):
     return "\n".join(out) + "\n"
 
 
+def machine():
+    """Processor and cores, as the system names them."""
+    info = pathlib.Path("/proc/cpuinfo")
+    names = re.findall(r"^model name\s*: (.*)$", info.read_text(), re.M) if info.exists() else []
+    return f"{names[0] if names else platform.machine()}, {os.cpu_count()} cores"
+
+
 def main():
     folder = pathlib.Path(sys.argv[1])
     times, counts = read_times(folder / "times"), read_counts(folder)
     text = table(times, counts)
     print(text)
     (HERE / "RESULT.md").write_text(
-        "# The core against the same work in C\n\nMade by `bench/run`: one call each, times of one run and machine, instructions by callgrind, which repeat.\n"
-        "C is `bench/core.c` by `gcc -O2`, with the same tests made.\n\n"
+        "# The core against the same work in C\n\n"
+        f"Made by `bench/run` on {machine()}. C is `bench/core.c` by `gcc -O2`, with the same tests made.\n\n"
+        "- A time is the processor time of one call, the least over 201 short rounds of many calls each.\n"
+        "- The time ratio is the middle one of the rounds' ratios: core and C take turns round by round, so that a slow stretch\n"
+        "  of the machine meets both. It may differ a little from the quotient of the two least times.\n"
+        "- Instructions are those of one call, counted by callgrind, and repeat.\n\n"
         f"{text}\n\n![ratios](result.svg)\n"
     )
     (HERE / "result.svg").write_text(plot(times, counts))

@@ -110,6 +110,7 @@ def plot(costs):
         out.append(f'<line x1="{x(tick):.1f}" x2="{x(tick):.1f}" y1="{y(0):.1f}" y2="{y(0) + 5:.1f}" stroke="#333"/>')
         out.append(f'<text x="{x(tick):.1f}" y="{y(0) + 20:.1f}" text-anchor="middle">{tick}</text>')
     out.append(f'<text x="{left + width / 2}" y="{y(0) + 42:.1f}" text-anchor="middle">ballots n</text>')
+    out.append(f'<text transform="translate(16 {top + height / 2:.1f}) rotate(-90)" text-anchor="middle">conditional gates C</text>')
     out.append(f'<line x1="{left}" x2="{left + width}" y1="{y(0):.1f}" y2="{y(0):.1f}" stroke="#333"/>')
     for i, (k, d) in enumerate(CURVES):
         own = " ".join(f"{x(n):.1f},{y(costs[k, d, n][1]):.1f}" for n in range(1, 256))
