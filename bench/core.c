@@ -1,8 +1,6 @@
 #include "core.h"
+#include "../tests/library_c/kinds.h"
 #include <string.h>
-
-static const uint32_t operands[8] = {0, 0, 1, 1, 2, 2, 2, 3};
-static const uint8_t conditional[8] = {0, 0, 0, 0, 1, 1, 1, 1};
 
 struct said {
     size_t reason, place, gates, conditional;
@@ -39,7 +37,7 @@ static inline void emit(struct writer *w, uint32_t kind, uint32_t a, uint32_t b,
     w->next[3] = c;
     w->next += 4;
     w->wire++;
-    w->conditional += conditional[kind];
+    w->conditional += kind_conditional[kind];
 }
 
 static void full_adder(struct writer *w, uint32_t s, uint32_t u, uint32_t v) {
@@ -313,11 +311,11 @@ static struct said test(size_t k, size_t d, size_t n, const uint32_t *table, siz
         const uint32_t *gate = table + 4 * g;
         if (gate[0] > 7)
             return refused(3, g);
-        uint32_t count = operands[gate[0]];
+        uint32_t count = kind_operands[gate[0]];
         if (!good_operand(count > 0, gate[1], own) || !good_operand(count > 1, gate[2], own)
             || !good_operand(count > 2, gate[3], own))
             return refused(3, g);
-        s.conditional += conditional[gate[0]];
+        s.conditional += kind_conditional[gate[0]];
     }
     return s;
 }
@@ -394,7 +392,7 @@ size_t core_run(size_t k, size_t d, size_t n, const uint32_t *table, size_t tabl
         const uint32_t *gate = table + 4 * g;
         uint8_t a = wires[gate[1]];
         wires[bytes_length + g] = value(gate[0], a, wires[gate[2]], wires[gate[3]]);
-        if (conditional[gate[0]]) {
+        if (kind_conditional[gate[0]]) {
             board[shown] = (a + tape[shown]) % 2;
             shown++;
         }

@@ -1,13 +1,13 @@
 /* Prints for each shape on standard input, K D N, what its own list costs: K D N G C I ROUNDS, with the list as the core
  * writes it. The rounds are the longest chain of conditional gates: as many openings wait for each other. */
 #include "../c/jugyvaros.h"
+#include "../tests/library_c/kinds.h"
 #include <stdio.h>
 #include <stdlib.h>
 
 static size_t larger(size_t a, size_t b) { return a > b ? a : b; }
 
 int main(void) {
-    static const int operands[8] = {0, 0, 1, 1, 2, 2, 2, 3};
     size_t k, d, n, a[5];
     while (scanf("%zu %zu %zu", &k, &d, &n) == 3) {
         if (jugy_measure(k, d, n, a, 5))
@@ -20,9 +20,9 @@ int main(void) {
         for (size_t g = 0; g < gates; g++) {
             const uint32_t *gate = table + 4 * g;
             size_t deep = 0;
-            for (int i = 0; i < operands[gate[0]]; i++)
+            for (uint32_t i = 0; i < kind_operands[gate[0]]; i++)
                 deep = larger(deep, depth[gate[1 + i]]);
-            depth[inputs + g] = deep + (gate[0] >= 4);
+            depth[inputs + g] = deep + kind_conditional[gate[0]];
             rounds = larger(rounds, depth[inputs + g]);
         }
         printf("%zu %zu %zu %zu %zu %zu %zu\n", k, d, n, gates, conditional, inputs, rounds);

@@ -1,8 +1,10 @@
 /* The five exported functions against the reference, on exact-size heap buffers.
  *   library_test edges          each entry point, accepted and for each reason
+ *   library_test shapes         each shape there is: measured, its list written, tested, and run on a jury
  *   library_test random N SEED  N random juries, each with calls of every kind, long and short, valid and damaged
  * It prints how many calls it compared, and ends with 1 at the first that differs. */
 #include "../../c/jugyvaros.h"
+#include "kinds.h"
 #include "reference.h"
 #include <stdio.h>
 #include <stdlib.h>
@@ -196,11 +198,10 @@ static uint32_t *stranger(size_t inputs, size_t gates) {
     uint32_t *t = malloc(gates * 16);
     CHECK(t != NULL);
     for (size_t g = 0; g < gates; g++) {
-        uint32_t kind = (uint32_t)draw(8);
-        int used = kind <= 1 ? 0 : kind <= 3 ? 1 : kind == 7 ? 3 : 2;
+        uint32_t kind = (uint32_t)draw(KINDS);
         t[4 * g] = kind;
-        for (int i = 0; i < 3; i++)
-            t[4 * g + 1 + i] = i < used ? (uint32_t)(draw(4) ? draw(inputs + g) : inputs + g - 1) : 0;
+        for (uint32_t i = 0; i < 3; i++)
+            t[4 * g + 1 + i] = i < kind_operands[kind] ? (uint32_t)(draw(4) ? draw(inputs + g) : inputs + g - 1) : 0;
     }
     return t;
 }
@@ -208,7 +209,7 @@ static uint32_t *stranger(size_t inputs, size_t gates) {
 static size_t count_marks(const uint32_t *t, size_t gates) {
     size_t c = 0;
     for (size_t g = 0; g < gates; g++)
-        c += t[4 * g] >= 4 && t[4 * g] <= 7;
+        c += t[4 * g] < KINDS && kind_conditional[t[4 * g]];
     return c;
 }
 
@@ -385,6 +386,20 @@ static void edges(void) {
     free(list);
 }
 
+/* ---- every shape */
+
+static void every_shape(void) {
+    for (size_t k = 1; k <= 8; k++)
+        for (size_t d = 2; d <= 7; d++)
+            for (size_t n = 1; n <= 255; n++) {
+                struct said m;
+                uint32_t *list = own_list(k, d, n, &m);
+                CHECK(list != NULL);
+                good_run(k, d, n, list, m.gates, 1);
+                free(list);
+            }
+}
+
 /* ---- random juries */
 
 static void random_juries(size_t juries) {
@@ -415,13 +430,15 @@ static void random_juries(size_t juries) {
 int main(int argc, char **argv) {
     if (argc == 2 && strcmp(argv[1], "edges") == 0)
         edges();
+    else if (argc == 2 && strcmp(argv[1], "shapes") == 0)
+        every_shape();
     else if (argc == 4 && strcmp(argv[1], "random") == 0) {
         state = strtoull(argv[3], NULL, 10) * 2 + 1;
         for (int i = 0; i < 20; i++)
             draw(2);
         random_juries(strtoull(argv[2], NULL, 10));
     } else {
-        printf("library_test: edges, or random N SEED\n");
+        printf("library_test: edges, shapes, or random N SEED\n");
         return 2;
     }
     printf("library_test %s: %zu calls agree, %zu accepted, refused for reasons 1 to 10:", argv[1], calls, accepted_calls);

@@ -1,4 +1,5 @@
 #include "reference.h"
+#include "kinds.h"
 #include <string.h>
 
 int shape_within(size_t k, size_t d, size_t n) { return k >= 1 && k <= 8 && d >= 2 && d <= 7 && n >= 1 && n <= 255; }
@@ -21,22 +22,13 @@ static struct said refused(size_t reason, size_t place) {
     return s;
 }
 
-/* How many operands a kind uses; kinds above 7 have none of their own. */
-static int uses(uint32_t kind) {
-    if (kind <= 1)
-        return 0;
-    if (kind <= 3)
-        return 1;
-    return kind == 7 ? 3 : 2;
-}
-
 static int gate_is_bad(const uint32_t *gate, size_t own) {
-    if (gate[0] > 7)
+    if (gate[0] >= KINDS)
         return 1;
-    for (int i = 0; i < 3; i++) {
-        if (i < uses(gate[0]) && gate[1 + i] >= own)
+    for (uint32_t i = 0; i < 3; i++) {
+        if (i < kind_operands[gate[0]] && gate[1 + i] >= own)
             return 1;
-        if (i >= uses(gate[0]) && gate[1 + i] != 0)
+        if (i >= kind_operands[gate[0]] && gate[1 + i] != 0)
             return 1;
     }
     return 0;
@@ -51,7 +43,7 @@ struct said reference_test(size_t k, size_t d, size_t n, const uint32_t *table, 
     for (size_t g = 0; g < length / 4; g++) {
         if (gate_is_bad(table + 4 * g, n * k * d + g))
             return refused(3, g);
-        s.conditional += table[4 * g] >= 4;
+        s.conditional += kind_conditional[table[4 * g]];
     }
     return s;
 }
@@ -116,9 +108,9 @@ struct said reference_run(size_t k, size_t d, size_t n, const uint32_t *table, s
     size_t shown = 0;
     for (size_t g = 0; g < s.gates; g++) {
         const uint32_t *gate = table + 4 * g;
-        int used = uses(gate[0]);
+        uint32_t used = kind_operands[gate[0]];
         uint8_t a = used > 0 ? wires[gate[1]] : 0, b = used > 1 ? wires[gate[2]] : 0, c = used > 2 ? wires[gate[3]] : 0;
-        if (gate[0] >= 4) {
+        if (kind_conditional[gate[0]]) {
             board[shown] = (a + tape[shown]) % 2;
             shown++;
         }

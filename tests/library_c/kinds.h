@@ -1,0 +1,13 @@
+/* The table of the eight kinds of gates, once for all programs in C beside the core: how many operands a kind uses, and
+ * whether its gates are conditional. tests/document01.py has it for Python. */
+#ifndef KINDS_H
+#define KINDS_H
+
+#include <stdint.h>
+
+#define KINDS 8
+
+static const uint32_t kind_operands[KINDS] = {0, 0, 1, 1, 2, 2, 2, 3};
+static const uint8_t kind_conditional[KINDS] = {0, 0, 0, 0, 1, 1, 1, 1};
+
+#endif
