@@ -5,7 +5,8 @@ It is written for plainness and not for speed. Nothing here is shared with the c
 
 MOST_GATES = 1_048_576
 
-# The table of kinds: operands in use, and whether the gate is conditional.
+# The table of kinds, once for all tests in Python: operands in use, and whether the gate is conditional.
+# tests/library_c/kinds.h has it for C.
 OPERANDS = {0: 0, 1: 0, 2: 1, 3: 1, 4: 2, 5: 2, 6: 2, 7: 3}
 CONDITIONAL = {0: False, 1: False, 2: False, 3: False, 4: True, 5: True, 6: True, 7: True}
 
@@ -49,16 +50,12 @@ def conditional_count(gates):
 
 
 def list_fault(inputs, k, table):
-    """What is wrong with a list, in checking order: a name and a place, or None."""
-    if len(table) % 4 != 0:
-        return ("part-of-a-gate", 0)
-    if len(table) // 4 < k:
-        return ("too-few-gates", 0)
-    if len(table) // 4 > MOST_GATES:
-        return ("too-many-gates", 0)
+    """Reasons 2 and 3: a number and a place, or None."""
+    if len(table) % 4 != 0 or not k <= len(table) // 4 <= MOST_GATES:
+        return (2, 0)
     for g, gate in enumerate(gates_of(table)):
         if is_bad(gate, inputs + g):
-            return ("bad-gate", g)
+            return (3, g)
     return None
 
 
@@ -82,29 +79,6 @@ def first_above_one(data):
         if x > 1:
             return i
     return None
-
-
-def evaluate(inputs, table, k, tape, wires, board):
-    """The gate layer's total evaluation: (answer words, wires after, board after)."""
-    gates = gates_of(table)
-    count = conditional_count(gates)
-    fault = list_fault(len(inputs), k, table)
-    if fault is not None:
-        name, place = fault
-        words = ["refused", name] + ([str(place)] if name == "bad-gate" else [])
-        return words, wires, board
-    if len(tape) != count:
-        return ["refused", "tape-length"], wires, board
-    place = first_above_one(tape)
-    if place is not None:
-        return ["refused", "tape-byte", str(place)], wires, board
-    if len(wires) != len(inputs) + len(gates):
-        return ["refused", "wires-length"], wires, board
-    if len(board) != count + k:
-        return ["refused", "board-length"], wires, board
-    values, shown = run_gates(inputs, gates, tape)
-    closing = values[len(values) - k:] if k else []
-    return ["accepted", str(len(gates)), str(count)], values, shown + closing
 
 
 def shape_is_within(k, d, n):
@@ -182,13 +156,7 @@ def count_plainly(k, d, n, ballots):
 
 def test_fault(k, d, n, table):
     """Reasons 1, 2 and 3: a number and a place, or None."""
-    if not shape_is_within(k, d, n):
-        return (1, 0)
-    fault = list_fault(n * k * d, k, table)
-    if fault is None:
-        return None
-    name, place = fault
-    return (3, place) if name == "bad-gate" else (2, 0)
+    return list_fault(n * k * d, k, table) if shape_is_within(k, d, n) else (1, 0)
 
 
 def lent_fault(inputs, k, gates, tape, wires, board):

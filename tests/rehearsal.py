@@ -1,6 +1,7 @@
+#!/usr/bin/env python3
 """Runs the rehearsal program on many inputs and compares what it prints with document 01, written apart.
 
-    python3 tests/rehearsal.py    needs target/bin/rehearsal (rt check rehearsal builds it)
+    python3 tests/rehearsal.py    needs target/bin/rehearsal (rt check rehearsal builds it), and the library for the size of a list
 
 Inputs: document 01's own example, the examples of the repository with what they are said to show, empty and short inputs,
 inputs that come in pieces, inputs longer than what is kept, faults in shape and ballots, lists too large for the table
@@ -14,10 +15,11 @@ import sys
 import time
 
 import document01 as doc
-import own_list
+from core import Core
 
 ROOT = pathlib.Path(__file__).resolve().parent.parent
 PROGRAM = ROOT / "target" / "bin" / "rehearsal"
+CORE = Core()
 KEPT = 16_384
 TABLE = 16_000
 
@@ -29,6 +31,12 @@ EXAMPLES = {
 }
 
 
+def fits(k, d, n):
+    """Whether the table holds the list of a shape within its limits."""
+    _, gates, _, _ = CORE.measure((k, d, n))
+    return 4 * gates <= TABLE
+
+
 def expected(data):
     """What document 01 has the program print for this input."""
     kept = data[:KEPT]
@@ -36,7 +44,7 @@ def expected(data):
     fault = None
     if not doc.shape_is_within(k, d, n):
         fault = 1, 0
-    elif 4 * own_list.measure(k, d, n)[0] > TABLE:
+    elif not fits(k, d, n):
         fault = 2, 0
     else:
         fault = doc.ballots_fault(k, d, n, kept[3:])
@@ -98,7 +106,7 @@ def inputs(rng):
     # a list just in the table, and one just too large for it
     k, d = 3, 5
     for n in range(1, 256):
-        if 4 * own_list.measure(k, d, n)[0] <= TABLE < 4 * own_list.measure(k, d, n + 1)[0]:
+        if n < 255 and fits(k, d, n) and not fits(k, d, n + 1):
             yield jury(rng, k, d, n)
             yield jury(rng, k, d, n + 1)
     for _ in range(150):

@@ -1,58 +1,12 @@
-// What the programs share: taking numbers out of their input, and printing.
+// What the programs print with.
 use libc::STDOUT_FILENO;
-ghost use Prim.Native.Nat.{_<_, _≤_};
-ghost use lib.ListN.{length};
+ghost use Prim.Native.Nat.{_<_};
 
-// The smaller of two numbers.
-pub fn least(a: usize, b: usize) -> usize
-    ensures { λ r. ⌜ r ≤ a ⌝ }
-    ensures { λ r. ⌜ r ≤ b ⌝ }
-{
-    if a < b { a } else { b }
-}
-
-pub fn wide(x: u8) -> u32
+// A byte as a wider number, of which it is still known that it is small.
+fn wide(x: u8) -> u32
     ensures { λ r. ⌜ r < 256 ⌝ }
 {
     x as u32
-}
-
-// The number at a place of the input: four bytes, low byte first, and 0 where they are not all there.
-pub fn word(input: &[u8], at: usize) -> u32 {
-    if input.len() < 4 {
-        return 0;
-    }
-    if input.len() - 4 < at {
-        return 0;
-    }
-    let low = wide(input[at]) + 256 * wide(input[at + 1]);
-    let high = wide(input[at + 2]) + 256 * wide(input[at + 3]);
-    low + 65536 * high
-}
-
-// Puts the numbers from a place of the input on into a table, as many as it holds.
-pub fn fill_table(input: &[u8], from: usize, table: &mut [u32])
-    requires { ⌜ from ≤ length (now input) ⌝ }
-{
-    let mut at = from;
-    let mut i = 0;
-    while i < table.len() {
-        table[i] = word(input, at);
-        if input.len() - at < 4 {
-            return;
-        }
-        at += 4;
-        i += 1;
-    }
-}
-
-// Sets each byte.
-pub fn fill_bytes(bytes: &mut [u8], value: u8) {
-    let mut i = 0;
-    while i < bytes.len() {
-        bytes[i] = value;
-        i += 1;
-    }
 }
 
 pub fn print_text(text: &[u8]) {

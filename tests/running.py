@@ -1,41 +1,38 @@
-"""Cases for the program crate run_cases: anyone's lists, tested and run for juries, accepted and refused.
+"""Testing and running lists, through the library: anyone's lists for juries, accepted and refused, against document 01,
+written apart.
 
-    python3 tests/run_cases.py    prints how many cases there are, by call and answer
+    python3 tests/running.py    prints how many calls there were, by answer
+
+Shapes at their limits, each reason at its edges for a test and for a run, every kind on all values, every tape of one list,
+empty slices, all pairs of faults, strangers' lists and damaged ones.
 """
 
+import collections
 import itertools
 import random
 
 import document01 as doc
-from case_data import word
-from gate_cases import random_gates
+from core import Core
+from juries import row
 
-HUGE = 4_294_967_295
-TEST, RUN = 0, 1
+MOST_NUMBER = 2 ** 32 - 1
+MOST_SIZE = 2 ** 64 - 1
+TEST, RUN = "test", "run"
 OLD = 9                                                      # what wire table and board hold before a call
-LONGEST_LINE = 40                                            # longer ones are printed by their digests
 
 
 def flat(gates):
     return [x for gate in gates for x in gate]
 
 
-def period(items):
-    """The least p such that each item from place p on is the one p places before it."""
-    border = [0] * len(items)
-    for i in range(1, len(items)):
-        b = border[i - 1]
-        while b > 0 and items[b] != items[i]:
-            b = border[b - 1]
-        border[i] = b + 1 if items[b] == items[i] else 0
-    return len(items) - border[-1] if items else 0
-
-
-def digest(data):
-    total = 0
-    for x in data:
-        total = (total * 257 + x + 1) % 4_294_967_291
-    return total
+def random_gates(rng, inputs, count):
+    """Well-formed gates of every kind over any earlier wires."""
+    gates = []
+    for own in range(inputs, inputs + count):
+        kind = rng.randrange(8)
+        used = doc.OPERANDS[kind]
+        gates.append((kind,) + tuple(rng.randrange(own) if i < used else 0 for i in range(3)))
+    return gates
 
 
 class Case:
@@ -59,37 +56,25 @@ class Case:
             setattr(case, name, value)
         return case
 
-    def by_digest(self):
-        return max(self.wires, self.board) > LONGEST_LINE
-
-    def data(self):
-        table = self.table[:period(self.table)]
-        ballots = self.ballots[:period(self.ballots)]
-        tape = self.tape[:period(self.tape)]
-        head = [self.call, self.k, self.d, self.n]
-        head += [4 * len(table), len(self.table), len(ballots), len(self.ballots), len(tape), len(self.tape)]
-        head += [self.wires, self.board, self.old, int(self.by_digest())]
-        return b"".join(map(word, head)) + b"".join(map(word, table)) + bytes(ballots) + bytes(tape)
-
-    def outcome(self):
-        if self.call == TEST:
-            return doc.test_list(self.k, self.d, self.n, self.table), None, None
-        wires, board = [self.old] * self.wires, [self.old] * self.board
-        return doc.run_list(self.k, self.d, self.n, self.table, self.ballots, self.tape, wires, board)
+    def shape(self):
+        return self.k, self.d, self.n
 
     def expected(self):
-        words, wires, board = self.outcome()
-        lines = [words]
-        if self.call == RUN:
-            lines += [self.shown("wires", wires), self.shown("board", board)]
-        return "".join(" ".join(map(str, line)) + "\n" for line in lines)
+        """The answer, and of a run the wire table and the board afterwards."""
+        if self.call == TEST:
+            return doc.test_list(*self.shape(), self.table)
+        wires, board = [self.old] * self.wires, [self.old] * self.board
+        return doc.run_list(*self.shape(), self.table, self.ballots, self.tape, wires, board)
 
-    def shown(self, name, data):
-        return [name, len(data), digest(data), "last", *data[-8:]] if self.by_digest() else [name, *data]
+    def found(self, core):
+        if self.call == TEST:
+            return core.test(self.shape(), self.table)
+        wires, board = [self.old] * self.wires, [self.old] * self.board
+        return core.run(self.shape(), self.table, self.ballots, self.tape, wires, board)
 
-
-def row(d, grade):
-    return [1 if g == grade else 0 for g in range(d)]
+    def reason(self):
+        answer = self.expected() if self.call == TEST else self.expected()[0]
+        return answer[1] if answer[0] == "refused" else 0
 
 
 def any_ballots(k, d, n):
@@ -121,20 +106,22 @@ def shapes():
         yield from both(jury(k, d, n))
     for k, d, n in [(0, 2, 1), (9, 2, 1), (9, 7, 3), (1, 1, 2), (8, 1, 2), (1, 8, 1), (3, 8, 2), (1, 2, 256), (2, 3, 256), (9, 8, 56)]:
         yield from both(jury(k, d, n))
-    for k, d, n in [(1, 0, 1), (1, 2, 0), (0, 7, 255), (8, 7, 0), (0, 0, 0), (HUGE, 2, 1), (1, HUGE, 1), (1, 2, HUGE), (HUGE, HUGE, HUGE)]:
+    for k, d, n in [(1, 0, 1), (1, 2, 0), (0, 7, 255), (8, 7, 0), (0, 0, 0), (MOST_SIZE, 2, 1), (1, MOST_SIZE, 1), (1, 2, MOST_SIZE), (MOST_SIZE, MOST_SIZE, MOST_SIZE)]:
         yield from both(jury(1, 2, 1).but(k=k, d=d, n=n))
     for k, d, n in [(257, 2, 1), (1, 258, 1), (1, 2, 257), (65_537, 2, 1), (1, 65_538, 1), (1, 2, 65_537)]:
-        yield from both(jury(1, 2, 1).but(k=k, d=d, n=n))     # within limits modulo 256 or 65,536
+        yield from both(jury(1, 2, 1).but(k=k, d=d, n=n))     # within limits modulo 2 ^ 8 or 2 ^ 16
+    for k, d, n in [(2 ** 32 + 1, 2, 1), (1, 2 ** 32 + 2, 1), (1, 2, 2 ** 32 + 1)]:
+        yield from both(jury(1, 2, 1).but(k=k, d=d, n=n))     # and modulo 2 ^ 32
 
 
 def list_lengths():
     for k in range(1, 9):
-        good = Case(k, 2, 1, [(6, 0, 1, 0)] * k)
+        good = Case(k, 2, 1, [(4, 0, 1, 0)] * k)
         for gates in (k - 1, k, k + 1):                      # k - 1 gates give 2
             tape, wires, board = [1] * gates, 2 * k + gates, gates + k
-            yield from both(good.but(table=[6, 0, 1, 0] * gates, tape=tape, wires=wires, board=board))
+            yield from both(good.but(table=[4, 0, 1, 0] * gates, tape=tape, wires=wires, board=board))
         for numbers in (4 * k - 3, 4 * k - 1, 4 * k + 1, 4 * k + 2, 4 * k + 3):
-            yield from both(good.but(table=([6, 0, 1, 0] * (k + 1))[:numbers]))
+            yield from both(good.but(table=([4, 0, 1, 0] * (k + 1))[:numbers]))
     for numbers in range(4):
         yield from both(Case(1, 2, 1, [(0, 0, 0, 0)]).but(table=[0] * numbers))
 
@@ -149,7 +136,7 @@ def operands():
             for slot in range(3):
                 for g in (0, 2):
                     own = inputs + g
-                    for x in ([own - 1, own, own + 1, HUGE] if slot < used else [1, HUGE]):
+                    for x in ([own - 1, own, own + 1, MOST_NUMBER] if slot < used else [1, MOST_NUMBER]):
                         gate = [kind, 0, 0, 0]
                         gate[slot + 1] = x
                         case = Case(k, d, n, rest[:g] + [tuple(gate)] + rest[g + 1:])
@@ -159,7 +146,7 @@ def operands():
 
 
 def kinds():
-    for kind in [8, 9, 12, 255, 256, 260, 263, 65_540, 65_543, 2_147_483_648, HUGE - 1, HUGE]:
+    for kind in [8, 9, 12, 255, 256, 260, 263, 65_540, 65_543, 2_147_483_648, MOST_NUMBER - 1, MOST_NUMBER]:
         for g in (0, 1, 2):
             gates = [(1, 0, 0, 0)] * 3
             gates[g] = (kind, 0, 0, 0)
@@ -189,10 +176,10 @@ def every_tape():
     gates = [(6, 0, 3, 0), (2, 6, 0, 0), (7, 6, 1, 2), (4, 8, 5, 0), (5, 9, 0, 0), (3, 10, 0, 0)]
     boards = []
     for voters in ([1, 0, 0, 0, 0, 1], [0, 0, 1, 0, 0, 1]):
-        runs = [Case(2, 3, 1, gates, voters, tape) for tape in itertools.product((0, 1), repeat=4)]
-        boards.append({tuple(run.outcome()[2]) for run in runs})
+        runs = [Case(2, 3, 1, gates, voters, tape) for tape in itertools.product((0, 1), repeat=doc.conditional_count(gates))]
+        boards.append({tuple(run.expected()[2]) for run in runs})
         yield from runs
-    assert boards[0] == boards[1] and len(boards[0]) == 16
+    assert boards[0] == boards[1] and len(boards[0]) == 2 ** doc.conditional_count(gates)
 
 
 def changed(items, place, item):
@@ -289,13 +276,13 @@ FAULTS = [
 
 def pairs_of_faults():
     """Every fault alone and every two at once: the answer is the first in checking order."""
-    good = Case(2, 3, 2, [(6, 0, 3, 0), (4, 12, 1, 0), (2, 13, 0, 0), (7, 12, 13, 14)])
-    assert good.outcome()[0] == ["accepted", 4, 3]
+    good = Case(2, 3, 2, [(5, 0, 3, 0), (4, 12, 1, 0), (2, 13, 0, 0), (7, 12, 13, 14)])
+    assert good.expected()[0] == ["accepted", 4, 3]
     for (first, spoil), (second, spoil_too) in itertools.combinations_with_replacement(FAULTS, 2):
         case = spoil(good)
         if spoil_too is not spoil:
             case = spoil_too(case)
-        assert case.outcome()[0][:2] == ["refused", min(first, second)], (first, second, case.data())
+        assert case.reason() == min(first, second), (first, second)
         yield case
         if min(first, second) <= 3:
             yield case.but(call=TEST)
@@ -327,22 +314,22 @@ def damaged(rng, count):
             if name in ("wires", "board"):
                 value = max(value + rng.choice([-1, 0, 0, 1]), 0)
             elif value:
-                items = [0, 1, 2, 3, 7, 8, 40, HUGE] if name == "table" else [0, 1, 1, 2, 255]
+                items = [0, 1, 2, 3, 7, 8, 40, MOST_NUMBER] if name == "table" else [0, 1, 1, 2, 255]
                 value = changed(value, rng.randrange(len(value)), rng.choice(items))
             case = case.but(**{name: value})
         yield from both(case)
 
 
 def long_lists(rng):
-    """What is printed by its digest: many gates, many ballots, and one tape byte or gate that is bad far on."""
-    for gate, gates in [((6, 0, 3, 0), 40_000), ((3, 1, 0, 0), 40_000), ((7, 0, 1, 2), 20_000)]:
+    """Many gates, many ballots, and one tape byte or gate that is bad far on."""
+    for gate, gates in [((4, 0, 3, 0), 40_000), ((3, 1, 0, 0), 40_000), ((7, 0, 1, 2), 20_000)]:
         good = Case(2, 2, 1, [gate] * gates)
         yield from both(good)
         yield good.but(wires=good.wires - 1)
-    far = Case(2, 2, 1, [(6, 0, 3, 0)] * 300)
+    far = Case(2, 2, 1, [(4, 0, 3, 0)] * 300)
     yield far.but(tape=[1] * 299 + [2])
-    yield far.but(table=far.table[:-4] + [6, 0, 303, 0])
-    yield far.but(table=far.table[:-4] + [6, 0, 302, 0])
+    yield far.but(table=far.table[:-4] + [4, 0, 303, 0])
+    yield far.but(table=far.table[:-4] + [4, 0, 302, 0])
     for k, d, n, gates in [(8, 7, 255, 300), (3, 5, 100, 300), (1, 2, 255, 400)]:
         inputs = n * k * d
         mixed = random_gates(rng, inputs, gates)
@@ -356,28 +343,19 @@ def cases():
     rng = random.Random(4)
     fixed = [shapes(), list_lengths(), operands(), kinds(), each_kind(), every_tape(), ballots(), lent(), empty_slices()]
     made = [strangers(rng, 150, 20), damaged(rng, 110), long_lists(rng)]
-    return list(itertools.chain(*fixed, pairs_of_faults(), *made))
+    return itertools.chain(*fixed, pairs_of_faults(), *made)
 
 
-def make():
-    made = cases()
-    return {
-        "crates/run_cases/stdin": b"".join(c.data() for c in made),
-        "crates/run_cases/stdout": "".join(c.expected() for c in made).encode(),
-    }
-
-
-def figures():
-    counts = {}
+def main():
+    core = Core()
+    answers = collections.Counter()
     for case in cases():
-        words = case.outcome()[0]
-        name = " ".join(["run" if case.call == RUN else "test", words[0]] + ([str(words[1]).rjust(2)] if words[0] == "refused" else []))
-        counts[name] = counts.get(name, 0) + 1
-    return counts
+        expected, found = case.expected(), case.found(core)
+        assert found == expected, (case.call, case.shape(), case.table, case.ballots, case.tape, expected, found)
+        reason = case.reason()
+        answers[f"{case.call} refused for {reason:2}" if reason else f"{case.call} accepted"] += 1
+    print(f"running: {core.calls} calls agree:", ", ".join(f"{name} {many}" for name, many in sorted(answers.items())))
 
 
 if __name__ == "__main__":
-    for name, count in sorted(figures().items()):
-        print(name, count)
-    for name, data in make().items():
-        print(name, len(data))
+    main()
