@@ -16,7 +16,7 @@ OLD = 9                                                      # what an answer ar
 class Lent:
     """Numbers or bytes lent to a call."""
 
-    GUARD = array.array("B", b"\xa5" * 16).tobytes()
+    GUARD = b"\xa5" * 16
 
     def __init__(self, code, items):
         self.before = array.array(code)

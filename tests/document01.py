@@ -110,7 +110,7 @@ def grade_counts(k, d, n, ballots):
 
 
 def median_grade(counts):
-    """The first grade at which twice the running sum, this grade included, is at least n."""
+    """The best grade that at least half of the jury gives or betters."""
     running = 0
     for grade, count in enumerate(counts):
         running += count

@@ -4,7 +4,7 @@
 
 int shape_within(size_t k, size_t d, size_t n) { return k >= 1 && k <= 8 && d >= 2 && d <= 7 && n >= 1 && n <= 255; }
 
-/* "the number of binary digits needed to write n" */
+/* The w of the bound: how many binary digits n has. */
 static size_t digits(size_t n) {
     size_t w = 0;
     for (; n; n >>= 1)
