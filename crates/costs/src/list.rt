@@ -62,9 +62,10 @@ fn ands(count: u32) -> Cost
     requires { ⌜ count ≤ 8 ⌝ }
     ensures { λ r. ⌜ r ≡ record { gates = count; conditional = count * markOf 4 } ⌝ }
 {
+    let marks = kind::CONDITIONAL;
     Cost {
         gates: count as usize,
-        conditional: count as usize * kind::mark(4),
+        conditional: count as usize * kind::mark(&marks, kind::AND),
     }
 }
 

@@ -1,11 +1,32 @@
-// The eight kinds of gates. Every other part reads operand counts and conditional marks here.
+// The eight kinds of gates, and the table of kinds: every other part reads operand counts and conditional marks in it.
 ghost use mathlib.Core.Path.{_≡_};
 ghost use mathlib.Core.Bool.{cond};
 ghost use Rattle.gates.specs.Kind.{operandCounts, operandsOf, conditionalMarks, conditionalOf, valueOf, applied};
 
-pub(crate) const OPERANDS: [u32; 8] = [0, 0, 1, 1, 2, 2, 2, 3];
+pub const ZERO: u32 = 0;
 
-pub(crate) const CONDITIONAL: [bool; 8] = [false, false, false, false, true, true, true, true];
+pub const ONE: u32 = 1;
+
+pub const COPY: u32 = 2;
+
+pub const NOT: u32 = 3;
+
+pub const AND: u32 = 4;
+
+pub const OR: u32 = 5;
+
+pub const XOR: u32 = 6;
+
+pub const CHOICE: u32 = 7;
+
+// How many kinds there are. The next number is no kind.
+pub const KINDS: u32 = 8;
+
+// The number of operands of each kind.
+pub const OPERANDS: [u32; 8] = [0, 0, 1, 1, 2, 2, 2, 3];
+
+// The conditional mark of each kind.
+pub const CONDITIONAL: [bool; 8] = [false, false, false, false, true, true, true, true];
 
 // A gate's value, or its refusal: no kind above 7 has a value.
 pub enum Applied {
@@ -13,42 +34,36 @@ pub enum Applied {
     NoSuchKind,
 }
 
-// The number of operands that a kind uses.
-pub fn operands(kind: u32) -> u32
-    ensures { λ r. ⌜ r ≡ operandsOf kind ⌝ }
-{
-    if kind < 8 { OPERANDS[kind as usize] } else { 0 }
-}
-
-// The same from the table itself, which a loop has at hand.
-pub(crate) fn operands_in(counts: &[u32; 8], kind: u32) -> u32
+// The number of operands that a kind uses. The caller has the column at hand, so that a loop lays it out once.
+pub fn operands(counts: &[u32; 8], kind: u32) -> u32
     requires { ⌜ now counts ≡ operandCounts ⌝ }
     ensures { λ r. ⌜ r ≡ operandsOf kind ⌝ }
 {
-    if kind < 8 { counts[kind as usize] } else { 0 }
+    if kind < KINDS {
+        counts[kind as usize]
+    } else {
+        0
+    }
 }
 
 // Whether a kind is conditional, so that its gate shows wire a under a mask.
-pub(crate) fn conditional(kind: u32) -> bool
+pub fn conditional(marks: &[bool; 8], kind: u32) -> bool
+    requires { ⌜ now marks ≡ conditionalMarks ⌝ }
     ensures { λ r. ⌜ r ≡ conditionalOf kind ⌝ }
 {
-    if kind < 8 {
-        CONDITIONAL[kind as usize]
+    if kind < KINDS {
+        marks[kind as usize]
     } else {
         false
     }
 }
 
-// The same from the table itself, as the number of conditional gates that one gate of a kind is.
-pub(crate) fn mark_in(marks: &[bool; 8], kind: u32) -> usize
+// How many conditional gates one gate of a kind is: 1 where the kind has the mark, else 0.
+pub fn mark(marks: &[bool; 8], kind: u32) -> usize
     requires { ⌜ now marks ≡ conditionalMarks ⌝ }
     ensures { λ r. ⌜ r ≡ cond (conditionalOf kind) 1 0 ⌝ }
 {
-    if kind < 8 {
-        if marks[kind as usize] { 1 } else { 0 }
-    } else {
-        0
-    }
+    if conditional(marks, kind) { 1 } else { 0 }
 }
 
 // The value of a gate from the values of its operands. The only match on a kind.
@@ -76,11 +91,4 @@ pub(crate) fn value(kind: u32, a: u8, b: u8, c: u8) -> u8
         Applied::Value(v) => v,
         Applied::NoSuchKind => 0,
     }
-}
-
-// How many conditional gates one gate of a kind is: 1 where the kind has the mark, else 0.
-pub fn mark(kind: u32) -> usize
-    ensures { λ r. ⌜ r ≡ cond (conditionalOf kind) 1 0 ⌝ }
-{
-    if conditional(kind) { 1 } else { 0 }
 }

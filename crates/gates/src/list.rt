@@ -9,10 +9,14 @@ ghost use Rattle.gates.specs.Kind.{operandCounts};
 ghost use Rattle.gates.specs.Gate.{Gate, gatesOf};
 ghost use lib.ListN.{length};
 ghost use Rattle.gates.specs.Board.{conditionalCount};
+ghost use Rattle.gates.specs.Limits.{operandLimit, tableGateLimit};
 ghost use Rattle.gates.specs.Test.{goodGate, firstBad, judged, tested};
 
 // The most gates that a list may have.
 pub const MOST_GATES: usize = 1048576;
+
+// No 32-bit operand reaches this number.
+const OPERAND_LIMIT: usize = 4294967296;
 
 // The answer of a test: the list's own G and C, or the test that it fails.
 pub enum Tested {
@@ -36,15 +40,15 @@ fn are_zero(a: u32, b: u32, c: u32) -> bool
     c == 0
 }
 
-// What an operand is compared with for the own wire of gate g, inputs + g, which could wrap: no operand reaches 2 ^ 32.
+// What an operand is compared with for the own wire of gate g, inputs + g, which could wrap.
 fn own_wire(inputs: usize, g: usize) -> usize
-    requires { ⌜ g < 4611686018427387904 ⌝ }
-    ensures { λ r. ⌜ ((x : ℕ) → x < 4294967296 → ltb x r ≡ ltb x (inputs + g)) ⌝ }
+    requires { ⌜ g < tableGateLimit ⌝ }
+    ensures { λ r. ⌜ ((x : ℕ) → x < operandLimit → ltb x r ≡ ltb x (inputs + g)) ⌝ }
 {
-    if inputs < 4294967296 {
+    if inputs < OPERAND_LIMIT {
         inputs + g
     } else {
-        4294967296
+        OPERAND_LIMIT
     }
 }
 
@@ -58,14 +62,14 @@ fn gate_is_good(
     b: u32,
     c: u32,
 ) -> bool
-    requires { ⌜ g < 4611686018427387904 ⌝ }
+    requires { ⌜ g < tableGateLimit ⌝ }
     requires { ⌜ now counts ≡ operandCounts ⌝ }
     ensures { λ r. ⌜ r ≡ goodGate (inputs + g) (record { kind = kind; a = a; b = b; c = c }) ⌝ }
 {
     let Applied::Value(_) = kind::apply(kind, 0, 0, 0) else {
         return false;
     };
-    let count = kind::operands_in(counts, kind);
+    let count = kind::operands(counts, kind);
     let own = own_wire(inputs, g);
     if count == 0 {
         return are_zero(a, b, c);
@@ -108,7 +112,7 @@ fn test_gates(inputs: usize, table: &[u32]) -> Tested
         ) {
             return Tested::BadGate(g);
         }
-        conditional += kind::mark_in(&marks, kind);
+        conditional += kind::mark(&marks, kind);
         g += 1;
     }
     Tested::Accepted { gates, conditional }

@@ -5,7 +5,7 @@ ghost use mathlib.Core.Bool.{cond};
 ghost use mathlib.Core.List.{_∷_, [], _++_};
 ghost use Prim.Native.Nat.{_+_, _%_, _≤_};
 ghost use lib.ListN.{length, getD, set, take};
-ghost use Rattle.gates.specs.Kind.{conditionalOf};
+ghost use Rattle.gates.specs.Kind.{conditionalMarks, conditionalOf};
 ghost use Rattle.gates.specs.Gate.{gatesOf};
 ghost use Rattle.gates.specs.Wires.{value, wiresOf, outputsOf};
 ghost use Rattle.gates.specs.Board.{conditionalCount, shownBit, boardOf};
@@ -21,6 +21,7 @@ fn masked(a: u8, m: u8) -> u8
 // Gate g of the table: its value goes to wire own and, where it is conditional, its shown bit to the board.
 // Answers the number of shown bits after it.
 fn run_gate(
+    marks: &[bool; 8],
     table: &[u32],
     g: usize,
     own: usize,
@@ -29,6 +30,7 @@ fn run_gate(
     wires: &mut [u8],
     board: &mut [u8],
 ) -> usize
+    requires { ⌜ now marks ≡ conditionalMarks ⌝ }
     requires { ⌜ GateReady (now table) g own (now tape) shown (now wires) (now board) ⌝ }
     ensures { λ r. ⌜ r ≡ shown + conditionalCount (gateAt (now (table .entry)) g ∷ []) ⌝ }
     ensures { λ _. ⌜ now (wires .exit) ≡ set (now (wires .entry)) own (value (now (wires .entry)) (gateAt (now (table .entry)) g)) ⌝ }
@@ -43,7 +45,7 @@ fn run_gate(
     let b = wires[b_wire];
     let c = wires[c_wire];
     wires[own] = kind::value(kind, a, b, c);
-    if kind::conditional(kind) {
+    if kind::conditional(marks, kind) {
         board[shown] = masked(a, tape[shown]);
         return shown + 1;
     }
@@ -67,10 +69,11 @@ pub fn step(
     ensures { λ _. ⌜ now (wires .exit) ≡ stepWires inputs (now (table .entry)) from to (now (wires .entry)) ⌝ }
     ensures { λ _. ⌜ now (board .exit) ≡ stepBoard inputs (now (table .entry)) from to (now (tape .entry)) shown (now (wires .entry)) (now (board .entry)) ⌝ }
 {
+    let marks = kind::CONDITIONAL;
     let mut next = shown;
     let mut g = from;
     while g < to {
-        next = run_gate(table, g, inputs + g, tape, next, wires, board);
+        next = run_gate(&marks, table, g, inputs + g, tape, next, wires, board);
         g += 1;
     }
     next

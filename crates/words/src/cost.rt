@@ -16,7 +16,8 @@ pub struct Cost {
 fn mark(kind: u32) -> usize
     ensures { λ r. ⌜ (r ≡ markOf kind) × (r ≤ 1) ⌝ }
 {
-    kind::mark(kind)
+    let marks = kind::CONDITIONAL;
+    kind::mark(&marks, kind)
 }
 
 fn full() -> usize

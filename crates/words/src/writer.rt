@@ -38,7 +38,9 @@ impl Writer {
         requires { ⌜ Room self (now table) 1 ⌝ }
         ensures { λ r. ⌜ Wrote self (now (table .entry)) (emitted kind a b c ∷ []) (now (table .exit)) r ⌝ }
     {
-        let count = kind::operands(kind);
+        let counts = kind::OPERANDS;
+        let marks = kind::CONDITIONAL;
+        let count = kind::operands(&counts, kind);
         let at = 4 * self.gate;
         table[at] = kind;
         table[at + 1] = operand(0, count, a);
@@ -47,7 +49,7 @@ impl Writer {
         Writer {
             gate: self.gate + 1,
             wire: self.wire + 1,
-            conditional: self.conditional + kind::mark(kind),
+            conditional: self.conditional + kind::mark(&marks, kind),
         }
     }
 }

@@ -1,22 +1,24 @@
-use mathlib.Core.List.{[], _∷_}
-use mathlib.Core.Bool.{true, false}
-use mathlib.Core.Path.{refl, sym}
-use lib.ListN.{List·getD-eq-default}
-use Rattle.gates.specs.Kind.{conditionalOf}
+-- `gates::kind::conditional` meets its contract: the table at hand is the definition's.
+-- Assumes nothing.
+use mathlib.Core.Bool.{Bool, false}
+use mathlib.Core.List.{List}
+use mathlib.Core.Path.{_≡_, sym, ap}
+use lib.ListN.{getD, List·getD-eq-default}
+use Rattle.gates.specs.Kind.{conditionalMarks, conditionalOf}
 use borrow.Author.Needs.{needs}
 use Rattle.gates.proofs.kind.conditional.Statement.{statement}
 use Rattle.gates.proofs.kind.conditional.Tie as tie
 
-array-read-result : tie.Need-array-read-result
-array-read-result c = search needs
+element-copy-out-result : tie.Need-element-copy-out-result
+element-copy-out-result c = search needs
 
 returns : tie.Need-returns
 unfolding conditionalOf
-returns c = refl
+returns c = ap (λ (m : List Bool). getD m (c .before .before .args .kind) false) (c .before .before .pre)
 
 returns-2 : tie.Need-returns-2
 unfolding conditionalOf
-returns-2 c = sym (List·getD-eq-default (false ∷ false ∷ false ∷ false ∷ true ∷ true ∷ true ∷ true ∷ []) _ (c .if1 .left))
+returns-2 c = sym (List·getD-eq-default conditionalMarks _ (c .if1 .left))
 
 pub conditional-spec : {M : Type 1} → statement M
-conditional-spec = tie.close (tie.spec array-read-result returns returns-2)
+conditional-spec = tie.close (tie.spec element-copy-out-result returns returns-2)

@@ -3,12 +3,11 @@
 use mathlib.Core.Path.{_∙_, sym, ap}
 use mathlib.Core.Bool.{Bool, cond}
 use Prim.Native.Nat.{ℕ}
-use borrow.Author.Needs.{needs}
 use Rattle.gates.proofs.kind.mark.Statement.{statement}
 use Rattle.gates.proofs.kind.mark.Tie as tie
 
 conditional-requires : tie.Need-conditional-requires
-conditional-requires c κs = search needs
+conditional-requires c κs = c .pre
 
 returns : tie.Need-returns
 returns c = ap (λ (t : Bool). cond {A = ℕ} t 1 0) (sym (c .if1 .taken) ∙ c .before .conditional .ensures)

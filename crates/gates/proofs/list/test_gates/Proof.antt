@@ -31,10 +31,10 @@ Inv-loop inputs table gates counts marks conditional₀ g₀ conditional g =
 abbrev μ-loop : tie.MeasureT-loop
 μ-loop inputs table gates counts marks conditional₀ g₀ conditional g = gates - g
 
-mark-small : (c : tie.After-mark-in Inv-loop μ-loop) → c .mark-in .result ≤ 1
+mark-small : (c : tie.After-mark Inv-loop μ-loop) → c .mark .result ≤ 1
 mark-small c =
     let at = c .before .before .before .before .before .before .before .before .before .before in
-    omega (arith, c .mark-in .ensures, mark-at-most-one (getD (at .before .before .args .table .now) (4 * at .loop .g) 0))
+    omega (arith, c .mark .ensures, mark-at-most-one (getD (at .before .before .args .table .now) (4 * at .loop .g) 0))
 
 loop-holds : tie.Need-loop-holds Inv-loop μ-loop
 loop-holds c =
@@ -88,8 +88,8 @@ returns c =
     judges-bad (a .inputs) (a .table .now) (at .loop .g) (at .loop .conditional) (answer (a .inputs) (a .table .now)) (omega (arith, length-gates (a .table .now)))
     (sym (not-true _ (c .if1 .taken)) ∙ c .before .gate-is-good .ensures) (at .loop .inv .2)
 
-mark-in-requires : tie.Need-mark-in-requires Inv-loop μ-loop
-mark-in-requires c κs = refl
+mark-requires : tie.Need-mark-requires Inv-loop μ-loop
+mark-requires c κs = refl
 
 add-conditional : tie.Need-add-conditional Inv-loop μ-loop
 add-conditional c = omega (arith, mark-small c)
@@ -107,9 +107,9 @@ loop-again c =
     let a = at .before .before .args in (
       omega arith,
       omega (arith, mark-small c),
-      ap (λ (k : ℕ). judged (firstBad (a .inputs) k (drop k (gatesOf (a .table .now)))) (length (gatesOf (a .table .now))) (at .loop .conditional + c .mark-in .result + conditionalCount (drop k (gatesOf (a .table .now))))) (add-one (at .loop .g))
-          ∙ judges-good (a .inputs) (a .table .now) (at .loop .g) (at .loop .conditional) (c .mark-in .result) (answer (a .inputs) (a .table .now)) (omega (arith, length-gates (a .table .now)))
-          (sym (not-false _ (c .before .before .if1 .left)) ∙ c .before .before .before .gate-is-good .ensures) (c .mark-in .ensures) (at .loop .inv .2),
+      ap (λ (k : ℕ). judged (firstBad (a .inputs) k (drop k (gatesOf (a .table .now)))) (length (gatesOf (a .table .now))) (at .loop .conditional + c .mark .result + conditionalCount (drop k (gatesOf (a .table .now))))) (add-one (at .loop .g))
+          ∙ judges-good (a .inputs) (a .table .now) (at .loop .g) (at .loop .conditional) (c .mark .result) (answer (a .inputs) (a .table .now)) (omega (arith, length-gates (a .table .now)))
+          (sym (not-false _ (c .before .before .if1 .left)) ∙ c .before .before .before .gate-is-good .ensures) (c .mark .ensures) (at .loop .inv .2),
     )
 
 returns-2 : tie.Need-returns-2 Inv-loop μ-loop
@@ -139,7 +139,7 @@ test-gates-spec =
     shared-slice-read-gate-is-good-3
     gate-is-good-requires
     returns
-    mark-in-requires
+    mark-requires
     add-conditional
     add-g
     loop-less

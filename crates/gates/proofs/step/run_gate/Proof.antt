@@ -18,7 +18,7 @@ use Rattle.gates.proofs.step.run_gate.Statement.{statement}
 use Rattle.gates.proofs.step.run_gate.Tie as tie
 
 good : (c : tie.Start) → GoodGate (c .args .own) (gateAt (c .args .table .now) (c .args .g))
-good c = good-gate (c .args .own) (gateAt (c .args .table .now) (c .args .g)) (c .pre .good)
+good c = good-gate (c .args .own) (gateAt (c .args .table .now) (c .args .g)) (c .pre .1 .good)
 
 -- a gate with the mark counts one, and one without it none
 marked : (kind : ℕ) (t : Bool) (g : Gate) → t ≡ true → t ≡ conditionalOf kind → g .kind ≡ kind → conditionalCount (g ∷ []) ≡ 1
@@ -74,15 +74,15 @@ cast-c-wire c = omega (arith, c .shared-slice-known6 .given (4 * c .before .befo
 
 slice-read-a : tie.Need-slice-read-a
 unfolding gateAt
-slice-read-a c = let s = c .before .before .before .before .before .before .before .before .before in omega (arith, good s .a-most, s .pre .inWires)
+slice-read-a c = let s = c .before .before .before .before .before .before .before .before .before in omega (arith, good s .a-most, s .pre .1 .inWires)
 
 slice-read-b : tie.Need-slice-read-b
 unfolding gateAt
-slice-read-b c = let s = c .before .before .before .before .before .before .before .before .before .before in omega (arith, good s .b-most, s .pre .inWires)
+slice-read-b c = let s = c .before .before .before .before .before .before .before .before .before .before in omega (arith, good s .b-most, s .pre .1 .inWires)
 
 slice-read-c : tie.Need-slice-read-c
 unfolding gateAt
-slice-read-c c = let s = c .before .before .before .before .before .before .before .before .before .before .before in omega (arith, good s .c-most, s .pre .inWires)
+slice-read-c c = let s = c .before .before .before .before .before .before .before .before .before .before .before in omega (arith, good s .c-most, s .pre .1 .inWires)
 
 value-requires : tie.Need-value-requires
 value-requires c κs = search needs
@@ -91,7 +91,7 @@ slice-write-wires : tie.Need-slice-write-wires
 slice-write-wires c = search needs
 
 conditional-requires : tie.Need-conditional-requires
-conditional-requires c κs = search needs
+conditional-requires c κs = c .before .before .before .before .before .before .before .before .before .before .before .before .pre .0
 
 -- the board with a shown bit, and without one
 with-bit : (kind : ℕ) (t : Bool) (x y z : List ℕ) → t ≡ true → t ≡ conditionalOf kind → z ≡ x → z ≡ cond (conditionalOf kind) x y
@@ -106,13 +106,13 @@ unfolding gateAt
 shows c = let s = c .before .before .before .before .before .before .before .before .before .before .before .before .before .before in marked (getD (s .args .table .now) (4 * s .args .g) 0) (c .before .conditional .result) (gateAt (s .args .table .now) (s .args .g)) (c .if1 .taken) (c .before .conditional .ensures) refl
 
 shared-slice-read-masked : tie.Need-shared-slice-read-masked
-shared-slice-read-masked c = omega (arith, shows (c .before), c .before .before .before .before .before .before .before .before .before .before .before .before .before .before .before .pre .inTape)
+shared-slice-read-masked c = omega (arith, shows (c .before), c .before .before .before .before .before .before .before .before .before .before .before .before .before .before .before .pre .1 .inTape)
 
 masked-requires : tie.Need-masked-requires
 masked-requires c κs = search needs
 
 slice-write-board : tie.Need-slice-write-board
-slice-write-board c = omega (arith, shows (c .before .before), c .before .before .before .before .before .before .before .before .before .before .before .before .before .before .before .before .pre .inBoard)
+slice-write-board c = omega (arith, shows (c .before .before), c .before .before .before .before .before .before .before .before .before .before .before .before .before .before .before .before .pre .1 .inBoard)
 
 add-result : tie.Need-add-result
 add-result c = search needs

@@ -12,12 +12,12 @@ use Rattle.gates.proofs.step.step.Statement.{statement}
 use Rattle.gates.proofs.step.step.Tie as tie
 
 abbrev Inv-loop : tie.InvT-loop
-Inv-loop inputs table from to tape shown wires₀ board₀ next₀ g₀ wires board next g =
+Inv-loop inputs table from to tape shown wires₀ board₀ marks next₀ g₀ wires board next g =
     Left inputs table to tape (length wires₀) (length board₀) (shown + conditionalCount (rangeOf table from to))
     (stepWires inputs table from to wires₀) (stepBoard inputs table from to tape shown wires₀ board₀) wires board next g
 
 abbrev μ-loop : tie.MeasureT-loop
-μ-loop inputs table from to tape shown wires₀ board₀ next₀ g₀ wires board next g = to - g
+μ-loop inputs table from to tape shown wires₀ board₀ marks next₀ g₀ wires board next g = to - g
 
 loop-holds : tie.Need-loop-holds Inv-loop μ-loop
 unfolding stepBoard
@@ -33,14 +33,16 @@ loop-holds c =
     }
 
 add-run-gate : tie.Need-add-run-gate Inv-loop μ-loop
-add-run-gate c = omega (arith, c .before .before .before .before .before .before .pre .inWires)
+add-run-gate c = omega (arith, c .before .before .before .before .before .before .before .pre .inWires)
 
 run-gate-requires : tie.Need-run-gate-requires Inv-loop μ-loop
 run-gate-requires c κs =
-    let s = c .before .before .before .before .before .before .before .before in
-    let l = c .before .before .before .loop in
-    next-ready (s .args .inputs) (s .args .table .now) (s .args .to) (s .args .tape .now) _ _ _ _ _ (s .pre .inTable) (s .pre .inWires) (s .pre .inTape) (s .pre .inBoard)
-    (l .wires) (l .board) (l .next) (l .g) (l .inv) (c .before .before .loop-test .taken)
+    let s = c .before .before .before .before .before .before .before .before .before in
+    let l = c .before .before .before .before .loop in (
+      refl,
+      next-ready (s .args .inputs) (s .args .table .now) (s .args .to) (s .args .tape .now) _ _ _ _ _ (s .pre .inTable) (s .pre .inWires) (s .pre .inTape) (s .pre .inBoard)
+          (l .wires) (l .board) (l .next) (l .g) (l .inv) (c .before .before .before .loop-test .taken),
+    )
 
 add-g : tie.Need-add-g Inv-loop μ-loop
 add-g c = omega arith
@@ -50,13 +52,13 @@ loop-less c = omega arith
 
 loop-again : tie.Need-loop-again Inv-loop μ-loop
 loop-again c =
-    let s = c .before .before .before .before .before .before .before .before .before .before .before .before .before in
-    let l = c .before .before .before .before .before .before .before .before .loop in
+    let s = c .before .before .before .before .before .before .before .before .before .before .before .before .before .before in
+    let l = c .before .before .before .before .before .before .before .before .before .loop in
     let r = c .before .before .before .before .run-gate in
     left-as (s .args .inputs) (s .args .table .now) (s .args .to) (s .args .tape .now) _ _ _ _ _ (s .pre .inTable) (s .pre .inWires) (s .pre .inTape) (s .pre .inBoard)
     _ _ _ _ _ _ _ _
     (left-turn (s .args .inputs) (s .args .table .now) (s .args .to) (s .args .tape .now) _ _ _ _ _ (s .pre .inTable) (s .pre .inWires) (s .pre .inTape) (s .pre .inBoard)
-    (l .wires) (l .board) (l .next) (l .g) (l .inv) (c .before .before .before .before .before .before .before .loop-test .taken))
+    (l .wires) (l .board) (l .next) (l .g) (l .inv) (c .before .before .before .before .before .before .before .before .loop-test .taken))
     (r .ensures .1 .0) (r .ensures .1 .1) (r .ensures .0) (add-one (l .g))
 
 same-length : tie.Need-same-length Inv-loop μ-loop

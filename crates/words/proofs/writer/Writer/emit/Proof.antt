@@ -1,5 +1,6 @@
 -- `words::writer::Writer::emit` meets its contract: the four numbers are the gate's, and its mark is counted.
 -- Assumes nothing.
+use mathlib.Core.Path.{refl}
 use native.Mathlib.Omega.{arith}
 use lib.ListN.{length-set}
 use Rattle.gates.proofs.Counting.{mark-at-most-one}
@@ -9,7 +10,7 @@ use Rattle.words.proofs.writer.Writer.emit.Statement.{statement}
 use Rattle.words.proofs.writer.Writer.emit.Tie as tie
 
 operands-requires : tie.Need-operands-requires
-operands-requires c κs = tt
+operands-requires c κs = refl
 
 mul-at : tie.Need-mul-at
 mul-at c = omega arith
@@ -30,7 +31,7 @@ mul-table-2 : tie.Need-mul-table-2
 mul-table-2 c = omega arith
 
 slice-write-table-2 : tie.Need-slice-write-table-2
-slice-write-table-2 c = simp length-set (omega (arith, c .before .before .before .before .pre .inTable))
+slice-write-table-2 c = simp length-set (omega (arith, c .before .before .before .before .before .pre .inTable))
 
 operand-requires-2 : tie.Need-operand-requires-2
 operand-requires-2 c κs = tt
@@ -42,7 +43,7 @@ mul-table-3 : tie.Need-mul-table-3
 mul-table-3 c = omega arith
 
 slice-write-table-3 : tie.Need-slice-write-table-3
-slice-write-table-3 c = simp length-set (omega (arith, c .before .before .before .before .before .pre .inTable))
+slice-write-table-3 c = simp length-set (omega (arith, c .before .before .before .before .before .before .pre .inTable))
 
 operand-requires-3 : tie.Need-operand-requires-3
 operand-requires-3 c κs = tt
@@ -54,30 +55,30 @@ mul-table-4 : tie.Need-mul-table-4
 mul-table-4 c = omega arith
 
 slice-write-table-4 : tie.Need-slice-write-table-4
-slice-write-table-4 c = simp length-set (omega (arith, c .before .before .before .before .before .before .pre .inTable))
+slice-write-table-4 c = simp length-set (omega (arith, c .before .before .before .before .before .before .before .pre .inTable))
 
-add-t9 : tie.Need-add-t9
-add-t9 c = omega arith
-
-add-t11 : tie.Need-add-t11
-add-t11 c = omega arith
-
-mark-requires : tie.Need-mark-requires
-mark-requires c κs = tt
+add-t14 : tie.Need-add-t14
+add-t14 c = omega arith
 
 add-t16 : tie.Need-add-t16
-add-t16 c = let s = c .before .before .before .before .before .before .before .before .before .before in omega (arith, c .before .mark .ensures, mark-at-most-one (s .args .kind), s .pre .counted, s .pre .inTable)
+add-t16 c = omega arith
+
+mark-requires : tie.Need-mark-requires
+mark-requires c κs = refl
+
+add-t22 : tie.Need-add-t22
+add-t22 c = let s = c .before .before .before .before .before .before .before .before .before .before .before .before in omega (arith, c .before .mark .ensures, mark-at-most-one (s .args .kind), s .pre .counted, s .pre .inTable)
 
 same-length : tie.Need-same-length
 same-length c = search needs
 
 returns : tie.Need-returns
 returns c =
-    let s = c .before .before .before .before .before .before .before .before .before .before in
+    let s = c .before .before .before .before .before .before .before .before .before .before .before .before in
     let a = s .args in
-    let o = c .before .before .before .before .before .before in
+    let o = c .before .before .before .before .before .before .before in
     wrote-gate (a .self) (a .table .now) (a .kind) (a .a) (a .b) (a .c) (o .before .before .operands .result) _ _ _ _ (o .before .before .operands .ensures)
-    (o .operand .ensures) (c .before .before .before .before .before .operand2 .ensures) (c .before .before .before .before .operand3 .ensures) (c .before .mark .ensures)
+    (o .operand .ensures) (c .before .before .before .before .before .before .operand2 .ensures) (c .before .before .before .before .before .operand3 .ensures) (c .before .mark .ensures)
 
 pub emit-spec : {M : Type 1} → statement M
 emit-spec =
@@ -99,9 +100,9 @@ emit-spec =
     add-table-3
     mul-table-4
     slice-write-table-4
-    add-t9
-    add-t11
-    mark-requires
+    add-t14
     add-t16
+    mark-requires
+    add-t22
     same-length
     returns)
