@@ -9,10 +9,10 @@ use native.Mathlib.Omega.{arith}
 use lib.Dec.{eqb, ltb}
 use lib.ListN.{length, replicate, length-replicate}
 use borrow.Author.Tests.{eq-eqb, eqb-true, le-ltb, lt-ltb}
-use Rattle.gates.specs.Kind.{operandsOf, conditionalOf}
-use Rattle.gates.specs.Gate.{Gate, gatesOf, numbersOf}
-use Rattle.gates.specs.Board.{conditionals, conditionalCount}
-use Rattle.gates.specs.Test.{firstBad, judged, tested}
+use Rattle.gates.specs.Open.Kind.{operandsOf, conditionalOf}
+use Rattle.gates.specs.Open.Gate.{Gate, gatesOf, numbersOf}
+use Rattle.gates.specs.Open.Board.{conditionals, conditionalCount}
+use Rattle.gates.specs.Open.Test.{firstBad, judged, tested}
 use Rattle.gates.specs.declared.place.Place.{Place}
 use Rattle.gates.specs.declared.place.Place.the-variants.{Nowhere}
 use Rattle.gates.specs.declared.list.Tested.the-variants.{Accepted, PartOfAGate, TooManyGates}

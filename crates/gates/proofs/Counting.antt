@@ -8,9 +8,9 @@ use native.Mathlib.Nat.{zero-add}
 use native.Mathlib.Numerals.{one-add}
 use native.Mathlib.Omega.{arith}
 use lib.ListN.{length}
-use Rattle.gates.specs.Kind.{conditionalOf}
-use Rattle.gates.specs.Gate.{Gate}
-use Rattle.gates.specs.Board.{conditionals, conditionalCount}
+use Rattle.gates.specs.Open.Kind.{conditionalOf}
+use Rattle.gates.specs.Open.Gate.{Gate}
+use Rattle.gates.specs.Open.Board.{conditionals, conditionalCount}
 
 -- a gate counts once where its kind has the mark
 pub count-cons : (g : Gate) (gs : List Gate) → conditionalCount (g ∷ gs) ≡ cond (conditionalOf (g .kind)) 1 0 + conditionalCount gs

@@ -7,11 +7,11 @@ use native.Mathlib.Nat.{zero-min, min-zero, suc-min-suc}
 use native.Mathlib.Omega.{arith}
 use lib.ListN.{length, take, drop, length-append, length-drop, drop-of-length-le}
 use lib.Seq.{take-all, take-length, take-at, sets, sets-eq, length-sets}
-use Rattle.gates.specs.Gate.{Gate, gatesOf}
-use Rattle.gates.specs.Wires.{wiresOf, outputsOf}
-use Rattle.gates.specs.Board.{conditionals, conditionalCount, shownBit, shownBits, boardOf}
-use Rattle.gates.specs.Test.{firstBad}
-use Rattle.gates.specs.Step.{rangeOf, stepWires, stepBoard, StepReady}
+use Rattle.gates.specs.Open.Gate.{Gate, gatesOf}
+use Rattle.gates.specs.Open.Wires.{wiresOf, outputsOf}
+use Rattle.gates.specs.Open.Board.{conditionals, conditionalCount, shownBit, shownBits, boardOf}
+use Rattle.gates.specs.Open.Test.{firstBad}
+use Rattle.gates.specs.Open.Step.{rangeOf, stepWires, stepBoard, StepReady}
 use Rattle.gates.specs.declared.place.Place.the-variants.{Nowhere}
 use Rattle.gates.proofs.WireLaws.{length-wires}
 

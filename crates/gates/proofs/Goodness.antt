@@ -6,9 +6,9 @@ use Prim.Native.Nat.{ℕ, _<_, _≤_}
 use native.Mathlib.Omega.{arith}
 use lib.Dec.{T, ltb, ltb→lt, eqb→eq}
 use borrow.Author.Tests.{lt-ltb}
-use Rattle.gates.specs.Kind.{operandsOf}
-use Rattle.gates.specs.Gate.{Gate}
-use Rattle.gates.specs.Test.{goodOperand, goodGate}
+use Rattle.gates.specs.Open.Kind.{operandsOf}
+use Rattle.gates.specs.Open.Gate.{Gate}
+use Rattle.gates.specs.Open.Test.{goodOperand, goodGate}
 
 and-left : (a b : Bool) → T (a && b) → T a
 and-left true b t = tt

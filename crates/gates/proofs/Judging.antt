@@ -6,11 +6,11 @@ use mathlib.Core.List.{List, []}
 use Prim.Native.Nat.{ℕ, suc, _+_, _≤_, _<_}
 use native.Mathlib.Omega.{arith}
 use lib.ListN.{length, drop, drop-of-length-le}
-use Rattle.gates.specs.Kind.{conditionalOf}
-use Rattle.gates.specs.Gate.{Gate, gatesOf}
-use Rattle.gates.specs.Board.{conditionalCount}
-use Rattle.gates.specs.Test.{goodGate, firstBad, judged}
-use Rattle.gates.specs.Step.{gateAt}
+use Rattle.gates.specs.Open.Kind.{conditionalOf}
+use Rattle.gates.specs.Open.Gate.{Gate, gatesOf}
+use Rattle.gates.specs.Open.Board.{conditionalCount}
+use Rattle.gates.specs.Open.Test.{goodGate, firstBad, judged}
+use Rattle.gates.specs.Open.Step.{gateAt}
 use Rattle.gates.specs.declared.place.Place.{Place}
 use Rattle.gates.specs.declared.place.Place.the-variants.{At}
 use Rattle.gates.specs.declared.list.Tested.{Tested}

@@ -3,7 +3,7 @@
 use mathlib.Core.Path.{_≡_, refl, ap, ap₂}
 use Prim.Native.Nat.{ℕ, zero, suc, _-_, _<_, min, max}
 use native.Mathlib.Omega.{arith}
-use Rattle.gates.specs.Kind.{operandsOf, valueOf, differ}
+use Rattle.gates.specs.Open.Kind.{operandsOf, valueOf, differ}
 
 -- a proof for each kind is a proof for every kind below 8
 pub each-kind : (P : ℕ → Type 0) → P 0 → P 1 → P 2 → P 3 → P 4 → P 5 → P 6 → P 7 → (k : ℕ) → k < 8 → P k

@@ -9,11 +9,11 @@ use native.Mathlib.Omega.{arith}
 use lib.Dec.{T, ltb, eqb, lt→ltb}
 use lib.ListN.{length, getD, length-append, length-drop, List·getD-append}
 use lib.Seq.{getD-drop, getD-append-seam}
-use Rattle.gates.specs.Kind.{operandsOf, conditionalOf, valueOf, differ, choose}
-use Rattle.gates.specs.Gate.{Gate, gatesOf, numbersOf}
-use Rattle.gates.specs.Wires.{wire, value, wiresOf, outputsOf}
-use Rattle.gates.specs.Board.{Bits}
-use Rattle.gates.specs.Test.{goodOperand, goodGate, firstBad}
+use Rattle.gates.specs.Open.Kind.{operandsOf, conditionalOf, valueOf, differ, choose}
+use Rattle.gates.specs.Open.Gate.{Gate, gatesOf, numbersOf}
+use Rattle.gates.specs.Open.Wires.{wire, value, wiresOf, outputsOf}
+use Rattle.gates.specs.Open.Board.{Bits}
+use Rattle.gates.specs.Open.Test.{goodOperand, goodGate, firstBad}
 use Rattle.gates.specs.declared.place.Place.the-variants.{Nowhere}
 use Rattle.gates.proofs.KindLaws.{each-kind}
 use Rattle.gates.proofs.Goodness.{good-gate}

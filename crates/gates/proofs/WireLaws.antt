@@ -5,8 +5,8 @@ use mathlib.Core.List.{List, [], _∷_, _++_}
 use Prim.Native.Nat.{ℕ, _+_, _<_}
 use native.Mathlib.Omega.{arith}
 use lib.ListN.{length, getD, length-append, List·getD-append}
-use Rattle.gates.specs.Gate.{Gate}
-use Rattle.gates.specs.Wires.{wire, value, wiresOf}
+use Rattle.gates.specs.Open.Gate.{Gate}
+use Rattle.gates.specs.Open.Wires.{wire, value, wiresOf}
 use Rattle.gates.proofs.KindLaws.{value-uses}
 use Rattle.gates.proofs.Goodness.{GoodGate}
 

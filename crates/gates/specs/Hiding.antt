@@ -1,13 +1,11 @@
--- Demand 3 at the gate layer: "The board tells no more than its closing bytes."
+-- Demand 3 at the gate layer, for any list: a board tells no more of the inputs than its outputs do.
 use mathlib.Core.Path.{_≡_}
 use mathlib.Core.List.{List}
-use Prim.Native.Nat.{ℕ, _+_, _%_, _<_}
+use Prim.Native.Nat.{ℕ, _+_, _%_, _≤_, _<_}
 use lib.ListN.{length, getD, drop}
-use Rattle.gates.specs.Gate.{Gate, gatesOf}
-use Rattle.gates.specs.Wires.{wire, wiresOf, outputsOf}
-use Rattle.gates.specs.Board.{conditionals, conditionalCount, MaskTape}
-use Rattle.gates.specs.Evaluate.{evaluated}
-use Rattle.gates.specs.declared.evaluate.Evaluated.the-variants.{Accepted}
+use Rattle.gates.specs.Open.Gate.{Gate}
+use Rattle.gates.specs.Open.Wires.{wire, wiresOf, outputsOf}
+use Rattle.gates.specs.Open.Board.{conditionals, conditionalCount, boardOf, MaskTape}
 
 -- There is one with this property, and any other with it is equal to that one.
 abbrev pub ExactlyOne : {A : Type 0} → (A → Type 0) → Type 0
@@ -23,29 +21,16 @@ pub record Finished (ws : List ℕ) (gs : List Gate) (k : ℕ) (tape board : Lis
   pub shown : (i : ℕ) → i < conditionalCount gs → getD board i 0 ≡ (wire ws (conditionalGate gs i .a) + getD tape i 0) % 2
   pub closing : drop (conditionalCount gs) board ≡ outputsOf k ws
 
--- What two accepted runs of one list show of their inputs xs and ys, for wire tables and boards of any earlier contents.
-pub record Hidden (table : List ℕ) (k : ℕ) (xs ys vs ws bs ds : List ℕ) (gates conditional : ℕ) : Type 0 where
-  -- both runs answer the list's own G and C
-  pub own-gates : gates ≡ length (gatesOf table)
-  pub own-conditional : conditional ≡ conditionalCount (gatesOf table)
-  -- under every mask tape the first is accepted, has the wires of its inputs alone, and finishes its board
-  pub first-answer : (s : List ℕ) → MaskTape (gatesOf table) s → evaluated xs table k s vs bs .answer ≡ Accepted gates conditional
-  pub first-wires : (s : List ℕ) → MaskTape (gatesOf table) s → evaluated xs table k s vs bs .wires ≡ wiresOf xs (gatesOf table)
-  pub first-board : (s : List ℕ) → MaskTape (gatesOf table) s → Finished (wiresOf xs (gatesOf table)) (gatesOf table) k s (evaluated xs table k s vs bs .board)
-  -- and so is, has and does the second
-  pub second-answer : (t : List ℕ) → MaskTape (gatesOf table) t → evaluated ys table k t ws ds .answer ≡ Accepted gates conditional
-  pub second-wires : (t : List ℕ) → MaskTape (gatesOf table) t → evaluated ys table k t ws ds .wires ≡ wiresOf ys (gatesOf table)
-  pub second-board : (t : List ℕ) → MaskTape (gatesOf table) t → Finished (wiresOf ys (gatesOf table)) (gatesOf table) k t (evaluated ys table k t ws ds .board)
+-- What two boards of one list show of its inputs xs and ys. Shown bits and outputs follow from the wires, and the wires from the inputs and the list, never from a tape.
+pub record Hidden (gs : List Gate) (k : ℕ) (xs ys : List ℕ) : Type 0 where
+  -- under every mask tape both boards are finished
+  pub first-board : (s : List ℕ) → MaskTape gs s → Finished (wiresOf xs gs) gs k s (boardOf (wiresOf xs gs) gs k s)
+  pub second-board : (t : List ℕ) → MaskTape gs t → Finished (wiresOf ys gs) gs k t (boardOf (wiresOf ys gs) gs k t)
   -- whatever the first tape, exactly one second tape makes the boards equal in every byte
-  pub same-board : (s : List ℕ) → MaskTape (gatesOf table) s
-      → ExactlyOne (λ (t : List ℕ). MaskTape (gatesOf table) t × (evaluated xs table k s vs bs .board ≡ evaluated ys table k t ws ds .board))
+  pub same-board : (s : List ℕ) → MaskTape gs s
+      → ExactlyOne (λ (t : List ℕ). MaskTape gs t × (boardOf (wiresOf xs gs) gs k s ≡ boardOf (wiresOf ys gs) gs k t))
 
--- "For any two accepted runs of one [..] list, ours or a stranger's, with equal closing bytes".
+-- For any list of at least k gates, and any two inputs of it whose k outputs are equal.
 abbrev pub BoardHidesInputs : Type 0
 BoardHidesInputs =
-    (table : List ℕ) (k : ℕ) (xs ys s t vs ws bs ds : List ℕ) (gates conditional gates′ conditional′ : ℕ)
-    → length xs ≡ length ys
-    → evaluated xs table k s vs bs .answer ≡ Accepted gates conditional
-    → evaluated ys table k t ws ds .answer ≡ Accepted gates′ conditional′
-    → drop conditional (evaluated xs table k s vs bs .board) ≡ drop conditional′ (evaluated ys table k t ws ds .board)
-    → (gates ≡ gates′) × (conditional ≡ conditional′) × Hidden table k xs ys vs ws bs ds gates conditional
+    (gs : List Gate) (k : ℕ) (xs ys : List ℕ) → k ≤ length gs → outputsOf k (wiresOf xs gs) ≡ outputsOf k (wiresOf ys gs) → Hidden gs k xs ys

@@ -1,3 +1,4 @@
+pub mod Open
 pub mod Limits
 pub mod Kind
 pub mod Gate
@@ -5,6 +6,5 @@ pub mod Wires
 pub mod Board
 pub mod Test
 pub mod Step
-pub mod Evaluate
 pub mod Hiding
 pub mod HidingExample

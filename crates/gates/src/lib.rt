@@ -1,7 +1,7 @@
 // Gate lists: their table of kinds, their test, and their evaluation with a masked board.
 // This crate knows gates and wires, and nothing of juries.
-pub mod evaluate;
 pub mod kind;
+pub mod lengths;
 pub mod list;
 pub mod place;
 pub mod step;

@@ -9,9 +9,12 @@ use lib.Seq.{getD-take, getD-drop}
 use Rattle.jury.specs.declared.shape.Shape.{Shape}
 use Rattle.jury.specs.Shape.{ballotBytes}
 use Rattle.jury.specs.Ballots.{ones}
-use Rattle.jury.specs.Counts.{byteOf, countUpTo, countOf, tabulate, countsOf}
+use Rattle.jury.specs.Counts.{byteOf, countUpTo, countOf, tabulate, countsOf, countArray}
 use Rattle.jury.specs.Gauge.{sum}
+use Rattle.jury.specs.Inner.{rowsIn}
 use Rattle.jury.specs.Accepted.{AcceptedBallots}
+use Rattle.jury.proofs.Limits.{within}
+use Rattle.jury.proofs.Matrix.{array-rows}
 use Rattle.jury.proofs.BallotLaws.{row-within}
 use Rattle.jury.proofs.Tabulate.{length-tabulate, getD-tabulate, tabulate-cong}
 use Rattle.jury.proofs.Sums.{addend, sum-last, sum-add, sum-zero, sum-ones}
@@ -101,3 +104,7 @@ sum-up-to s xs a c hc (suc b) h =
 pub counts-sum : (s : Shape) (xs : List ℕ) → AcceptedBallots s xs → (c : ℕ) → c < s .candidates → sum (getD (countsOf s xs) c []) ≡ s .ballots
 unfolding countOf
 counts-sum s xs a c h = ap sum (counts-row s xs c h) ∙ sum-up-to s xs a c h (s .ballots) (omega arith)
+
+-- and so do those in the program's array
+pub array-sum : (s : Shape) (xs : List ℕ) → AcceptedBallots s xs → (c : ℕ) → c < s .candidates → sum (getD (rowsIn (s .candidates) (s .grades) (countArray s xs)) c []) ≡ s .ballots
+array-sum s xs a c h = ap (λ (m : List (List ℕ)). sum (getD m c [])) (array-rows s xs (within s (a .within))) ∙ counts-sum s xs a c h

@@ -4,6 +4,7 @@ pub mod Cases
 pub mod Tabulate
 pub mod Sums
 pub mod Limits
+pub mod Constructed
 pub mod WidthLaws
 pub mod BallotLaws
 pub mod AcceptedLaws

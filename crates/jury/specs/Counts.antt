@@ -1,10 +1,12 @@
 -- Grade counts: how many ballots give each candidate each grade.
+use mathlib.Core.Path.{_≡_}
 use mathlib.Core.Bool.{cond, _&&_}
 use mathlib.Core.List.{List, [], _∷_}
-use Prim.Native.Nat.{ℕ, zero, suc, _+_, _*_}
+use Prim.Native.Nat.{ℕ, zero, suc, _+_, _*_, _<_}
 use lib.Dec.{eqb, ltb}
 use lib.ListN.{getD}
 use Rattle.jury.specs.declared.shape.Shape.{Shape}
+use Rattle.jury.specs.Gauge.{sum}
 
 -- The byte of ballot b, candidate c and grade g: "A ballot is k rows of d bytes, candidate after candidate, best grade first. [..] Ballots follow each other without gaps".
 unfoldable pub byteOf : Shape → List ℕ → ℕ → ℕ → ℕ → ℕ
@@ -31,3 +33,7 @@ countsOf s xs = tabulate (s .candidates) (λ c. tabulate (s .grades) (countOf s 
 -- The same as the program keeps it, in an eight by seven array whose other entries are 0.
 unfoldable pub countArray : Shape → List ℕ → List (List ℕ)
 countArray s xs = tabulate 8 (λ c. tabulate 7 (λ g. cond (ltb c (s .candidates) && ltb g (s .grades)) (countOf s xs c g) 0))
+
+-- For each candidate the grade counts add up to n.
+abbrev pub AddUp : Shape → List (List ℕ) → Type 0
+AddUp s rows = (c : ℕ) → c < s .candidates → sum (getD rows c []) ≡ s .ballots

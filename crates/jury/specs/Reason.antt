@@ -5,6 +5,8 @@ use mathlib.Core.List.{List, [], _∷_}
 use Prim.Native.Nat.{ℕ}
 use Rattle.gates.specs.declared.place.Place.{Place}
 use Rattle.gates.specs.declared.place.Place.the-variants.{At, Nowhere}
+use Rattle.gates.specs.declared.list.Tested.{Tested}
+use Rattle.gates.specs.declared.list.Tested.the-variants as tested
 use Rattle.jury.specs.declared.reason.Refusal.{Refusal}
 use Rattle.jury.specs.declared.reason.Refusal.the-variants.{Shape, Table, Gate, BallotsLength, BallotByte, BallotRow, TapeLength, TapeByte, WiresLength, BoardLength}
 use Rattle.jury.specs.declared.shape.Shaped.{Shaped}
@@ -53,6 +55,14 @@ unless false number = some (reasonAt number 0)
 unfoldable pub foundAt : ℕ → Place → Option Reason
 foundAt number Nowhere = none
 foundAt number (At place) = some (reasonAt number place)
+
+-- Document 01's number and place for each answer of the gate layer's test of a list: 2 where its length is not that of a list of so many gates as there may be, 3 at the first bad gate.
+unfoldable pub listReason : Tested → Option Reason
+listReason (tested.Accepted gates conditional) = none
+listReason tested.PartOfAGate = some (reasonAt 2 0)
+listReason tested.TooFewGates = some (reasonAt 2 0)
+listReason tested.TooManyGates = some (reasonAt 2 0)
+listReason (tested.BadGate g) = some (reasonAt 3 g)
 
 -- "The first that applies is returned with its place".
 unfoldable pub firstOf : List (Option Reason) → Option Reason

@@ -40,6 +40,7 @@ use Rattle.tally.proofs.PlainFacts.{plain-first}
 use Rattle.tally.proofs.TestReasons.{never, orElse, TestPassed, test-passed}
 use Rattle.tally.proofs.RunReasons.{lentFound, lent-by, firstOfThree, run-first, said-refused, RunPassed, run-passed, ran-by}
 use Rattle.tally.proofs.Hiding.{ran-accepted, run-answer, run-wires, run-finished, run-closing, board-tells-no-more}
+use Rattle.tally.proofs.Numbering as numbering
 use Rattle.tally.proofs.OwnList.{own-list-holds}
 use Rattle.tally.proofs.Writing as writing
 
@@ -166,6 +167,11 @@ module _ (s : Shape) (table : List ℕ) (size : Size) (p : writing.WritePassed s
 memory : Memory
 memory =
     record {
+      measure-number = numbering.measure-number;
+      write-number = numbering.write-number;
+      test-number = numbering.test-number;
+      run-number = numbering.run-number;
+      count-number = numbering.count-number;
       write-refused = λ s table r e. writing.write-refused s table r (refused-reason s table r e) .1;
       write-length = writing.write-length;
       run-refused = λ s table ballots tape wires board r e. let q = ran-refused s table ballots tape wires board r e in (q .1, q .2);

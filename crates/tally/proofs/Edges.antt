@@ -14,14 +14,14 @@ use Rattle.gates.specs.declared.list.Tested.the-variants.{PartOfAGate, TooManyG
 use Rattle.gates.proofs.Accepting.{zeros, zeros-length, zeros-free, zeros-good, good-list-accepted, part-of-a-gate, too-many}
 use Rattle.jury.specs.declared.shape.Shape.{Shape}
 use Rattle.jury.specs.Shape.{withinLimits, ballotBytes}
-use Rattle.jury.specs.Reason.{Reason, reasonAt, unless, foundAt, firstOf}
+use Rattle.jury.specs.Reason.{Reason, reasonAt, unless, foundAt, listReason, firstOf}
 use Rattle.jury.specs.Ballots.{ones, rowsOf, firstBadRow, ballotReasons}
 use Rattle.jury.specs.Counts.{byteOf, countUpTo, countOf, tabulate, countsOf}
 use Rattle.jury.specs.Gauge.{sum, medianFrom, medianOf, pOf, qOf, betterMedian, equalMedians, strongerMedian, largerP, smallerQ, beats, beatsAll, closingFrom, closingOf, eightBytes}
 use Rattle.jury.proofs.Limits.{within}
 use Rattle.tally.specs.Count.{countReason, closingAfter, plainClosing}
 use Rattle.tally.specs.Answer.{refused as turnedAway, accepted}
-use Rattle.tally.specs.Test.{listReason, testSaid}
+use Rattle.tally.specs.Test.{testSaid}
 use Rattle.tally.proofs.TestReasons.{list-refused, list-accepted}
 
 pub record Edge : Type 0 where

@@ -2,9 +2,12 @@ pub mod CountReason
 pub mod PlainFacts
 pub mod Edges
 pub mod TestReasons
+pub mod Outside
+pub mod Numbering
 pub mod RunReasons
 pub mod Hiding
 pub mod OwnList
 pub mod Writing
 pub mod Demands
 pub mod OwnRun
+pub mod Examples

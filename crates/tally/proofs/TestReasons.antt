@@ -15,9 +15,9 @@ use Rattle.gates.specs.declared.list.Tested.the-variants.{Accepted, PartOfAGate
 use Rattle.gates.proofs.Evaluating.{accepted-list}
 use Rattle.jury.specs.declared.shape.Shape.{Shape}
 use Rattle.jury.specs.Shape.{withinLimits, ballotBytes}
-use Rattle.jury.specs.Reason.{Reason, reasonAt, unless, firstOf}
+use Rattle.jury.specs.Reason.{Reason, reasonAt, unless, listReason, firstOf}
 use Rattle.tally.specs.Answer.{Said, refused, accepted, said, Size, sizeOf}
-use Rattle.tally.specs.Test.{listReason, testReasons, testSaid}
+use Rattle.tally.specs.Test.{testReasons, testSaid}
 
 -- the first reason of tests one after the other
 unfoldable pub orElse : Option Reason → Option Reason → Option Reason

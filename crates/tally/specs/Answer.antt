@@ -1,7 +1,9 @@
 -- What the entry points answer, in document 01's terms.
 use mathlib.Core.Option.{Option, none, some}
-use mathlib.Core.List.{List}
+use mathlib.Core.Bool.{Bool, false, _||_}
+use mathlib.Core.List.{List, [], _∷_}
 use Prim.Native.Nat.{ℕ}
+use lib.Dec.{eqb}
 use lib.ListN.{length}
 use Rattle.gates.specs.Gate.{Gate}
 use Rattle.gates.specs.Board.{conditionalCount}
@@ -18,6 +20,11 @@ pub data Said (Values : Type 0) : Type 0 where
 unfoldable pub said : {Values : Type 0} → Option Reason → Values → Said Values
 said (some r) values = refused r
 said none values = accepted values
+
+-- Whether a reason has one of these numbers.
+unfoldable pub hasNumberIn : List ℕ → Reason → Bool
+hasNumberIn [] r = false
+hasNumberIn (n ∷ ns) r = eqb (r .number) n || hasNumberIn ns r
 
 -- "Accepted writing, testing and running give G and C".
 pub record Size : Type 0 where

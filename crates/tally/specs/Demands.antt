@@ -1,8 +1,10 @@
 -- The three demands side by side, over the definitions that the entry points' contracts equate with the program's answers and with all that is lent. That every entry point ends, and reads and writes lent memory only inside its length, is part of what is proved of every function.
 use mathlib.Core.Path.{_≡_}
 use mathlib.Core.Logic.{_≢_, _↔_}
-use mathlib.Core.List.{List}
+use mathlib.Core.Option.{some}
+use mathlib.Core.List.{List, [], _∷_}
 use Prim.Native.Nat.{ℕ, _+_, _*_, _<_}
+use lib.Dec.{T}
 use lib.ListN.{length, getD, take}
 use Rattle.gates.specs.Gate.{gatesOf}
 use Rattle.gates.specs.Board.{conditionalCount, MaskTape}
@@ -12,14 +14,22 @@ use Rattle.jury.specs.Reason.{Reason}
 use Rattle.jury.specs.Accepted.{AcceptedBallots}
 use Rattle.jury.specs.Counts.{countsOf}
 use Rattle.jury.specs.Winner.{BeatsOthers}
-use Rattle.tally.specs.Answer.{refused, accepted, Size}
-use Rattle.tally.specs.Count.{plainClosing}
+use Rattle.tally.specs.Answer.{refused, accepted, hasNumberIn, Size}
+use Rattle.tally.specs.Count.{countReason, plainClosing}
+use Rattle.tally.specs.Measure.{measureSaid}
+use Rattle.tally.specs.Test.{testSaid}
 use Rattle.tally.specs.Write.{writeSaid, written}
 use Rattle.tally.specs.Run.{ran}
 use Rattle.tally.specs.Hiding.{closingBytes, BoardTellsNoMore}
 
--- Demand 1: "a refusal gives a number and a place and alters no lent byte", and no call changes a length.
+-- Demand 1: a refusal's number is that of a reason which concerns the entry point, a refusal alters no lent byte, and no call changes a length.
 pub record Memory : Type 0 where
+  pub measure-number : (s : Shape) (r : Reason) → measureSaid s ≡ refused r → T (hasNumberIn (1 ∷ []) r)
+  pub write-number : (s : Shape) (table : List ℕ) (r : Reason) → writeSaid s table ≡ refused r → T (hasNumberIn (1 ∷ 2 ∷ []) r)
+  pub test-number : (s : Shape) (table : List ℕ) (r : Reason) → testSaid s table ≡ refused r → T (hasNumberIn (1 ∷ 2 ∷ 3 ∷ []) r)
+  pub run-number : (s : Shape) (table ballots tape wires board : List ℕ) (r : Reason) → ran s table ballots tape wires board .answer ≡ refused r
+      → T (hasNumberIn (1 ∷ 2 ∷ 3 ∷ 4 ∷ 5 ∷ 6 ∷ 7 ∷ 8 ∷ 9 ∷ 10 ∷ []) r)
+  pub count-number : (s : Shape) (ballots : List ℕ) (r : Reason) → countReason s ballots ≡ some r → T (hasNumberIn (1 ∷ 4 ∷ 5 ∷ 6 ∷ []) r)
   pub write-refused : (s : Shape) (table : List ℕ) (r : Reason) → writeSaid s table ≡ refused r → written s table ≡ table
   pub write-length : (s : Shape) (table : List ℕ) → length (written s table) ≡ length table
   pub run-refused : (s : Shape) (table ballots tape wires board : List ℕ) (r : Reason) → ran s table ballots tape wires board .answer ≡ refused r

@@ -22,16 +22,16 @@ fn test_lent(
 ) -> Verdict
     ensures { λ r. ⌜ refusedFor r ≡ firstOf (lentReasons inputs outputs (record { gates = gates; conditional = conditional }) (now (tape .entry)) (now (wires .entry)) (now (board .entry))) ⌝ }
 {
-    if !gates::evaluate::has_length(tape, conditional, 0) {
+    if !gates::lengths::has_length(tape, conditional, 0) {
         return Verdict::Refused(Refusal::TapeLength);
     }
     if let Place::At(i) = gates::place::first_above_one(tape) {
         return Verdict::Refused(Refusal::TapeByte(i));
     }
-    if !gates::evaluate::has_length(wires, inputs, gates) {
+    if !gates::lengths::has_length(wires, inputs, gates) {
         return Verdict::Refused(Refusal::WiresLength);
     }
-    if !gates::evaluate::has_length(board, conditional, outputs) {
+    if !gates::lengths::has_length(board, conditional, outputs) {
         return Verdict::Refused(Refusal::BoardLength);
     }
     Verdict::Accepted

@@ -4,7 +4,7 @@ use mathlib.Core.Bool.{Bool, false}
 use mathlib.Core.List.{List}
 use mathlib.Core.Path.{_≡_, sym, ap}
 use lib.ListN.{getD, List·getD-eq-default}
-use Rattle.gates.specs.Kind.{conditionalMarks, conditionalOf}
+use Rattle.gates.specs.Open.Kind.{conditionalMarks, conditionalOf}
 use borrow.Author.Needs.{needs}
 use Rattle.gates.proofs.kind.conditional.Statement.{statement}
 use Rattle.gates.proofs.kind.conditional.Tie as tie

@@ -4,7 +4,7 @@ use mathlib.Core.List.{List}
 use mathlib.Core.Path.{_≡_, sym, ap}
 use Prim.Native.Nat.{ℕ}
 use lib.ListN.{getD, List·getD-eq-default}
-use Rattle.gates.specs.Kind.{operandCounts, operandsOf}
+use Rattle.gates.specs.Open.Kind.{operandCounts, operandsOf}
 use borrow.Author.Needs.{needs}
 use Rattle.gates.proofs.kind.operands.Statement.{statement}
 use Rattle.gates.proofs.kind.operands.Tie as tie

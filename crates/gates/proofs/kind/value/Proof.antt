@@ -7,7 +7,7 @@ use Prim.Native.Nat.{ℕ, _-_, min, max}
 use lib.Dec.{ltb}
 use lib.ListN.{List·getD-eq-default}
 use borrow.Author.Tests.{ltb-false}
-use Rattle.gates.specs.Kind.{applied, valueOf, differ, choose}
+use Rattle.gates.specs.Open.Kind.{applied, valueOf, differ, choose}
 use Rattle.gates.specs.declared.kind.Applied.{Applied}
 use Rattle.gates.specs.declared.kind.Applied.the-variants.{Value, NoSuchKind}
 use borrow.Author.Needs.{needs}

@@ -6,8 +6,8 @@ use Prim.Native.Nat.{ℕ, _+_, _<_, _≤_}
 use native.Mathlib.Omega.{arith}
 use lib.Dec.{ltb, eqb}
 use borrow.Author.Tests.{lt-ltb, le-ltb}
-use Rattle.gates.specs.Kind.{operandsOf}
-use Rattle.gates.specs.Test.{goodOperand, goodGate}
+use Rattle.gates.specs.Open.Kind.{operandsOf}
+use Rattle.gates.specs.Open.Test.{goodOperand, goodGate}
 use Rattle.gates.proofs.Applying.{has-value, has-no-value}
 use borrow.Author.Needs.{needs}
 use Rattle.gates.proofs.list.gate_is_good.Statement.{statement}

@@ -4,7 +4,7 @@ use Prim.Native.Nat.{_/_, _%_}
 use lib.ListN.{length}
 use borrow.Author.Needs.{needs}
 use borrow.Author.Tests.{eq-eqb, ne-eqb, lt-ltb, le-ltb}
-use Rattle.gates.specs.Test.{tested}
+use Rattle.gates.specs.Open.Test.{tested}
 use Rattle.gates.proofs.list.test.Statement.{statement}
 use Rattle.gates.proofs.list.test.Tie as tie
 

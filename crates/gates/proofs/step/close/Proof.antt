@@ -7,7 +7,7 @@ use native.Mathlib.Omega.{arith}
 use lib.ListN.{length, take, drop, length-take, length-drop, drop-of-length-le}
 use lib.Seq.{take-all, take-length}
 use borrow.Author.Needs.{needs}
-use Rattle.gates.specs.Wires.{outputsOf}
+use Rattle.gates.specs.Open.Wires.{outputsOf}
 use Rattle.gates.proofs.step.close.Statement.{statement}
 use Rattle.gates.proofs.step.close.Tie as tie
 

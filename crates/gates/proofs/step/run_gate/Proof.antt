@@ -7,11 +7,11 @@ use Prim.Native.Nat.{ℕ, _+_, _*_}
 use native.Mathlib.Omega.{arith}
 use lib.ListN.{getD, set}
 use borrow.Author.Needs.{needs}
-use Rattle.gates.specs.Kind.{conditionalOf}
-use Rattle.gates.specs.Gate.{Gate}
-use Rattle.gates.specs.Wires.{wire, value}
-use Rattle.gates.specs.Board.{conditionalCount, shownBit}
-use Rattle.gates.specs.Step.{gateAt}
+use Rattle.gates.specs.Open.Kind.{conditionalOf}
+use Rattle.gates.specs.Open.Gate.{Gate}
+use Rattle.gates.specs.Open.Wires.{wire, value}
+use Rattle.gates.specs.Open.Board.{conditionalCount, shownBit}
+use Rattle.gates.specs.Open.Step.{gateAt}
 use Rattle.gates.proofs.Counting.{count-one}
 use Rattle.gates.proofs.Goodness.{GoodGate, good-gate}
 use Rattle.gates.proofs.step.run_gate.Statement.{statement}

@@ -5,8 +5,8 @@ use Prim.Native.Nat.{_+_, _-_}
 use native.Mathlib.Numerals.{add-one}
 use native.Mathlib.Omega.{arith}
 use lib.ListN.{length}
-use Rattle.gates.specs.Board.{conditionalCount}
-use Rattle.gates.specs.Step.{rangeOf, stepWires, stepBoard}
+use Rattle.gates.specs.Open.Board.{conditionalCount}
+use Rattle.gates.specs.Open.Step.{rangeOf, stepWires, stepBoard}
 use Rattle.gates.proofs.Stepping.{Left, next-ready, left-turn, left-as, left-end}
 use Rattle.gates.proofs.step.step.Statement.{statement}
 use Rattle.gates.proofs.step.step.Tie as tie

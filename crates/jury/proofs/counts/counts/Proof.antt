@@ -1,19 +1,21 @@
 -- `jury::counts::counts` meets its contract: after b turns the array holds the counts of the first b ballots.
 -- Assumes nothing.
 use mathlib.Core.Path.{_≡_, _∙_, sym, ap}
-use mathlib.Core.List.{List}
+use mathlib.Core.List.{List, []}
 use Prim.Native.Nat.{ℕ, _+_, _-_, _*_, _≤_}
 use native.Mathlib.Nat.{add-sub-cancel-left, zero-mul, suc-mul, mul-assoc}
 use native.Mathlib.Numerals.{add-one}
 use native.Mathlib.Omega.{arith}
-use lib.ListN.{length, take, drop, length-take, length-drop}
+use lib.ListN.{length, getD, take, drop, length-take, length-drop}
 use Rattle.jury.specs.declared.shape.Shape.{Shape}
 use Rattle.jury.specs.Shape.{ballotBytes}
 use Rattle.jury.specs.Counts.{tabulate}
-use Rattle.jury.specs.Inner.{plusBallot}
+use Rattle.jury.specs.Gauge.{sum}
+use Rattle.jury.specs.Inner.{rowsIn, plusBallot}
 use Rattle.jury.proofs.Limits.{within}
 use Rattle.jury.proofs.BallotLaws.{row-within}
 use Rattle.jury.proofs.CountLaws.{arrayAfter, read-most, array-start, array-step, array-end}
+use Rattle.jury.proofs.CountFacts.{array-sum}
 use Rattle.jury.proofs.counts.counts.Statement.{statement}
 use Rattle.jury.proofs.counts.counts.Tie as tie
 
@@ -107,7 +109,8 @@ returns c =
     let start = at .before .before in
     let s = start .args .shape in
     let xs = start .args .ballots .now in
-    at .loop .inv .2 ∙ ap (arrayAfter s xs) {x = at .loop .b} {y = s .ballots} (omega arith) ∙ array-end s xs
+    let e = at .loop .inv .2 ∙ ap (arrayAfter s xs) {x = at .loop .b} {y = s .ballots} (omega arith) ∙ array-end s xs in
+    (e, λ i h. ap (λ (m : List (List ℕ)). sum (getD (rowsIn (s .candidates) (s .grades) m) i [])) e ∙ array-sum s xs (start .pre) i h)
 
 pub counts-spec : {M : Type 1} → statement M
 counts-spec =

@@ -83,7 +83,7 @@ returns-3 c =
     let e : countReason s xs ≡ none = within-reason s xs (limits passed) ∙ no-reason told in (
       sym e,
       c .winners .ensures
-          ∙ ap (λ (m : List (List ℕ)). eightBytes (closingOf (rowsIn (s .candidates) (s .grades) m))) (c .before .counts .ensures)
+          ∙ ap (λ (m : List (List ℕ)). eightBytes (closingOf (rowsIn (s .candidates) (s .grades) m))) (c .before .counts .ensures .0)
           ∙ ap (λ (m : List (List ℕ)). eightBytes (closingOf m)) (array-rows s xs (within s (limits passed)))
           ∙ sym (ap (λ (r : Option Reason). closingAfter r (closingOf (countsOf s xs))) e),
     )

@@ -7,10 +7,10 @@ use borrow.Author.Needs.{needs}
 use borrow.Author.Tests.{not-true, not-false}
 use Rattle.gates.specs.Test.{tested}
 use Rattle.jury.specs.Shape.{withinLimits, ballotBytes}
-use Rattle.jury.specs.Reason.{reasonOf, reasonAt}
+use Rattle.jury.specs.Reason.{reasonOf, reasonAt, listReason}
 use Rattle.jury.proofs.Flags.{true-T}
 use Rattle.tally.specs.Answer.{saidBy}
-use Rattle.tally.specs.Test.{listReason}
+use Rattle.tally.specs.Test.{}
 use Rattle.tally.proofs.TestReasons.{outside-list, list-refused, list-accepted}
 use Rattle.tally.proofs.test.test.Statement.{statement}
 use Rattle.tally.proofs.test.test.Tie as tie

@@ -1,4 +1,4 @@
--- `gates::evaluate::has_length` meets its contract: the rest of the length is the second number exactly where the whole is the sum.
+-- `gates::lengths::has_length` meets its contract: the rest of the length is the second number exactly where the whole is the sum.
 -- Assumes nothing.
 use mathlib.Core.Path.{_≡_, sym}
 use Prim.Native.Nat.{_+_}
@@ -7,8 +7,8 @@ use native.Mathlib.Omega.{arith}
 use borrow.Author.Tests.{ne-eqb}
 use Rattle.gates.proofs.Tests.{rest-eqb}
 use borrow.Author.Needs.{needs}
-use Rattle.gates.proofs.evaluate.has_length.Statement.{statement}
-use Rattle.gates.proofs.evaluate.has_length.Tie as tie
+use Rattle.gates.proofs.lengths.has_length.Statement.{statement}
+use Rattle.gates.proofs.lengths.has_length.Tie as tie
 
 sub-result : tie.Need-sub-result
 sub-result c = search needs

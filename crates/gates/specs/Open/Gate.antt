@@ -1,0 +1,23 @@
+-- Gates, and the table of numbers that holds a list of them.
+use mathlib.Core.List.{List, [], _∷_}
+use Prim.Native.Nat.{ℕ}
+
+-- "A gate is four 32-bit numbers: kind, a, b, c."
+pub record Gate : Type 0 where
+  pub kind : ℕ
+  pub a : ℕ
+  pub b : ℕ
+  pub c : ℕ
+
+-- The gates of a table, four numbers each. One to three numbers left over at its end make no gate.
+unfoldable pub gatesOf : List ℕ → List Gate
+gatesOf [] = []
+gatesOf (k ∷ []) = []
+gatesOf (k ∷ a ∷ []) = []
+gatesOf (k ∷ a ∷ b ∷ []) = []
+gatesOf (k ∷ a ∷ b ∷ c ∷ t) = record { kind = k; a = a; b = b; c = c } ∷ gatesOf t
+
+-- The numbers of a list of gates, as a table holds them.
+unfoldable pub numbersOf : List Gate → List ℕ
+numbersOf [] = []
+numbersOf (g ∷ gs) = g .kind ∷ g .a ∷ g .b ∷ g .c ∷ numbersOf gs

@@ -1,0 +1,55 @@
+-- The evaluating step: a range of a list's gates, over wires and shown bits that are there already.
+use mathlib.Core.Path.{_≡_}
+use mathlib.Core.List.{List, [], _∷_, _++_}
+use Prim.Native.Nat.{ℕ, _+_, _-_, _*_, _≤_, _<_}
+use lib.Dec.{T}
+use lib.ListN.{length, getD, take, drop}
+use lib.Seq.{sets}
+use Rattle.gates.specs.Open.Gate.{Gate, gatesOf}
+use Rattle.gates.specs.Open.Wires.{wiresOf}
+use Rattle.gates.specs.Open.Board.{conditionalCount, shownBits}
+use Rattle.gates.specs.Open.Test.{goodGate, firstBad}
+use Rattle.gates.specs.declared.place.Place.the-variants.{Nowhere}
+
+-- The gates of a table from one number up to, not including, another.
+unfoldable pub rangeOf : List ℕ → ℕ → ℕ → List Gate
+rangeOf table from to = take (to - from) (drop from (gatesOf table))
+
+-- What the step asks of its caller: a range of good gates, room for their wires, and a tape and a board that reach as far as their shown bits.
+pub record StepReady (inputs : ℕ) (table : List ℕ) (from to : ℕ) (tape : List ℕ) (shown : ℕ) (ws board : List ℕ) : Type 0 where
+  pub order : from ≤ to
+  pub inTable : to ≤ length (gatesOf table)
+  pub good : firstBad inputs from (rangeOf table from to) ≡ Nowhere
+  pub inWires : inputs + to ≤ length ws
+  pub inTape : shown + conditionalCount (rangeOf table from to) ≤ length tape
+  pub inBoard : shown + conditionalCount (rangeOf table from to) ≤ length board
+
+-- The wire table after the step: the wires that were there, those of the range, and what stood behind them.
+unfoldable pub stepWires : ℕ → List ℕ → ℕ → ℕ → List ℕ → List ℕ
+stepWires inputs table from to ws = wiresOf (take (inputs + from) ws) (rangeOf table from to) ++ drop (inputs + to) ws
+
+-- The board after the step: the range's shown bits stand from the number of those before them on.
+unfoldable pub stepBoard : ℕ → List ℕ → ℕ → ℕ → List ℕ → ℕ → List ℕ → List ℕ → List ℕ
+stepBoard inputs table from to tape shown ws board =
+    sets board shown (shownBits (stepWires inputs table from to ws) (rangeOf table from to) (drop shown tape))
+
+-- What the run of a whole list asks of its caller: what the tests of the list, the tape, the wire table and the board establish.
+pub record RunReady (inputs table : List ℕ) (k : ℕ) (tape ws board : List ℕ) : Type 0 where
+  pub enough : k ≤ length (gatesOf table)
+  pub good : firstBad (length inputs) 0 (gatesOf table) ≡ Nowhere
+  pub tapeLength : length tape ≡ conditionalCount (gatesOf table)
+  pub wiresLength : length ws ≡ length inputs + length (gatesOf table)
+  pub boardLength : length board ≡ conditionalCount (gatesOf table) + k
+
+-- Gate g of a table, by the places of its four numbers.
+unfoldable pub gateAt : List ℕ → ℕ → Gate
+gateAt table g =
+    record { kind = getD table (4 * g) 0; a = getD table (4 * g + 1) 0; b = getD table (4 * g + 2) 0; c = getD table (4 * g + 3) 0 }
+
+-- What one gate of the step asks: it is in the table and good for its own wire, and its wire, tape byte and board byte are there.
+pub record GateReady (table : List ℕ) (g own : ℕ) (tape : List ℕ) (shown : ℕ) (ws board : List ℕ) : Type 0 where
+  pub inTable : 4 * g + 3 < length table
+  pub good : T (goodGate own (gateAt table g))
+  pub inWires : own < length ws
+  pub inTape : shown + conditionalCount (gateAt table g ∷ []) ≤ length tape
+  pub inBoard : shown + conditionalCount (gateAt table g ∷ []) ≤ length board

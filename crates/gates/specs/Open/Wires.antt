@@ -1,0 +1,23 @@
+-- The values that run along the wires.
+use mathlib.Core.List.{List, [], _∷_, _++_}
+use Prim.Native.Nat.{ℕ, _-_}
+use lib.ListN.{length, getD, drop}
+use Rattle.gates.specs.Open.Kind.{valueOf}
+use Rattle.gates.specs.Open.Gate.{Gate}
+
+-- The value of wire i. A wire that there is not counts as 0.
+unfoldable pub wire : List ℕ → ℕ → ℕ
+wire ws i = getD ws i 0
+
+-- The value of a gate whose operands name the wires ws.
+unfoldable pub value : List ℕ → Gate → ℕ
+value ws g = valueOf (g .kind) (wire ws (g .a)) (wire ws (g .b)) (wire ws (g .c))
+
+-- "Gate g, counted from 0, makes wire I + g": each gate adds one wire to those before it. The first wires are the inputs.
+unfoldable pub wiresOf : List ℕ → List Gate → List ℕ
+wiresOf ws [] = ws
+wiresOf ws (g ∷ gs) = wiresOf (ws ++ (value ws g ∷ [])) gs
+
+-- "the wires of the last k gates, in order. They are the closing bytes": the last k wires are the outputs.
+unfoldable pub outputsOf : ℕ → List ℕ → List ℕ
+outputsOf k ws = drop (length ws - k) ws

@@ -1,0 +1,136 @@
+-- The first reason of a list of tests has one of the numbers of these tests.
+-- Assumes nothing.
+use mathlib.Core.Path.{_≡_, subst}
+use mathlib.Core.Bool.{Bool, true, false}
+use mathlib.Core.Option.{Option, none, some}
+use mathlib.Core.List.{List, [], _∷_, _++_}
+use Prim.Native.Nat.{ℕ}
+use lib.Dec.{T}
+use Rattle.gates.specs.Gate.{Gate, gatesOf}
+use Rattle.gates.specs.declared.place.Place.{Place}
+use Rattle.gates.specs.declared.place.Place.the-variants.{At, Nowhere}
+use Rattle.gates.specs.declared.list.Tested.{Tested}
+use Rattle.gates.specs.declared.list.Tested.the-variants.{Accepted, PartOfAGate, TooFewGates, TooManyGates, BadGate}
+use Rattle.jury.specs.declared.shape.Shape.{Shape}
+use Rattle.jury.specs.Shape.{withinLimits, ballotBytes}
+use Rattle.jury.specs.Reason.{Reason, reasonAt, unless, foundAt, listReason, firstOf}
+use Rattle.jury.specs.Ballots.{ballotReasons}
+use Rattle.circuit.specs.OwnList.{ownList}
+use Rattle.tally.specs.Answer.{Said, refused, accepted, said, hasNumberIn, Size, sizeOf}
+use Rattle.tally.specs.Count.{countReason}
+use Rattle.tally.specs.Measure.{measuresOf, measureSaid}
+use Rattle.tally.specs.Run.{lentReasons, runReasons, ranAfter, ran}
+use Rattle.tally.specs.Test.{testReasons, testSaid}
+use Rattle.tally.specs.Write.{writeReasons, writeSaid}
+
+-- no reason, or one of these numbers
+Fine : List ℕ → Option Reason → Type 0
+Fine ns none = Unit {0}
+Fine ns (some r) = T (hasNumberIn ns r)
+
+All : List ℕ → List (Option Reason) → Type 0
+All ns [] = Unit {0}
+All ns (o ∷ os) = Fine ns o × All ns os
+
+FineSaid : {Values : Type 0} → List ℕ → Said Values → Type 0
+FineSaid ns (refused r) = T (hasNumberIn ns r)
+FineSaid ns (accepted v) = Unit {0}
+
+module _ (ns : List ℕ) where
+  first-fine : (os : List (Option Reason)) → All ns os → Fine ns (firstOf os)
+  unfolding All Fine firstOf
+  first-fine [] a = tt
+  first-fine (none ∷ os) a = first-fine os (a .1)
+  first-fine (some r ∷ os) a = a .0
+
+  both : (os qs : List (Option Reason)) → All ns os → All ns qs → All ns (os ++ qs)
+  unfolding All
+  both [] qs a b = b
+  both (o ∷ os) qs a b = (a .0, both os qs (a .1) b)
+
+  unless-fine : (t : Bool) (n : ℕ) → T (hasNumberIn ns (reasonAt n 0)) → Fine ns (unless t n)
+  unfolding Fine unless
+  unless-fine true n h = tt
+  unless-fine false n h = h
+
+  found-fine : (n : ℕ) (p : Place) → ((i : ℕ) → T (hasNumberIn ns (reasonAt n i))) → Fine ns (foundAt n p)
+  unfolding Fine foundAt
+  found-fine n Nowhere h = tt
+  found-fine n (At i) h = h i
+
+  list-fine : (t : Tested) → T (hasNumberIn ns (reasonAt 2 0)) → ((g : ℕ) → T (hasNumberIn ns (reasonAt 3 g))) → Fine ns (listReason t)
+  unfolding Fine listReason
+  list-fine (Accepted gates conditional) two three = tt
+  list-fine PartOfAGate two three = two
+  list-fine TooFewGates two three = two
+  list-fine TooManyGates two three = two
+  list-fine (BadGate g) two three = three g
+
+  said-fine : {Values : Type 0} (o : Option Reason) (values : Values) → Fine ns o → FineSaid ns (said o values)
+  unfolding Fine FineSaid said
+  said-fine none values f = tt
+  said-fine (some r) values f = f
+
+  refused-fine : {Values : Type 0} (answer : Said Values) (r : Reason) → FineSaid ns answer → answer ≡ refused r → T (hasNumberIn ns r)
+  unfolding FineSaid
+  refused-fine answer r f e = subst (FineSaid ns) e f
+
+-- every reason of a run
+all : List ℕ
+all = 1 ∷ 2 ∷ 3 ∷ 4 ∷ 5 ∷ 6 ∷ 7 ∷ 8 ∷ 9 ∷ 10 ∷ []
+
+pub measure-number : (s : Shape) (r : Reason) → measureSaid s ≡ refused r → T (hasNumberIn (1 ∷ []) r)
+unfolding measureSaid All hasNumberIn reasonAt
+measure-number s r e =
+    refused-fine (1 ∷ []) (measureSaid s) r (said-fine (1 ∷ []) _ (measuresOf s) (first-fine (1 ∷ []) (unless (withinLimits s) 1 ∷ []) (unless-fine (1 ∷ []) _ 1 tt, tt))) e
+
+pub write-number : (s : Shape) (table : List ℕ) (r : Reason) → writeSaid s table ≡ refused r → T (hasNumberIn (1 ∷ 2 ∷ []) r)
+unfolding writeSaid writeReasons All hasNumberIn reasonAt
+write-number s table r e =
+    let ns : List ℕ = 1 ∷ 2 ∷ [] in
+    refused-fine ns (writeSaid s table) r (said-fine ns _ (sizeOf (ownList s)) (first-fine ns (writeReasons s table) (unless-fine ns _ 1 tt, (unless-fine ns _ 2 tt, tt)))) e
+
+pub test-number : (s : Shape) (table : List ℕ) (r : Reason) → testSaid s table ≡ refused r → T (hasNumberIn (1 ∷ 2 ∷ 3 ∷ []) r)
+unfolding testSaid testReasons All hasNumberIn reasonAt
+test-number s table r e =
+    let ns : List ℕ = 1 ∷ 2 ∷ 3 ∷ [] in
+    refused-fine ns (testSaid s table) r (said-fine ns _ (sizeOf (gatesOf table)) (first-fine ns (testReasons s table) (unless-fine ns _ 1 tt, (list-fine ns _ tt (λ g. tt), tt)))) e
+
+pub count-number : (s : Shape) (ballots : List ℕ) (r : Reason) → countReason s ballots ≡ some r → T (hasNumberIn (1 ∷ 4 ∷ 5 ∷ 6 ∷ []) r)
+unfolding Fine countReason ballotReasons All hasNumberIn reasonAt
+count-number s ballots r e =
+    let ns : List ℕ = 1 ∷ 4 ∷ 5 ∷ 6 ∷ [] in
+    subst (Fine ns) e
+    (first-fine ns (unless (withinLimits s) 1 ∷ ballotReasons s ballots)
+    (unless-fine ns _ 1 tt, (unless-fine ns _ 4 tt, (found-fine ns 5 _ (λ i. tt), (found-fine ns 6 _ (λ i. tt), tt)))))
+
+test-all : (s : Shape) (table : List ℕ) → All all (testReasons s table)
+unfolding All testReasons hasNumberIn reasonAt all
+test-all s table = (unless-fine all _ 1 tt, (list-fine all _ tt (λ g. tt), tt))
+
+ballots-all : (s : Shape) (xs : List ℕ) → All all (ballotReasons s xs)
+unfolding All ballotReasons hasNumberIn reasonAt all
+ballots-all s xs = (unless-fine all _ 4 tt, (found-fine all 5 _ (λ i. tt), (found-fine all 6 _ (λ i. tt), tt)))
+
+lent-all : (i k : ℕ) (size : Size) (tape wires board : List ℕ) → All all (lentReasons i k size tape wires board)
+unfolding All lentReasons hasNumberIn reasonAt all
+lent-all i k size tape wires board = (unless-fine all _ 7 tt, (found-fine all 8 _ (λ i. tt), (unless-fine all _ 9 tt, (unless-fine all _ 10 tt, tt))))
+
+run-all : (s : Shape) (table ballots tape wires board : List ℕ) → All all (runReasons s table ballots tape wires board)
+unfolding runReasons
+run-all s table ballots tape wires board =
+    both all (testReasons s table ++ ballotReasons s ballots) (lentReasons (ballotBytes s) (s .candidates) (sizeOf (gatesOf table)) tape wires board)
+    (both all (testReasons s table) (ballotReasons s ballots) (test-all s table) (ballots-all s ballots))
+    (lent-all (ballotBytes s) (s .candidates) (sizeOf (gatesOf table)) tape wires board)
+
+ran-fine : (o : Option Reason) (s : Shape) (gs : List Gate) (ballots tape wires board : List ℕ) → Fine all o → FineSaid all (ranAfter o s gs ballots tape wires board .answer)
+unfolding Fine FineSaid ranAfter
+ran-fine none s gs ballots tape wires board f = tt
+ran-fine (some r) s gs ballots tape wires board f = f
+
+pub run-number : (s : Shape) (table ballots tape wires board : List ℕ) (r : Reason) → ran s table ballots tape wires board .answer ≡ refused r
+    → T (hasNumberIn (1 ∷ 2 ∷ 3 ∷ 4 ∷ 5 ∷ 6 ∷ 7 ∷ 8 ∷ 9 ∷ 10 ∷ []) r)
+unfolding ran all
+run-number s table ballots tape wires board r e =
+    refused-fine all (ran s table ballots tape wires board .answer) r
+    (ran-fine _ s (gatesOf table) ballots tape wires board (first-fine all (runReasons s table ballots tape wires board) (run-all s table ballots tape wires board))) e
