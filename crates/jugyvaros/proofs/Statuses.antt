@@ -1,136 +1,82 @@
--- The entry points' reasons are document 01's numbers.
+-- No reason has the number of an answer array that is too short, by the numbers of the reasons that concern each entry point.
 -- Assumes nothing.
-use mathlib.Core.Path.{_≡_, subst}
-use mathlib.Core.Bool.{Bool, true, false}
+use mathlib.Core.Path.{_≡_, _∙_, refl, sym}
+use mathlib.Core.Bool.{Bool, true, false, _||_}
 use mathlib.Core.Option.{Option, none, some}
-use mathlib.Core.List.{List, [], _∷_, _++_}
-use Prim.Native.Nat.{ℕ, _≤_}
+use mathlib.Core.List.{List, [], _∷_}
+use Prim.Native.Nat.{ℕ, _<_, _≤_}
 use native.Mathlib.Omega.{arith}
-use Rattle.gates.specs.declared.place.Place.{Place}
-use Rattle.gates.specs.declared.place.Place.the-variants.{At, Nowhere}
-use Rattle.gates.specs.declared.list.Tested.{Tested}
-use Rattle.gates.specs.declared.list.Tested.the-variants.{Accepted, PartOfAGate, TooFewGates, TooManyGates, BadGate}
+use lib.Dec.{T, eqb, ltb}
+use lib.ListN.{length}
+use borrow.Author.Tests.{eqb-true, ltb-true, ltb-false}
 use Rattle.jury.specs.declared.shape.Shape.{Shape}
-use Rattle.jury.specs.Shape.{withinLimits, ballotBytes}
-use Rattle.jury.specs.Reason.{Reason, unless, foundAt, firstOf, reasonAt}
-use Rattle.jury.specs.Ballots.{ballotReasons}
-use Rattle.gates.specs.Gate.{Gate, gatesOf}
-use Rattle.circuit.specs.OwnList.{ownList}
-use Rattle.tally.specs.Answer.{Said, refused, accepted, said, Size, sizeOf}
-use Rattle.tally.specs.Count.{countReason}
-use Rattle.tally.specs.Measure.{measuresOf, measureSaid}
-use Rattle.tally.specs.Run.{lentReasons, runReasons, ranAfter, ran}
-use Rattle.tally.specs.Test.{listReason, testReasons, testSaid}
-use Rattle.tally.specs.Write.{writeReasons, writeSaid}
-use Rattle.jugyvaros.specs.Status.{Numbered, StatusTells}
+use Rattle.jury.specs.Reason.{Reason}
+use Rattle.tally.specs.Answer.{Said, refused, accepted, hasNumberIn, Size}
+use Rattle.tally.specs.Count.{countReason, plainClosing}
+use Rattle.tally.specs.Measure.{Measures, measureSaid}
+use Rattle.tally.specs.Run.{ran}
+use Rattle.tally.specs.Test.{testSaid}
+use Rattle.tally.specs.Write.{writeSaid}
+use Rattle.tally.proofs.Numbering as numbering
+use Rattle.jugyvaros.specs.Numbers.{sizeNumbers, measureNumbers, countNumbers, statusOf, shortAnswer, status}
+use Rattle.jugyvaros.specs.Status.{Tells, StatusTells}
+use Rattle.jugyvaros.proofs.Answering.{short-status, room-status}
 
--- no reason, or one of document 01's numbers
-Fine : Option Reason → Type 0
-Fine none = Unit {0}
-Fine (some r) = Numbered r
+-- each of these numbers is at most 10
+Most : List ℕ → Type 0
+Most [] = Unit {0}
+Most (n ∷ ns) = (n ≤ 10) × Most ns
 
-All : List (Option Reason) → Type 0
-All [] = Unit {0}
-All (o ∷ os) = Fine o × All os
+-- by the test of the first of them
+either : (n : ℕ) (ns : List ℕ) (r : Reason) (t : Bool) → eqb (r .number) n ≡ t → n ≤ 10 → (T (hasNumberIn ns r) → r .number ≤ 10) → T (t || hasNumberIn ns r) → r .number ≤ 10
+either n ns r true e m rest h = let same = eqb-true (r .number) n e in omega arith
+either n ns r false e m rest h = rest h
 
-FineSaid : {Values : Type 0} → Said Values → Type 0
-FineSaid (refused r) = Numbered r
-FineSaid (accepted v) = Unit {0}
+most : (ns : List ℕ) (r : Reason) → Most ns → T (hasNumberIn ns r) → r .number ≤ 10
+unfolding Most hasNumberIn
+most [] r m h = absurd h
+most (n ∷ ns) r m h = either n ns r (eqb (r .number) n) refl (m .0) (λ p. most ns r (m .1) p) h
 
-first-fine : (os : List (Option Reason)) → All os → Fine (firstOf os)
-unfolding All Fine firstOf
-first-fine [] a = tt
-first-fine (none ∷ os) a = first-fine os (a .1)
-first-fine (some r ∷ os) a = a .0
+-- the status of a refusal is its number, and of an accepted call 0
+size-most : (said : Said Size) → ((r : Reason) → said ≡ refused r → r .number ≤ 10) → statusOf (sizeNumbers said) ≤ 10
+unfolding statusOf sizeNumbers
+size-most (refused r) h = h r refl
+size-most (accepted size) h = omega arith
 
-both : (os qs : List (Option Reason)) → All os → All qs → All (os ++ qs)
-unfolding All
-both [] qs a b = b
-both (o ∷ os) qs a b = (a .0, both os qs (a .1) b)
+measure-most : (said : Said Measures) → ((r : Reason) → said ≡ refused r → r .number ≤ 10) → statusOf (measureNumbers said) ≤ 10
+unfolding statusOf measureNumbers
+measure-most (refused r) h = h r refl
+measure-most (accepted m) h = omega arith
 
-unless-fine : (t : Bool) (n : ℕ) → 1 ≤ n → n ≤ 10 → Fine (unless t n)
-unfolding Fine unless reasonAt
-unless-fine true n low high = tt
-unless-fine false n low high = (low, high)
+count-most : (o : Option Reason) (closing : List ℕ) → ((r : Reason) → o ≡ some r → r .number ≤ 10) → statusOf (countNumbers o closing) ≤ 10
+unfolding statusOf countNumbers
+count-most (some r) closing h = h r refl
+count-most none closing h = omega arith
 
-found-fine : (n : ℕ) (p : Place) → 1 ≤ n → n ≤ 10 → Fine (foundAt n p)
-unfolding Fine foundAt reasonAt
-found-fine n Nowhere low high = tt
-found-fine n (At place) low high = (low, high)
-
-list-fine : (t : Tested) → Fine (listReason t)
-unfolding Fine listReason reasonAt
-list-fine (Accepted gates conditional) = tt
-list-fine PartOfAGate = (omega arith, omega arith)
-list-fine TooFewGates = (omega arith, omega arith)
-list-fine TooManyGates = (omega arith, omega arith)
-list-fine (BadGate g) = (omega arith, omega arith)
-
-said-fine : {Values : Type 0} (o : Option Reason) (values : Values) → Fine o → FineSaid (said o values)
-unfolding Fine FineSaid said
-said-fine none values f = tt
-said-fine (some r) values f = f
-
-test-fine : (s : Shape) (table : List ℕ) → All (testReasons s table)
-unfolding All testReasons
-test-fine s table = (unless-fine _ 1 (omega arith) (omega arith), (list-fine _, tt))
-
-ballots-fine : (s : Shape) (xs : List ℕ) → All (ballotReasons s xs)
-unfolding All ballotReasons
-ballots-fine s xs = (unless-fine _ 4 (omega arith) (omega arith), (found-fine 5 _ (omega arith) (omega arith), (found-fine 6 _ (omega arith) (omega arith), tt)))
-
-lent-fine : (i k : ℕ) (size : Size) (tape wires board : List ℕ) → All (lentReasons i k size tape wires board)
-unfolding All lentReasons
-lent-fine i k size tape wires board =
-    (unless-fine _ 7 (omega arith) (omega arith), (found-fine 8 _ (omega arith) (omega arith), (unless-fine _ 9 (omega arith) (omega arith), (unless-fine _ 10 (omega arith) (omega arith), tt))))
-
-run-fine : (s : Shape) (table ballots tape wires board : List ℕ) → All (runReasons s table ballots tape wires board)
-unfolding runReasons
-run-fine s table ballots tape wires board =
-    both (testReasons s table ++ ballotReasons s ballots) (lentReasons (ballotBytes s) (s .candidates) (sizeOf (gatesOf table)) tape wires board)
-    (both (testReasons s table) (ballotReasons s ballots) (test-fine s table) (ballots-fine s ballots))
-    (lent-fine (ballotBytes s) (s .candidates) (sizeOf (gatesOf table)) tape wires board)
-
-ran-fine : (o : Option Reason) (s : Shape) (gs : List Gate) (ballots tape wires board : List ℕ) → Fine o → FineSaid (ranAfter o s gs ballots tape wires board .answer)
-unfolding Fine FineSaid ranAfter
-ran-fine none s gs ballots tape wires board f = tt
-ran-fine (some r) s gs ballots tape wires board f = f
-
-refused-fine : {Values : Type 0} (answer : Said Values) (r : Reason) → FineSaid answer → answer ≡ refused r → Numbered r
-unfolding FineSaid
-refused-fine answer r f e = subst FineSaid e f
-
-measured : (s : Shape) (r : Reason) → measureSaid s ≡ refused r → Numbered r
-unfolding measureSaid All
-measured s r e = refused-fine (measureSaid s) r (said-fine _ (measuresOf s) (first-fine (unless (withinLimits s) 1 ∷ []) (unless-fine _ 1 (omega arith) (omega arith), tt))) e
-
-wrote : (s : Shape) (table : List ℕ) (r : Reason) → writeSaid s table ≡ refused r → Numbered r
-unfolding writeSaid writeReasons All
-wrote s table r e =
-    refused-fine (writeSaid s table) r
-    (said-fine _ (sizeOf (ownList s)) (first-fine (writeReasons s table) (unless-fine _ 1 (omega arith) (omega arith), (unless-fine _ 2 (omega arith) (omega arith), tt)))) e
-
-tested-it : (s : Shape) (table : List ℕ) (r : Reason) → testSaid s table ≡ refused r → Numbered r
-unfolding testSaid
-tested-it s table r e = refused-fine (testSaid s table) r (said-fine _ (sizeOf (gatesOf table)) (first-fine (testReasons s table) (test-fine s table))) e
-
-ran-it : (s : Shape) (table ballots tape wires board : List ℕ) (r : Reason) → ran s table ballots tape wires board .answer ≡ refused r → Numbered r
-unfolding ran
-ran-it s table ballots tape wires board r e =
-    refused-fine (ran s table ballots tape wires board .answer) r
-    (ran-fine _ s (gatesOf table) ballots tape wires board (first-fine (runReasons s table ballots tape wires board) (run-fine s table ballots tape wires board))) e
-
-counted : (s : Shape) (ballots : List ℕ) (r : Reason) → countReason s ballots ≡ some r → Numbered r
-unfolding Fine countReason All
-counted s ballots r e =
-    subst Fine e (first-fine (unless (withinLimits s) 1 ∷ ballotReasons s ballots) (unless-fine _ 1 (omega arith) (omega arith), ballots-fine s ballots))
+-- so a status tells which it is
+tells : (needed : ℕ) (numbers answer : List ℕ) → statusOf numbers ≤ 10 → Tells needed numbers answer
+tells needed numbers answer h =
+    record {
+      short = (λ e. by-length (ltb (length answer) needed) refl e, λ l. short-status needed answer l numbers);
+      reason = λ l. omega (arith, room-status needed answer l numbers);
+    }
+  where
+    by-length : (t : Bool) → ltb (length answer) needed ≡ t → status needed numbers answer ≡ shortAnswer → length answer < needed
+    by-length true t e = ltb-true (length answer) needed t
+    by-length false t e = absurd (omega (arith, room-status needed answer (ltb-false (length answer) needed t) numbers))
 
 pub status-tells : StatusTells
+unfolding Most
 status-tells =
     record {
-      measure = λ s r e. measured s r e;
-      write = λ s table r e. wrote s table r e;
-      test = λ s table r e. tested-it s table r e;
-      run = λ s table ballots tape wires board r e. ran-it s table ballots tape wires board r e;
-      count = λ s ballots r e. counted s ballots r e;
+      measure = λ s answer. tells 5 _ answer (measure-most (measureSaid s) (λ r e. most _ r (omega arith, tt) (numbering.measure-number s r e)));
+      write = λ s table answer. tells 4 _ answer (size-most (writeSaid s table) (λ r e. most _ r (omega arith, (omega arith, tt)) (numbering.write-number s table r e)));
+      test = λ s table answer. tells 4 _ answer (size-most (testSaid s table) (λ r e. most _ r (omega arith, (omega arith, (omega arith, tt))) (numbering.test-number s table r e)));
+      run = λ s table ballots tape wires board answer.
+          tells 4 _ answer (size-most (ran s table ballots tape wires board .answer) (λ r e. most _ r ten (numbering.run-number s table ballots tape wires board r e)));
+      count = λ s ballots answer.
+          tells 10 _ answer (count-most (countReason s ballots) (plainClosing s ballots) (λ r e. most _ r (omega arith, (omega arith, (omega arith, (omega arith, tt)))) (numbering.count-number s ballots r e)));
     }
+  where
+    ten : Most (1 ∷ 2 ∷ 3 ∷ 4 ∷ 5 ∷ 6 ∷ 7 ∷ 8 ∷ 9 ∷ 10 ∷ [])
+    ten = unfold Most in (omega arith, (omega arith, (omega arith, (omega arith, (omega arith, (omega arith, (omega arith, (omega arith, (omega arith, (omega arith, tt))))))))))

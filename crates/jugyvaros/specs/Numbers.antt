@@ -32,9 +32,13 @@ countNumbers (some r) closing = r .number ∷ r .place ∷ closing
 unfoldable pub statusOf : List ℕ → ℕ
 statusOf numbers = getD numbers 0 0
 
--- What a call returns: the reason, or 255, none of document 01's numbers, where the answer array is shorter than the call needs.
+-- The status of a call whose answer array is shorter than the call needs. `Status` says that no reason has this number.
+abbrev pub shortAnswer : ℕ
+shortAnswer = 255
+
+-- What a call returns: the reason, 0 where it is accepted, or that the answer array is too short.
 unfoldable pub status : ℕ → List ℕ → List ℕ → ℕ
-status needed numbers answer = cond (ltb (length answer) needed) 255 (statusOf numbers)
+status needed numbers answer = cond (ltb (length answer) needed) shortAnswer (statusOf numbers)
 
 -- The answer array afterwards: the numbers at its start, what stands behind them as it was; one that is too short is not altered.
 unfoldable pub answered : ℕ → List ℕ → List ℕ → List ℕ

@@ -1,7 +1,11 @@
 // "Count plainly" as a C program calls it.
 use crate::answer::SHORT_ANSWER;
 use crate::answer::put_count;
+use jury::reason::Refusal;
+use jury::reason::Verdict;
 use jury::shape::Shape;
+use jury::shape::Shaped;
+use tally::count::Counted;
 ghost use mathlib.Core.Path.{_≡_};
 ghost use Rattle.tally.specs.Count.{countReason, plainClosing};
 ghost use Rattle.jugyvaros.specs.Numbers.{shapeOf, countNumbers, status, answered};
@@ -21,10 +25,14 @@ pub extern "C" fn jugy_count(
     if answer.len() < 10 {
         return SHORT_ANSWER;
     }
-    let shape = Shape {
-        candidates,
-        grades,
-        ballots,
+    let Shaped::Within(shape) = Shape::new(candidates, grades, ballots) else {
+        return put_count(
+            Counted {
+                verdict: Verdict::Refused(Refusal::Shape),
+                closing: [0u8; 8],
+            },
+            answer,
+        );
     };
     let counted = tally::count::count(shape, bytes);
     put_count(counted, answer)

@@ -1,7 +1,10 @@
 // "Measure a shape" as a C program calls it.
 use crate::answer::SHORT_ANSWER;
 use crate::answer::put_measures;
+use jury::reason::Refusal;
 use jury::shape::Shape;
+use jury::shape::Shaped;
+use tally::measure::Measured;
 ghost use mathlib.Core.Path.{_≡_};
 ghost use Rattle.tally.specs.Measure.{measureSaid};
 ghost use Rattle.jugyvaros.specs.Numbers.{shapeOf, measureNumbers, status, answered};
@@ -20,10 +23,8 @@ pub extern "C" fn jugy_measure(
     if answer.len() < 5 {
         return SHORT_ANSWER;
     }
-    let shape = Shape {
-        candidates,
-        grades,
-        ballots,
+    let Shaped::Within(shape) = Shape::new(candidates, grades, ballots) else {
+        return put_measures(Measured::Refused(Refusal::Shape), answer);
     };
     let said = tally::measure::measure(shape);
     put_measures(said, answer)

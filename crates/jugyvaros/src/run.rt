@@ -1,7 +1,10 @@
 // "Run a list" as a C program calls it.
 use crate::answer::SHORT_ANSWER;
 use crate::answer::put_size;
+use jury::reason::Refusal;
 use jury::shape::Shape;
+use jury::shape::Shaped;
+use tally::answer::Answer;
 ghost use mathlib.Core.Path.{_≡_};
 ghost use Rattle.tally.specs.Run.{ran};
 ghost use Rattle.jugyvaros.specs.Numbers.{shapeOf, sizeNumbers, status, answered, altered};
@@ -27,10 +30,8 @@ pub extern "C" fn jugy_run(
     if answer.len() < 4 {
         return SHORT_ANSWER;
     }
-    let shape = Shape {
-        candidates,
-        grades,
-        ballots,
+    let Shaped::Within(shape) = Shape::new(candidates, grades, ballots) else {
+        return put_size(Answer::Refused(Refusal::Shape), answer);
     };
     let said = tally::run::run(shape, table, bytes, tape, wires, board);
     put_size(said, answer)

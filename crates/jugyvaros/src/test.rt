@@ -1,7 +1,10 @@
 // "Test a list" as a C program calls it.
 use crate::answer::SHORT_ANSWER;
 use crate::answer::put_size;
+use jury::reason::Refusal;
 use jury::shape::Shape;
+use jury::shape::Shaped;
+use tally::answer::Answer;
 ghost use mathlib.Core.Path.{_≡_};
 ghost use Rattle.tally.specs.Test.{testSaid};
 ghost use Rattle.jugyvaros.specs.Numbers.{shapeOf, sizeNumbers, status, answered};
@@ -21,10 +24,8 @@ pub extern "C" fn jugy_test(
     if answer.len() < 4 {
         return SHORT_ANSWER;
     }
-    let shape = Shape {
-        candidates,
-        grades,
-        ballots,
+    let Shaped::Within(shape) = Shape::new(candidates, grades, ballots) else {
+        return put_size(Answer::Refused(Refusal::Shape), answer);
     };
     let said = tally::test::test(shape, table);
     put_size(said, answer)

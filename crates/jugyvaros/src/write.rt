@@ -1,7 +1,10 @@
 // "Write the list of a shape" as a C program calls it.
 use crate::answer::SHORT_ANSWER;
 use crate::answer::put_size;
+use jury::reason::Refusal;
 use jury::shape::Shape;
+use jury::shape::Shaped;
+use tally::answer::Answer;
 ghost use mathlib.Core.Path.{_≡_};
 ghost use lib.Dec.{T};
 ghost use Rattle.jury.specs.Shape.{withinLimits};
@@ -25,10 +28,8 @@ pub extern "C" fn jugy_write(
     if answer.len() < 4 {
         return SHORT_ANSWER;
     }
-    let shape = Shape {
-        candidates,
-        grades,
-        ballots,
+    let Shaped::Within(shape) = Shape::new(candidates, grades, ballots) else {
+        return put_size(Answer::Refused(Refusal::Shape), answer);
     };
     let said = tally::write::write(shape, table);
     put_size(said, answer)

@@ -1,7 +1,7 @@
 -- The lent buffers are long enough for every list that fits the table, and what the run answers is what the rehearsal answers.
 -- Assumes nothing.
 use mathlib.Core.Path.{_≡_, _∙_, refl, sym, ap, subst}
-use mathlib.Core.Bool.{true}
+use mathlib.Core.Bool.{true, false}
 use mathlib.Core.Option.{Option, none, some}
 use mathlib.Core.List.{List, [], _∷_, _++_}
 use Prim.Native.Nat.{ℕ, zero, suc, _+_, _-_, _*_, _≤_, _<_}
@@ -14,11 +14,12 @@ use Rattle.gates.specs.Board.{conditionalCount, Bits, MaskTape}
 use Rattle.gates.proofs.Counting.{count-most}
 use Rattle.jury.specs.declared.shape.Shape.{Shape}
 use Rattle.jury.specs.Shape.{withinLimits, ballotBytes}
-use Rattle.jury.specs.Reason.{Reason, reasonOf, firstOf}
+use Rattle.jury.specs.Reason.{Reason, reasonOf, reasonAt, firstOf}
 use Rattle.jury.specs.Ballots.{ballotReasons}
 use Rattle.jury.specs.Counts.{countsOf}
 use Rattle.jury.specs.Gauge.{closingOf}
 use Rattle.jury.specs.declared.reason.Refusal.{Refusal}
+use Rattle.jury.specs.declared.reason.Refusal.the-variants as refusal
 use Rattle.jury.proofs.Flags.{T-true, true-T}
 use Rattle.jury.proofs.Limits.{within-T, bytes-bound, bytes-are}
 use Rattle.jury.proofs.CountFacts.{counts-length}
@@ -30,10 +31,10 @@ use Rattle.tally.specs.Run.{ran}
 use Rattle.tally.specs.Write.{writeReasons, writeSaid, written}
 use Rattle.tally.specs.Demands.{listIn}
 use Rattle.tally.proofs.TestReasons.{orElse, first-append}
-use Rattle.tally.proofs.Writing.{WritePassed, write-passed, write-length, list-in}
+use Rattle.tally.proofs.Writing.{WritePassed, write-passed, write-refused, outside, write-length, list-in}
 use Rattle.tally.proofs.RunReasons.{said-refused, said-accepted}
 use Rattle.tally.proofs.OwnRun.{own-answer, own-closing}
-use Rattle.rehearsal.specs.Rehearsal.{Lent, Cut, shapeIn, ballotsIn, rehearsalReasons, rehearsalSaid, runSaid}
+use Rattle.rehearsal.specs.Rehearsal.{Lent, Cut, shapeIn, ballotsIn, rehearsalReasons, printedOf, rehearsalSaid, runSaid}
 
 bits-take : (n : ℕ) (xs : List ℕ) → Bits xs → Bits (take n xs)
 bits-take zero xs b i = omega arith
@@ -97,7 +98,7 @@ module _ (s : Shape) (list : List ℕ) (gates conditional : ℕ) (tape wires boa
     unfolding saidBy runSaid said tape′ wires′ board′
     refusal-said reason e =
         let o = firstOf (ballotReasons s ballots) in
-        sym (ap (λ (o : Option Reason). said o (closingOf (countsOf s ballots))) (said-refused o (sizeOf (ownList s)) (reasonOf reason) (sym (e ∙ answers))))
+        sym (ap (λ (o : Option Reason). said o (printedOf s ballots)) (said-refused o (sizeOf (ownList s)) (reasonOf reason) (sym (e ∙ answers))))
 
     -- the closing bytes on the board, whatever stands behind
     placed : (b rest : List ℕ) → b ≡ ran s list ballots tape′ wires′ board′ .board → firstOf (ballotReasons s ballots) ≡ none
@@ -113,16 +114,16 @@ module _ (s : Shape) (list : List ℕ) (gates conditional : ℕ) (tape wires boa
 
     pub winners-said : (g c : ℕ) (b rest : List ℕ) → saidBy (answer.Accepted g c) ≡ ran s list ballots (take conditional tape) (take (inputs + gates) wires) (take (conditional + s .candidates) board) .answer
         → b ≡ ran s list ballots (take conditional tape) (take (inputs + gates) wires) (take (conditional + s .candidates) board) .board
-        → accepted (take (s .candidates) (drop c (b ++ rest))) ≡ runSaid s ballots
-    unfolding saidBy runSaid said sizeOf tape′ wires′ board′
+        → accepted (record { jury = s; winners = take (s .candidates) (drop c (b ++ rest)) }) ≡ runSaid s ballots
+    unfolding printedOf saidBy runSaid said sizeOf tape′ wires′ board′
     winners-said g c b rest e f =
         let o = firstOf (ballotReasons s ballots) in
         let h = said-accepted o (sizeOf (ownList s)) (record { gates = g; conditional = c }) (sym (e ∙ answers)) in
         let same : accepted (record { gates = g; conditional = c }) ≡ accepted (sizeOf (ownList s)) = e ∙ answers ∙ ap (λ (o : Option Reason). said o (sizeOf (ownList s))) h in
         let size : record { gates = g; conditional = c } ≡ sizeOf (ownList s) = cc in
         let n : c ≡ conditionalCount (ownList s) = ap (λ (z : Size). z .conditional) size in
-        ap accepted (ap (λ (m : ℕ). take (s .candidates) (drop m (b ++ rest))) n ∙ placed b rest f h)
-        ∙ sym (ap (λ (o : Option Reason). said o (closingOf (countsOf s ballots))) h)
+        ap (λ (l : List ℕ). accepted (record { jury = s; winners = l })) (ap (λ (m : ℕ). take (s .candidates) (drop m (b ++ rest))) n ∙ placed b rest f h)
+        ∙ sym (ap (λ (o : Option Reason). said o (printedOf s ballots)) h)
 
     -- they lie on the board
     pub winners-end : (g c : ℕ) (b rest : List ℕ) → saidBy (answer.Accepted g c) ≡ ran s list ballots (take conditional tape) (take (inputs + gates) wires) (take (conditional + s .candidates) board) .answer
@@ -176,7 +177,7 @@ module _ (s : Shape) (table tape wires board : List ℕ) (l : Lent table tape wi
       let ballots = ballotReasons (shapeIn input) (ballotsIn input) in
       let none-applies = ap (λ (z : Shape). firstOf (writeReasons z table)) (sym f) ∙ passed .reasons in
       ap (λ (z : Shape). runSaid z (ballotsIn input)) f
-      ∙ sym (ap (λ (o : Option Reason). said o (closingOf (countsOf (shapeIn input) (ballotsIn input)))) (first-append (writeReasons (shapeIn input) table) ballots ∙ ap (λ (o : Option Reason). orElse o (firstOf ballots)) none-applies))
+      ∙ sym (ap (λ (o : Option Reason). said o (printedOf (shapeIn input) (ballotsIn input))) (first-append (writeReasons (shapeIn input) table) ballots ∙ ap (λ (o : Option Reason). orElse o (firstOf ballots)) none-applies))
 
 -- a refused write decides
 pub by-the-write : (input table : List ℕ) (s : Shape) (reason : Refusal) → s ≡ shapeIn input → saidBy (answer.Refused reason) ≡ writeSaid s table → refused (reasonOf reason) ≡ rehearsalSaid input table
@@ -185,7 +186,12 @@ by-the-write input table s reason f e =
     let ballots = ballotReasons (shapeIn input) (ballotsIn input) in
     let r = said-refused (firstOf (writeReasons s table)) (sizeOf (ownList s)) (reasonOf reason) (sym e) in
     let applies = ap (λ (z : Shape). firstOf (writeReasons z table)) (sym f) ∙ r in
-    sym (ap (λ (o : Option Reason). said o (closingOf (countsOf (shapeIn input) (ballotsIn input)))) (first-append (writeReasons (shapeIn input) table) ballots ∙ ap (λ (o : Option Reason). orElse o (firstOf ballots)) applies))
+    sym (ap (λ (o : Option Reason). said o (printedOf (shapeIn input) (ballotsIn input))) (first-append (writeReasons (shapeIn input) table) ballots ∙ ap (λ (o : Option Reason). orElse o (firstOf ballots)) applies))
+
+-- a shape outside the limits is refused as its write would be
+pub by-the-limits : (input table : List ℕ) → withinLimits (shapeIn input) ≡ false → refused (reasonOf refusal.Shape) ≡ rehearsalSaid input table
+unfolding saidBy reasonOf
+by-the-limits input table w = by-the-write input table (shapeIn input) refusal.Shape refl (sym (write-refused (shapeIn input) table (reasonAt 1 0) (outside (shapeIn input) table w) .0))
 
 -- the ballots behind the first three bytes
 pub no-ballots : (input : List ℕ) → length input < 3 → ballotsIn input ≡ []

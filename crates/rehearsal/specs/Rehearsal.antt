@@ -30,19 +30,27 @@ ballotsIn input = drop 3 input
 unfoldable pub rehearsalReasons : List ℕ → List ℕ → List (Option Reason)
 rehearsalReasons input table = writeReasons (shapeIn input) table ++ ballotReasons (shapeIn input) (ballotsIn input)
 
+-- What the program prints of an accepted jury: its shape and its closing bytes.
+pub record Printed : Type 0 where
+  pub jury : Shape
+  pub winners : List ℕ
+
 -- The winners are the closing bytes, and these are the gauge's.
-unfoldable pub rehearsalSaid : List ℕ → List ℕ → Said (List ℕ)
-rehearsalSaid input table = said (firstOf (rehearsalReasons input table)) (closingOf (countsOf (shapeIn input) (ballotsIn input)))
+unfoldable pub printedOf : Shape → List ℕ → Printed
+printedOf s ballots = record { jury = s; winners = closingOf (countsOf s ballots) }
+
+unfoldable pub rehearsalSaid : List ℕ → List ℕ → Said Printed
+rehearsalSaid input table = said (firstOf (rehearsalReasons input table)) (printedOf (shapeIn input) (ballotsIn input))
 
 -- Document 01's number and values for each case of the program's enum: the k closing bytes stand on the board from a place on.
-unfoldable pub saidOn : List ℕ → ℕ → Rehearsed → Said (List ℕ)
-saidOn board k (Winners first) = accepted (take k (drop first board))
-saidOn board k (Refused r) = refused (reasonOf r)
+unfoldable pub saidOn : List ℕ → Rehearsed → Said Printed
+saidOn board (Winners s first) = accepted (record { jury = s; winners = take (s .candidates) (drop first board) })
+saidOn board (Refused r) = refused (reasonOf r)
 
 -- Where the closing bytes end.
-unfoldable pub endOn : ℕ → Rehearsed → ℕ
-endOn k (Winners first) = first + k
-endOn k (Refused r) = 0
+unfoldable pub endOn : Rehearsed → ℕ
+endOn (Winners s first) = first + s .candidates
+endOn (Refused r) = 0
 
 -- What the program lends: "a tape of zeros and a gate table of 16,000 numbers", so at most 4,000 gates, and a wire table and a board that are long enough for them.
 pub record Lent (table tape wires board : List ℕ) : Type 0 where
@@ -65,5 +73,5 @@ pub record Cut (s : Shape) (list : List ℕ) (gates conditional : ℕ) (tape wir
   pub boardLength : 4008 ≤ length board
 
 -- What it answers.
-unfoldable pub runSaid : Shape → List ℕ → Said (List ℕ)
-runSaid s ballots = said (firstOf (ballotReasons s ballots)) (closingOf (countsOf s ballots))
+unfoldable pub runSaid : Shape → List ℕ → Said Printed
+runSaid s ballots = said (firstOf (ballotReasons s ballots)) (printedOf s ballots)

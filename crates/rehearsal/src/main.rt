@@ -62,10 +62,9 @@ fn main() {
     let mut wires = wires();
     let mut board = board();
     let got = io::read_full(STDIN_FILENO, &mut input);
-    let shape = rehearse::shape(&input[..got]);
     match rehearse::rehearse(&input[..got], &mut table, &tape, &mut wires, &mut board) {
         Rehearsed::Refused(reason) => print_refused(reason),
-        Rehearsed::Winners { first } => {
+        Rehearsed::Winners { shape, first } => {
             print_jury(shape);
             cases::print_bytes(b"winners", &board[first..first + shape.candidates]);
         }

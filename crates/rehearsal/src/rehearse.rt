@@ -1,15 +1,18 @@
 // The rehearsal of a jury: its list is written and run on lent buffers.
 use jury::reason::Refusal;
 use jury::shape::Shape;
+use jury::shape::Shaped;
 use tally::answer::Answer;
 ghost use mathlib.Core.Path.{_≡_};
+ghost use mathlib.Core.Bool.{cond};
 ghost use Prim.Native.Nat.{_≤_};
 ghost use lib.ListN.{length, getD};
+ghost use Rattle.jury.specs.Shape.{withinLimits};
 ghost use Rattle.rehearsal.specs.Rehearsal.{Lent, Cut, shapeIn, rehearsalSaid, runSaid, saidOn, endOn};
 
-// The place of the closing bytes on the board, or the first reason that applies.
+// The shape and the place of the closing bytes on the board, or the first reason that applies.
 pub enum Rehearsed {
-    Winners { first: usize },
+    Winners { shape: Shape, first: usize },
     Refused(Refusal),
 }
 
@@ -24,15 +27,11 @@ fn byte(input: &[u8], i: usize) -> usize
     }
 }
 
-// The shape that the first three bytes give.
-pub fn shape(input: &[u8]) -> Shape
-    ensures { λ r. ⌜ r ≡ shapeIn (now (input .entry)) ⌝ }
+// The shape that the first three bytes give, or that there is none within the limits.
+fn shape(input: &[u8]) -> Shaped
+    ensures { λ r. ⌜ r ≡ cond (withinLimits (shapeIn (now (input .entry)))) (Shaped.Within (shapeIn (now (input .entry)))) Shaped.Outside ⌝ }
 {
-    Shape {
-        candidates: byte(input, 0),
-        grades: byte(input, 1),
-        ballots: byte(input, 2),
-    }
+    Shape::new(byte(input, 0), byte(input, 1), byte(input, 2))
 }
 
 // Runs the list that was written, on just its numbers, with tape, wire table and board cut to their lengths.
@@ -47,8 +46,8 @@ fn run_list(
     board: &mut [u8],
 ) -> Rehearsed
     requires { ⌜ Cut shape (now list) gates conditional (now tape) (now wires) (now board) ⌝ }
-    ensures { λ r. ⌜ saidOn (now (board .exit)) (shape .candidates) r ≡ runSaid shape (now (ballots .entry)) ⌝ }
-    ensures { λ r. ⌜ endOn (shape .candidates) r ≤ length (now (board .exit)) ⌝ }
+    ensures { λ r. ⌜ saidOn (now (board .exit)) r ≡ runSaid shape (now (ballots .entry)) ⌝ }
+    ensures { λ r. ⌜ endOn r ≤ length (now (board .exit)) ⌝ }
 {
     let answer = tally::run::run(
         shape,
@@ -63,23 +62,27 @@ fn run_list(
         Answer::Accepted {
             gates: _,
             conditional,
-        } => Rehearsed::Winners { first: conditional },
+        } => Rehearsed::Winners {
+            shape,
+            first: conditional,
+        },
     }
 }
 
-// Writes the list and runs it.
-pub fn rehearse(
+// Writes the list of the input's shape and runs it.
+fn rehearse_shape(
+    shape: Shape,
     input: &[u8],
     table: &mut [u32],
     tape: &[u8],
     wires: &mut [u8],
     board: &mut [u8],
 ) -> Rehearsed
+    requires { ⌜ shape ≡ shapeIn (now input) ⌝ }
     requires { ⌜ Lent (now table) (now tape) (now wires) (now board) ⌝ }
-    ensures { λ r. ⌜ saidOn (now (board .exit)) (shapeIn (now (input .entry)) .candidates) r ≡ rehearsalSaid (now (input .entry)) (now (table .entry)) ⌝ }
-    ensures { λ r. ⌜ endOn (shapeIn (now (input .entry)) .candidates) r ≤ length (now (board .exit)) ⌝ }
+    ensures { λ r. ⌜ saidOn (now (board .exit)) r ≡ rehearsalSaid (now (input .entry)) (now (table .entry)) ⌝ }
+    ensures { λ r. ⌜ endOn r ≤ length (now (board .exit)) ⌝ }
 {
-    let shape = shape(input);
     match tally::write::write(shape, table) {
         Answer::Refused(reason) => Rehearsed::Refused(reason),
         Answer::Accepted { gates, conditional } => {
@@ -99,5 +102,23 @@ pub fn rehearse(
                 )
             }
         }
+    }
+}
+
+// Rehearses the jury of an input.
+pub fn rehearse(
+    input: &[u8],
+    table: &mut [u32],
+    tape: &[u8],
+    wires: &mut [u8],
+    board: &mut [u8],
+) -> Rehearsed
+    requires { ⌜ Lent (now table) (now tape) (now wires) (now board) ⌝ }
+    ensures { λ r. ⌜ saidOn (now (board .exit)) r ≡ rehearsalSaid (now (input .entry)) (now (table .entry)) ⌝ }
+    ensures { λ r. ⌜ endOn r ≤ length (now (board .exit)) ⌝ }
+{
+    match shape(input) {
+        Shaped::Outside => Rehearsed::Refused(Refusal::Shape),
+        Shaped::Within(shape) => rehearse_shape(shape, input, table, tape, wires, board),
     }
 }

@@ -1,11 +1,10 @@
 -- `rehearsal::main` is safe: the buffers are as long as the rehearsal asks, and the closing bytes lie on the board.
 -- Assumes nothing.
-use mathlib.Core.Path.{_≡_, ap, sym}
+use mathlib.Core.Path.{_≡_, ap}
 use Prim.Native.Nat.{ℕ, _+_, _≤_}
 use native.Mathlib.Omega.{arith}
 use lib.ListN.{length}
 use borrow.Author.Needs.{needs}
-use Rattle.jury.specs.declared.shape.Shape.{Shape}
 use Rattle.rehearsal.specs.Rehearsal.{endOn}
 use Rattle.rehearsal.proofs.main.Statement.{statement}
 use Rattle.rehearsal.proofs.main.Tie as tie
@@ -23,18 +22,12 @@ board-requires : tie.Need-board-requires
 board-requires c κs = search needs
 
 -- the closing bytes end on the board
-ends : (c : tie.After-known-told2) → c .before .first .given .0 .0 + c .before .before .before .before .before .before .before .before .before .before .before .before .shape .result .candidates
+ends : (c : tie.After-known-told2) → c .before .shape .given .0 .1 .0 + c .before .shape .given .0 .0 .candidates
     ≤ length (c .before .before .before .before .before .before .rehearse .last .1 .1 .1 .1 .0)
 unfolding endOn
 ends c =
     let r = c .before .before .before .before .before .before in
-    let s = r .before .before .before .before .before .before in
-    omega (
-      arith,
-      r .rehearse .ensures .1,
-      ap (endOn (s .shape .result .candidates)) (c .before .first .given .1),
-      ap (λ (z : Shape). endOn (z .candidates) (r .rehearse .result)) (s .shape .ensures),
-    )
+    omega (arith, r .rehearse .ensures .1, ap endOn (c .before .shape .given .1))
 
 slice-aggregate-read-full : tie.Need-slice-aggregate-read-full
 slice-aggregate-read-full c = search needs
@@ -44,15 +37,6 @@ read-full-requires c κs = search needs
 
 array-share-prefix-input : tie.Need-array-share-prefix-input
 array-share-prefix-input c = search needs
-
-slice-aggregate-shape : tie.Need-slice-aggregate-shape
-slice-aggregate-shape c = search needs
-
-shape-requires : tie.Need-shape-requires
-shape-requires c κs = search needs
-
-array-share-prefix-input-2 : tie.Need-array-share-prefix-input-2
-array-share-prefix-input-2 c = search needs
 
 slice-aggregate-rehearse : tie.Need-slice-aggregate-rehearse
 slice-aggregate-rehearse c = search needs
@@ -78,8 +62,8 @@ enum-known-reason c = search needs
 print-refused-requires : tie.Need-print-refused-requires
 print-refused-requires c κs = search needs
 
-enum-known-first : tie.Need-enum-known-first
-enum-known-first c = search needs
+enum-known-shape : tie.Need-enum-known-shape
+enum-known-shape c = search needs
 
 print-jury-requires : tie.Need-print-jury-requires
 print-jury-requires c κs = search needs
@@ -122,9 +106,6 @@ main-spec =
     slice-aggregate-read-full
     read-full-requires
     array-share-prefix-input
-    slice-aggregate-shape
-    shape-requires
-    array-share-prefix-input-2
     slice-aggregate-rehearse
     slice-aggregate-rehearse-2
     slice-aggregate-rehearse-3
@@ -133,7 +114,7 @@ main-spec =
     rehearse-requires
     enum-known-reason
     print-refused-requires
-    enum-known-first
+    enum-known-shape
     print-jury-requires
     slice-aggregate-print-bytes
     add-print-bytes

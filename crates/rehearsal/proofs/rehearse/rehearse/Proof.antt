@@ -1,127 +1,43 @@
--- `rehearsal::rehearse::rehearse` meets its contract: a refused write decides, and else the run of what was written.
+-- `rehearsal::rehearse::rehearse` meets its contract: a shape outside the limits is refused for it, and else the list is written and run.
 -- Assumes nothing.
-use mathlib.Core.Path.{_≡_, _∙_, refl, sym, ap, subst}
-use mathlib.Core.List.{List, []}
-use Prim.Native.Nat.{ℕ, _+_, _*_, _-_, _≤_}
+use mathlib.Core.Path.{_∙_, sym}
 use native.Mathlib.Omega.{arith}
-use lib.ListN.{length, take, drop}
 use borrow.Author.Needs.{needs}
-use Rattle.jury.specs.declared.shape.Shape.{Shape}
-use Rattle.tally.specs.Answer.{Said, saidBy}
-use Rattle.tally.specs.declared.answer.Answer.the-variants as answer
-use Rattle.tally.specs.Write.{writeSaid, written}
-use Rattle.rehearsal.specs.Rehearsal.{Cut, shapeIn, ballotsIn, rehearsalSaid, runSaid, saidOn, endOn}
-use Rattle.rehearsal.proofs.Rehearsing.{cut-long, gates-few, list-fits, write-cut, by-the-run, by-the-write, no-ballots, some-ballots}
+use Rattle.jury.specs.Shape.{withinLimits}
+use Rattle.jury.specs.Reason.{reasonOf}
+use Rattle.jury.proofs.Constructed.{shape-is, outside-is}
+use Rattle.rehearsal.specs.Rehearsal.{shapeIn, saidOn, endOn}
+use Rattle.rehearsal.proofs.Rehearsing.{by-the-limits}
 use Rattle.rehearsal.proofs.rehearse.rehearse.Statement.{statement}
 use Rattle.rehearsal.proofs.rehearse.rehearse.Tie as tie
-
--- the answer of an accepted write
-gates-of : tie.After-known-told2 → ℕ
-gates-of c = c .before .gates .given .0 .0
-
-conditional-of : tie.After-known-told2 → ℕ
-conditional-of c = c .before .gates .given .0 .1 .0
-
-said-accepted : (c : tie.After-known-told2) →
-    let w = c .before .before .before .before .before in
-    let start = w .before .before .before .before .before .before .before .before in
-    saidBy (answer.Accepted (gates-of c) (conditional-of c)) ≡ writeSaid (w .before .before .shape .result) (start .args .table .now)
-unfolding gates-of conditional-of
-said-accepted c =
-    let w = c .before .before .before .before .before in
-    sym (ap saidBy (c .before .gates .given .1)) ∙ w .write .ensures .0
-
-few : (c : tie.After-known-told2) → gates-of c ≤ 4000
-few c =
-    let w = c .before .before .before .before .before in
-    let start = w .before .before .before .before .before .before .before .before in
-    let a = start .args in
-    gates-few (w .before .before .shape .result) (a .table .now) (a .tape .now) (a .wires .now) (a .board .now) (start .pre) (gates-of c) (conditional-of c) (said-accepted c)
-
-fits : (c : tie.After-known-told2) → 4 * gates-of c ≤ length (c .before .before .before .before .before .write .last .1 .0)
-fits c =
-    let w = c .before .before .before .before .before in
-    let start = w .before .before .before .before .before .before .before .before in
-    let a = start .args in
-    omega (arith, ap length (w .write .ensures .1 .0), list-fits (w .before .before .shape .result) (a .table .now) (a .tape .now) (a .wires .now) (a .board .now) (start .pre) (gates-of c) (conditional-of c) (said-accepted c))
 
 shape-requires : tie.Need-shape-requires
 shape-requires c κs = search needs
 
-write-requires : tie.Need-write-requires
-write-requires c κs = search needs
+enum-told : tie.Need-enum-told
+enum-told c = search needs
 
-enum-known-reason : tie.Need-enum-known-reason
-enum-known-reason c = search needs
+enum-known-shape : tie.Need-enum-known-shape
+enum-known-shape c = search needs
 
-enum-known-gates : tie.Need-enum-known-gates
-enum-known-gates c = search needs
-
-mul-list : tie.Need-mul-list
-unfolding gates-of
-mul-list c = record { fits = omega (arith, few c) }
-
-slice-reshare-prefix-list : tie.Need-slice-reshare-prefix-list
-unfolding gates-of
-slice-reshare-prefix-list c = fits c
-
-slice-aggregate-list : tie.Need-slice-aggregate-list
-unfolding gates-of
-slice-aggregate-list c = cut-long (4 * gates-of (c .before)) (c .before .before .before .before .before .before .write .last .1 .0) (fits (c .before))
-
-slice-aggregate-run-list : tie.Need-slice-aggregate-run-list
-slice-aggregate-run-list c = search needs
-
--- what the run asks of the list and the buffers
-cut : (c : tie.After-known-told2) →
-    let w = c .before .before .before .before .before in
-    let a = w .before .before .before .before .before .before .before .before .args in
-    Cut (w .before .before .shape .result) (take (4 * gates-of c) (w .write .last .1 .0)) (gates-of c) (conditional-of c) (a .tape .now) (a .wires .now) (a .board .now)
-cut c =
-    let w = c .before .before .before .before .before in
-    let start = w .before .before .before .before .before .before .before .before in
-    let a = start .args in
-    write-cut (w .before .before .shape .result) (a .table .now) (a .tape .now) (a .wires .now) (a .board .now) (start .pre) (gates-of c) (conditional-of c) (said-accepted c) _
-    (ap (take (4 * gates-of c)) (w .write .ensures .1 .0))
-
-run-list-requires : tie.Need-run-list-requires
-unfolding gates-of conditional-of
-run-list-requires c κs = cut (c .before .before .before .before .before)
-
-sub-run-list : tie.Need-sub-run-list
-sub-run-list c = search needs
-
-part-run-list-start : tie.Need-part-run-list-start
-part-run-list-start c = search needs
-
-part-run-list-end : tie.Need-part-run-list-end
-part-run-list-end c = search needs
-
-run-list-requires-2 : tie.Need-run-list-requires-2
-unfolding gates-of conditional-of
-run-list-requires-2 c κs = cut (c .before .before .before .before .before)
-
-same-length : tie.Need-same-length
-same-length c = search needs
+rehearse-shape-requires : tie.Need-rehearse-shape-requires
+rehearse-shape-requires c κs =
+    let known = c .before .before .before .before in
+    let made = known .before .before in
+    let start = made .before .before .before .before .before .before in
+    let s = shapeIn (start .args .input .now) in
+    (shape-is (withinLimits s) s (known .shape2 .given .0 .0) (sym (made .shape .ensures) ∙ known .shape2 .given .1), start .pre)
 
 returns : tie.Need-returns
 unfolding saidOn endOn
 returns c =
-    let w = c .before .before .before .before .before in
-    let a = w .before .before .before .before .before .before .before .before .args in
-    (by-the-write (a .input .now) (a .table .now) (w .before .before .shape .result) (c .before .reason .given .0 .0) (w .before .before .shape .ensures) (sym (ap saidBy (c .before .reason .given .1)) ∙ w .write .ensures .0), omega arith)
+    let made = c .before .before in
+    let start = made .before .before .before .before .before .before in
+    let s = shapeIn (start .args .input .now) in
+    (by-the-limits (start .args .input .now) (start .args .table .now) (outside-is (withinLimits s) s (sym (made .shape .ensures) ∙ c .enum-told .given .1)), omega arith)
 
--- the run's answer is the rehearsal's
-same-answer : (c : tie.After-known-told2) (ballots : List ℕ) →
-    let w = c .before .before .before .before .before in
-    let a = w .before .before .before .before .before .before .before .before .args in
-    ballots ≡ ballotsIn (a .input .now) → runSaid (w .before .before .shape .result) ballots ≡ rehearsalSaid (a .input .now) (a .table .now)
-same-answer c ballots e =
-    let w = c .before .before .before .before .before in
-    let start = w .before .before .before .before .before .before .before .before in
-    let a = start .args in
-    ap (runSaid (w .before .before .shape .result)) e
-    ∙ by-the-run (w .before .before .shape .result) (a .table .now) (a .tape .now) (a .wires .now) (a .board .now) (start .pre) (gates-of c) (conditional-of c) (said-accepted c) (a .input .now) (w .before .before .shape .ensures)
+same-length : tie.Need-same-length
+same-length c = search needs
 
 same-length-2 : tie.Need-same-length-2
 same-length-2 c = search needs
@@ -129,68 +45,19 @@ same-length-2 c = search needs
 same-length-3 : tie.Need-same-length-3
 same-length-3 c = search needs
 
-same-length-4 : tie.Need-same-length-4
-same-length-4 c = search needs
-
 returns-2 : tie.Need-returns-2
-returns-2 c =
-    let run = c .before .before .before .before in
-    let short = run .before .before .before .before in
-    let told = short .before .before in
-    let w = told .before .before .before .before .before in
-    let a = w .before .before .before .before .before .before .before .before .args in
-    let s = w .before .before .shape in (
-      ap (λ (z : Shape). saidOn (run .run-list .last .1 .1 .1 .1 .1 .1 .1 .0) (z .candidates) (run .run-list .result)) (sym (s .ensures))
-          ∙ run .run-list .ensures .0 ∙ same-answer told [] (sym (no-ballots (a .input .now) (short .if1 .taken))),
-      subst (λ (z : Shape). endOn (z .candidates) (run .run-list .result) ≤ length (run .run-list .last .1 .1 .1 .1 .1 .1 .1 .0)) (s .ensures) (run .run-list .ensures .1),
-    )
-
-same-length-5 : tie.Need-same-length-5
-same-length-5 c = search needs
-
-same-length-6 : tie.Need-same-length-6
-same-length-6 c = search needs
-
-same-length-7 : tie.Need-same-length-7
-same-length-7 c = search needs
-
-returns-3 : tie.Need-returns-3
-returns-3 c =
-    let run = c .before .before .before .before in
-    let long = run .before .before .before .before in
-    let told = long .before .before in
-    let w = told .before .before .before .before .before in
-    let a = w .before .before .before .before .before .before .before .before .args in
-    let s = w .before .before .shape in (
-      ap (λ (z : Shape). saidOn (run .run-list2 .last .1 .1 .1 .1 .1 .1 .1 .0) (z .candidates) (run .run-list2 .result)) (sym (s .ensures))
-          ∙ run .run-list2 .ensures .0 ∙ same-answer told (take (length (a .input .now) - 3) (drop 3 (a .input .now))) (some-ballots (a .input .now)),
-      subst (λ (z : Shape). endOn (z .candidates) (run .run-list2 .result) ≤ length (run .run-list2 .last .1 .1 .1 .1 .1 .1 .1 .0)) (s .ensures) (run .run-list2 .ensures .1),
-    )
+returns-2 c = search needs
 
 pub rehearse-spec : {M : Type 1} → statement M
 rehearse-spec =
     tie.close
     (tie.spec
     shape-requires
-    write-requires
-    enum-known-reason
-    enum-known-gates
-    mul-list
-    slice-reshare-prefix-list
-    slice-aggregate-list
-    slice-aggregate-run-list
-    run-list-requires
-    sub-run-list
-    part-run-list-start
-    part-run-list-end
-    run-list-requires-2
-    same-length
+    enum-told
+    enum-known-shape
+    rehearse-shape-requires
     returns
+    same-length
     same-length-2
     same-length-3
-    same-length-4
-    returns-2
-    same-length-5
-    same-length-6
-    same-length-7
-    returns-3)
+    returns-2)

@@ -1,6 +1,12 @@
--- `rehearsal::rehearse::shape` meets its contract.
+-- `rehearsal::rehearse::shape` meets its contract: the constructor answers for the shape of the first three bytes.
 -- Assumes nothing.
+use mathlib.Core.Path.{_∙_, ap}
+use mathlib.Core.Bool.{cond}
+use Prim.Native.Nat.{ℕ}
 use borrow.Author.Needs.{needs}
+use Rattle.jury.specs.declared.shape.Shape.{Shape}
+use Rattle.jury.specs.declared.shape.Shaped.the-variants.{Within, Outside}
+use Rattle.jury.specs.Shape.{withinLimits}
 use Rattle.rehearsal.specs.Rehearsal.{shapeIn}
 use Rattle.rehearsal.proofs.rehearse.shape.Statement.{statement}
 use Rattle.rehearsal.proofs.rehearse.shape.Tie as tie
@@ -14,9 +20,12 @@ byte-requires-2 c κs = search needs
 byte-requires-3 : tie.Need-byte-requires-3
 byte-requires-3 c κs = search needs
 
+new-requires : tie.Need-new-requires
+new-requires c κs = search needs
+
 returns : tie.Need-returns
 unfolding shapeIn
-returns c = rw (c .before .before .byte .ensures, c .before .byte2 .ensures, c .byte3 .ensures)
+returns c = c .new .ensures .0 ∙ rw (c .before .before .before .byte .ensures, c .before .before .byte2 .ensures, c .before .byte3 .ensures)
 
 pub shape-spec : {M : Type 1} → statement M
-shape-spec = tie.close (tie.spec byte-requires byte-requires-2 byte-requires-3 returns)
+shape-spec = tie.close (tie.spec byte-requires byte-requires-2 byte-requires-3 new-requires returns)
