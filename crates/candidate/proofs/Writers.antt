@@ -20,7 +20,7 @@ use Rattle.circuit.specs.Plan.{Planned, bitsAt, apart}
 use Rattle.circuit.specs.RunningSums.{beforeMedian, behind, firstSum, firstGrade, chosen, middleSpan, middleGrade, lastSpan, lastGrade, laterGrades, lastSum}
 use Rattle.circuit.specs.Key.{someOf, copiesApart, upTo, balanceAt, carryAt, differAt, balance, key, candidate}
 use Rattle.circuit.proofs.PlanFacts.{row-below}
-use Rattle.circuit.proofs.Costs.{balance-costs, key-costs}
+use Rattle.circuit.proofs.Sizes.{balance-size, key-size}
 use Rattle.circuit.proofs.WellFormed.{middle-span, last-span}
 
 -- a block, and the next one under another name
@@ -170,7 +170,7 @@ candidate-long p n c =
     let b = lastSum p a (p .grades - 2) in
     let F = firstGrade p n c in
     let L = laterGrades p a c (p .grades - 2) in
-    omega (arith, length-append (F ++ L ++ balance p b) (key p a b), length-append (F ++ L) (balance p b), length-append F L, balance-costs p b .gates, key-costs p a b .gates)
+    omega (arith, length-append (F ++ L ++ balance p b) (key p a b), length-append (F ++ L) (balance p b), length-append F L, balance-size p b .gates, key-size p a b .gates)
 
 pub candidate-wrote : (p : Plan) (w : Writer) (t : List ℕ) (c : ℕ) (t₁ : List ℕ) (w₁ : Writer) (a : ℕ) (t₂ : List ℕ) (w₂ : Writer) (b : ℕ) (t₃ : List ℕ) (w₃ : Writer) (t₄ : List ℕ) (w₄ : Writer)
     → Wrote w t (firstGrade p (w .wire) c) t₁ w₁

@@ -1,14 +1,16 @@
 // The key of one candidate, and its whole circuit.
+use circuit::plan::Plan;
 use crate::sums::first_grade;
 use crate::sums::later_grades;
 use crate::sums::middle_span;
 use crate::sums::sum_before;
-use circuit::plan::Plan;
+use gates::kind;
 use words::writer::Writer;
 ghost use mathlib.Core.Path.{_≡_};
 ghost use mathlib.Core.List.{_++_};
 ghost use Prim.Native.Nat.{_+_, _-_, _*_, _≤_, _<_};
 ghost use lib.ListN.{length};
+ghost use Rattle.words.specs.Limits.{writerLimit};
 ghost use Rattle.words.specs.Word.{Below};
 ghost use Rattle.words.specs.Writing.{Room, Wrote};
 ghost use Rattle.words.specs.Choice.{choose, copies};
@@ -18,7 +20,7 @@ ghost use Rattle.circuit.specs.Key.{someOf, someEnd, copiesApart, upTo, carryAt
 
 // Whether one of so many wires, three apart, is 1.
 fn some_of(w: Writer, table: &mut [u32], at: u32, count: u32) -> Writer
-    requires { ⌜ Room w (now table) (count - 1) ⌝ }
+    requires { ⌜ Room w (count - 1) ⌝ }
     requires { ⌜ at + count * 3 < w .wire + 3 ⌝ }
     ensures { λ r. ⌜ Wrote w (now (table .entry)) (someOf (w .wire) at count) (now (table .exit)) r ⌝ }
 {
@@ -30,7 +32,7 @@ fn some_of(w: Writer, table: &mut [u32], at: u32, count: u32) -> Writer
 
 // The wire that says so: the last one made from wire n on, or a wire `none`.
 fn some_end(n: u32, none: u32, at: u32, count: u32) -> u32
-    requires { ⌜ n + count < 2147483648 ⌝ }
+    requires { ⌜ n + count < writerLimit ⌝ }
     ensures { λ r. ⌜ r ≡ someEnd n none at count ⌝ }
 {
     if count == 0 {
@@ -41,16 +43,16 @@ fn some_end(n: u32, none: u32, at: u32, count: u32) -> u32
 
 // Copies of so many wires a stride apart.
 fn copies_apart(w: Writer, table: &mut [u32], x: u32, stride: u32, count: u32) -> Writer
-    requires { ⌜ Room w (now table) count ⌝ }
+    requires { ⌜ Room w count ⌝ }
     requires { ⌜ Below (w .wire) x stride count ⌝ }
-    requires { ⌜ stride < 2147483648 ⌝ }
+    requires { ⌜ stride < writerLimit ⌝ }
     ensures { λ r. ⌜ Wrote w (now (table .entry)) (copiesApart x stride count) (now (table .exit)) r ⌝ }
 {
     let mut next = w;
     let mut at = x;
     let mut left = count;
     while 0 < left {
-        next = next.emit(table, 2, at, 0, 0);
+        next = next.emit(table, kind::COPY, at, 0, 0);
         at += stride;
         left -= 1;
     }
@@ -59,14 +61,15 @@ fn copies_apart(w: Writer, table: &mut [u32], x: u32, stride: u32, count: u32) -
 
 // The sum up to the median grade, and its difference to the sum before the median. The last sum stands at b.
 fn balance(w: Writer, table: &mut [u32], p: Plan, b: u32) -> Writer
-    requires { ⌜ Room w (now table) (5 * p .digits + (p .digits - 1)) ⌝ }
+    requires { ⌜ Room w (5 * p .digits + (p .digits - 1)) ⌝ }
     requires { ⌜ w .wire ≡ behind p b ⌝ }
     ensures { λ r. ⌜ Wrote w (now (table .entry)) (balance p b) (now (table .exit)) r ⌝ }
 {
     let n = w.wire;
     let half = w.constants(table, p.ballots / 2, p.digits);
     let up = half.choose(table, b + p.digits, b + p.digits + 1, n, p.digits);
-    let sums = up.add_with_bit(
+    let sums = counting::adder::add_with_bit(
+        up,
         table,
         b + 2 * p.digits + 1,
         n + p.digits,
@@ -78,15 +81,15 @@ fn balance(w: Writer, table: &mut [u32], p: Plan, b: u32) -> Writer
 
 // The wire that says that p is at least q.
 fn carry_at(p: Plan, b: u32) -> u32
-    requires { ⌜ (p .inputs < 2147483648) × (b + 8 * p .digits + 1 < 2147483648) ⌝ }
+    requires { ⌜ (p .inputs < writerLimit) × (b + 8 * p .digits + 1 < writerLimit) ⌝ }
     ensures { λ r. ⌜ r ≡ carryAt p b ⌝ }
 {
-    words::adder::top_carry(b + 5 * p.digits + 1, p.inputs + p.ballots % 2, p.digits)
+    counting::adder::top_carry(b + 5 * p.digits + 1, p.inputs + p.ballots % 2, p.digits)
 }
 
 // The wire that says that p and q differ.
 fn differ_at(p: Plan, b: u32) -> u32
-    requires { ⌜ b + 9 * p .digits + 1 < 2147483648 ⌝ }
+    requires { ⌜ b + 9 * p .digits + 1 < writerLimit ⌝ }
     ensures { λ r. ⌜ r ≡ differAt p b ⌝ }
 {
     some_end(
@@ -99,7 +102,7 @@ fn differ_at(p: Plan, b: u32) -> u32
 
 // The lowest part of the key: a sum, and whether p is at least q.
 fn key_sum(w: Writer, table: &mut [u32], p: Plan, b: u32) -> Writer
-    requires { ⌜ Room w (now table) (p .digits + 1) ⌝ }
+    requires { ⌜ Room w (p .digits + 1) ⌝ }
     requires { ⌜ (p .inputs + 2 ≤ b) × (w .wire ≡ keyAt p b) ⌝ }
     ensures { λ r. ⌜ Wrote w (now (table .entry)) (choose (carryAt p b) (beforeMedian p b) (upTo p b) (p .digits) ++ copies (carryAt p b) 1) (now (table .exit)) r ⌝ }
 {
@@ -113,7 +116,7 @@ fn key_sum(w: Writer, table: &mut [u32], p: Plan, b: u32) -> Writer
 // The key. The first sum stands at a, the last at b.
 fn key(w: Writer, table: &mut [u32], p: Plan, a: u32, b: u32) -> Writer
     requires { ⌜ Planned p ⌝ }
-    requires { ⌜ Room w (now table) (p .digits + (p .grades - 2) + 3) ⌝ }
+    requires { ⌜ Room w (p .digits + (p .grades - 2) + 3) ⌝ }
     requires { ⌜ (p .inputs + 2 ≤ a) × (b ≡ lastSum p a (p .grades - 2)) × (w .wire ≡ keyAt p b) ⌝ }
     ensures { λ r. ⌜ Wrote w (now (table .entry)) (key p a b) (now (table .exit)) r ⌝ }
 {
@@ -128,7 +131,7 @@ fn key(w: Writer, table: &mut [u32], p: Plan, a: u32, b: u32) -> Writer
 // The whole circuit of candidate c: its sums and its key.
 pub fn candidate(w: Writer, table: &mut [u32], p: Plan, c: u32) -> Writer
     requires { ⌜ Planned p ⌝ }
-    requires { ⌜ Room w (now table) (length (candidate p (w .wire) c)) ⌝ }
+    requires { ⌜ Room w (length (candidate p (w .wire) c)) ⌝ }
     requires { ⌜ (p .inputs + 2 ≤ w .wire) × (c < p .candidates) ⌝ }
     ensures { λ r. ⌜ Wrote w (now (table .entry)) (candidate p (w .wire) c) (now (table .exit)) r ⌝ }
 {

@@ -1,5 +1,8 @@
 // The running sums of one candidate's grade counts.
 use circuit::plan::Plan;
+use counting::counter::accumulator;
+use counting::counter::add_size;
+use counting::counter::counter;
 use words::writer::Writer;
 ghost use mathlib.Core.Path.{_≡_};
 ghost use Prim.Native.Nat.{_+_, _-_, _*_, _≤_, _<_};
@@ -31,7 +34,7 @@ pub(crate) fn middle_span(p: Plan) -> u32
     requires { ⌜ Planned p ⌝ }
     ensures { λ r. ⌜ r ≡ middleSpan p ⌝ }
 {
-    words::cost::accumulator(p.ballots, p.digits).gates as u32 + 2 * p.digits
+    add_size(p.ballots, p.digits) + 3 * p.digits + 1
 }
 
 // The sum whose three words end before wire n.
@@ -46,31 +49,31 @@ pub(crate) fn sum_before(p: Plan, n: u32) -> u32
 // Counts a candidate's bits of a grade, and a public number.
 fn count_grade(w: Writer, table: &mut [u32], p: Plan, c: u32, g: u32, extra: u32) -> Writer
     requires { ⌜ Planned p ⌝ }
-    requires { ⌜ Room w (now table) (countSize (p .ballots) extra (p .digits) + (p .digits + 1)) ⌝ }
+    requires { ⌜ Room w (countSize (p .ballots) extra (p .digits) + (p .digits + 1)) ⌝ }
     requires { ⌜ (p .inputs ≤ w .wire) × (c < p .candidates) × (g < p .grades) × Countable (p .ballots) extra (p .digits) ⌝ }
     ensures { λ r. ⌜ Wrote w (now (table .entry)) (counter (w .wire) (bitsAt p c g) (apart p) (p .ballots) extra (p .digits)) (now (table .exit)) r ⌝ }
 {
     let first = bits_at(p, c, g);
     let stride = apart(p);
-    w.counter(table, first, stride, p.ballots, extra, p.digits)
+    counter(w, table, first, stride, p.ballots, extra, p.digits)
 }
 
 // Adds them to the sum at a.
 fn add_grade(w: Writer, table: &mut [u32], p: Plan, a: u32, c: u32, g: u32) -> Writer
     requires { ⌜ Planned p ⌝ }
-    requires { ⌜ Room w (now table) (addSize (p .ballots) (p .digits) + (p .digits + 1)) ⌝ }
+    requires { ⌜ Room w (addSize (p .ballots) (p .digits) + (p .digits + 1)) ⌝ }
     requires { ⌜ (p .inputs ≤ w .wire) × (c < p .candidates) × (g < p .grades) × (a + p .digits < w .wire) ⌝ }
     ensures { λ r. ⌜ Wrote w (now (table .entry)) (accumulator (w .wire) a (bitsAt p c g) (apart p) (p .ballots) (p .digits)) (now (table .exit)) r ⌝ }
 {
     let first = bits_at(p, c, g);
     let stride = apart(p);
-    w.accumulator(table, a, first, stride, p.ballots, p.digits)
+    accumulator(w, table, a, first, stride, p.ballots, p.digits)
 }
 
 // The best grade: its sum, and the two words behind it.
 pub(crate) fn first_grade(w: Writer, table: &mut [u32], p: Plan, c: u32) -> Writer
     requires { ⌜ Planned p ⌝ }
-    requires { ⌜ Room w (now table) (length (firstGrade p (w .wire) c)) ⌝ }
+    requires { ⌜ Room w (length (firstGrade p (w .wire) c)) ⌝ }
     requires { ⌜ (p .inputs ≤ w .wire) × (c < p .candidates) ⌝ }
     ensures { λ r. ⌜ Wrote w (now (table .entry)) (firstGrade p (w .wire) c) (now (table .exit)) r ⌝ }
 {
@@ -84,7 +87,7 @@ pub(crate) fn first_grade(w: Writer, table: &mut [u32], p: Plan, c: u32) -> Writ
 
 // The two words behind the sum at b, by those behind the sum at a.
 fn chosen(w: Writer, table: &mut [u32], p: Plan, a: u32, b: u32) -> Writer
-    requires { ⌜ Room w (now table) (p .digits + p .digits) ⌝ }
+    requires { ⌜ Room w (p .digits + p .digits) ⌝ }
     requires { ⌜ (behind p a ≤ b) × (w .wire ≡ upToMedian p b) ⌝ }
     ensures { λ r. ⌜ Wrote w (now (table .entry)) (chosen p a b) (now (table .exit)) r ⌝ }
 {
@@ -95,7 +98,7 @@ fn chosen(w: Writer, table: &mut [u32], p: Plan, a: u32, b: u32) -> Writer
 // A grade between the best and the two worst. The sum before stands at a.
 fn middle_grade(w: Writer, table: &mut [u32], p: Plan, a: u32, c: u32, g: u32) -> Writer
     requires { ⌜ Planned p ⌝ }
-    requires { ⌜ Room w (now table) (middleSpan p) ⌝ }
+    requires { ⌜ Room w (middleSpan p) ⌝ }
     requires { ⌜ (p .inputs ≤ a) × (w .wire ≡ behind p a) × (c < p .candidates) × (g < p .grades) ⌝ }
     ensures { λ r. ⌜ Wrote w (now (table .entry)) (middleGrade p a c g) (now (table .exit)) r ⌝ }
 {
@@ -106,7 +109,7 @@ fn middle_grade(w: Writer, table: &mut [u32], p: Plan, a: u32, c: u32, g: u32) -
 // So many such grades, from the best grade but one on.
 fn middle_grades(w: Writer, table: &mut [u32], p: Plan, a: u32, c: u32, count: u32) -> Writer
     requires { ⌜ Planned p ⌝ }
-    requires { ⌜ Room w (now table) (count * middleSpan p) ⌝ }
+    requires { ⌜ Room w (count * middleSpan p) ⌝ }
     requires { ⌜ (p .inputs ≤ a) × (w .wire ≡ behind p a) × (c < p .candidates) × (count < p .grades) ⌝ }
     ensures { λ r. ⌜ Wrote w (now (table .entry)) (middleGrades p a c 1 count) (now (table .exit)) r ⌝ }
 {
@@ -126,7 +129,7 @@ fn middle_grades(w: Writer, table: &mut [u32], p: Plan, a: u32, c: u32, count: u
 // The worst grade but one, by the count of the worst.
 fn last_grade(w: Writer, table: &mut [u32], p: Plan, a: u32, c: u32) -> Writer
     requires { ⌜ Planned p ⌝ }
-    requires { ⌜ Room w (now table) (lastSpan p) ⌝ }
+    requires { ⌜ Room w (lastSpan p) ⌝ }
     requires { ⌜ (p .inputs ≤ a) × (w .wire ≡ behind p a) × (c < p .candidates) ⌝ }
     ensures { λ r. ⌜ Wrote w (now (table .entry)) (lastGrade p a c) (now (table .exit)) r ⌝ }
 {
@@ -138,7 +141,7 @@ fn last_grade(w: Writer, table: &mut [u32], p: Plan, a: u32, c: u32) -> Writer
 // All grades behind the best one but the worst. The sum of the best stands at a.
 pub(crate) fn later_grades(w: Writer, table: &mut [u32], p: Plan, a: u32, c: u32) -> Writer
     requires { ⌜ Planned p ⌝ }
-    requires { ⌜ Room w (now table) (length (laterGrades p a c (p .grades - 2))) ⌝ }
+    requires { ⌜ Room w (length (laterGrades p a c (p .grades - 2))) ⌝ }
     requires { ⌜ (p .inputs ≤ a) × (w .wire ≡ behind p a) × (c < p .candidates) ⌝ }
     ensures { λ r. ⌜ Wrote w (now (table .entry)) (laterGrades p a c (p .grades - 2)) (now (table .exit)) r ⌝ }
 {

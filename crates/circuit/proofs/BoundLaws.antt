@@ -12,7 +12,7 @@ use Rattle.words.proofs.CounterSteps.{count-size-most, add-size-most}
 use Rattle.circuit.specs.declared.plan.Plan.{Plan}
 use Rattle.circuit.specs.Plan.{Planned}
 use Rattle.circuit.specs.Bound.{boundOf}
-use Rattle.circuit.proofs.Costs.{middleGates, lastGates, laterGates, candidateGates, contestGates, mergedGates, roundGates, roundsGates}
+use Rattle.circuit.proofs.Sizes.{middleGates, lastGates, laterGates, candidateGates, contestGates, mergedGates, roundGates, roundsGates}
 
 -- the levels' bound by products of two numbers
 levels : (r n : ℕ) → r * (2 * n + 2) + 2 * n + 2 ≡ 2 * (n * suc r) + 2 * suc r

@@ -11,7 +11,6 @@ pub mod Planning
 pub mod RowKeys
 pub mod Columns
 pub mod Accuracy
-pub mod Costs
+pub mod Sizes
 pub mod BoundLaws
-pub mod Measuring
 pub mod OwnListLaws

@@ -11,7 +11,6 @@ use borrow.Author.Tests.{eq-eqb, ne-eqb}
 use Rattle.gates.specs.Board.{conditionalCount}
 use Rattle.gates.proofs.Counting.{count-most}
 use Rattle.words.specs.Gates.{constant}
-use Rattle.words.proofs.CostLaws.{free-bit}
 use Rattle.jury.specs.declared.shape.Shape.{Shape}
 use Rattle.jury.specs.Shape.{withinLimits}
 use Rattle.jury.specs.Width.{widthOf}
@@ -20,16 +19,13 @@ use Rattle.circuit.specs.Plan.{planOf}
 use Rattle.circuit.specs.OwnList.{circuit, ownList}
 use Rattle.circuit.specs.Bound.{boundOf, gateBound}
 use Rattle.circuit.proofs.Planning.{planned, top-width}
-use Rattle.circuit.proofs.Costs.{Costs, nothing, one-more, costs, circuit-costs}
+use Rattle.circuit.proofs.Sizes.{circuit-size}
 use Rattle.circuit.proofs.BoundLaws.{gates-most, candidate-small, rounds-small}
 
--- "A single candidate wins": one gate, which is free
+-- "A single candidate wins": one gate
 pub single-list : (s : Shape) → s .candidates ≡ 1 → ownList s ≡ constant 1 ∷ []
 unfolding ownList
 single-list s e = rw (eq-eqb (s .candidates) 1 e)
-
-pub single-costs : Costs (constant 1 ∷ []) 1 0
-single-costs = costs (omega arith) (omega (arith, free-bit 1 (omega arith))) (one-more (constant 1) nothing)
 
 -- else the circuit of the plan
 pub circuit-list : (s : Shape) → (s .candidates ≡ 1 → ⊥) → ownList s ≡ circuit (planOf s)
@@ -47,7 +43,7 @@ either s bound one all = go (eqb (s .candidates) 1)
 
 circuit-bound : (s : Shape) → withinLimits s ≡ true → length (circuit (planOf s)) ≤ boundOf (s .candidates) (s .grades) (s .ballots) (suc (widthOf (s .ballots) - 1))
 unfolding planOf
-circuit-bound s e = omega (arith, circuit-costs (planOf s) .gates, gates-most (planOf s) (planned s e))
+circuit-bound s e = omega (arith, circuit-size (planOf s) .gates, gates-most (planOf s) (planned s e))
 
 least-bound : (s : Shape) → 1 ≤ gateBound s
 unfolding gateBound boundOf
@@ -64,7 +60,7 @@ own-list-keeps-the-bound s e = either s (gateBound s) (least-bound s) bound
 pub own-list-short : (s : Shape) → withinLimits s ≡ true → length (ownList s) ≤ 1048576
 own-list-short s e =
     let p = planOf s in
-    either s 1048576 (omega arith) (omega (arith, circuit-costs p .gates, candidate-small p (planned s e), rounds-small p (planned s e)))
+    either s 1048576 (omega arith) (omega (arith, circuit-size p .gates, candidate-small p (planned s e), rounds-small p (planned s e)))
 
 -- and no more gates are conditional than there are
 pub own-list-conditional : (s : Shape) → conditionalCount (ownList s) ≤ length (ownList s)

@@ -3,5 +3,4 @@ pub mod RunningSums
 pub mod Key
 pub mod Contest
 pub mod OwnList
-pub mod Measure
 pub mod Bound

@@ -14,17 +14,17 @@ pub enum Measured {
     Refused(Refusal),
 }
 
-// Measures the own list of a shape without writing it.
+// Measures the own list of a shape, with no table.
 pub fn measure(shape: Shape) -> Measured
     ensures { λ r. ⌜ measuredBy r ≡ measureSaid shape ⌝ }
 {
     if !shape.is_within_limits() {
         return Measured::Refused(Refusal::Shape);
     }
-    let cost = costs::list::own_list(shape);
+    let end = writer::list::measure(shape);
     Measured::Accepted {
-        gates: cost.gates,
-        conditional: cost.conditional,
+        gates: end.gate,
+        conditional: end.conditional,
         inputs: shape.ballot_bytes(),
     }
 }

@@ -17,8 +17,9 @@ pub fn write(shape: Shape, table: &mut [u32]) -> Answer
     if !shape.is_within_limits() {
         return Answer::Refused(Refusal::Shape);
     }
-    // Four numbers a gate, without a product that could wrap.
-    if table.len() / 4 < costs::list::own_list(shape).gates {
+    // The list is measured first, so that a refusal leaves the table as it was. Four numbers a gate, without a product
+    // that could wrap.
+    if table.len() / 4 < writer::list::measure(shape).gate {
         return Answer::Refused(Refusal::Table);
     }
     let end = writer::list::own_list(shape, table);

@@ -9,7 +9,7 @@ use native.Mathlib.Omega.{arith}
 use Rattle.gates.proofs.Laws.{Holds, holds-append, mux-zero, mux-one}
 use Rattle.words.specs.Gates.{copyOf, notOf, andOf, orOf, xorOf, muxOf}
 use Rattle.words.specs.Word.{number}
-use Rattle.words.specs.Adder.{fullAdder, halfAdder, increment, addWords, addWithBit, topCarry, topDigit, addModulo}
+use Rattle.words.specs.Adder.{fullAdder, halfAdder, increment, addWords, addWithBit, topCarry}
 use Rattle.words.proofs.Numbers.{Binary, bit-cases, number-less, number-more, number-top}
 use Rattle.words.proofs.GateValues.{holds-first, holds-rest, holds-three, copy-is, not-is, and-is, or-is, xor-is}
 use Rattle.words.proofs.WordSteps.{length-full, length-half, length-add}
@@ -18,17 +18,6 @@ use Rattle.words.proofs.WordSteps.{length-full, length-half, length-add
 full-sum : (s u v x t c : ℕ) → s ≤ 1 → u ≤ 1 → v ≤ 1 → x ≡ (s + u) % 2 → t ≡ (x + v) % 2 → (x ≡ 0 → c ≡ s) → (x ≡ 1 → c ≡ v) → t + 2 * c ≡ s + u + v
 full-sum s u v x t c hs hu hv ex et c₀ c₁ =
     ⊎-elim (λ (e : x ≡ 0). let k = c₀ e in omega arith) (λ (e : x ≡ 1). let k = c₁ e in omega arith) (bit-cases x (omega arith))
-
--- the top digits u and v above the sum s of the others with its carry k: the sum modulo twice p has the digit t
-no-carry-out : (p s k x y c u v t : ℕ) → s < p → t ≡ (u + v + k) % 2 → s + p * k ≡ x + y + c → s + p * t ≡ (x + p * u + (y + p * v) + c) % (2 * p)
-no-carry-out p s k x y c u v t l e f =
-    let q = (u + v + k) / 2 in
-    let digits : p * (u + v + k) ≡ p * (t + 2 * q) = ap (λ (z : ℕ). p * z) (omega arith) in
-    let whole : x + p * u + (y + p * v) + c ≡ s + p * t + 2 * p * q =
-    omega (arith, digits, mul-add p (u + v) k, mul-add p u v, mul-add p t (2 * q), mul-left-comm p 2 q, mul-assoc 2 p q) in
-    let bit : t ≤ 1 = omega arith in
-    let small : s + p * t < 2 * p = omega (arith, mul-le-mul-left p bit) in
-    rw whole (sym (add-mul-mod-self-left (s + p * t) (2 * p) q ∙ mod-eq-of-lt small))
 
 module _ (W : ℕ → ℕ) (b : Binary W) where
   pub full-law : (n s u v : ℕ) → Holds W n (fullAdder n s u v) → W (n + 1) + 2 * W (n + 2) ≡ W s + W u + W v
@@ -87,26 +76,3 @@ module _ (W : ℕ → ℕ) (b : Binary W) where
       let f = half-law n x y e l (p .0) in
       let r = add-law (n + 3) (x + 1) (y + 1) (n + 2) w (subst (λ (m : ℕ). Holds W m (addWords (n + 3) (x + 1) (y + 1) (n + 2) w)) (ap (λ (k : ℕ). n + k) (length-half n x y e)) (p .1)) in
       add-digit n x y w e (W (topCarry n c (suc w))) f (subst (λ (t : ℕ). number W (n + 3 + 1) 3 w + 2 ^ w * W t ≡ number W (x + 1) 1 w + number W (y + 1) 1 w + W (n + 2)) (top-next n c w) r)
-
-  -- the top digit is the sum modulo 2
-  top-law : (n x y c : ℕ) → Holds W n (topDigit n x y c) → W (n + 1) ≡ (W x + W y + W c) % 2
-  unfolding topDigit
-  top-law n x y c h =
-      let p = holds-first W n (xorOf x y) (xorOf n c ∷ []) h ∙ xor-is W b x y in
-      let q = holds-first W (n + 1) (xorOf n c) [] (holds-rest W n (xorOf x y) (xorOf n c ∷ []) h) ∙ xor-is W b n c in
-      omega (arith, p, q)
-
-  -- two words without the top carry: the sum modulo 2 ^ w
-  pub modulo-law : (n x y c w : ℕ) → Holds W n (addModulo n x y c w) → number W (n + 1) 3 w ≡ (number W x 1 w + number W y 1 w + W c) % 2 ^ w
-  unfolding addModulo
-  modulo-law n x y c zero h = unfold number in (omega arith)
-  modulo-law n x y c (suc w) h =
-      let top = topDigit (n + 3 * w) (x + w) (y + w) (topCarry n c w) in
-      let p = holds-append W n (addWords n x y c w) top h in
-      let f = add-law n x y c w (p .0) in
-      let t = top-law (n + 3 * w) (x + w) (y + w) (topCarry n c w) (subst (λ (m : ℕ). Holds W m top) (ap (λ (k : ℕ). n + k) (length-add n x y c w)) (p .1)) in
-      let size = pow-succ' 2 w in
-      let place : n + 3 * w + 1 ≡ n + 1 + 3 * w = omega arith in
-      let at : (z : ℕ) → number W z 1 (suc w) ≡ number W z 1 w + 2 ^ w * W (z + w) = λ z. let one : z + 1 * w ≡ z + w = omega arith in number-top W z 1 w ∙ ap (λ (k : ℕ). number W z 1 w + 2 ^ w * W k) one in
-      rw (size, at x, at y, number-top W (n + 1) 3 w, ← place)
-      (no-carry-out (2 ^ w) (number W (n + 1) 3 w) (W (topCarry n c w)) (number W x 1 w) (number W y 1 w) (W c) (W (x + w)) (W (y + w)) (W (n + 3 * w + 1)) (number-less W b (n + 1) 3 w) t f)

@@ -5,11 +5,11 @@ use Prim.Native.Nat.{ℕ, zero, suc, _+_, _/_, _^_, _≤_, _<_}
 use native.Mathlib.Nat.{add-zero, pow-succ'}
 use native.Mathlib.Omega.{arith}
 use Rattle.gates.proofs.Laws.{Holds, mux-zero, mux-one}
-use Rattle.words.specs.Gates.{constant, copyOf, notOf, orOf, muxOf}
+use Rattle.words.specs.Gates.{constant, copyOf, notOf, andOf, orOf, muxOf}
 use Rattle.words.specs.Word.{ones, number}
-use Rattle.words.specs.Choice.{constants, each, copies, complements, choose, chain, chainEnd, anyOf}
+use Rattle.words.specs.Choice.{constants, each, copies, complements, choose, masked, chain, chainEnd, anyOf}
 use Rattle.words.proofs.Numbers.{Binary, number-none, number-more, ones-none, ones-more}
-use Rattle.words.proofs.GateValues.{holds-first, holds-rest, constant-is, copy-is, not-is, or-is}
+use Rattle.words.proofs.GateValues.{holds-first, holds-rest, constant-is, copy-is, not-is, and-is, or-is}
 use Rattle.words.proofs.ChoiceSteps.{chain-next}
 
 module _ (W : ℕ → ℕ) (b : Binary W) where
@@ -59,6 +59,20 @@ module _ (W : ℕ → ℕ) (b : Binary W) where
   choose-zero n f x y (suc w) e h =
       let r = choose-zero (n + 1) f (x + 1) (y + 1) w e (holds-rest W n (muxOf f x y) (choose f (x + 1) (y + 1) w) h) in
       omega (arith, r, number-more W n 1 w, number-more W y 1 w, holds-first W n (muxOf f x y) (choose f (x + 1) (y + 1) w) h ∙ mux-zero (W f) (W x) (W y) e)
+
+  pub masked-one : (n f x w : ℕ) → W f ≡ 1 → Holds W n (masked f x w) → number W n 1 w ≡ number W x 1 w
+  unfolding masked
+  masked-one n f x zero e h = omega (arith, number-none W n 1, number-none W x 1)
+  masked-one n f x (suc w) e h =
+      let r = masked-one (n + 1) f (x + 1) w e (holds-rest W n (andOf f x) (masked f (x + 1) w) h) in
+      omega (arith, r, b x, number-more W n 1 w, number-more W x 1 w, holds-first W n (andOf f x) (masked f (x + 1) w) h ∙ and-is W b f x)
+
+  pub masked-zero : (n f x w : ℕ) → W f ≡ 0 → Holds W n (masked f x w) → number W n 1 w ≡ 0
+  unfolding masked
+  masked-zero n f x zero e h = number-none W n 1
+  masked-zero n f x (suc w) e h =
+      let r = masked-zero (n + 1) f (x + 1) w e (holds-rest W n (andOf f x) (masked f (x + 1) w) h) in
+      omega (arith, r, number-more W n 1 w, holds-first W n (andOf f x) (masked f (x + 1) w) h ∙ and-is W b f x)
 
   -- a chain of "or" is 1 exactly where one of its wires is
   pub any-one : (n s at d m : ℕ) → 0 < W s + ones W at d m → Holds W n (anyOf n s at d m) → W (chainEnd n s m) ≡ 1

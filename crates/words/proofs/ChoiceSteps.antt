@@ -7,8 +7,8 @@ use native.Mathlib.Nat.{add-zero, zero-add, suc-add}
 use native.Mathlib.Omega.{arith}
 use lib.ListN.{length}
 use Rattle.gates.specs.Gate.{Gate}
-use Rattle.words.specs.Gates.{gate, constant, muxOf}
-use Rattle.words.specs.Choice.{constants, each, choose, chain, chainEnd}
+use Rattle.words.specs.Gates.{gate, constant, andOf, muxOf}
+use Rattle.words.specs.Choice.{constants, each, choose, masked, chain, chainEnd}
 
 -- digits that are left count down
 left-one : (i n : ℕ) → i < n → n - i ≡ suc (n - (i + 1))
@@ -25,6 +25,10 @@ pub choose-step : (f x y i n : ℕ) → i < n → choose f (x + i) (y + i) (n - 
 unfolding choose
 choose-step f x y i n h = rw (left-one i n h, next-place x i, next-place y i)
 
+pub masked-step : (f x i n : ℕ) → i < n → masked f (x + i) (n - i) ≡ (andOf f (x + i) ∷ []) ++ masked f (x + (i + 1)) (n - (i + 1))
+unfolding masked
+masked-step f x i n h = rw (left-one i n h, next-place x i)
+
 pub length-constants : (v w : ℕ) → length (constants v w) ≡ w
 unfolding constants
 length-constants v zero = refl
@@ -39,6 +43,11 @@ pub length-choose : (f x y w : ℕ) → length (choose f x y w) ≡ w
 unfolding choose
 length-choose f x y zero = refl
 length-choose f x y (suc w) = ap suc (length-choose f (x + 1) (y + 1) w)
+
+pub length-masked : (f x w : ℕ) → length (masked f x w) ≡ w
+unfolding masked
+length-masked f x zero = refl
+length-masked f x (suc w) = ap suc (length-masked f (x + 1) w)
 
 pub length-chain : (kind n s at d m : ℕ) → length (chain kind n s at d m) ≡ m
 unfolding chain
@@ -69,6 +78,10 @@ each-none kind x i n h = let e : n - i ≡ 0 = omega arith in rw e
 pub choose-none : (f x y i n : ℕ) → n ≤ i → choose f x y (n - i) ≡ []
 unfolding choose
 choose-none f x y i n h = let e : n - i ≡ 0 = omega arith in rw e
+
+pub masked-none : (f x i n : ℕ) → n ≤ i → masked f x (n - i) ≡ []
+unfolding masked
+masked-none f x i n h = let e : n - i ≡ 0 = omega arith in rw e
 
 pub constants-none : (v n : ℕ) → n ≤ 0 → constants v n ≡ []
 unfolding constants

@@ -12,11 +12,10 @@ use Rattle.gates.proofs.Laws.{Holds, mux-zero, mux-one}
 use Rattle.words.specs.Gates.{notOf, andOf, orOf, xorOf, muxOf}
 use Rattle.words.specs.Word.{number}
 use Rattle.words.specs.Choice.{chainEnd}
-use Rattle.words.specs.Comparison.{atLeast, compareDigit, compareWords, upEnd, downEnd}
+use Rattle.words.specs.Comparison.{compareDigit, firstDigit, compareWords, upEnd, downEnd, differences, above}
 use Rattle.words.proofs.Numbers.{Binary, bit-cases, number-none, number-more}
 use Rattle.words.proofs.GateValues.{valueOn, holds-first, holds-rest, holds-three, not-is, and-is, or-is, xor-is}
 use Rattle.words.proofs.ChoiceSteps.{chain-next}
-use Rattle.words.proofs.WordSteps.{leastGate}
 
 -- a bit that would be the other one
 not-one : {y t s : ℕ} → y ≡ 0 → (t < s → y ≡ 1) → s ≤ t
@@ -26,43 +25,6 @@ not-zero : {y t s : ℕ} → y ≡ 1 → (s ≤ t → y ≡ 0) → t < s
 not-zero {y} {t} {s} z f = let g : ¬ (s ≤ t) = λ q. let k = f q in omega arith in omega arith
 
 module _ (W : ℕ → ℕ) (b : Binary W) where
-  -- one digit of a comparison with a public number: 1 exactly where the digit and what was so far exceed the number's digit
-  least-digit : (v x r : ℕ) → (v % 2 < W x + W r → valueOn W (leastGate v x r) ≡ 1) × (W x + W r ≤ v % 2 → valueOn W (leastGate v x r) ≡ 0)
-  least-digit v x r = go (v % 2) (omega arith)
-    where
-      go : (d : ℕ) → d ≤ 1 → (d < W x + W r → valueOn W (cond (eqb d 0) (orOf x r) (andOf x r)) ≡ 1) × (W x + W r ≤ d → valueOn W (cond (eqb d 0) (orOf x r) (andOf x r)) ≡ 0)
-      go zero l = (λ h. omega (arith, h, or-is W b x r, b x, b r), λ h. omega (arith, h, or-is W b x r))
-      go (suc zero) l = (λ h. omega (arith, h, and-is W b x r, b x, b r), λ h. omega (arith, h, and-is W b x r))
-      go (suc (suc d)) l = absurd (omega arith)
-
-  pub least-yes : (n x v r w : ℕ) → v < 2 ^ w → v < number W x 1 w + W r → Holds W n (atLeast n x v r w) → W (chainEnd n r w) ≡ 1
-  unfolding atLeast
-  least-yes n x v r zero l p h = unfold chainEnd in (omega (arith, b r, number-none W x 1))
-  least-yes n x v r (suc w) l p h =
-      let e = pow-succ' 2 w in
-      let rest = atLeast (n + 1) (x + 1) (v / 2) n w in
-      let first = holds-first W n (leastGate v x r) rest h in
-      let d = least-digit v x r in
-      let m = number-more W x 1 w in
-      sym (ap W (chain-next n r w))
-      ∙ least-yes (n + 1) (x + 1) (v / 2) n w (omega arith)
-      (⊎-elim (λ (z : W n ≡ 0). let k : W x + W r ≤ v % 2 = not-one z (λ q. first ∙ d .0 q) in omega arith) (λ (z : W n ≡ 1). omega (arith, b r, b x)) (bit-cases (W n) (b n)))
-      (holds-rest W n (leastGate v x r) rest h)
-
-  pub least-no : (n x v r w : ℕ) → v < 2 ^ w → number W x 1 w + W r ≤ v → Holds W n (atLeast n x v r w) → W (chainEnd n r w) ≡ 0
-  unfolding atLeast
-  least-no n x v r zero l p h = unfold chainEnd in (omega (arith, number-none W x 1))
-  least-no n x v r (suc w) l p h =
-      let e = pow-succ' 2 w in
-      let rest = atLeast (n + 1) (x + 1) (v / 2) n w in
-      let first = holds-first W n (leastGate v x r) rest h in
-      let d = least-digit v x r in
-      let m = number-more W x 1 w in
-      sym (ap W (chain-next n r w))
-      ∙ least-no (n + 1) (x + 1) (v / 2) n w (omega arith)
-      (⊎-elim (λ (z : W n ≡ 0). omega arith) (λ (z : W n ≡ 1). let k : v % 2 < W x + W r = not-zero z (λ q. first ∙ d .1 q) in omega arith) (bit-cases (W n) (b n)))
-      (holds-rest W n (leastGate v x r) rest h)
-
   -- two digits, both ways
   pub digit-up : (n x y : ℕ) → Holds W n (compareDigit n x y) → (W y < W x → W (n + 2) ≡ 1) × (W x ≤ W y → W (n + 2) ≡ 0)
   unfolding compareDigit
@@ -79,6 +41,24 @@ module _ (W : ℕ → ℕ) (b : Binary W) where
       let p = g .0 ∙ not-is W b x in
       let q = g .3 .0 ∙ and-is W b n y in
       (λ l. omega (arith, p, q, l, b x, b y), λ l. omega (arith, p, q, l, b x, b y))
+
+  -- the same of the cheaper pair of wires
+  pub first-up : (n x y : ℕ) → Holds W n (firstDigit n x y) → (W y < W x → W (n + 1) ≡ 1) × (W x ≤ W y → W (n + 1) ≡ 0)
+  unfolding firstDigit
+  first-up n x y h =
+      let g = holds-three W n (xorOf x y) (andOf x n) (xorOf n (n + 1)) [] h in
+      let p = g .0 ∙ xor-is W b x y in
+      let q = g .1 ∙ and-is W b x n in
+      (λ l. omega (arith, p, q, l, b x, b y), λ l. omega (arith, p, q, l, b x, b y))
+
+  pub first-down : (n x y : ℕ) → Holds W n (firstDigit n x y) → (W x < W y → W (n + 2) ≡ 1) × (W y ≤ W x → W (n + 2) ≡ 0)
+  unfolding firstDigit
+  first-down n x y h =
+      let g = holds-three W n (xorOf x y) (andOf x n) (xorOf n (n + 1)) [] h in
+      let p = g .0 ∙ xor-is W b x y in
+      let q = g .1 ∙ and-is W b x n in
+      let r = g .2 ∙ xor-is W b n (n + 1) in
+      (λ l. omega (arith, p, q, r, l, b x, b y), λ l. omega (arith, p, q, r, l, b x, b y))
 
   up-next : (n up w : ℕ) → upEnd (n + 3) (n + 1) w ≡ upEnd n up (suc w)
   unfolding upEnd
@@ -140,3 +120,34 @@ module _ (W : ℕ → ℕ) (b : Binary W) where
         (λ (l : number W y 1 (suc w) + W down ≤ number W x 1 (suc w)).
             sym e ∙ r .1 (⊎-elim (λ (z : W (n + 2) ≡ 0). omega (arith, b x)) (λ (z : W (n + 2) ≡ 1). let k : W x < W y + W down = not-zero z (d .1) in omega arith) (bit-cases (W (n + 2)) (b (n + 2))))),
       )
+
+  -- one way: the wires from f on say in which digits the words differ
+  pub above-law : (n f x y s w : ℕ) → Holds W f (differences x y w) → Holds W n (above n f x s w)
+      → (number W y 1 w < number W x 1 w + W s → W (chainEnd n s w) ≡ 1) × (number W x 1 w + W s ≤ number W y 1 w → W (chainEnd n s w) ≡ 0)
+  above-law n f x y s zero g h = unfold chainEnd number in ((λ l. omega (arith, b s, l)), (λ l. omega (arith, l)))
+  above-law n f x y s (suc w) g h =
+      let differ = differences (x + 1) (y + 1) w in
+      let rest = above (n + 1) (f + 1) (x + 1) n w in
+      let g′ : Holds W f (xorOf x y ∷ differ) = unfold differences in g in
+      let h′ : Holds W n (muxOf f x s ∷ rest) = unfold above in h in
+      let m = holds-first W n (muxOf f x s) rest h′ in
+      let d = one-digit (W x) (W y) (W s) (W f) (W n) (b x) (b y) (b s) (holds-first W f (xorOf x y) differ g′ ∙ xor-is W b x y)
+      (λ e. m ∙ mux-zero (W f) (W x) (W s) e) (λ e. m ∙ mux-one (W f) (W x) (W s) e) in
+      let r = above-law (n + 1) (f + 1) (x + 1) (y + 1) n w (holds-rest W f (xorOf x y) differ g′) (holds-rest W n (muxOf f x s) rest h′) in
+      let e = ap W (chain-next n s w) in
+      let mx = number-more W x 1 w in
+      let my = number-more W y 1 w in (
+        (λ (l : number W y 1 (suc w) < number W x 1 (suc w) + W s).
+            sym e ∙ r .0 (⊎-elim (λ (z : W n ≡ 0). let k : W x + W s ≤ W y = not-one z (d .0) in omega arith) (λ (z : W n ≡ 1). omega (arith, b x, b s)) (bit-cases (W n) (b n)))),
+        (λ (l : number W x 1 (suc w) + W s ≤ number W y 1 (suc w)).
+            sym e ∙ r .1 (⊎-elim (λ (z : W n ≡ 0). omega (arith, b y)) (λ (z : W n ≡ 1). let k : W y < W x + W s = not-zero z (d .1) in omega arith) (bit-cases (W n) (b n)))),
+      )
+
+  -- words of w + 1 digits, of which x's lowest digit starts the chain: 1 where x is above, 0 where it is below, either where they are equal
+  pub above-words : (n f x y w : ℕ) → Holds W f (differences (x + 1) (y + 1) w) → Holds W n (above n f (x + 1) x w)
+      → (number W y 1 (suc w) < number W x 1 (suc w) → W (chainEnd n x w) ≡ 1) × (number W x 1 (suc w) < number W y 1 (suc w) → W (chainEnd n x w) ≡ 0)
+  above-words n f x y w g h =
+      let r = above-law n f (x + 1) (y + 1) x w g h in
+      let mx = number-more W x 1 w in
+      let my = number-more W y 1 w in
+      ((λ l. r .0 (omega (arith, mx, my, l, b x, b y))), (λ l. r .1 (omega (arith, mx, my, l, b x, b y))))

@@ -7,6 +7,7 @@ use native.Mathlib.Nat.{suc-mul, zero-mul}
 use native.Mathlib.Omega.{arith}
 use lib.ListN.{length, length-append}
 use borrow.Author.Tests.{eq-eqb, ne-eqb}
+use Rattle.words.specs.Limits.{writerLimit}
 use Rattle.words.specs.Adder.{fullAdder, halfAdder, increment}
 use Rattle.words.specs.Gates.{copyOf}
 use Rattle.words.specs.Word.{Below}
@@ -161,7 +162,7 @@ pub few-adders : (m e : ℕ) → e ≤ 1 → adders m e ≤ m + 1
 unfolding adders
 few-adders m e h = omega arith
 
-pub adders-small : (m t : ℕ) → t ≡ adders m 0 → m < 2147483648 → t < 2147483648
+pub adders-small : (m t : ℕ) → t ≡ adders m 0 → m < writerLimit → t < writerLimit
 unfolding adders
 adders-small m t e h = omega arith
 

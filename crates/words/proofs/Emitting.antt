@@ -1,11 +1,9 @@
 -- The gates of the blocks, as the writer writes them.
 -- Assumes nothing.
 use mathlib.Core.Path.{_≡_, ap}
-use mathlib.Core.Bool.{cond}
 use mathlib.Core.List.{List, [], _∷_}
-use Prim.Native.Nat.{ℕ, zero, suc, _-_, _%_, _<_}
+use Prim.Native.Nat.{ℕ, zero, suc, _%_, _<_}
 use native.Mathlib.Omega.{arith}
-use lib.Dec.{eqb}
 use Rattle.gates.specs.Kind.{operandsOf}
 use Rattle.gates.specs.Gate.{Gate}
 use Rattle.gates.proofs.Laws.{operand-counts}
@@ -63,15 +61,6 @@ module _ (w : Writer) (t t₁ : List ℕ) (w₁ : Writer) (a b c : ℕ) where
 
   pub mux-wrote : Wrote w t (emitted 7 a b c ∷ []) t₁ w₁ → Wrote w t (muxOf a b c ∷ []) t₁ w₁
   mux-wrote = wrote-as w t (emitted 7 a b c ∷ []) (muxOf a b c ∷ []) t₁ w₁ (ap (λ (g : Gate). g ∷ []) (three-used 7 a b c (operand-counts .7)))
-
-  -- kind 5 where the digit of the public number is 0, kind 4 where it is 1
-  pub least-wrote : (v : ℕ) → Wrote w t (emitted (5 - v % 2) a b c ∷ []) t₁ w₁ → Wrote w t (cond (eqb (v % 2) 0) (orOf a b) (andOf a b) ∷ []) t₁ w₁
-  least-wrote v h = go (v % 2) (omega arith) h
-    where
-      go : (d : ℕ) → d < 2 → Wrote w t (emitted (5 - d) a b c ∷ []) t₁ w₁ → Wrote w t (cond (eqb d 0) (orOf a b) (andOf a b) ∷ []) t₁ w₁
-      go zero l h = or-wrote h
-      go (suc zero) l h = and-wrote h
-      go (suc (suc d)) l h = absurd (omega arith)
 
 -- three gates, one after the other
 pub wrote-three : (w : Writer) (t : List ℕ) (g₁ : Gate) (t₁ : List ℕ) (w₁ : Writer) (g₂ : Gate) (t₂ : List ℕ) (w₂ : Writer) (g₃ : Gate) (t₃ : List ℕ) (w₃ : Writer)

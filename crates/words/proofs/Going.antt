@@ -19,7 +19,7 @@ pub record Goes (w₀ : Writer) (t₀ : List ℕ) (whole : List Gate) (w : Write
   pub wireLeft : w .wire + length rest ≡ w₀ .wire + length whole
   pub counted : w .conditional ≤ w .gate
 
-pub goes-start : (w : Writer) (t : List ℕ) (whole : List Gate) (n : ℕ) → Room w t n → Goes w t whole w t whole
+pub goes-start : (w : Writer) (t : List ℕ) (whole : List Gate) (n : ℕ) → Room w n → Goes w t whole w t whole
 goes-start w t whole n r = record { ends = λ t′ s h. h; long = refl; gateLeft = refl; wireLeft = refl; counted = r .counted }
 
 module _ (w₀ : Writer) (t₀ : List ℕ) (whole : List Gate) where
@@ -38,10 +38,10 @@ module _ (w₀ : Writer) (t₀ : List ℕ) (whole : List Gate) where
       }
 
   -- there is room for so many gates of the rest
-  pub goes-room : (w : Writer) (t : List ℕ) (rest : List Gate) (m n : ℕ) → Goes w₀ t₀ whole w t rest → m ≤ length rest → length whole ≤ n → Room w₀ t₀ n → Room w t m
+  pub goes-room : (w : Writer) (t : List ℕ) (rest : List Gate) (m n : ℕ) → Goes w₀ t₀ whole w t rest → m ≤ length rest → length whole ≤ n → Room w₀ n → Room w m
   goes-room w t rest m n g l k r =
       record {
-        inTable = omega (arith, g .gateLeft, g .long, r .inTable);
+        few = omega (arith, g .gateLeft, r .few);
         small = omega (arith, g .wireLeft, r .small);
         counted = g .counted;
       }

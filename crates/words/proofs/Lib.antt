@@ -13,6 +13,4 @@ pub mod ChoiceLaws
 pub mod ComparisonLaws
 pub mod PointsBack
 pub mod Ends
-pub mod CostLaws
-pub mod CostSteps
 pub mod Laws

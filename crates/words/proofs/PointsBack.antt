@@ -15,9 +15,9 @@ use Rattle.gates.specs.Test.{goodGate}
 use Rattle.gates.proofs.Laws.{AllGood, good-none, good-one, good-two, good-three, good-append, operand-counts}
 use Rattle.words.specs.Gates.{constant, copyOf, notOf, andOf, orOf, xorOf, muxOf}
 use Rattle.words.specs.Word.{Below}
-use Rattle.words.specs.Adder.{fullAdder, halfAdder, increment, addWords, addWithBit, topCarry, topDigit, addModulo}
-use Rattle.words.specs.Choice.{constants, each, choose, chain, chainEnd}
-use Rattle.words.specs.Comparison.{atLeast, compareDigit, compareWords}
+use Rattle.words.specs.Adder.{fullAdder, halfAdder, increment, addWords, addWithBit}
+use Rattle.words.specs.Choice.{constants, each, choose, masked, chain, chainEnd}
+use Rattle.words.specs.Comparison.{compareDigit, firstDigit, compareWords, differences, above}
 use Rattle.words.specs.Counter.{level, adders, levelSum, countLevels, countDigits, counter, countSize, Countable, addLevels, addDigits, accumulator, addSize}
 use Rattle.words.proofs.Places.{below-more, below-first}
 use Rattle.words.proofs.Emitting.{bit-none-used}
@@ -86,22 +86,6 @@ add-bit-good n x y e (suc w) hx hy =
     behind n 3 (halfAdder n x y e) (addWords (n + 3) (x + 1) (y + 1) (n + 2) w) (length-half n x y e) (half-good n x y e (omega arith) (omega arith))
     (add-good (n + 3) (x + 1) (y + 1) (n + 2) w (omega arith) (omega arith) (omega arith))
 
--- the top carry is a wire of the sum, or the carry that it starts from
-carry-below : (n c w q : ℕ) → c < q → n + 3 * w ≤ q → topCarry n c w < q
-unfolding topCarry
-carry-below n c zero q hc h = hc
-carry-below n c (suc w) q hc h = omega arith
-
-pub modulo-good : (n x y c w : ℕ) → x + w ≤ n → y + w ≤ n → c < n → AllGood n (addModulo n x y c w)
-unfolding addModulo topDigit
-modulo-good n x y c zero hx hy hc = tt
-modulo-good n x y c (suc w) hx hy hc =
-    let q = n + 3 * w in
-    let k = topCarry n c w in
-    let hk = carry-below n c w q (omega arith) (omega arith) in
-    behind n (3 * w) (addWords n x y c w) (topDigit q (x + w) (y + w) k) (length-add n x y c w) (add-good n x y c w (omega arith) (omega arith) hc)
-    (good-xor q (x + w) (y + w) (omega arith) (omega arith), (good-xor (suc q) q k (omega arith) (omega arith), tt))
-
 pub constants-good : (n v w : ℕ) → AllGood n (constants v w)
 unfolding constants
 constants-good n v zero = tt
@@ -123,6 +107,11 @@ unfolding choose
 choose-good n f x y zero hf hx hy = tt
 choose-good n f x y (suc w) hf hx hy = (good-mux n f x y hf (omega arith) (omega arith), choose-good (suc n) f (x + 1) (y + 1) w (omega arith) (omega arith) (omega arith))
 
+pub masked-good : (n f x w : ℕ) → f < n → x + w ≤ n → AllGood n (masked f x w)
+unfolding masked
+masked-good n f x zero hf hx = tt
+masked-good n f x (suc w) hf hx = (good-and n f x hf (omega arith), masked-good (suc n) f (x + 1) w (omega arith) (omega arith))
+
 pub chain-good : (n kind s at d m : ℕ) → kind < 8 → operandsOf kind ≡ 2 → s < n → Below n at d m → AllGood n (chain kind n s at d m)
 unfolding chain
 chain-good n kind s at d zero k e hs bl = tt
@@ -139,6 +128,21 @@ unfolding compareDigit
 compare-digit-good n x y hx hy =
     (good-not n x hx, (good-not (suc n) y (omega arith), (good-and (suc (suc n)) x (n + 1) (omega arith) (omega arith), (good-and (suc (suc (suc n))) n y (omega arith) (omega arith), tt))))
 
+pub first-digit-good : (n x y : ℕ) → x < n → y < n → AllGood n (firstDigit n x y)
+unfolding firstDigit
+first-digit-good n x y hx hy = (good-xor n x y hx hy, (good-and (suc n) x n (omega arith) (omega arith), (good-xor (suc (suc n)) n (n + 1) (omega arith) (omega arith), tt)))
+
+pub differences-good : (n x y w : ℕ) → x + w ≤ n → y + w ≤ n → AllGood n (differences x y w)
+unfolding differences
+differences-good n x y zero hx hy = tt
+differences-good n x y (suc w) hx hy = (good-xor n x y (omega arith) (omega arith), differences-good (suc n) (x + 1) (y + 1) w (omega arith) (omega arith))
+
+pub above-good : (n f x s w : ℕ) → f + w ≤ n → x + w ≤ n → s < n → AllGood n (above n f x s w)
+unfolding above
+above-good n f x s zero hf hx hs = tt
+above-good n f x s (suc w) hf hx hs =
+    (good-mux n f x s (omega arith) (omega arith) hs, next n (above (n + 1) (f + 1) (x + 1) n w) (above-good (n + 1) (f + 1) (x + 1) n w (omega arith) (omega arith) (omega arith)))
+
 pub compare-good : (n x y up down w : ℕ) → x + w ≤ n → y + w ≤ n → up < n → down < n → AllGood n (compareWords n x y up down w)
 unfolding compareWords
 compare-good n x y up down zero hx hy hu hd = tt
@@ -154,18 +158,6 @@ compare-good n x y up down (suc w) hx hy hu hd =
         ),
       ),
     )
-
-pub least-good : (n x v r w : ℕ) → x + w ≤ n → r < n → AllGood n (atLeast n x v r w)
-unfolding atLeast
-least-good n x v r zero hx hr = tt
-least-good n x v r (suc w) hx hr = (
-  either (eqb (v % 2) 0) (good-or n x r (omega arith) hr) (good-and n x r (omega arith) hr),
-  next n (atLeast (n + 1) (x + 1) (v / 2) n w) (least-good (n + 1) (x + 1) (v / 2) n w (omega arith) (omega arith)),
-)
-  where
-    either : (b : Bool) → T (goodGate n (orOf x r)) → T (goodGate n (andOf x r)) → T (goodGate n (cond b (orOf x r) (andOf x r)))
-    either true p q = p
-    either false p q = q
 
 pub level-good : (n s at d e m : ℕ) → s < n → Below n at d m → AllGood n (level n s at d e m)
 unfolding level

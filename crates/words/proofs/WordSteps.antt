@@ -3,14 +3,14 @@
 use mathlib.Core.Path.{_≡_, _∙_, refl, ap}
 use mathlib.Core.Bool.{Bool, true, false, cond}
 use mathlib.Core.List.{List, [], _∷_, _++_}
-use Prim.Native.Nat.{ℕ, zero, suc, _+_, _-_, _*_, _/_, _%_, _<_, _≤_}
+use Prim.Native.Nat.{ℕ, zero, suc, _+_, _-_, _*_, _<_, _≤_}
 use native.Mathlib.Omega.{arith}
 use lib.Dec.{eqb}
 use lib.ListN.{length, length-append}
 use Rattle.gates.specs.Gate.{Gate}
-use Rattle.words.specs.Gates.{copyOf, notOf, andOf, orOf, xorOf}
-use Rattle.words.specs.Adder.{fullAdder, halfAdder, increment, addWords, addWithBit, topCarry, topDigit, addModulo}
-use Rattle.words.specs.Comparison.{atLeast, compareDigit, compareWords}
+use Rattle.words.specs.Gates.{copyOf, notOf, andOf, orOf, xorOf, muxOf}
+use Rattle.words.specs.Adder.{fullAdder, halfAdder, increment, addWords, addWithBit}
+use Rattle.words.specs.Comparison.{compareDigit, firstDigit, compareWords, differences, above}
 
 left-one : (i n : ℕ) → i < n → n - i ≡ suc (n - (i + 1))
 left-one i n h = omega arith
@@ -26,17 +26,6 @@ pub add-none : (n x y c i w : ℕ) → w ≤ i → addWords n x y c (w - i) ≡ 
 unfolding addWords
 add-none n x y c i w h = let e : w - i ≡ 0 = omega arith in rw e
 
--- the digits below the top one, and the top one
-pub modulo-step : (n x y c w : ℕ) → (w ≡ 0 → ⊥) → addModulo n x y c w ≡ addWords n x y c (w - 1) ++ topDigit (n + 3 * (w - 1)) (x + (w - 1)) (y + (w - 1)) (topCarry n c (w - 1))
-modulo-step n x y c w h = let e : w ≡ suc (w - 1) = omega arith in ap (addModulo n x y c) e ∙ first (w - 1)
-  where
-    first : (w : ℕ) → addModulo n x y c (suc w) ≡ addWords n x y c w ++ topDigit (n + 3 * w) (x + w) (y + w) (topCarry n c w)
-    first w = unfold addModulo in refl
-
-pub modulo-none : (n x y c w : ℕ) → w ≡ 0 → addModulo n x y c w ≡ []
-unfolding addModulo
-modulo-none n x y c w e = rw e
-
 pub compare-step : (n x y up down i w : ℕ) → i < w
     → compareWords n (x + i) (y + i) up down (w - i) ≡ compareWords n (x + i) (y + i) up down 1 ++ compareWords (n + 3) (x + (i + 1)) (y + (i + 1)) (n + 1) (n + 2) (w - (i + 1))
 unfolding compareWords
@@ -46,17 +35,21 @@ pub compare-none : (n x y up down i w : ℕ) → w ≤ i → compareWords n x y 
 unfolding compareWords
 compare-none n x y up down i w h = let e : w - i ≡ 0 = omega arith in rw e
 
--- the gate of one digit of a comparison with a public number
-abbrev pub leastGate : ℕ → ℕ → ℕ → Gate
-leastGate v x r = cond (eqb (v % 2) 0) (orOf x r) (andOf x r)
+pub differences-step : (x y i w : ℕ) → i < w → differences (x + i) (y + i) (w - i) ≡ (xorOf (x + i) (y + i) ∷ []) ++ differences (x + (i + 1)) (y + (i + 1)) (w - (i + 1))
+unfolding differences
+differences-step x y i w h = rw (left-one i w h, next-place x i, next-place y i)
 
-pub least-step : (n x v r i w : ℕ) → i < w → atLeast n (x + i) v r (w - i) ≡ (leastGate v (x + i) r ∷ []) ++ atLeast (n + 1) (x + (i + 1)) (v / 2) n (w - (i + 1))
-unfolding atLeast
-least-step n x v r i w h = rw (left-one i w h, next-place x i)
+pub differences-none : (x y i w : ℕ) → w ≤ i → differences x y (w - i) ≡ []
+unfolding differences
+differences-none x y i w h = let e : w - i ≡ 0 = omega arith in rw e
 
-pub least-none : (n x v r i w : ℕ) → w ≤ i → atLeast n x v r (w - i) ≡ []
-unfolding atLeast
-least-none n x v r i w h = let e : w - i ≡ 0 = omega arith in rw e
+pub above-step : (n f x s i w : ℕ) → i < w → above n (f + i) (x + i) s (w - i) ≡ (muxOf (f + i) (x + i) s ∷ []) ++ above (n + 1) (f + (i + 1)) (x + (i + 1)) n (w - (i + 1))
+unfolding above
+above-step n f x s i w h = rw (left-one i w h, next-place f i, next-place x i)
+
+pub above-none : (n f x s i w : ℕ) → w ≤ i → above n f x s (w - i) ≡ []
+unfolding above
+above-none n f x s i w h = let e : w - i ≡ 0 = omega arith in rw e
 
 pub length-full : (n s u v : ℕ) → length (fullAdder n s u v) ≡ 3
 unfolding fullAdder
@@ -84,18 +77,6 @@ unfolding addWithBit
 length-add-bit n x y e zero = refl
 length-add-bit n x y e (suc w) = omega (arith, length-append (halfAdder n x y e) (addWords (n + 3) (x + 1) (y + 1) (n + 2) w), length-half n x y e, length-add (n + 3) (x + 1) (y + 1) (n + 2) w)
 
-pub length-top : (n x y c : ℕ) → length (topDigit n x y c) ≡ 2
-unfolding topDigit
-length-top n x y c = refl
-
--- the top digit has one gate less than the others
-pub length-modulo : (n x y c w : ℕ) → length (addModulo n x y c w) ≡ 3 * w - 1
-unfolding addModulo
-length-modulo n x y c zero = refl
-length-modulo n x y c (suc w) =
-    let top = topDigit (n + 3 * w) (x + w) (y + w) (topCarry n c w) in
-    omega (arith, length-append (addWords n x y c w) top, length-add n x y c w, length-top (n + 3 * w) (x + w) (y + w) (topCarry n c w))
-
 pub length-compare : (n x y up down w : ℕ) → length (compareWords n x y up down w) ≡ 3 * w
 unfolding compareWords
 length-compare n x y up down zero = refl
@@ -105,7 +86,16 @@ pub length-compare-digit : (n x y : ℕ) → length (compareDigit n x y) ≡ 4
 unfolding compareDigit
 length-compare-digit n x y = refl
 
-pub length-least : (n x v r w : ℕ) → length (atLeast n x v r w) ≡ w
-unfolding atLeast
-length-least n x v r zero = refl
-length-least n x v r (suc w) = ap suc (length-least (n + 1) (x + 1) (v / 2) n w)
+pub length-first-digit : (n x y : ℕ) → length (firstDigit n x y) ≡ 3
+unfolding firstDigit
+length-first-digit n x y = refl
+
+pub length-differences : (x y w : ℕ) → length (differences x y w) ≡ w
+unfolding differences
+length-differences x y zero = refl
+length-differences x y (suc w) = ap suc (length-differences (x + 1) (y + 1) w)
+
+pub length-above : (n f x s w : ℕ) → length (above n f x s w) ≡ w
+unfolding above
+length-above n f x s zero = refl
+length-above n f x s (suc w) = ap suc (length-above (n + 1) (f + 1) (x + 1) n w)

@@ -51,13 +51,13 @@ pub wrote-as : (w : Writer) (t : List ℕ) (gs hs : List Gate) (t₁ : List ℕ)
 wrote-as w t gs hs t₁ w₁ e a = rw (← e) a
 
 -- room for a part, and for the rest once a part is written
-pub room-less : (w : Writer) (t : List ℕ) (m n : ℕ) → m ≤ n → Room w t n → Room w t m
-room-less w t m n h r = record { inTable = omega (arith, r .inTable); small = omega (arith, r .small); counted = r .counted }
+pub room-less : (w : Writer) (m n : ℕ) → m ≤ n → Room w n → Room w m
+room-less w m n h r = record { few = omega (arith, r .few); small = omega (arith, r .small); counted = r .counted }
 
-pub room-after : (w : Writer) (t : List ℕ) (gs : List Gate) (t₁ : List ℕ) (w₁ : Writer) (m n : ℕ) → Wrote w t gs t₁ w₁ → length gs + m ≤ n → Room w t n → Room w₁ t₁ m
+pub room-after : (w : Writer) (t : List ℕ) (gs : List Gate) (t₁ : List ℕ) (w₁ : Writer) (m n : ℕ) → Wrote w t gs t₁ w₁ → length gs + m ≤ n → Room w n → Room w₁ m
 room-after w t gs t₁ w₁ m n a h r =
     record {
-      inTable = omega (arith, a .gates, r .inTable, ap length (a .numbers), length-sets t (4 * w .gate) (numbersOf gs));
+      few = omega (arith, a .gates, r .few);
       small = omega (arith, a .wires, r .small);
       counted = omega (arith, a .conditionals, a .gates, r .counted, count-most gs);
     }
@@ -66,16 +66,15 @@ room-after w t gs t₁ w₁ m n a h r =
 pub wrote-long : (w : Writer) (t : List ℕ) (gs : List Gate) (t₁ : List ℕ) (w₁ : Writer) → Wrote w t gs t₁ w₁ → length t₁ ≡ length t
 wrote-long w t gs t₁ w₁ a = ap length (a .numbers) ∙ length-sets t (4 * w .gate) (numbersOf gs)
 
--- one gate: its kind, and the operands that its kind uses
-pub wrote-gate : (w : Writer) (t : List ℕ) (kind a b c count x y z mark : ℕ) → count ≡ operandsOf kind
+-- one gate: its kind, and the operands that its kind uses, stored one after the other
+pub wrote-gate : (w : Writer) (t : List ℕ) (kind a b c count x y z mark : ℕ) (t₁ t₂ t₃ t₄ : List ℕ) → count ≡ operandsOf kind
     → x ≡ cond (ltb 0 count) a 0 → y ≡ cond (ltb 1 count) b 0 → z ≡ cond (ltb 2 count) c 0 → mark ≡ cond (conditionalOf kind) 1 0
-    → Wrote w t (emitted kind a b c ∷ [])
-    (set (set (set (set t (4 * w .gate) kind) (4 * w .gate + 1) x) (4 * w .gate + 2) y) (4 * w .gate + 3) z)
-    (record { gate = w .gate + 1; wire = w .wire + 1; conditional = w .conditional + mark })
+    → t₁ ≡ set t (4 * w .gate) kind → t₂ ≡ set t₁ (4 * w .gate + 1) x → t₃ ≡ set t₂ (4 * w .gate + 2) y → t₄ ≡ set t₃ (4 * w .gate + 3) z
+    → Wrote w t (emitted kind a b c ∷ []) t₄ (record { gate = w .gate + 1; wire = w .wire + 1; conditional = w .conditional + mark })
 unfolding emitted
-wrote-gate w t kind a b c count x y z mark e ex ey ez em =
+wrote-gate w t kind a b c count x y z mark t₁ t₂ t₃ t₄ e ex ey ez em e₁ e₂ e₃ e₄ =
     record {
-      numbers = rw (ex, ey, ez, e, numbers-one, add-one (4 * w .gate), add-two (4 * w .gate), add-three (4 * w .gate));
+      numbers = rw (e₄, e₃, e₂, e₁, ex, ey, ez, e, numbers-one, add-one (4 * w .gate), add-two (4 * w .gate), add-three (4 * w .gate));
       gates = refl;
       wires = refl;
       conditionals = ap (λ (n : ℕ). w .conditional + n) (em ∙ sym (count-one (emitted kind a b c)));

@@ -32,12 +32,3 @@ topCarry n c (suc w) = n + 3 * w + 2
 unfoldable pub addWithBit : ℕ → ℕ → ℕ → ℕ → ℕ → List Gate
 addWithBit n x y e zero = []
 addWithBit n x y e (suc w) = halfAdder n x y e ++ addWords (n + 3) (x + 1) (y + 1) (n + 2) w
-
--- The sum modulo 2 of the wires x, y and c: its wire is n + 1.
-unfoldable pub topDigit : ℕ → ℕ → ℕ → ℕ → List Gate
-topDigit n x y c = xorOf x y ∷ xorOf n c ∷ []
-
--- Adds two words and a carry wire as addWords does, but hands no carry on from the top digit, which is a sum modulo 2.
-unfoldable pub addModulo : ℕ → ℕ → ℕ → ℕ → ℕ → List Gate
-addModulo n x y c zero = []
-addModulo n x y c (suc w) = addWords n x y c w ++ topDigit (n + 3 * w) (x + w) (y + w) (topCarry n c w)

@@ -1,8 +1,8 @@
--- Blocks of one gate a wire: constants, copies, complements, one of two words; whether one of some wires is 1, and their sum modulo 2.
+-- Blocks of one gate a wire: constants, copies, complements, one of two words, a word or 0; whether one of some wires is 1, and their sum modulo 2.
 use mathlib.Core.List.{List, [], _∷_}
 use Prim.Native.Nat.{ℕ, zero, suc, _+_, _/_}
 use Rattle.gates.specs.Gate.{Gate}
-use Rattle.words.specs.Gates.{gate, constant, muxOf}
+use Rattle.words.specs.Gates.{gate, constant, andOf, muxOf}
 
 -- The w digits of the public number v, lowest first.
 unfoldable pub constants : ℕ → ℕ → List Gate
@@ -24,6 +24,11 @@ complements x w = each 3 x w
 unfoldable pub choose : ℕ → ℕ → ℕ → ℕ → List Gate
 choose f x y zero = []
 choose f x y (suc w) = muxOf f x y ∷ choose f (x + 1) (y + 1) w
+
+-- The word at x where wire f is 1, 0 where it is 0.
+unfoldable pub masked : ℕ → ℕ → ℕ → List Gate
+masked f x zero = []
+masked f x (suc w) = andOf f x ∷ masked f (x + 1) w
 
 -- A chain of m gates of a kind with two operands, the first making wire n: it takes the wires s and `at`, and each next one the wire made before it and the next of the wires a stride d apart.
 unfoldable pub chain : ℕ → ℕ → ℕ → ℕ → ℕ → ℕ → List Gate

@@ -1,19 +1,16 @@
 -- Comparisons, from the lowest digit up.
-use mathlib.Core.Bool.{cond}
 use mathlib.Core.List.{List, [], _∷_}
-use Prim.Native.Nat.{ℕ, zero, suc, _+_, _*_, _/_, _%_}
-use lib.Dec.{eqb}
+use Prim.Native.Nat.{ℕ, zero, suc, _+_, _*_}
 use Rattle.gates.specs.Gate.{Gate}
-use Rattle.words.specs.Gates.{notOf, andOf, orOf, xorOf, muxOf}
-
--- Whether the word at x is at least the public number v: one gate a digit. The wire r says so of the digits before.
-unfoldable pub atLeast : ℕ → ℕ → ℕ → ℕ → ℕ → List Gate
-atLeast n x v r zero = []
-atLeast n x v r (suc w) = cond (eqb (v % 2) 0) (orOf x r) (andOf x r) ∷ atLeast (n + 1) (x + 1) (v / 2) n w
+use Rattle.words.specs.Gates.{notOf, andOf, xorOf, muxOf}
 
 -- Two digits compared both ways: wire n + 2 says that x is above y, wire n + 3 that it is below.
 unfoldable pub compareDigit : ℕ → ℕ → ℕ → List Gate
 compareDigit n x y = notOf x ∷ notOf y ∷ andOf x (n + 1) ∷ andOf n y ∷ []
+
+-- The same with one conditional gate: wire n + 1 says that x is above y, wire n + 2 that it is below.
+unfoldable pub firstDigit : ℕ → ℕ → ℕ → List Gate
+firstDigit n x y = xorOf x y ∷ andOf x n ∷ xorOf n (n + 1) ∷ []
 
 -- Two words compared both ways, above digits of which the wires up and down say that x is above y, and below it. Both ways share each digit's difference.
 unfoldable pub compareWords : ℕ → ℕ → ℕ → ℕ → ℕ → ℕ → List Gate
@@ -29,3 +26,13 @@ upEnd n up (suc w) = n + 3 * w + 1
 unfoldable pub downEnd : ℕ → ℕ → ℕ → ℕ
 downEnd n down zero = down
 downEnd n down (suc w) = n + 3 * w + 2
+
+-- For each of w digits whether the words at x and y differ in it.
+unfoldable pub differences : ℕ → ℕ → ℕ → List Gate
+differences x y zero = []
+differences x y (suc w) = xorOf x y ∷ differences (x + 1) (y + 1) w
+
+-- A word compared one way with another, from which it differs where the wires from f on say so. The highest such digit decides: from the lowest of w digits up, x's digit where they differ in it, else what wire s says of the digits before. The last wire made says that x is above.
+unfoldable pub above : ℕ → ℕ → ℕ → ℕ → ℕ → List Gate
+above n f x s zero = []
+above n f x s (suc w) = muxOf f x s ∷ above (n + 1) (f + 1) (x + 1) n w

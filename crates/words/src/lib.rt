@@ -3,9 +3,6 @@
 //
 // Each method of Writer writes the gates of one block of specs/ and returns the next writer. Its `requires` asks for room
 // in the table and for operands that are wires already.
-pub mod adder;
 pub mod choice;
 pub mod comparison;
-pub mod cost;
-pub mod counter;
 pub mod writer;

@@ -19,7 +19,7 @@ use Rattle.circuit.specs.Key.{flagsAt, strictAt}
 use Rattle.circuit.specs.Contest.{bothAt, contest, merge, stillWon, won}
 use Rattle.circuit.specs.OwnList.{merged}
 use Rattle.circuit.proofs.WellFormed.{length-still-won}
-use Rattle.circuit.proofs.Costs.{contestGates, contest-costs, mergedGates, merged-costs}
+use Rattle.circuit.proofs.Sizes.{contestGates, contest-size, mergedGates, merged-size}
 
 -- a gate whose operands were computed
 pub and-written : (w : Writer) (t t₁ : List ℕ) (w₁ : Writer) (a b c a′ b′ : ℕ) → a ≡ a′ → b ≡ b′ → Wrote w t (emitted 4 a b c ∷ []) t₁ w₁ → Wrote w t (andOf a′ b′ ∷ []) t₁ w₁
@@ -31,11 +31,11 @@ mux-written w t t₁ w₁ a b c a′ b′ c′ ea eb ec h = rw (← ea, ← eb, 
 -- lengths
 pub contest-long : (p : Plan) (n x y : ℕ) → length (contest p n x y) ≡ 4 + 3 * p .digits + 3 + 3 * (p .grades - 1)
 unfolding contestGates
-contest-long p n x y = contest-costs p n x y .gates
+contest-long p n x y = contest-size p n x y .gates
 
 pub merge-long : (p : Plan) (n x y : ℕ) → length (merge p n x y) ≡ 2 + p .digits + p .grades
 unfolding merged mergedGates
-merge-long p n x y = merged-costs p n x y 1 .gates
+merge-long p n x y = merged-size p n x y 1 .gates
 
 pub won-long : (at up down j : ℕ) → length (won at up down j) ≡ j + 1
 unfolding won

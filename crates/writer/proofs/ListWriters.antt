@@ -22,7 +22,7 @@ use Rattle.circuit.specs.Contest.{contest, contestEnd, merge, won}
 use Rattle.circuit.specs.OwnList.{merged, mergedEnd, round, rounds, circuit, ownList}
 use Rattle.circuit.proofs.WellFormed.{candidate-block, candidate-end, round-block, round-end}
 use Rattle.circuit.proofs.Planning.{planned}
-use Rattle.circuit.proofs.Costs.{candidateGates, contestGates, mergedGates, roundGates, round-costs}
+use Rattle.circuit.proofs.Sizes.{candidateGates, contestGates, mergedGates, roundGates, round-size}
 use Rattle.circuit.proofs.OwnListLaws.{own-list-short}
 
 -- a key ends where its candidate does
@@ -41,7 +41,7 @@ merged-more p n x y (suc t) h = refl
 
 pub round-long : (p : Plan) (n y at j t : ℕ) → length (round p n y at j t) ≡ candidateGates p + contestGates p + mergedGates p t + (j + 1)
 unfolding roundGates
-round-long p n y at j t = round-costs p n y at j t .gates
+round-long p n y at j t = round-size p n y at j t .gates
 
 -- the own list, by the number of candidates
 pub own-one : (s : Shape) → s .candidates ≡ 1 → constant 1 ∷ [] ≡ ownList s
@@ -60,10 +60,10 @@ first-writer s p w ep ew = ew ∙ ap (λ (q : Plan). start (q .inputs)) ep
     start : ℕ → Writer
     start n = record { gate = 0; wire = n; conditional = 0 }
 
-pub first-room : (s : Shape) (w : Writer) (t : List ℕ) (n : ℕ) → T (withinLimits s) → w ≡ record { gate = 0; wire = ballotBytes s; conditional = 0 } → 4 * n ≤ length t → n ≤ 1048576 → Room w t n
-first-room s w t n l e h k =
+pub first-room : (s : Shape) (w : Writer) (n : ℕ) → T (withinLimits s) → w ≡ record { gate = 0; wire = ballotBytes s; conditional = 0 } → n ≤ 1048576 → Room w n
+first-room s w n l e k =
     record {
-      inTable = omega (arith, ap (λ (v : Writer). v .gate) e);
+      few = omega (arith, ap (λ (v : Writer). v .gate) e);
       small = omega (arith, ap (λ (v : Writer). v .wire) e, bytes-are s, bytes-bound s (within-T s l));
       counted = omega (arith, ap (λ (v : Writer). v .conditional) e);
     }

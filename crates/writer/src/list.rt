@@ -1,17 +1,19 @@
 // The own list of a shape.
+use candidate::key::candidate;
+use circuit::plan::Plan;
 use crate::contest::contest;
 use crate::contest::down_at;
 use crate::contest::merge;
 use crate::contest::up_at;
 use crate::contest::won;
-use candidate::key::candidate;
-use circuit::plan::Plan;
+use gates::kind;
 use jury::shape::Shape;
 use words::writer::Writer;
 ghost use mathlib.Core.Path.{_≡_};
 ghost use Prim.Native.Nat.{_+_, _-_, _*_, _≤_, _<_};
 ghost use lib.Dec.{T};
 ghost use lib.ListN.{length};
+ghost use Rattle.gates.specs.Board.{conditionalCount};
 ghost use Rattle.words.specs.Writing.{Room, Wrote};
 ghost use Rattle.jury.specs.Shape.{withinLimits, ballotBytes};
 ghost use Rattle.circuit.specs.Plan.{Planned};
@@ -22,7 +24,7 @@ ghost use Rattle.circuit.specs.OwnList.{merged, round, rounds, circuit, ownList
 // The key kept of two, unless no candidate is left.
 fn merged(w: Writer, table: &mut [u32], p: Plan, n: u32, x: u32, y: u32, left: u32) -> Writer
     requires { ⌜ Planned p ⌝ }
-    requires { ⌜ Room w (now table) (length (merged p n x y left)) ⌝ }
+    requires { ⌜ Room w (length (merged p n x y left)) ⌝ }
     requires { ⌜ (w .wire ≡ contestEnd p n) × (strictAt p x < n) × (strictAt p y < n) ⌝ }
     ensures { λ r. ⌜ Wrote w (now (table .entry)) (merged p n x y left) (now (table .exit)) r ⌝ }
 {
@@ -35,7 +37,7 @@ fn merged(w: Writer, table: &mut [u32], p: Plan, n: u32, x: u32, y: u32, left: u
 // One round: candidate j against the key y that stands for all before it. So many candidates are left.
 fn round(w: Writer, table: &mut [u32], p: Plan, y: u32, at: u32, j: u32, left: u32) -> Writer
     requires { ⌜ Planned p ⌝ }
-    requires { ⌜ Room w (now table) (length (round p (w .wire) y at j left)) ⌝ }
+    requires { ⌜ Room w (length (round p (w .wire) y at j left)) ⌝ }
     requires { ⌜ (p .inputs + 2 ≤ w .wire) × (strictAt p y < w .wire) × (at + j ≤ w .wire) × (j < p .candidates) ⌝ }
     ensures { λ r. ⌜ Wrote w (now (table .entry)) (round p (w .wire) y at j left) (now (table .exit)) r ⌝ }
 {
@@ -50,7 +52,7 @@ fn round(w: Writer, table: &mut [u32], p: Plan, y: u32, at: u32, j: u32, left: u
 // A round for each candidate but the first, whose key is y.
 fn rounds(w: Writer, table: &mut [u32], p: Plan, y: u32) -> Writer
     requires { ⌜ Planned p ⌝ }
-    requires { ⌜ Room w (now table) (length (rounds p (w .wire) y 0 1 (p .candidates - 1))) ⌝ }
+    requires { ⌜ Room w (length (rounds p (w .wire) y 0 1 (p .candidates - 1))) ⌝ }
     requires { ⌜ (p .inputs + 2 ≤ w .wire) × (strictAt p y < w .wire) ⌝ }
     ensures { λ r. ⌜ Wrote w (now (table .entry)) (rounds p (w .wire) y 0 1 (p .candidates - 1)) (now (table .exit)) r ⌝ }
 {
@@ -72,27 +74,35 @@ fn rounds(w: Writer, table: &mut [u32], p: Plan, y: u32) -> Writer
 // The constants, candidate 0, and a round for each other candidate.
 fn circuit(w: Writer, table: &mut [u32], p: Plan) -> Writer
     requires { ⌜ Planned p ⌝ }
-    requires { ⌜ Room w (now table) (length (circuit p)) ⌝ }
+    requires { ⌜ Room w (length (circuit p)) ⌝ }
     requires { ⌜ w .wire ≡ p .inputs ⌝ }
     ensures { λ r. ⌜ Wrote w (now (table .entry)) (circuit p) (now (table .exit)) r ⌝ }
 {
-    let zero = w.emit(table, 0, 0, 0, 0);
-    let one = zero.emit(table, 1, 0, 0, 0);
+    let zero = w.emit(table, kind::ZERO, 0, 0, 0);
+    let one = zero.emit(table, kind::ONE, 0, 0, 0);
     let first = candidate(one, table, p, 0);
     let key = first.wire - 1 - p.grades - p.digits;
     rounds(first, table, p, key)
 }
 
-// Writes the own list of a shape from the table's first number on. The writer says how many gates it has, and how
-// many of them are conditional.
+// Writes the own list of a shape from the table's first number on, as far as the table goes. The writer says how many
+// gates the list has, and how many of them are conditional, whatever the table.
 pub fn own_list(shape: Shape, table: &mut [u32]) -> Writer
-    requires { ⌜ T (withinLimits shape) × (4 * length (ownList shape) ≤ length (now table)) ⌝ }
+    requires { ⌜ T (withinLimits shape) ⌝ }
     ensures { λ r. ⌜ Wrote (record { gate = 0; wire = ballotBytes shape; conditional = 0 }) (now (table .entry)) (ownList shape) (now (table .exit)) r ⌝ }
 {
     let p = Plan::new(shape);
     let w = Writer::new(p.inputs);
     if shape.candidates == 1 {
-        return w.emit(table, 1, 0, 0, 0);
+        return w.emit(table, kind::ONE, 0, 0, 0);
     }
     circuit(w, table, p)
+}
+
+// G and C of the own list of a shape: what the writer counts while it writes into a table without a place.
+pub fn measure(shape: Shape) -> Writer
+    requires { ⌜ T (withinLimits shape) ⌝ }
+    ensures { λ r. ⌜ (r .gate ≡ length (ownList shape)) × (r .conditional ≡ conditionalCount (ownList shape)) ⌝ }
+{
+    own_list(shape, &mut [])
 }

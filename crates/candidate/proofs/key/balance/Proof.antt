@@ -14,7 +14,7 @@ use Rattle.candidate.proofs.key.balance.Statement.{statement}
 use Rattle.candidate.proofs.key.balance.Tie as tie
 
 constants-requires : tie.Need-constants-requires
-constants-requires c κs = let s = c .before .before .before in room-less (s .args .w) (s .args .table .now) _ _ (omega arith) (s .pre .0)
+constants-requires c κs = let s = c .before .before .before in room-less (s .args .w) _ _ (omega arith) (s .pre .0)
 
 add-choose : tie.Need-add-choose
 add-choose c = let s = c .before .before .before .before .before .before .before .before in omega (arith, s .pre .0 .small, s .pre .1)
@@ -29,16 +29,16 @@ add-choose-3 c = let s = c .before .before .before .before .before .before .befo
 place1 : (c : tie.After-constants) → c .constants .result .wire ≡ upTo (c .before .before .before .before .args .p) (c .before .before .before .before .args .b)
 place1 c = let s = c .before .before .before .before in let a = s .args in omega (arith, s .pre .1, c .constants .ensures .wires, length-constants (a .p .ballots / 2) (a .p .digits))
 
-room1 : (c : tie.After-constants) → Room (c .constants .result) (c .constants .last .1 .0) (4 * c .before .before .before .before .args .p .digits + (c .before .before .before .before .args .p .digits - 1))
+room1 : (c : tie.After-constants) → Room (c .constants .result) (4 * c .before .before .before .before .args .p .digits + (c .before .before .before .before .args .p .digits - 1))
 room1 c = let s = c .before .before .before .before in let a = s .args in room-after (a .w) (a .table .now) _ _ (c .constants .result) _ _ (c .constants .ensures) (omega (arith, length-constants (a .p .ballots / 2) (a .p .digits))) (s .pre .0)
 
 choose-requires : tie.Need-choose-requires
-choose-requires c κs = let s = c .before .before .before .before .before .before .before .before .before in let h = c .before .before .before .before .before .constants in (room-less (h .result) (h .last .1 .0) _ _ (omega arith) (room1 (c .before .before .before .before .before)), omega (arith, place1 (c .before .before .before .before .before), s .pre .1))
+choose-requires c κs = let s = c .before .before .before .before .before .before .before .before .before in let h = c .before .before .before .before .before .constants in (room-less (h .result) _ _ (omega arith) (room1 (c .before .before .before .before .before)), omega (arith, place1 (c .before .before .before .before .before), s .pre .1))
 
 place2 : (c : tie.After-choose) → c .choose .result .wire ≡ balanceAt (c .before .before .before .before .before .before .before .before .before .before .args .p) (c .before .before .before .before .before .before .before .before .before .before .args .b)
 place2 c = let a = c .before .before .before .before .before .before .before .before .before .before .args in omega (arith, place1 (c .before .before .before .before .before .before), c .choose .ensures .wires, length-choose (a .b + a .p .digits) (a .b + a .p .digits + 1) (a .w .wire) (a .p .digits))
 
-room2 : (c : tie.After-choose) → Room (c .choose .result) (c .choose .last .1 .0) (3 * c .before .before .before .before .before .before .before .before .before .before .args .p .digits + (c .before .before .before .before .before .before .before .before .before .before .args .p .digits - 1))
+room2 : (c : tie.After-choose) → Room (c .choose .result) (3 * c .before .before .before .before .before .before .before .before .before .before .args .p .digits + (c .before .before .before .before .before .before .before .before .before .before .args .p .digits - 1))
 room2 c =
     let a = c .before .before .before .before .before .before .before .before .before .before .args in
     let h = c .before .before .before .before .before .before .constants in
@@ -61,7 +61,7 @@ add-with-bit-requires c κs =
     let s = c .before .before .before .before .before .before .before .before .before .before .before .before .before .before .before .before in
     let a = s .args in
     let h = c .before .before .before .before .before .before .choose in
-    (room-less (h .result) (h .last .1 .0) (length (addWithBit (h .result .wire) (a .b + 2 * a .p .digits + 1) (a .w .wire + a .p .digits) (a .p .ballots % 2) (a .p .digits))) _ (omega (arith, length-add-bit (h .result .wire) (a .b + 2 * a .p .digits + 1) (a .w .wire + a .p .digits) (a .p .ballots % 2) (a .p .digits))) (room2 (c .before .before .before .before .before .before)), omega (arith, place2 (c .before .before .before .before .before .before), s .pre .1))
+    (room-less (h .result) (length (addWithBit (h .result .wire) (a .b + 2 * a .p .digits + 1) (a .w .wire + a .p .digits) (a .p .ballots % 2) (a .p .digits))) _ (omega (arith, length-add-bit (h .result .wire) (a .b + 2 * a .p .digits + 1) (a .w .wire + a .p .digits) (a .p .ballots % 2) (a .p .digits))) (room2 (c .before .before .before .before .before .before)), omega (arith, place2 (c .before .before .before .before .before .before), s .pre .1))
 
 mul-some-of : tie.Need-mul-some-of
 mul-some-of c = let s = c .before .before .before .before .before .before .before .before .before .before .before .before .before .before .before .before .before .before .before .before .before in omega (arith, s .pre .0 .small, s .pre .1)

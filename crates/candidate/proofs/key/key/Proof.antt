@@ -27,7 +27,7 @@ key-sum-requires c κs =
     let s = c .before .before in
     let a = s .args in
     let q = s .pre .1 .1 in
-    (room-less (a .w) (a .table .now) _ _ (omega arith) (s .pre .1 .0), (omega (arith, q .0, later (a .p) (s .pre .0) (a .a) (a .b) (q .1)), q .2))
+    (room-less (a .w) _ _ (omega arith) (s .pre .1 .0), (omega (arith, q .0, later (a .p) (s .pre .0) (a .a) (a .b) (q .1)), q .2))
 
 middle-span-requires : tie.Need-middle-span-requires
 middle-span-requires c κs = c .before .before .before .before .before .pre .0
@@ -36,7 +36,7 @@ middle-span-requires c κs = c .before .before .before .before .before .pre .0
 place1 : (c : tie.After-key-sum) → c .key-sum .result .wire ≡ keyAt (c .before .before .before .args .p) (c .before .before .before .args .b) + (c .before .before .before .args .p .digits + 1)
 place1 c = let s = c .before .before .before in omega (arith, s .pre .1 .1 .2, c .key-sum .ensures .wires, sum-long (s .args .p) (s .args .b))
 
-room1 : (c : tie.After-key-sum) → Room (c .key-sum .result) (c .key-sum .last .1 .0) (c .before .before .before .args .p .grades - 2 + 2)
+room1 : (c : tie.After-key-sum) → Room (c .key-sum .result) (c .before .before .before .args .p .grades - 2 + 2)
 room1 c = let s = c .before .before .before in let a = s .args in room-after (a .w) (a .table .now) (choose (carryAt (a .p) (a .b)) (beforeMedian (a .p) (a .b)) (upTo (a .p) (a .b)) (a .p .digits) ++ copies (carryAt (a .p) (a .b)) 1) _ (c .key-sum .result) _ _ (c .key-sum .ensures) (omega (arith, sum-long (a .p) (a .b))) (s .pre .1 .0)
 
 add-copies-apart : tie.Need-add-copies-apart
@@ -51,7 +51,7 @@ copies-apart-requires c κs =
     let a = s .args in
     let h = c .before .before .before .before .before .before .key-sum in
     let m = c .before .before .before .middle-span in (
-      room-less (h .result) (h .last .1 .0) _ _ (omega arith) (room1 (c .before .before .before .before .before .before)),
+      room-less (h .result) _ _ (omega arith) (room1 (c .before .before .before .before .before .before)),
       (
         subst (λ (d : ℕ). Below (h .result .wire) (a .a + a .p .digits) d (a .p .grades - 2)) (sym (m .ensures))
             (flags-below (a .p) (s .pre .0) (a .a) (a .p .grades - 2) (h .result .wire) (omega (arith, place1 (c .before .before .before .before .before .before), s .pre .1 .1 .1))),
@@ -62,7 +62,7 @@ copies-apart-requires c κs =
 place2 : (c : tie.After-copies-apart) → c .copies-apart .result .wire ≡ keyAt (c .before .before .before .before .before .before .before .before .before .before .args .p) (c .before .before .before .before .before .before .before .before .before .before .args .b) + (c .before .before .before .before .before .before .before .before .before .before .args .p .digits + 1) + (c .before .before .before .before .before .before .before .before .before .before .args .p .grades - 2)
 place2 c = let a = c .before .before .before .before .before .before .before .before .before .before .args in omega (arith, place1 (c .before .before .before .before .before .before .before), c .copies-apart .ensures .wires, length-copies-apart (a .a + a .p .digits) (c .before .before .before .before .middle-span .result) (a .p .grades - 2))
 
-room2 : (c : tie.After-copies-apart) → Room (c .copies-apart .result) (c .copies-apart .last .1 .0) 2
+room2 : (c : tie.After-copies-apart) → Room (c .copies-apart .result) 2
 room2 c =
     let a = c .before .before .before .before .before .before .before .before .before .before .args in
     let h = c .before .before .before .before .before .before .before .key-sum in
@@ -72,7 +72,7 @@ add-copies : tie.Need-add-copies
 add-copies c = let s = c .before .before .before .before .before .before .before .before .before .before .before .before .before .before in omega (arith, s .pre .1 .0 .small, s .pre .1 .1 .2)
 
 copies-requires : tie.Need-copies-requires
-copies-requires c κs = let h = c .before .before .before .before .copies-apart in (room-less (h .result) (h .last .1 .0) _ _ (omega arith) (room2 (c .before .before .before .before)), omega (arith, place2 (c .before .before .before .before)))
+copies-requires c κs = let h = c .before .before .before .before .copies-apart in (room-less (h .result) _ _ (omega arith) (room2 (c .before .before .before .before)), omega (arith, place2 (c .before .before .before .before)))
 
 differ-at-requires : tie.Need-differ-at-requires
 differ-at-requires c κs = let s = c .before .before .before .before .before .before .before .before .before .before .before .before .before .before .before .before .before in omega (arith, s .pre .1 .0 .small, s .pre .1 .1 .2)

@@ -36,7 +36,7 @@ add-up-to-2 : tie.Need-add-up-to-2
 add-up-to-2 c = let s = c .before .before .before .before in omega (arith, s .pre .0 .small, s .pre .1)
 
 choose-requires : tie.Need-choose-requires
-choose-requires c κs = let s = c .before .before .before .before .before in (room-less (s .args .w) (s .args .table .now) _ _ (omega arith) (s .pre .0), omega (arith, s .pre .1))
+choose-requires c κs = let s = c .before .before .before .before .before in (room-less (s .args .w) _ _ (omega arith) (s .pre .0), omega (arith, s .pre .1))
 
 copies-requires : tie.Need-copies-requires
 copies-requires c κs =

@@ -20,7 +20,7 @@ add-choose-3 : tie.Need-add-choose-3
 add-choose-3 c = let s = c .before .before .before .before in omega (arith, s .pre .0 .small, s .pre .1)
 
 choose-requires : tie.Need-choose-requires
-choose-requires c κs = let s = c .before .before .before .before in (room-less (s .args .w) (s .args .table .now) _ _ (omega arith) (s .pre .0), omega (arith, s .pre .1))
+choose-requires c κs = let s = c .before .before .before .before in (room-less (s .args .w) _ _ (omega arith) (s .pre .0), omega (arith, s .pre .1))
 
 add-choose-4 : tie.Need-add-choose-4
 add-choose-4 c = let s = c .before .before .before .before .before .before .before .before .before in omega (arith, s .pre .0 .small, s .pre .1)

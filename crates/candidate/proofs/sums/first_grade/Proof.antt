@@ -11,29 +11,29 @@ use Rattle.words.proofs.Writing.{room-less, room-after}
 use Rattle.circuit.specs.Plan.{bitsAt, apart}
 use Rattle.circuit.specs.RunningSums.{firstSum}
 use Rattle.circuit.proofs.PlanFacts.{first-countable}
-use Rattle.circuit.proofs.Costs.{first-costs}
+use Rattle.circuit.proofs.Sizes.{first-size}
 use Rattle.candidate.proofs.Writers.{few-digits, first-place, first-wrote}
 use Rattle.candidate.proofs.sums.first_grade.Statement.{statement}
 use Rattle.candidate.proofs.sums.first_grade.Tie as tie
 
 constants-requires : tie.Need-constants-requires
-constants-requires c κs = let s = c .before .before in let a = s .args in room-less (a .w) (a .table .now) _ _ (omega (arith, first-costs (a .p) (a .w .wire) (a .c) .gates)) (s .pre .1 .0)
+constants-requires c κs = let s = c .before .before in let a = s .args in room-less (a .w) _ _ (omega (arith, first-size (a .p) (a .w .wire) (a .c) .gates)) (s .pre .1 .0)
 
 -- the room left behind each block
-room1 : (c : tie.After-constants) → Room (c .constants .result) (c .constants .last .1 .0) (countSize (c .before .before .before .args .p .ballots) (c .before .before .before .args .p .offset) (c .before .before .before .args .p .digits) + (c .before .before .before .args .p .digits + 1) + (c .before .before .before .args .p .digits + c .before .before .before .args .p .digits))
+room1 : (c : tie.After-constants) → Room (c .constants .result) (countSize (c .before .before .before .args .p .ballots) (c .before .before .before .args .p .offset) (c .before .before .before .args .p .digits) + (c .before .before .before .args .p .digits + 1) + (c .before .before .before .args .p .digits + c .before .before .before .args .p .digits))
 room1 c =
     let s = c .before .before .before in
     let a = s .args in
-    room-after (a .w) (a .table .now) _ _ (c .constants .result) _ _ (c .constants .ensures) (omega (arith, first-costs (a .p) (a .w .wire) (a .c) .gates, length-constants (a .p .offset) (a .p .digits))) (s .pre .1 .0)
+    room-after (a .w) (a .table .now) _ _ (c .constants .result) _ _ (c .constants .ensures) (omega (arith, first-size (a .p) (a .w .wire) (a .c) .gates, length-constants (a .p .offset) (a .p .digits))) (s .pre .1 .0)
 
 count-grade-requires : tie.Need-count-grade-requires
 count-grade-requires c κs =
     let s = c .before .before .before .before .before .before in
     let a = s .args in
     let h = c .before .before .before .constants in
-    (s .pre .0, (room-less (h .result) (h .last .1 .0) _ _ (omega arith) (room1 (c .before .before .before)), (omega (arith, h .ensures .wires, s .pre .1 .1 .0), s .pre .1 .1 .1, omega (arith, s .pre .0 .d-least), first-countable (a .p) (s .pre .0))))
+    (s .pre .0, (room-less (h .result) _ _ (omega arith) (room1 (c .before .before .before)), (omega (arith, h .ensures .wires, s .pre .1 .1 .0), s .pre .1 .1 .1, omega (arith, s .pre .0 .d-least), first-countable (a .p) (s .pre .0))))
 
-room2 : (c : tie.After-count-grade) → Room (c .count-grade .result) (c .count-grade .last .1 .0) (c .before .before .before .before .before .before .before .args .p .digits + c .before .before .before .before .before .before .before .args .p .digits)
+room2 : (c : tie.After-count-grade) → Room (c .count-grade .result) (c .before .before .before .before .before .before .before .args .p .digits + c .before .before .before .before .before .before .before .args .p .digits)
 room2 c =
     let a = c .before .before .before .before .before .before .before .args in
     let h = c .before .before .before .before .constants in
@@ -50,7 +50,7 @@ sub-sum : tie.Need-sub-sum
 sub-sum c = omega (arith, place (c .before .before .before .before))
 
 copies-requires : tie.Need-copies-requires
-copies-requires c κs = let h = c .before .before .before .before .before .count-grade in (room-less (h .result) (h .last .1 .0) _ _ (omega arith) (room2 (c .before .before .before .before .before)), omega (arith, place (c .before .before .before .before .before)))
+copies-requires c κs = let h = c .before .before .before .before .before .count-grade in (room-less (h .result) _ _ (omega arith) (room2 (c .before .before .before .before .before)), omega (arith, place (c .before .before .before .before .before)))
 
 add-choose : tie.Need-add-choose
 add-choose c = let h = c .before .before .before .before .before .before .before .before .before .before .count-grade in omega (arith, place (c .before .before .before .before .before .before .before .before .before .before), room2 (c .before .before .before .before .before .before .before .before .before .before) .small)

@@ -24,13 +24,13 @@ count-grade-requires c κs =
     let s = c .before .before .before in
     let a = s .args in
     let q = s .pre .1 .1 in
-    (s .pre .0, (room-less (a .w) (a .table .now) _ _ (omega (arith, last-span (a .p))) (s .pre .1 .0), (omega (arith, q .0, q .1), q .2, omega (arith, s .pre .0 .d-least), worst-countable (a .p) (s .pre .0))))
+    (s .pre .0, (room-less (a .w) _ _ (omega (arith, last-span (a .p))) (s .pre .1 .0), (omega (arith, q .0, q .1), q .2, omega (arith, s .pre .0 .d-least), worst-countable (a .p) (s .pre .0))))
 
 -- behind the count: where it stands, and the room left
 counted : (c : tie.After-count-grade) → c .count-grade .result .wire ≡ behind (c .before .before .before .before .args .p) (c .before .before .before .before .args .a) + countSize (c .before .before .before .before .args .p .ballots) (c .before .before .before .before .args .p .worst) (c .before .before .before .before .args .p .digits) + (c .before .before .before .before .args .p .digits + 1)
 counted c = let s = c .before .before .before .before in let a = s .args in worst-place (a .p) (s .pre .0) (a .w) (a .table .now) (a .a) (a .c) _ (c .count-grade .result) (s .pre .1 .1 .1) (c .count-grade .ensures)
 
-room : (c : tie.After-count-grade) → Room (c .count-grade .result) (c .count-grade .last .1 .0) (c .before .before .before .before .args .p .digits + 1 + (c .before .before .before .before .args .p .digits + c .before .before .before .before .args .p .digits))
+room : (c : tie.After-count-grade) → Room (c .count-grade .result) (c .before .before .before .before .args .p .digits + 1 + (c .before .before .before .before .args .p .digits + c .before .before .before .before .args .p .digits))
 room c =
     let s = c .before .before .before .before in
     let a = s .args in
@@ -46,7 +46,7 @@ add-complements-2 : tie.Need-add-complements-2
 add-complements-2 c = let s = c .before .before .before .before .before .before .before .before .before .before in omega (arith, few-digits (s .args .p) (s .pre .0))
 
 complements-requires : tie.Need-complements-requires
-complements-requires c κs = let h = c .before .before .before .before .before .before .count-grade in (room-less (h .result) (h .last .1 .0) _ _ (omega arith) (room (c .before .before .before .before .before .before)), omega (arith, counted (c .before .before .before .before .before .before)))
+complements-requires c κs = let h = c .before .before .before .before .before .before .count-grade in (room-less (h .result) _ _ (omega arith) (room (c .before .before .before .before .before .before)), omega (arith, counted (c .before .before .before .before .before .before)))
 
 -- where the sum stands
 place : (c : tie.After-complements) → c .complements .result .wire ≡ c .before .before .before .before .before .before .before .before .before .before .before .args .a + lastSpan (c .before .before .before .before .before .before .before .before .before .before .before .args .p) + (c .before .before .before .before .before .before .before .before .before .before .before .args .p .digits + 1)

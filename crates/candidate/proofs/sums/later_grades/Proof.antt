@@ -56,7 +56,7 @@ middle-grades-requires c κs =
     let a = s .args in
     let q = s .pre .1 .1 in (
       s .pre .0,
-      (room-less (a .w) (a .table .now) _ _ (omega (arith, later-long (a .p) (s .pre .0) (a .a) (a .c) (q .0) (q .2) (more (c .before .before)))) (s .pre .1 .0), (q .0, q .1, q .2, omega (arith, s .pre .0 .d-least))),
+      (room-less (a .w) _ _ (omega (arith, later-long (a .p) (s .pre .0) (a .a) (a .c) (q .0) (q .2) (more (c .before .before)))) (s .pre .1 .0), (q .0, q .1, q .2, omega (arith, s .pre .0 .d-least))),
     )
 
 -- where the words of the middle grades end

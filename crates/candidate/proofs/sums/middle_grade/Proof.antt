@@ -19,7 +19,7 @@ add-grade-requires c κs =
     let s = c .before .before in
     let a = s .args in
     let q = s .pre .1 .1 in
-    (s .pre .0, (room-less (a .w) (a .table .now) _ _ (omega (arith, middle-span (a .p))) (s .pre .1 .0), (omega (arith, q .0, q .1), q .2, q .3, omega (arith, q .1))))
+    (s .pre .0, (room-less (a .w) _ _ (omega (arith, middle-span (a .p))) (s .pre .1 .0), (omega (arith, q .0, q .1), q .2, q .3, omega (arith, q .1))))
 
 -- where the sum stands
 place : (c : tie.After-add-grade) → c .add-grade .result .wire ≡ c .before .before .before .args .a + middleSpan (c .before .before .before .args .p) + (c .before .before .before .args .p .digits + 1)

@@ -1,36 +1,33 @@
--- `candidate::sums::middle_span` meets its contract: it is the accumulator's size and two words more.
+-- `candidate::sums::middle_span` meets its contract: it is the size of the accumulator's levels, and the three words of a grade.
 -- Assumes nothing.
-use mathlib.Core.Path.{_≡_, ap}
-use Prim.Native.Nat.{_+_, _<_}
+use Prim.Native.Nat.{_<_}
 use native.Mathlib.Omega.{arith}
-use Rattle.words.specs.declared.cost.Cost.{Cost}
 use Rattle.words.specs.Counter.{addSize}
+use Rattle.circuit.specs.declared.plan.Plan.{Plan}
+use Rattle.circuit.specs.Plan.{Planned}
 use Rattle.circuit.proofs.WellFormed.{middle-span}
 use Rattle.candidate.proofs.Writers.{few-digits, span-most}
 use Rattle.candidate.proofs.sums.middle_span.Statement.{statement}
 use Rattle.candidate.proofs.sums.middle_span.Tie as tie
 
-accumulator-requires : tie.Need-accumulator-requires
-accumulator-requires c κs = omega (arith, c .pre .n-most, few-digits (c .args .p) (c .pre))
+-- the levels are a part of the span
+few-gates : (p : Plan) → Planned p → (addSize (p .ballots) (p .digits) < 1000000) × (p .digits < 255)
+few-gates p f = (omega (arith, middle-span p, span-most p f), few-digits p f)
 
--- the measured gates
-gates-are : (c : tie.After-accumulator) → c .accumulator .result .gates ≡ addSize (c .before .args .p .ballots) (c .before .args .p .digits) + (c .before .args .p .digits + 1)
-gates-are c = ap (λ (x : Cost). x .gates) (c .accumulator .ensures)
-
-few-gates : (c : tie.After-accumulator) → (c .accumulator .result .gates < 1000000) × (c .before .args .p .digits < 255)
-few-gates c = let s = c .before in let d = few-digits (s .args .p) (s .pre) in (omega (arith, gates-are c, middle-span (s .args .p), span-most (s .args .p) (s .pre)), d)
-
-cast-result : tie.Need-cast-result
-cast-result c = omega (arith, few-gates (c .before))
+add-size-requires : tie.Need-add-size-requires
+add-size-requires c κs = omega (arith, c .pre .n-most, few-gates (c .args .p) (c .pre))
 
 mul-result : tie.Need-mul-result
-mul-result c = omega (arith, few-gates (c .before .before))
+mul-result c = omega (arith, c .before .add-size .ensures, few-gates (c .before .before .args .p) (c .before .before .pre))
 
 add-result : tie.Need-add-result
-add-result c = omega (arith, few-gates (c .before .before))
+add-result c = omega (arith, c .before .add-size .ensures, few-gates (c .before .before .args .p) (c .before .before .pre))
+
+add-result-2 : tie.Need-add-result-2
+add-result-2 c = omega (arith, c .before .add-size .ensures, few-gates (c .before .before .args .p) (c .before .before .pre))
 
 returns : tie.Need-returns
-returns c = omega (arith, gates-are (c .before .before), middle-span (c .before .before .before .args .p))
+returns c = omega (arith, c .before .add-size .ensures, middle-span (c .before .before .args .p))
 
 pub middle-span-spec : {M : Type 1} → statement M
-middle-span-spec = tie.close (tie.spec accumulator-requires cast-result mul-result add-result returns)
+middle-span-spec = tie.close (tie.spec add-size-requires mul-result add-result add-result-2 returns)

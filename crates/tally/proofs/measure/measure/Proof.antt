@@ -1,18 +1,18 @@
--- `tally::measure::measure` meets its contract: `costs` measures the own list of a shape within its limits.
+-- `tally::measure::measure` meets its contract: `writer` measures the own list of a shape within its limits.
 -- Assumes nothing.
 use mathlib.Core.Path.{_≡_, _∙_, refl, sym, ap}
 use mathlib.Core.Bool.{Bool, true, false}
 use mathlib.Core.List.{[], _∷_}
 use Prim.Native.Nat.{ℕ}
+use lib.ListN.{length}
 use borrow.Author.Needs.{needs}
 use borrow.Author.Tests.{not-true, not-false}
+use Rattle.gates.specs.Board.{conditionalCount}
 use Rattle.jury.specs.declared.shape.Shape.{Shape}
 use Rattle.jury.specs.Shape.{withinLimits, ballotBytes}
 use Rattle.jury.specs.Reason.{reasonOf, reasonAt, unless, firstOf}
 use Rattle.jury.proofs.Flags.{true-T}
-use Rattle.words.specs.declared.cost.Cost.{Cost}
 use Rattle.circuit.specs.OwnList.{ownList}
-use Rattle.circuit.specs.Measure.{costOf}
 use Rattle.tally.specs.Answer.{refused, accepted, said}
 use Rattle.tally.specs.Measure.{Measures, measuresOf, measureSaid, measuredBy}
 use Rattle.tally.proofs.measure.measure.Statement.{statement}
@@ -26,12 +26,11 @@ inside : (s : Shape) → withinLimits s ≡ true → measureSaid s ≡ accepted 
 unfolding measureSaid said unless firstOf
 inside s e = ap (λ (b : Bool). said (firstOf (unless b 1 ∷ [])) (measuresOf s)) e
 
--- the cost of the own list, and I
-measured : (s : Shape) (cost : Cost) (inputs : ℕ) → cost ≡ costOf (ownList s) → inputs ≡ ballotBytes s → record { gates = cost .gates; conditional = cost .conditional; inputs = inputs } ≡ measuresOf s
-unfolding measuresOf costOf
-measured s cost inputs e f =
-    ap (λ (c : Cost). record { gates = c .gates; conditional = c .conditional; inputs = inputs }) e
-    ∙ ap (λ (i : ℕ). record { gates = costOf (ownList s) .gates; conditional = costOf (ownList s) .conditional; inputs = i }) f
+-- G and C of the own list, and I
+measured : (s : Shape) (gates conditional inputs : ℕ) → gates ≡ length (ownList s) → conditional ≡ conditionalCount (ownList s) → inputs ≡ ballotBytes s
+    → _≡_ {A = Measures} (record { gates = gates; conditional = conditional; inputs = inputs }) (measuresOf s)
+unfolding measuresOf
+measured s gates conditional inputs g c i = rw (g, c, i)
 
 is-within-limits-requires : tie.Need-is-within-limits-requires
 is-within-limits-requires c κs = search needs
@@ -44,8 +43,8 @@ returns c = sym (outside (c .before .before .args .shape) (sym (c .before .is-wi
 limits : (c : tie.Else1) → withinLimits (c .before .before .args .shape) ≡ true
 limits c = sym (c .before .is-within-limits .ensures) ∙ not-false (c .before .is-within-limits .result) (c .if1 .left)
 
-own-list-requires : tie.Need-own-list-requires
-own-list-requires c κs = true-T (withinLimits (c .before .before .args .shape)) (limits c)
+measure-requires : tie.Need-measure-requires
+measure-requires c κs = true-T (withinLimits (c .before .before .args .shape)) (limits c)
 
 ballot-bytes-requires : tie.Need-ballot-bytes-requires
 ballot-bytes-requires c κs = true-T (withinLimits (c .before .before .before .args .shape)) (limits (c .before))
@@ -54,9 +53,9 @@ returns-2 : tie.Need-returns-2
 unfolding measuredBy
 returns-2 c =
     let s = c .before .before .before .before .args .shape in
-    ap accepted (measured s (c .before .own-list .result) (c .ballot-bytes .result) (c .before .own-list .ensures) (c .ballot-bytes .ensures)) ∙ sym (inside s (limits (c .before .before)))
+    ap accepted (measured s (c .before .measure .result .gate) (c .before .measure .result .conditional) (c .ballot-bytes .result) (c .before .measure .ensures .0) (c .before .measure .ensures .1) (c .ballot-bytes .ensures)) ∙ sym (inside s (limits (c .before .before)))
 
 pub measure-spec : {M : Type 1} → statement M
 measure-spec =
     tie.close
-    (tie.spec is-within-limits-requires returns own-list-requires ballot-bytes-requires returns-2)
+    (tie.spec is-within-limits-requires returns measure-requires ballot-bytes-requires returns-2)

@@ -13,9 +13,7 @@ use Rattle.jury.specs.declared.shape.Shape.{Shape}
 use Rattle.jury.specs.Shape.{withinLimits}
 use Rattle.jury.specs.Reason.{reasonOf, reasonAt}
 use Rattle.jury.proofs.Flags.{true-T, T-true}
-use Rattle.words.specs.declared.cost.Cost.{Cost}
 use Rattle.circuit.specs.OwnList.{ownList}
-use Rattle.circuit.specs.Measure.{costOf}
 use Rattle.tally.specs.Answer.{accepted, saidBy, sizeOf}
 use Rattle.tally.specs.Write.{OwnListHolds}
 use Rattle.tally.proofs.OwnList.{own-list-holds}
@@ -25,10 +23,6 @@ use Rattle.tally.proofs.write.write.Tie as tie
 
 holds : (s : Shape) → T (withinLimits s) → OwnListHolds s
 holds s t = own-list-holds s (T-true (withinLimits s) t)
-
-gates-of : (s : Shape) (cost : Cost) → cost ≡ costOf (ownList s) → cost .gates ≡ length (ownList s)
-unfolding costOf
-gates-of s cost e = ap (λ (c : Cost). c .gates) e
 
 -- the writer's numbers are the list's size
 sized : (s : Shape) (gates conditional : ℕ) → gates ≡ 0 + length (ownList s) → conditional ≡ 0 + conditionalCount (ownList s)
@@ -54,8 +48,8 @@ returns c =
 limits : (c : tie.Else1) → withinLimits (c .before .before .before .args .shape) ≡ true
 limits c = sym (c .before .is-within-limits .ensures) ∙ not-false (c .before .is-within-limits .result) (c .if1 .left)
 
-own-list-requires : tie.Need-own-list-requires
-own-list-requires c κs = true-T (withinLimits (c .before .before .before .args .shape)) (limits c)
+measure-requires : tie.Need-measure-requires
+measure-requires c κs = true-T (withinLimits (c .before .before .before .args .shape)) (limits c)
 
 returns-2 : tie.Need-returns-2
 unfolding saidBy reasonOf
@@ -63,8 +57,7 @@ returns-2 c =
     let measured = c .before .before in
     let within = measured .before in
     let a = within .before .before .before .args in
-    let g = gates-of (a .shape) (measured .own-list .result) (measured .own-list .ensures) in
-    let short = lt-leb (4 * length (ownList (a .shape))) (length (a .table .now)) (omega (arith, c .if2 .taken, g)) in
+    let short = lt-leb (4 * length (ownList (a .shape))) (length (a .table .now)) (omega (arith, c .if2 .taken, measured .measure .ensures .0)) in
     let r = write-refused (a .shape) (a .table .now) (reasonAt 2 0) (too-short (a .shape) (a .table .now) (limits within) short) in
     (sym (r .0), (sym (r .1), holds (a .shape)))
 
@@ -73,13 +66,12 @@ room : (c : tie.Else2) → let a = c .before .before .before .before .before .be
 room c =
     let measured = c .before .before in
     let a = measured .before .before .before .before .args in
-    omega (arith, c .if2 .left, gates-of (a .shape) (measured .own-list .result) (measured .own-list .ensures))
+    omega (arith, c .if2 .left, measured .measure .ensures .0)
 
-own-list-requires-2 : tie.Need-own-list-requires-2
-own-list-requires-2 c κs =
-    let test = c .before in
-    let within = test .before .before .before in
-    (true-T (withinLimits (within .before .before .before .args .shape)) (limits within), room test)
+own-list-requires : tie.Need-own-list-requires
+own-list-requires c κs =
+    let within = c .before .before .before .before in
+    true-T (withinLimits (within .before .before .before .args .shape)) (limits within)
 
 same-length : tie.Need-same-length
 same-length c = search needs
@@ -93,7 +85,7 @@ returns-3 c =
     let a = within .before .before .before .args in
     let h = room test in
     let r = write-accepted (a .shape) (a .table .now) (fits (a .shape) (a .table .now) (limits within) (le-leb (4 * length (ownList (a .shape))) (length (a .table .now)) h)) in
-    let w = done .own-list2 in (
+    let w = done .own-list in (
       sized (a .shape) (w .result .gate) (w .result .conditional) (w .ensures .gates) (w .ensures .conditionals) ∙ sym (r .0),
       (w .ensures .numbers ∙ stored (a .shape) (a .table .now) h ∙ sym (r .1), holds (a .shape)),
     )
@@ -101,4 +93,4 @@ returns-3 c =
 pub write-spec : {M : Type 1} → statement M
 write-spec =
     tie.close
-    (tie.spec is-within-limits-requires returns own-list-requires returns-2 own-list-requires-2 same-length returns-3)
+    (tie.spec is-within-limits-requires returns measure-requires returns-2 own-list-requires same-length returns-3)

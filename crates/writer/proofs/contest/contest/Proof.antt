@@ -20,7 +20,7 @@ compare-ranks-requires : tie.Need-compare-ranks-requires
 compare-ranks-requires c κs =
     let s = c .before .before in
     let a = s .args in (
-      room-less (a .w) (a .table .now) _ _ (omega (arith, contest-long (a .p) (a .w .wire) (a .x) (a .y))) (s .pre .1 .0),
+      room-less (a .w) _ _ (omega (arith, contest-long (a .p) (a .w .wire) (a .x) (a .y))) (s .pre .1 .0),
       omega (arith, s .pre .1 .1, s .pre .0 .d-least),
     )
 
@@ -29,7 +29,7 @@ ranks-end : (c : tie.After-compare-ranks) → c .compare-ranks .result .wire ≡
 ranks-end c = let a = c .before .before .before .args in omega (arith, c .compare-ranks .ensures .wires, ranks-long (a .w .wire) (a .x) (a .y) (a .p .digits))
 
 -- and room for what is left
-ranks-room : (c : tie.After-compare-ranks) → Room (c .compare-ranks .result) (c .compare-ranks .last .1 .0) (3 + 3 * (c .before .before .before .args .p .grades - 1))
+ranks-room : (c : tie.After-compare-ranks) → Room (c .compare-ranks .result) (3 + 3 * (c .before .before .before .args .p .grades - 1))
 ranks-room c =
     let s = c .before .before .before in
     let a = s .args in
@@ -42,7 +42,7 @@ where-both-requires c κs =
     let s = c .before .before .before .before .before .before in
     let h = c .before .before .before .compare-ranks in
     let e = ranks-end (c .before .before .before) in (
-      room-less (h .result) (h .last .1 .0) 3 _ (omega arith) (ranks-room (c .before .before .before)),
+      room-less (h .result) 3 _ (omega arith) (ranks-room (c .before .before .before)),
       (e, omega (arith, s .pre .1 .1)),
     )
 

@@ -29,10 +29,10 @@ emit-requires : tie.Need-emit-requires
 emit-requires c κs =
     let s = c .before .before .before .before .before .before in
     let a = s .args in
-    room-less (a .w) (a .table .now) 1 _ (omega (arith, merge-long (a .p) (a .n) (a .x) (a .y))) (s .pre .1 .0)
+    room-less (a .w) 1 _ (omega (arith, merge-long (a .p) (a .n) (a .x) (a .y))) (s .pre .1 .0)
 
 -- room for what is left after the first gate
-first : (c : tie.After-emit) → Room (c .emit .result) (c .emit .last .1 .0) (c .before .before .before .before .before .before .before .args .p .digits + c .before .before .before .before .before .before .before .args .p .grades + 1)
+first : (c : tie.After-emit) → Room (c .emit .result) (c .before .before .before .before .before .before .before .args .p .digits + c .before .before .before .before .before .before .before .args .p .grades + 1)
 first c =
     let s = c .before .before .before .before .before .before .before in
     let a = s .args in
@@ -45,7 +45,7 @@ choose-requires : tie.Need-choose-requires
 choose-requires c κs =
     let s = c .before .before .before .before .before .before .before .before .before .before .before in
     let e = c .before .before .before .before .emit in (
-      room-less (e .result) (e .last .1 .0) _ _ (omega arith) (first (c .before .before .before .before)),
+      room-less (e .result) _ _ (omega arith) (first (c .before .before .before .before)),
       omega (arith, e .ensures .wires, s .pre .1 .1),
     )
 

@@ -34,14 +34,14 @@ strict-at-requires-2 : tie.Need-strict-at-requires-2
 strict-at-requires-2 c κs = search needs
 
 emit-requires : tie.Need-emit-requires
-emit-requires c κs = let s = c .before .before .before .before .before .before in room-less (s .args .w) (s .args .table .now) 1 3 (omega arith) (s .pre .0)
+emit-requires c κs = let s = c .before .before .before .before .before .before in room-less (s .args .w) 1 3 (omega arith) (s .pre .0)
 
 -- room for what is left after the first gate
-first : (c : tie.After-emit) → Room (c .emit .result) (c .emit .last .1 .0) 2
+first : (c : tie.After-emit) → Room (c .emit .result) 2
 first c = let s = c .before .before .before .before .before .before .before in room-after (s .args .w) (s .args .table .now) _ (c .emit .last .1 .0) (c .emit .result) 2 3 (c .emit .ensures) (omega arith) (s .pre .0)
 
 emit-requires-2 : tie.Need-emit-requires-2
-emit-requires-2 c κs = let e = c .before .before .before .emit in room-less (e .result) (e .last .1 .0) 1 2 (omega arith) (first (c .before .before .before))
+emit-requires-2 c κs = let e = c .before .before .before .emit in room-less (e .result) 1 2 (omega arith) (first (c .before .before .before))
 
 emit-requires-3 : tie.Need-emit-requires-3
 emit-requires-3 c κs =

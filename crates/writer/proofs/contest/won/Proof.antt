@@ -13,7 +13,7 @@ emit-requires : tie.Need-emit-requires
 emit-requires c κs =
     let s = c .before .before .before in
     let a = s .args in
-    room-less (a .w) (a .table .now) 1 _ (omega (arith, won-long (a .at) (a .up) (a .down) (a .count))) (s .pre .0)
+    room-less (a .w) 1 _ (omega (arith, won-long (a .at) (a .up) (a .down) (a .count))) (s .pre .0)
 
 same-length : tie.Need-same-length
 same-length c = search needs
@@ -29,7 +29,7 @@ emit-requires-2 : tie.Need-emit-requires-2
 emit-requires-2 c κs =
     let s = c .before .before .before .before in
     let a = s .args in
-    room-less (a .w) (a .table .now) 1 _ (omega (arith, won-long (a .at) (a .up) (a .down) (a .count))) (s .pre .0)
+    room-less (a .w) 1 _ (omega (arith, won-long (a .at) (a .up) (a .down) (a .count))) (s .pre .0)
 
 emit-requires-3 : tie.Need-emit-requires-3
 emit-requires-3 c κs =
@@ -55,7 +55,7 @@ still-won-requires : tie.Need-still-won-requires
 still-won-requires c κs =
     let s = c .before .before .before .before in
     let a = s .args in
-    (room-less (a .w) (a .table .now) (a .count) _ (omega (arith, won-long (a .at) (a .up) (a .down) (a .count))) (s .pre .0), s .pre .1)
+    (room-less (a .w) (a .count) _ (omega (arith, won-long (a .at) (a .up) (a .down) (a .count))) (s .pre .0), s .pre .1)
 
 emit-requires-4 : tie.Need-emit-requires-4
 emit-requires-4 c κs =

@@ -9,7 +9,7 @@ use Rattle.words.proofs.Writing.{wrote-both, wrote-as, room-less, room-after}
 use Rattle.words.proofs.Emitting.{constant-wrote}
 use Rattle.circuit.specs.Key.{candidate, keyOf, strictAt, candidateEnd}
 use Rattle.circuit.specs.OwnList.{rounds, circuit}
-use Rattle.circuit.proofs.Costs.{candidateGates, roundsGates, candidate-costs, rounds-costs, circuit-costs}
+use Rattle.circuit.proofs.Sizes.{candidateGates, roundsGates, candidate-size, rounds-size, circuit-size}
 use Rattle.writer.proofs.ListWriters.{key-before, candidate-ends, rounds-same}
 use Rattle.writer.proofs.list.circuit.Statement.{statement}
 use Rattle.writer.proofs.list.circuit.Tie as tie
@@ -18,23 +18,23 @@ emit-requires : tie.Need-emit-requires
 emit-requires c κs =
     let s = c .before .before in
     let a = s .args in
-    room-less (a .w) (a .table .now) 1 _ (omega (arith, circuit-costs (a .p) .gates)) (s .pre .1 .0)
+    room-less (a .w) 1 _ (omega (arith, circuit-size (a .p) .gates)) (s .pre .1 .0)
 
 -- room for what is left after the first constant
-zero-left : (c : tie.After-emit) → let p = c .before .before .before .args .p in Room (c .emit .result) (c .emit .last .1 .0) (1 + candidateGates p + roundsGates p 1 (p .candidates - 1))
+zero-left : (c : tie.After-emit) → let p = c .before .before .before .args .p in Room (c .emit .result) (1 + candidateGates p + roundsGates p 1 (p .candidates - 1))
 zero-left c =
     let s = c .before .before .before in
     let a = s .args in
-    room-after (a .w) (a .table .now) _ (c .emit .last .1 .0) (c .emit .result) _ _ (c .emit .ensures) (omega (arith, circuit-costs (a .p) .gates)) (s .pre .1 .0)
+    room-after (a .w) (a .table .now) _ (c .emit .last .1 .0) (c .emit .result) _ _ (c .emit .ensures) (omega (arith, circuit-size (a .p) .gates)) (s .pre .1 .0)
 
 emit-requires-2 : tie.Need-emit-requires-2
-emit-requires-2 c κs = let e = c .before .before .before .emit in room-less (e .result) (e .last .1 .0) 1 _ (omega arith) (zero-left (c .before .before .before))
+emit-requires-2 c κs = let e = c .before .before .before .emit in room-less (e .result) 1 _ (omega arith) (zero-left (c .before .before .before))
 
 -- after both constants: the wire, and room for what is left
 one-ends : (c : tie.After-emit2) → c .emit2 .result .wire ≡ c .before .before .before .before .before .before .before .args .p .inputs + 2
 one-ends c = omega (arith, c .emit2 .ensures .wires, c .before .before .before .before .emit .ensures .wires, c .before .before .before .before .before .before .before .pre .1 .1)
 
-one-left : (c : tie.After-emit2) → let p = c .before .before .before .before .before .before .before .args .p in Room (c .emit2 .result) (c .emit2 .last .1 .0) (candidateGates p + roundsGates p 1 (p .candidates - 1))
+one-left : (c : tie.After-emit2) → let p = c .before .before .before .before .before .before .before .args .p in Room (c .emit2 .result) (candidateGates p + roundsGates p 1 (p .candidates - 1))
 one-left c =
     let e = c .before .before .before .before .emit in
     room-after (e .result) (e .last .1 .0) _ (c .emit2 .last .1 .0) (c .emit2 .result) _ _ (c .emit2 .ensures) (omega arith) (zero-left (c .before .before .before .before))
@@ -45,7 +45,7 @@ candidate-requires c κs =
     let e = c .before .before .before .emit2 in (
       s .pre .0,
       (
-        room-less (e .result) (e .last .1 .0) _ _ (omega (arith, candidate-costs (s .args .p) (e .result .wire) 0 .gates)) (one-left (c .before .before .before)),
+        room-less (e .result) _ _ (omega (arith, candidate-size (s .args .p) (e .result .wire) 0 .gates)) (one-left (c .before .before .before)),
         (omega (arith, one-ends (c .before .before .before)), s .pre .0 .k-least),
       ),
     )
@@ -92,7 +92,7 @@ rounds-requires c κs =
       s .pre .0,
       (
         room-after (e .result) (e .last .1 .0) _ (h .last .1 .0) (h .result) _ _ (h .ensures)
-            (omega (arith, candidate-costs p (e .result .wire) 0 .gates, rounds-costs p m (m - 1 - p .grades - p .digits) 0 1 (p .candidates - 1) .gates)) (one-left (c .before .before .before .before .before .before .before .before .before .before)),
+            (omega (arith, candidate-size p (e .result .wire) 0 .gates, rounds-size p m (m - 1 - p .grades - p .digits) 0 1 (p .candidates - 1) .gates)) (one-left (c .before .before .before .before .before .before .before .before .before .before)),
         (first-late (c .before .before .before .before .before .before), first-behind (c .before .before .before .before .before .before) .2),
       ),
     )

@@ -20,7 +20,7 @@ merge-requires : tie.Need-merge-requires
 merge-requires c κs =
     let s = c .before .before .before in
     let a = s .args in
-    (s .pre .0, (room-less (a .w) (a .table .now) _ _ (omega (arith, ap (λ (gs : List Gate). length gs) (merged-more (a .p) (a .n) (a .x) (a .y) (a .left) (c .before .if1 .left)))) (s .pre .1 .0), s .pre .1 .1))
+    (s .pre .0, (room-less (a .w) _ _ (omega (arith, ap (λ (gs : List Gate). length gs) (merged-more (a .p) (a .n) (a .x) (a .y) (a .left) (c .before .if1 .left)))) (s .pre .1 .0), s .pre .1 .1))
 
 same-length : tie.Need-same-length
 same-length c = search needs

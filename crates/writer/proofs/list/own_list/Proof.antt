@@ -31,8 +31,7 @@ emit-requires : tie.Need-emit-requires
 emit-requires c κs =
     let s = c .before .before .before .before .before .before in
     let shape = s .args .shape in
-    first-room shape (c .before .before .before .new2 .result) (s .args .table .now) 1 (s .pre .0) (start (c .before .before .before))
-    (omega (arith, s .pre .1, ap (λ (gs : List Gate). length gs) (own-one shape (c .before .if1 .taken)))) (omega arith)
+    first-room shape (c .before .before .before .new2 .result) 1 (s .pre) (start (c .before .before .before)) (omega arith)
 
 same-length : tie.Need-same-length
 same-length c = search needs
@@ -52,11 +51,10 @@ circuit-requires c κs =
     let shape = s .args .shape in
     let p = c .before .before .before .before .new .result in
     let w = c .before .before .before .new2 .result in
-    let f = plan-planned shape p (s .pre .0) (c .before .before .before .before .new .ensures) in
-    let own = own-more shape p (c .before .before .before .before .new .ensures) (c .before .if1 .left) in (
+    let f = plan-planned shape p (s .pre) (c .before .before .before .before .new .ensures) in (
       f,
       (
-        first-room shape w (s .args .table .now) (length (circuit p)) (s .pre .0) (start (c .before .before .before)) (omega (arith, s .pre .1, ap (λ (gs : List Gate). length gs) own)) (circuit-short shape p (s .pre .0) (c .before .before .before .before .new .ensures) (c .before .if1 .left)),
+        first-room shape w (length (circuit p)) (s .pre) (start (c .before .before .before)) (circuit-short shape p (s .pre) (c .before .before .before .before .new .ensures) (c .before .if1 .left)),
         ap (λ (v : Writer). v .wire) (c .before .before .before .new2 .ensures),
       ),
     )

@@ -4,12 +4,13 @@ use mathlib.Core.Path.{_≡_, _∙_, ap}
 use Prim.Native.Nat.{_+_, _-_, _<_}
 use native.Mathlib.Omega.{arith}
 use borrow.Author.Needs.{needs}
+use Rattle.words.specs.Limits.{writerLimit}
 use Rattle.words.specs.Writing.{Room}
 use Rattle.words.proofs.Writing.{wrote-both, room-less, room-after}
 use Rattle.circuit.specs.Key.{keyOf, strictAt, candidateEnd}
 use Rattle.circuit.specs.Contest.{contestEnd, upAt, downAt}
 use Rattle.circuit.specs.OwnList.{round}
-use Rattle.circuit.proofs.Costs.{contestGates, mergedGates, candidate-costs, contest-costs, merged-costs}
+use Rattle.circuit.proofs.Sizes.{contestGates, mergedGates, candidate-size, contest-size, merged-size}
 use Rattle.writer.proofs.ContestWriters.{contest-long, won-long}
 use Rattle.writer.proofs.ListWriters.{key-before, round-long, contest-moved, merged-moved, won-moved, candidate-ends}
 use Rattle.writer.proofs.list.round.Statement.{statement}
@@ -20,7 +21,7 @@ candidate-requires c κs =
     let s = c .before .before in
     let a = s .args in
     let h = s .pre .1 .1 in
-    (s .pre .0, (room-less (a .w) (a .table .now) _ _ (omega (arith, round-long (a .p) (a .w .wire) (a .y) (a .at) (a .j) (a .left), candidate-costs (a .p) (a .w .wire) (a .j) .gates)) (s .pre .1 .0), (h .0, h .3)))
+    (s .pre .0, (room-less (a .w) _ _ (omega (arith, round-long (a .p) (a .w .wire) (a .y) (a .at) (a .j) (a .left), candidate-size (a .p) (a .w .wire) (a .j) .gates)) (s .pre .1 .0), (h .0, h .3)))
 
 -- where the candidate ends, and where its key stands
 ends : (c : tie.After-candidate) → c .candidate .result .wire ≡ candidateEnd (c .before .before .before .args .p) (c .before .before .before .args .w .wire)
@@ -36,13 +37,13 @@ key-is c =
     key-before (c .candidate .result .wire) (keyOf (a .p) (a .w .wire)) (a .p .digits) (a .p .grades) (ends c)
 
 -- room for what is left
-left : (c : tie.After-candidate) → Room (c .candidate .result) (c .candidate .last .1 .0) (contestGates (c .before .before .before .args .p) + mergedGates (c .before .before .before .args .p) (c .before .before .before .args .left) + (c .before .before .before .args .j + 1))
+left : (c : tie.After-candidate) → Room (c .candidate .result) (contestGates (c .before .before .before .args .p) + mergedGates (c .before .before .before .args .p) (c .before .before .before .args .left) + (c .before .before .before .args .j + 1))
 left c =
     let s = c .before .before .before in
     let a = s .args in
     let h = c .candidate in
     room-after (a .w) (a .table .now) _ (h .last .1 .0) (h .result) _ _ (h .ensures)
-    (omega (arith, round-long (a .p) (a .w .wire) (a .y) (a .at) (a .j) (a .left), candidate-costs (a .p) (a .w .wire) (a .j) .gates)) (s .pre .1 .0)
+    (omega (arith, round-long (a .p) (a .w .wire) (a .y) (a .at) (a .j) (a .left), candidate-size (a .p) (a .w .wire) (a .j) .gates)) (s .pre .1 .0)
 
 -- both keys stand before the contest
 keys : (c : tie.After-candidate) → let n = c .candidate .result .wire in let a = c .before .before .before .args in (strictAt (a .p) (n - 1 - a .p .grades - a .p .digits) < n) × (strictAt (a .p) (a .y) < n)
@@ -63,7 +64,7 @@ contest-requires c κs =
     let a = s .args in
     let h = c .before .before .before .before .before .candidate in
     let n = h .result .wire in
-    (s .pre .0, (room-less (h .result) (h .last .1 .0) _ _ (omega (arith, contest-costs (a .p) n (n - 1 - a .p .grades - a .p .digits) (a .y) .gates)) (left (c .before .before .before .before .before)), keys (c .before .before .before .before .before)))
+    (s .pre .0, (room-less (h .result) _ _ (omega (arith, contest-size (a .p) n (n - 1 - a .p .grades - a .p .digits) (a .y) .gates)) (left (c .before .before .before .before .before)), keys (c .before .before .before .before .before)))
 
 -- where the contest ends, and room for what is left
 contest-ends : (c : tie.After-contest) → c .contest .result .wire ≡ contestEnd (c .before .before .before .before .before .before .before .before .before .args .p) (c .before .before .before .before .before .before .candidate .result .wire)
@@ -72,13 +73,13 @@ contest-ends c =
     let n = c .before .before .before .before .before .before .candidate .result .wire in
     omega (arith, c .contest .ensures .wires, contest-long (a .p) n (n - 1 - a .p .grades - a .p .digits) (a .y))
 
-contest-left : (c : tie.After-contest) → Room (c .contest .result) (c .contest .last .1 .0) (mergedGates (c .before .before .before .before .before .before .before .before .before .args .p) (c .before .before .before .before .before .before .before .before .before .args .left) + (c .before .before .before .before .before .before .before .before .before .args .j + 1))
+contest-left : (c : tie.After-contest) → Room (c .contest .result) (mergedGates (c .before .before .before .before .before .before .before .before .before .args .p) (c .before .before .before .before .before .before .before .before .before .args .left) + (c .before .before .before .before .before .before .before .before .before .args .j + 1))
 contest-left c =
     let a = c .before .before .before .before .before .before .before .before .before .args in
     let h = c .before .before .before .before .before .before .candidate in
     let n = h .result .wire in
     room-after (h .result) (h .last .1 .0) _ (c .contest .last .1 .0) (c .contest .result) _ _ (c .contest .ensures)
-    (omega (arith, contest-costs (a .p) n (n - 1 - a .p .grades - a .p .digits) (a .y) .gates)) (left (c .before .before .before .before .before .before))
+    (omega (arith, contest-size (a .p) n (n - 1 - a .p .grades - a .p .digits) (a .y) .gates)) (left (c .before .before .before .before .before .before))
 
 merged-requires : tie.Need-merged-requires
 merged-requires c κs =
@@ -86,10 +87,10 @@ merged-requires c κs =
     let a = s .args in
     let n = c .before .before .before .before .before .before .before .before .before .candidate .result .wire in
     let t = c .before .before .before .contest in
-    (s .pre .0, (room-less (t .result) (t .last .1 .0) _ _ (omega (arith, merged-costs (a .p) n (n - 1 - a .p .grades - a .p .digits) (a .y) (a .left) .gates)) (contest-left (c .before .before .before)), (contest-ends (c .before .before .before), keys (c .before .before .before .before .before .before .before .before .before) .0, keys (c .before .before .before .before .before .before .before .before .before) .1)))
+    (s .pre .0, (room-less (t .result) _ _ (omega (arith, merged-size (a .p) n (n - 1 - a .p .grades - a .p .digits) (a .y) (a .left) .gates)) (contest-left (c .before .before .before)), (contest-ends (c .before .before .before), keys (c .before .before .before .before .before .before .before .before .before) .0, keys (c .before .before .before .before .before .before .before .before .before) .1)))
 
 -- the contest's wires are small
-small : (c : tie.After-contest) → contestEnd (c .before .before .before .before .before .before .before .before .before .args .p) (c .before .before .before .before .before .before .candidate .result .wire) < 2147483648
+small : (c : tie.After-contest) → contestEnd (c .before .before .before .before .before .before .before .before .before .args .p) (c .before .before .before .before .before .before .candidate .result .wire) < writerLimit
 small c = omega (arith, contest-ends c, contest-left c .small)
 
 up-at-requires : tie.Need-up-at-requires
@@ -107,7 +108,7 @@ won-requires c κs =
     let m = c .before .before .before .before .before .merged in
     let h = s .pre .1 .1 .2 in (
       room-after (t .result) (t .last .1 .0) _ (m .last .1 .0) (m .result) _ _ (m .ensures)
-          (omega (arith, merged-costs (a .p) n (n - 1 - a .p .grades - a .p .digits) (a .y) (a .left) .gates, won-long (a .at) (c .before .up-at .result) (c .down-at .result) (a .j))) (contest-left (c .before .before .before .before .before .before .before .before .before)),
+          (omega (arith, merged-size (a .p) n (n - 1 - a .p .grades - a .p .digits) (a .y) (a .left) .gates, won-long (a .at) (c .before .up-at .result) (c .down-at .result) (a .j))) (contest-left (c .before .before .before .before .before .before .before .before .before)),
       omega (arith, h, c .before .before .before .before .before .before .before .before .before .before .before .before .before .before .before .candidate .ensures .wires, t .ensures .wires, m .ensures .wires),
     )
 

@@ -10,28 +10,28 @@ use Rattle.words.proofs.writer.Writer.compare_digit.Statement.{statemen
 use Rattle.words.proofs.writer.Writer.compare_digit.Tie as tie
 
 -- room for what is left after the first gate
-first : (c : tie.After-emit) → Room (c .emit .result) (c .emit .last .1 .0) 3
+first : (c : tie.After-emit) → Room (c .emit .result) 3
 first c = room-after (c .before .before .before .args .self) (c .before .before .before .args .table .now) _ (c .emit .last .1 .0) (c .emit .result) 3 4 (c .emit .ensures) (omega arith) (c .before .before .before .pre)
 
 -- room for what is left after the second gate
-second : (c : tie.After-emit2) → Room (c .emit2 .result) (c .emit2 .last .1 .0) 2
+second : (c : tie.After-emit2) → Room (c .emit2 .result) 2
 second c = room-after (c .before .before .before .before .emit .result) (c .before .before .before .before .emit .last .1 .0) _ (c .emit2 .last .1 .0) (c .emit2 .result) 2 3 (c .emit2 .ensures) (omega arith) (first (c .before .before .before .before))
 
 -- room for what is left after the third gate
-third : (c : tie.After-emit3) → Room (c .emit3 .result) (c .emit3 .last .1 .0) 1
+third : (c : tie.After-emit3) → Room (c .emit3 .result) 1
 third c = room-after (c .before .before .before .before .emit2 .result) (c .before .before .before .before .emit2 .last .1 .0) _ (c .emit3 .last .1 .0) (c .emit3 .result) 1 2 (c .emit3 .ensures) (omega arith) (second (c .before .before .before .before))
 
 emit-requires : tie.Need-emit-requires
 emit-requires c κs = search needs
 
 emit-requires-2 : tie.Need-emit-requires-2
-emit-requires-2 c κs = let r = first (c .before .before .before) in record { inTable = omega (arith, r .inTable); small = omega (arith, r .small); counted = r .counted }
+emit-requires-2 c κs = let r = first (c .before .before .before) in record { few = omega (arith, r .few); small = omega (arith, r .small); counted = r .counted }
 
 add-emit : tie.Need-add-emit
 add-emit c = omega arith
 
 emit-requires-3 : tie.Need-emit-requires-3
-emit-requires-3 c κs = let r = second (c .before .before .before) in record { inTable = omega (arith, r .inTable); small = omega (arith, r .small); counted = r .counted }
+emit-requires-3 c κs = let r = second (c .before .before .before) in record { few = omega (arith, r .few); small = omega (arith, r .small); counted = r .counted }
 
 emit-requires-4 : tie.Need-emit-requires-4
 emit-requires-4 c κs = third (c .before .before .before)

@@ -10,18 +10,18 @@ use Rattle.words.proofs.writer.Writer.compare_next.Statement.{statement
 use Rattle.words.proofs.writer.Writer.compare_next.Tie as tie
 
 -- room for what is left after the first gate
-first : (c : tie.After-emit) → Room (c .emit .result) (c .emit .last .1 .0) 2
+first : (c : tie.After-emit) → Room (c .emit .result) 2
 first c = room-after (c .before .before .before .args .self) (c .before .before .before .args .table .now) _ (c .emit .last .1 .0) (c .emit .result) 2 3 (c .emit .ensures) (omega arith) (c .before .before .before .pre)
 
 -- room for what is left after the second gate
-second : (c : tie.After-emit2) → Room (c .emit2 .result) (c .emit2 .last .1 .0) 1
+second : (c : tie.After-emit2) → Room (c .emit2 .result) 1
 second c = room-after (c .before .before .before .before .emit .result) (c .before .before .before .before .emit .last .1 .0) _ (c .emit2 .last .1 .0) (c .emit2 .result) 1 2 (c .emit2 .ensures) (omega arith) (first (c .before .before .before .before))
 
 emit-requires : tie.Need-emit-requires
 emit-requires c κs = search needs
 
 emit-requires-2 : tie.Need-emit-requires-2
-emit-requires-2 c κs = let r = first (c .before .before .before) in record { inTable = omega (arith, r .inTable); small = omega (arith, r .small); counted = r .counted }
+emit-requires-2 c κs = let r = first (c .before .before .before) in record { few = omega (arith, r .few); small = omega (arith, r .small); counted = r .counted }
 
 emit-requires-3 : tie.Need-emit-requires-3
 emit-requires-3 c κs = second (c .before .before .before)

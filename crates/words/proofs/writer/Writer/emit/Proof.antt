@@ -1,8 +1,6 @@
 -- `words::writer::Writer::emit` meets its contract: the four numbers are the gate's, and its mark is counted.
 -- Assumes nothing.
-use mathlib.Core.Path.{refl}
 use native.Mathlib.Omega.{arith}
-use lib.ListN.{length-set}
 use Rattle.gates.proofs.Counting.{mark-at-most-one}
 use Rattle.words.proofs.Writing.{wrote-gate}
 use borrow.Author.Needs.{needs}
@@ -10,75 +8,67 @@ use Rattle.words.proofs.writer.Writer.emit.Statement.{statement}
 use Rattle.words.proofs.writer.Writer.emit.Tie as tie
 
 operands-requires : tie.Need-operands-requires
-operands-requires c κs = refl
+operands-requires c κs = search needs
 
 mul-at : tie.Need-mul-at
-mul-at c = omega arith
+mul-at c = search needs
 
-mul-table : tie.Need-mul-table
-mul-table c = omega arith
+store-requires : tie.Need-store-requires
+store-requires c κs = search needs
 
-slice-write-table : tie.Need-slice-write-table
-slice-write-table c = search needs
+add-store : tie.Need-add-store
+add-store c = search needs
 
 operand-requires : tie.Need-operand-requires
-operand-requires c κs = tt
+operand-requires c κs = search needs
 
-add-table : tie.Need-add-table
-add-table c = omega arith
+store-requires-2 : tie.Need-store-requires-2
+store-requires-2 c κs = search needs
 
-mul-table-2 : tie.Need-mul-table-2
-mul-table-2 c = omega arith
-
-slice-write-table-2 : tie.Need-slice-write-table-2
-slice-write-table-2 c = simp length-set (omega (arith, c .before .before .before .before .before .pre .inTable))
+add-store-2 : tie.Need-add-store-2
+add-store-2 c = search needs
 
 operand-requires-2 : tie.Need-operand-requires-2
-operand-requires-2 c κs = tt
+operand-requires-2 c κs = search needs
 
-add-table-2 : tie.Need-add-table-2
-add-table-2 c = omega arith
+store-requires-3 : tie.Need-store-requires-3
+store-requires-3 c κs = search needs
 
-mul-table-3 : tie.Need-mul-table-3
-mul-table-3 c = omega arith
-
-slice-write-table-3 : tie.Need-slice-write-table-3
-slice-write-table-3 c = simp length-set (omega (arith, c .before .before .before .before .before .before .pre .inTable))
+add-store-3 : tie.Need-add-store-3
+add-store-3 c = search needs
 
 operand-requires-3 : tie.Need-operand-requires-3
-operand-requires-3 c κs = tt
+operand-requires-3 c κs = search needs
 
-add-table-3 : tie.Need-add-table-3
-add-table-3 c = omega arith
+store-requires-4 : tie.Need-store-requires-4
+store-requires-4 c κs = search needs
 
-mul-table-4 : tie.Need-mul-table-4
-mul-table-4 c = omega arith
+add-t19 : tie.Need-add-t19
+add-t19 c = search needs
 
-slice-write-table-4 : tie.Need-slice-write-table-4
-slice-write-table-4 c = simp length-set (omega (arith, c .before .before .before .before .before .before .before .pre .inTable))
-
-add-t14 : tie.Need-add-t14
-add-t14 c = omega arith
-
-add-t16 : tie.Need-add-t16
-add-t16 c = omega arith
+add-t20 : tie.Need-add-t20
+add-t20 c = search needs
 
 mark-requires : tie.Need-mark-requires
-mark-requires c κs = refl
+mark-requires c κs = search needs
 
-add-t22 : tie.Need-add-t22
-add-t22 c = let s = c .before .before .before .before .before .before .before .before .before .before .before .before in omega (arith, c .before .mark .ensures, mark-at-most-one (s .args .kind), s .pre .counted, s .pre .inTable)
+add-t27 : tie.Need-add-t27
+add-t27 c = let s = c .before .before .before .before .before .before .before .before .before .before .before .before .before .before .before .before .before .before .before .before .before .before .before .before .before .before .before .before in omega (arith, c .before .mark .ensures, mark-at-most-one (s .args .kind), s .pre .counted, s .pre .few)
 
 same-length : tie.Need-same-length
 same-length c = search needs
 
 returns : tie.Need-returns
 returns c =
-    let s = c .before .before .before .before .before .before .before .before .before .before .before .before in
-    let a = s .args in
-    let o = c .before .before .before .before .before .before .before in
-    wrote-gate (a .self) (a .table .now) (a .kind) (a .a) (a .b) (a .c) (o .before .before .operands .result) _ _ _ _ (o .before .before .operands .ensures)
-    (o .operand .ensures) (c .before .before .before .before .before .before .operand2 .ensures) (c .before .before .before .before .before .operand3 .ensures) (c .before .mark .ensures)
+    let fourth = c .before .before .before .before .before .before .before in
+    let third = fourth .before .before .before .before .before in
+    let second = third .before .before .before .before .before in
+    let first = second .before .before .before .before .before in
+    let chosen = first .before .before .before in
+    let a = chosen .before .before .before .args in
+    wrote-gate (a .self) (a .table .now) (a .kind) (a .a) (a .b) (a .c) (chosen .operands .result) _ _ _ _ _ _ _ _ (chosen .operands .ensures)
+    (second .before .operand .ensures) (third .before .operand2 .ensures) (fourth .before .operand3 .ensures) (c .before .mark .ensures)
+    (first .store .ensures) (second .store2 .ensures) (third .store3 .ensures) (fourth .store4 .ensures)
 
 pub emit-spec : {M : Type 1} → statement M
 emit-spec =
@@ -86,23 +76,19 @@ emit-spec =
     (tie.spec
     operands-requires
     mul-at
-    mul-table
-    slice-write-table
+    store-requires
+    add-store
     operand-requires
-    add-table
-    mul-table-2
-    slice-write-table-2
+    store-requires-2
+    add-store-2
     operand-requires-2
-    add-table-2
-    mul-table-3
-    slice-write-table-3
+    store-requires-3
+    add-store-3
     operand-requires-3
-    add-table-3
-    mul-table-4
-    slice-write-table-4
-    add-t14
-    add-t16
+    store-requires-4
+    add-t19
+    add-t20
     mark-requires
-    add-t22
+    add-t27
     same-length
     returns)

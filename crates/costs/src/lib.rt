@@ -1,2 +1,0 @@
-// What the own list of a shape costs.
-pub mod list;
