@@ -1,9 +1,9 @@
 // The key of one candidate, and its whole circuit.
-use circuit::plan::Plan;
 use crate::sums::first_grade;
 use crate::sums::later_grades;
 use crate::sums::middle_span;
 use crate::sums::sum_before;
+use circuit::plan::Plan;
 use gates::kind;
 use words::writer::Writer;
 ghost use mathlib.Core.Path.{_≡_};

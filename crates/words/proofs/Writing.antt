@@ -8,7 +8,7 @@ use native.Mathlib.Numerals.{add-one, add-two, add-three}
 use native.Mathlib.Omega.{arith}
 use lib.Dec.{ltb}
 use lib.ListN.{length, set, length-append}
-use lib.Seq.{sets, length-sets}
+use lib.Seq.{sets, set-out, length-sets}
 use Rattle.gates.specs.Kind.{operandsOf, conditionalOf}
 use Rattle.gates.specs.Gate.{Gate, numbersOf}
 use Rattle.gates.proofs.Counting.{count-nil, count-one, count-append, count-most}
@@ -66,15 +66,24 @@ room-after w t gs t₁ w₁ m n a h r =
 pub wrote-long : (w : Writer) (t : List ℕ) (gs : List Gate) (t₁ : List ℕ) (w₁ : Writer) → Wrote w t gs t₁ w₁ → length t₁ ≡ length t
 wrote-long w t gs t₁ w₁ a = ap length (a .numbers) ∙ length-sets t (4 * w .gate) (numbersOf gs)
 
--- one gate: its kind, and the operands that its kind uses, stored one after the other
-pub wrote-gate : (w : Writer) (t : List ℕ) (kind a b c count x y z mark : ℕ) (t₁ t₂ t₃ t₄ : List ℕ) → count ≡ operandsOf kind
+-- four numbers stored one after the other
+pub sets-four : (t : List ℕ) (at k a b c : ℕ) → sets t at (k ∷ a ∷ b ∷ c ∷ []) ≡ set (set (set (set t at k) (at + 1) a) (at + 2) b) (at + 3) c
+sets-four t at k a b c = rw (add-one at, add-two at, add-three at)
+
+-- nothing is stored past the end
+pub sets-out : (vs t : List ℕ) (i : ℕ) → length t ≤ i → sets t i vs ≡ t
+sets-out [] t i h = refl
+sets-out (v ∷ vs) t i h = ap (λ (l : List ℕ). sets l (suc i) vs) (set-out t i v h) ∙ sets-out vs t (suc i) (omega arith)
+
+-- one gate: its kind, and the operands that its kind uses
+pub wrote-gate : (w : Writer) (t : List ℕ) (kind a b c count x y z mark : ℕ) (t₁ : List ℕ) → count ≡ operandsOf kind
     → x ≡ cond (ltb 0 count) a 0 → y ≡ cond (ltb 1 count) b 0 → z ≡ cond (ltb 2 count) c 0 → mark ≡ cond (conditionalOf kind) 1 0
-    → t₁ ≡ set t (4 * w .gate) kind → t₂ ≡ set t₁ (4 * w .gate + 1) x → t₃ ≡ set t₂ (4 * w .gate + 2) y → t₄ ≡ set t₃ (4 * w .gate + 3) z
-    → Wrote w t (emitted kind a b c ∷ []) t₄ (record { gate = w .gate + 1; wire = w .wire + 1; conditional = w .conditional + mark })
+    → t₁ ≡ sets t (4 * w .gate) (kind ∷ x ∷ y ∷ z ∷ [])
+    → Wrote w t (emitted kind a b c ∷ []) t₁ (record { gate = w .gate + 1; wire = w .wire + 1; conditional = w .conditional + mark })
 unfolding emitted
-wrote-gate w t kind a b c count x y z mark t₁ t₂ t₃ t₄ e ex ey ez em e₁ e₂ e₃ e₄ =
+wrote-gate w t kind a b c count x y z mark t₁ e ex ey ez em et =
     record {
-      numbers = rw (e₄, e₃, e₂, e₁, ex, ey, ez, e, numbers-one, add-one (4 * w .gate), add-two (4 * w .gate), add-three (4 * w .gate));
+      numbers = rw (et, ex, ey, ez, e, numbers-one);
       gates = refl;
       wires = refl;
       conditionals = ap (λ (n : ℕ). w .conditional + n) (em ∙ sym (count-one (emitted kind a b c)));

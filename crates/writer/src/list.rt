@@ -1,11 +1,11 @@
 // The own list of a shape.
-use candidate::key::candidate;
-use circuit::plan::Plan;
 use crate::contest::contest;
 use crate::contest::down_at;
 use crate::contest::merge;
 use crate::contest::up_at;
 use crate::contest::won;
+use candidate::key::candidate;
+use circuit::plan::Plan;
 use gates::kind;
 use jury::shape::Shape;
 use words::writer::Writer;
