@@ -1,0 +1,2 @@
+-- The lemmas that a circuit rests on, as statements.
+pub mod Statements

@@ -1,0 +1,36 @@
+-- Full majority judgment, over grade counts of any size: request 2.1, step by step.
+use mathlib.Core.Bool.{Bool, true, false, cond, not, _&&_, _||_}
+use mathlib.Core.List.{List, [], _∷_, map}
+use Prim.Native.Nat.{ℕ, zero, suc, _-_}
+use lib.Dec.{ltb, eqb}
+use lib.ListN.{getD, set}
+use Rattle.jury.specs.Gauge.{sum, medianOf}
+
+-- A row of counts without one grade of the kind g.
+unfoldable pub strike : ℕ → List ℕ → List ℕ
+strike g row = set row g (getD row g 0 - 1)
+
+-- The median of a row in which so many grades are left, then that of the row without one grade of that kind, and so on until none is left.
+unfoldable pub strikes : ℕ → List ℕ → List ℕ
+strikes zero row = []
+strikes (suc left) row = medianOf row ∷ strikes left (strike (medianOf row) row)
+
+-- The sequence of a candidate: the medians of its counts, struck one after the other. Each is the gauge's median, of what is left then.
+unfoldable pub sequenceOf : List ℕ → List ℕ
+sequenceOf row = strikes (sum row) row
+
+-- Dictionary order: the first place at which two sequences differ decides, the better grade, which is the smaller number, coming first.
+unfoldable pub precedes : List ℕ → List ℕ → Bool
+precedes [] [] = false
+precedes [] (y ∷ ys) = true
+precedes (x ∷ xs) [] = false
+precedes (x ∷ xs) (y ∷ ys) = ltb x y || (eqb x y && precedes xs ys)
+
+-- Whether none of these sequences precedes xs.
+unfoldable pub nonePrecedes : List (List ℕ) → List ℕ → Bool
+nonePrecedes [] xs = true
+nonePrecedes (ys ∷ others) xs = not (precedes ys xs) && nonePrecedes others xs
+
+-- The closing bytes of a matrix of counts, one row a candidate: 1 for each candidate whose sequence comes first, and 0 for any other. Candidates with equal sequences win together.
+unfoldable pub judgmentOf : List (List ℕ) → List ℕ
+judgmentOf rows = map (λ (row : List ℕ). cond (nonePrecedes (map sequenceOf rows) (sequenceOf row)) 1 0) rows

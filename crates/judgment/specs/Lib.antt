@@ -1,0 +1,3 @@
+pub mod Judgment
+pub mod Winner
+pub mod Panels

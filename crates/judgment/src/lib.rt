@@ -1,0 +1,1 @@
+// Full majority judgment: who wins by the sequences of medians.
