@@ -1,2 +1,5 @@
 -- The lemmas that a circuit rests on, as statements.
 pub mod Statements
+pub mod Positions
+pub mod Outward
+pub mod Order
