@@ -3,3 +3,4 @@ pub mod Statements
 pub mod Positions
 pub mod Outward
 pub mod Order
+pub mod SumRule

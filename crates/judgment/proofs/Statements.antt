@@ -1,12 +1,12 @@
 -- What other crates rest on, stated over running sums: for two rows of counts, which sequence comes first.
 -- Assumes nothing.
 use mathlib.Core.Path.{_≡_}
-use mathlib.Core.Bool.{Bool, true}
+use mathlib.Core.Bool.{true}
 use mathlib.Core.Logic.{_⊎_, _≢_}
 use mathlib.Core.List.{List}
-use Prim.Native.Nat.{ℕ, suc, _+_, _*_, _≤_, _<_}
-use lib.ListN.{length, take}
-use Rattle.jury.specs.Gauge.{sum, medianOf}
+use Prim.Native.Nat.{ℕ, _+_, _*_, _≤_, _<_}
+use lib.ListN.{take}
+use Rattle.jury.specs.Gauge.{sum}
 use Rattle.judgment.specs.Judgment.{sequenceOf, precedes}
 
 -- how many grades of a row are among the t best
@@ -17,11 +17,10 @@ running row t = sum (take t row)
 abbrev pub Precedes : List ℕ → List ℕ → Type 0
 Precedes a b = precedes (sequenceOf a) (sequenceOf b) ≡ true
 
--- two rows of as many grades, with as many counts
+-- two rows of n grades each
 pub record Alike (n : ℕ) (a b : List ℕ) : Type 0 where
   pub sum-a : sum a ≡ n
   pub sum-b : sum b ≡ n
-  pub lengths : length a ≡ length b
 
 -- a is larger at threshold i, and b is not larger at any threshold j whose positions are struck earlier
 pub record Decides (n : ℕ) (a b : List ℕ) (i : ℕ) : Type 0 where
