@@ -4,3 +4,4 @@ pub mod Positions
 pub mod Outward
 pub mod Order
 pub mod SumRule
+pub mod NearestFound
