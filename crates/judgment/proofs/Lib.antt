@@ -5,3 +5,5 @@ pub mod Outward
 pub mod Order
 pub mod SumRule
 pub mod NearestFound
+pub mod Winners
+pub mod GaugeAgrees

@@ -1,3 +1,4 @@
 pub mod Judgment
 pub mod Winner
+pub mod Theorems
 pub mod Panels
