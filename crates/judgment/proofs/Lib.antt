@@ -7,3 +7,5 @@ pub mod SumRule
 pub mod NearestFound
 pub mod Winners
 pub mod GaugeAgrees
+pub mod Equal
+pub mod Improved
