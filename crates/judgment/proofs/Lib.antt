@@ -9,3 +9,5 @@ pub mod Winners
 pub mod GaugeAgrees
 pub mod Equal
 pub mod Improved
+pub mod Raising
+pub mod Theorems

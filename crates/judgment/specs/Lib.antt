@@ -1,4 +1,5 @@
 pub mod Judgment
 pub mod Winner
 pub mod Theorems
+pub mod Raised
 pub mod Panels

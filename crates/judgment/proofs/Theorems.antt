@@ -1,0 +1,30 @@
+-- Proofs of the statements of specs/Theorems.antt, and what accepted ballots bring for them.
+-- Assumes nothing.
+use mathlib.Core.Path.{_≡_}
+use mathlib.Core.List.{List}
+use Prim.Native.Nat.{ℕ}
+use native.Mathlib.Omega.{arith}
+use Rattle.jury.specs.declared.shape.Shape.{Shape}
+use Rattle.jury.specs.Counts.{countsOf}
+use Rattle.jury.specs.Accepted.{AcceptedBallots}
+use Rattle.jury.proofs.CountFacts.{counts-length, counts-sum}
+use Rattle.judgment.specs.Theorems.{EachGets, BytesSay, SomebodyWins, GaugeKept, EqualSequences}
+use Rattle.judgment.proofs.Winners.{byte-says, somebody-wins}
+use Rattle.judgment.proofs.GaugeAgrees.{gauge-kept}
+use Rattle.judgment.proofs.Equal.{equal-sequences}
+
+pub bytes-say : BytesSay
+bytes-say n rows each i h = byte-says n rows each i h
+
+pub somebody : SomebodyWins
+somebody = somebody-wins
+
+pub gauge-alone : GaugeKept
+gauge-alone n rows some each i wins = gauge-kept n rows some each i wins
+
+pub equal-exactly : EqualSequences
+equal-exactly = equal-sequences
+
+-- every candidate of accepted ballots has n grades
+pub each-gets : (s : Shape) (xs : List ℕ) → AcceptedBallots s xs → EachGets (s .ballots) (countsOf s xs)
+each-gets s xs a i l = counts-sum s xs a i (omega (arith, counts-length s xs))
