@@ -4,6 +4,7 @@ pub mod Positions
 pub mod Outward
 pub mod Order
 pub mod SumRule
+pub mod Thresholds
 pub mod NearestFound
 pub mod Winners
 pub mod GaugeAgrees

@@ -48,6 +48,12 @@ pub record Nearest (n : ℕ) (a b : List ℕ) (lower upper : ℕ) : Type 0 where
   pub lower-half : (t : ℕ) → t < lower → running a t ≢ running b t → (2 * running a lower < n) × (2 * running b lower < n) × (running a lower ≢ running b lower)
   pub upper-half : (t : ℕ) → upper < t → running a t ≢ running b t → (n ≤ 2 * running a upper) × (n ≤ 2 * running b upper) × (running a upper ≢ running b upper)
 
+-- the same with less asked of the two: it is enough that the smaller row is below half at the lower one, and that the larger one is not at the upper one
+pub record Bracket (n : ℕ) (a b : List ℕ) (lower upper : ℕ) : Type 0 where
+  pub between : (t : ℕ) → lower < t → t < upper → running a t ≡ running b t
+  pub lower-half : (t : ℕ) → t < lower → running a t ≢ running b t → ((2 * running a lower < n) ⊎ (2 * running b lower < n)) × (running a lower ≢ running b lower)
+  pub upper-half : (t : ℕ) → upper < t → running a t ≢ running b t → ((n ≤ 2 * running a upper) ⊎ (n ≤ 2 * running b upper)) × (running a upper ≢ running b upper)
+
 -- what two such thresholds decide
 pub record TwoDecide (n : ℕ) (a b : List ℕ) (lower upper : ℕ) : Type 0 where
   -- equal at both: equal sequences
