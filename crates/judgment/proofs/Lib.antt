@@ -12,3 +12,7 @@ pub mod Equal
 pub mod Improved
 pub mod Raising
 pub mod Theorems
+pub mod Deciding
+pub mod Walking
+pub mod SameCounts
+pub mod Leading

@@ -3,3 +3,4 @@ pub mod Winner
 pub mod Theorems
 pub mod Raised
 pub mod Panels
+pub mod Inner

@@ -1,1 +1,2 @@
 // Full majority judgment: who wins by the sequences of medians.
+pub mod rule;
