@@ -1,0 +1,3 @@
+pub mod Schulze
+pub mod Closure
+pub mod Winner

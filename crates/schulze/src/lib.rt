@@ -1,0 +1,1 @@
+// Ranked tastings: Schulze's rule.
