@@ -1,2 +1,3 @@
 pub mod Members
 pub mod Paths
+pub mod Winning

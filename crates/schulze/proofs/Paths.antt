@@ -182,7 +182,7 @@ module _ (k i j : ℕ) (ne : i ≢ j) where
       (λ e. p .once .0 (List·Memᴰ·tail (Memᴰ·cast (sym e) g))))
 
   -- the link itself
-  direct : SimplePath k i [] j
+  pub direct : SimplePath k i [] j
   direct = record { below = λ x g. absurd (List·Memᴰ·not-nil g); once = (λ m. ne (List·Memᴰ·eq-of-singleton m), (List·Memᴰ·not-nil, tt)) }
 
 -- a detour never makes a strength smaller
@@ -301,3 +301,18 @@ module _ (s : ℕ → ℕ → ℕ) where
         let down : closure k s i j ≤ strongest s k i j =
         omega (arith, strong-via s (closure k s i j) i (d .between) j (d .strong), best .largest (d .between) (d .simple)) in
         omega arith
+
+-- the way over a third candidate is no stronger than the strongest
+pub through : (s : ℕ → ℕ → ℕ) (k i l j : ℕ) → l < k → i ≢ l → l ≢ j → i ≢ j → min (strongest s k i l) (strongest s k l j) ≤ strongest s k i j
+through s k i l j h il lj ij =
+    let a = strongest-is s k i l il in
+    let b = strongest-is s k l j lj in
+    let T = min (strongest s k i l) (strongest s k l j) in
+    let q = a .attained .0 in
+    let r = b .attained .0 in
+    let to = via-strong s T i q l (omega (arith, a .attained .2)) in
+    let from = via-strong s T l r j (omega (arith, b .attained .2)) in
+    let low : (x : ℕ) → On x (q ++ l ∷ r) → x < k =
+    λ x g. ⊎-elim (a .attained .1 .below x) (λ g. ⊎-elim (λ e. omega arith) (b .attained .1 .below x) (List·Memᴰ·cases-cons g)) (List·Memᴰ·append-cases q g) in
+    let d = shorten s T k i (q ++ l ∷ r) j ij low (via-join s T i q l r j to from) in
+    omega (arith, strong-via s T i (d .between) j (d .strong), strongest-is s k i j ij .largest (d .between) (d .simple))

@@ -1,3 +1,4 @@
 pub mod Schulze
 pub mod Closure
 pub mod Winner
+pub mod Panels
