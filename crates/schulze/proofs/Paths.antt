@@ -1,6 +1,6 @@
 -- The paths theorem: detours over all candidates, one after another, give the strength of the strongest simple path.
 -- Strengths are compared by thresholds: a path is at least as strong as T where each of its links is. Assumes nothing.
-use mathlib.Core.Path.{_≡_, _∙_, refl, sym, ap}
+use mathlib.Core.Path.{_≡_, _∙_, refl, sym}
 use mathlib.Core.Bool.{Bool, true, false, cond, _||_}
 use mathlib.Core.Logic.{_⊎_, inl, inr, ⊎-elim, _≢_}
 use mathlib.Core.List.{List, [], _∷_, _++_, map, List·Memᴰ, List·Memᴰ·head, List·Memᴰ·tail, List·Memᴰ·not-nil, List·Memᴰ·cases-cons, List·Memᴰ·eq-of-singleton, List·Memᴰ·append-cases, Memᴰ·cast}
@@ -8,10 +8,10 @@ use Prim.Native.Nat.{ℕ, zero, suc, min, max, _≤_, _<_}
 use native.Mathlib.Omega.{arith}
 use lib.Dec.{eqb}
 use lib.ListN.{length}
-use borrow.Author.Tests.{eqb-true, eqb-false, ne-eqb}
+use borrow.Author.Tests.{eqb-false, ne-eqb}
 use Rattle.jury.proofs.Cases.{same-or-not, below-or-not}
 use Rattle.jury.proofs.Tabulate.{length-tabulate}
-use Rattle.schulze.specs.Schulze.{weakest, candidates, without, selections, simplePaths, maximum, strongest}
+use Rattle.schulze.specs.Schulze.{weakest, candidates, without, simplePaths, strongest}
 use Rattle.schulze.specs.Closure.{detour, closure}
 use Rattle.schulze.specs.Winner.{On, Distinct, SimplePath, Strongest}
 use Rattle.schulze.proofs.Members.{on-or-not, in-map, of-map, in-without, of-without, without-most, in-candidates, of-candidates, of-selections, in-selections, maximum-largest, maximum-of}

@@ -1,30 +1,30 @@
 -- Winners by Schulze's rule: the closing bytes say who wins, a candidate preferred to each other one wins alone, and somebody always wins.
 -- Assumes nothing.
 use mathlib.Core.Path.{_≡_, _∙_, refl, sym, ap}
-use mathlib.Core.Bool.{Bool, true, false, cond, _&&_, _||_}
-use mathlib.Core.Logic.{_⊎_, inl, inr, ⊎-elim, _≢_, _↔_}
-use mathlib.Core.List.{List, [], _∷_, _++_, List·Memᴰ·head, List·Memᴰ·tail, List·Memᴰ·not-nil, List·Memᴰ·cases-cons, List·Memᴰ·append-cases}
-use Prim.Native.Nat.{ℕ, zero, suc, min, _≤_, _<_}
+use mathlib.Core.Bool.{Bool, true, false, cond, _||_}
+use mathlib.Core.Logic.{_⊎_, ⊎-elim, _≢_, _↔_}
+use mathlib.Core.List.{List, [], _∷_, List·Memᴰ·head, List·Memᴰ·tail, List·Memᴰ·not-nil, List·Memᴰ·cases-cons}
+use Prim.Native.Nat.{ℕ, zero, suc, _≤_, _<_}
 use native.Mathlib.Omega.{arith}
-use lib.Dec.{leb, ltb, eqb}
+use lib.Dec.{leb, eqb}
 use lib.ListN.{getD}
-use borrow.Author.Tests.{leb-true, le-leb, lt-leb, eqb-true, eq-eqb, lt-ltb, le-ltb}
+use borrow.Author.Tests.{leb-true, le-leb, eqb-true, eq-eqb, lt-ltb, le-ltb}
 use Rattle.jury.proofs.Cases.{same-or-not, below-or-not}
 use Rattle.jury.proofs.Flags.{and-first, and-second, and-both, or-either, or-first, or-second, never-true}
 use Rattle.jury.proofs.Tabulate.{getD-tabulate}
 use Rattle.schulze.specs.Schulze.{link, weakest, candidates, every, wins, strongest, closingBytes}
-use Rattle.schulze.specs.Winner.{On, SimplePath, Strongest, Winner}
+use Rattle.schulze.specs.Winner.{On, Strongest, Winner}
 use Rattle.schulze.proofs.Members.{in-candidates, of-candidates}
-use Rattle.schulze.proofs.Paths.{Via, via-strong, strong-via, direct, strongest-is, through}
+use Rattle.schulze.proofs.Paths.{Via, via-strong, direct, strongest-is, through}
 
 -- a test holds of every member or fails at one
-every-holds : (test : ℕ → Bool) (xs : List ℕ) → every test xs ≡ true → (x : ℕ) → On x xs → test x ≡ true
+pub every-holds : (test : ℕ → Bool) (xs : List ℕ) → every test xs ≡ true → (x : ℕ) → On x xs → test x ≡ true
 unfolding every
 every-holds test [] e x m = absurd (List·Memᴰ·not-nil m)
 every-holds test (y ∷ ys) e x m =
     ⊎-elim (λ s. ap test s ∙ and-first (test y) (every test ys) e) (every-holds test ys (and-second (test y) (every test ys) e) x) (List·Memᴰ·cases-cons m)
 
-holds-every : (test : ℕ → Bool) (xs : List ℕ) → ((x : ℕ) → On x xs → test x ≡ true) → every test xs ≡ true
+pub holds-every : (test : ℕ → Bool) (xs : List ℕ) → ((x : ℕ) → On x xs → test x ≡ true) → every test xs ≡ true
 unfolding every
 holds-every test [] h = refl
 holds-every test (y ∷ ys) h = and-both (test y) (every test ys) (h y (List·Memᴰ·head refl)) (holds-every test ys (λ x m. h x (List·Memᴰ·tail m)))

@@ -2,3 +2,5 @@ pub mod Schulze
 pub mod Closure
 pub mod Winner
 pub mod Panels
+pub mod Votes
+pub mod Inner

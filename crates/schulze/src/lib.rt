@@ -1,1 +1,4 @@
 // Ranked tastings: Schulze's rule.
+pub mod count;
+pub mod rule;
+mod votes;
