@@ -59,3 +59,11 @@ T-true false h = absurd h
 
 pub true-T : (t : Bool) → t ≡ true → T t
 true-T t e = rw e tt
+
+-- a conjunction fails where one of its parts does
+pub and-first-fails : (t u : Bool) → t ≡ false → (t && u) ≡ false
+and-first-fails t u e = ap (λ (x : Bool). x && u) e
+
+pub and-second-fails : (t u : Bool) → u ≡ false → (t && u) ≡ false
+and-second-fails true u e = e
+and-second-fails false u e = refl

@@ -5,6 +5,7 @@ pub mod Tabulate
 pub mod Sums
 pub mod Limits
 pub mod Constructed
+pub mod Searches
 pub mod WidthLaws
 pub mod BallotLaws
 pub mod AcceptedLaws
@@ -19,3 +20,4 @@ pub mod MedianFacts
 pub mod RunningSums
 pub mod Conditions
 pub mod Closing
+pub mod RankingLaws

@@ -2,6 +2,8 @@ pub mod Shape
 pub mod Width
 pub mod Reason
 pub mod Ballots
+pub mod Rankings
+pub mod WeakOrder
 pub mod Counts
 pub mod Gauge
 pub mod Winner

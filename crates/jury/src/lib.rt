@@ -2,6 +2,7 @@
 pub mod ballots;
 pub mod counts;
 pub mod gauge;
+pub mod rankings;
 pub mod reason;
 pub mod shape;
 pub mod width;

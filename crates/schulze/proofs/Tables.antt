@@ -11,12 +11,13 @@ use native.Mathlib.Omega.{arith}
 use lib.Dec.{leb, eqb}
 use lib.ListN.{getD}
 use borrow.Author.Tests.{eq-eqb, ne-eqb, lt-leb}
+use Rattle.jury.specs.Rankings.{rankPlace, before}
 use Rattle.jury.proofs.BallotLaws.{row-within}
 use Rattle.jury.proofs.Cases.{same-or-not}
 use Rattle.jury.proofs.Flags.{never-true, or-first, or-second}
 use Rattle.schulze.specs.Schulze.{candidates}
 use Rattle.schulze.specs.Closure.{detour, closure}
-use Rattle.schulze.specs.Votes.{before, votes}
+use Rattle.schulze.specs.Votes.{votes}
 use Rattle.schulze.specs.Inner.{entry, unbeatenIn, RankedSize}
 use Rattle.schulze.proofs.Members.{in-candidates, of-candidates}
 use Rattle.schulze.proofs.Paths.{detour-over}
@@ -39,12 +40,12 @@ unfolding votes
 votes-more k b xs i j = ap (λ (n : ℕ). votes k n xs i j) (add-one b)
 
 pub votes-one : (k b : ℕ) (xs : List ℕ) (i j at : ℕ) → at ≡ (b * k + i) * k + j → getD xs at 0 ≡ 1 → votes k (b + 1) xs i j ≡ votes k b xs i j + 1
-unfolding before
+unfolding before rankPlace
 votes-one k b xs i j at p e =
     votes-more k b xs i j ∙ ap (λ (t : Bool). votes k b xs i j + cond t 1 0) (eq-eqb (getD xs ((b * k + i) * k + j) 0) 1 (ap (λ (m : ℕ). getD xs m 0) (sym p) ∙ e))
 
 pub votes-none : (k b : ℕ) (xs : List ℕ) (i j at : ℕ) → at ≡ (b * k + i) * k + j → (getD xs at 0 ≡ 1 → ⊥) → votes k (b + 1) xs i j ≡ votes k b xs i j
-unfolding before
+unfolding before rankPlace
 votes-none k b xs i j at p e =
     votes-more k b xs i j
     ∙ ap (λ (t : Bool). votes k b xs i j + cond t 1 0) (ne-eqb (getD xs ((b * k + i) * k + j) 0) 1 (λ h. e (ap (λ (m : ℕ). getD xs m 0) p ∙ h)))

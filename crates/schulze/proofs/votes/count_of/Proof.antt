@@ -7,7 +7,7 @@ use native.Mathlib.Nat.{mul-le-mul}
 use native.Mathlib.Omega.{arith}
 use lib.ListN.{length}
 use Rattle.schulze.proofs.Tables.{place-within, few-bytes, votes-one, votes-none}
-use Rattle.schulze.specs.Votes.{before, votes}
+use Rattle.schulze.specs.Votes.{votes}
 use Rattle.schulze.proofs.votes.count_of.Statement.{statement}
 use Rattle.schulze.proofs.votes.count_of.Tie as tie
 

@@ -1,0 +1,60 @@
+-- Ranked ballots, and the two tests of what they say (request 2.2).
+use mathlib.Core.Bool.{Bool, false, cond, not, _&&_, _||_}
+use mathlib.Core.List.{List}
+use Prim.Native.Nat.{ℕ, zero, suc, _+_, _*_}
+use lib.Dec.{eqb}
+use lib.ListN.{getD}
+use Rattle.gates.specs.declared.place.Place.{Place}
+use Rattle.gates.specs.declared.place.Place.the-variants.{At, Nowhere}
+
+-- A ranked ballot is k rows of k bytes, and one ballot follows the other: the place of row i and column j of ballot b.
+unfoldable pub rankPlace : ℕ → ℕ → ℕ → ℕ → ℕ
+rankPlace k b i j = (b * k + i) * k + j
+
+-- Ballot b puts i strictly before j where that byte is 1.
+unfoldable pub before : ℕ → List ℕ → ℕ → ℕ → ℕ → Bool
+before k xs b i j = eqb (getD xs (rankPlace k b i j) 0) 1
+
+-- The first place that one of these searches found, else what the other one found.
+unfoldable pub orElse : Place → Place → Place
+orElse (At place) other = At place
+orElse Nowhere other = other
+
+-- The first place that the searches number 0, 1 and so on, m of them, find.
+unfoldable pub firstOver : ℕ → (ℕ → Place) → Place
+firstOver zero found = Nowhere
+firstOver (suc m) found = orElse (firstOver m found) (found m)
+
+-- Whether the test holds of some number below m.
+unfoldable pub someBelow : ℕ → (ℕ → Bool) → Bool
+someBelow zero test = false
+someBelow (suc m) test = someBelow m test || test m
+
+-- Two candidates are each put before the other, or one before itself: the byte is 1, and so is its opposite, which on the diagonal is the byte itself.
+unfoldable pub clashAt : ℕ → List ℕ → ℕ → ℕ → ℕ → Place
+clashAt k xs b i j = cond (before k xs b i j && before k xs b j i) (At (rankPlace k b i j)) Nowhere
+
+-- The first such byte of a row, of a ballot, and through all n ballots.
+unfoldable pub clashInRow : ℕ → List ℕ → ℕ → ℕ → Place
+clashInRow k xs b i = firstOver k (clashAt k xs b i)
+
+unfoldable pub clashInBallot : ℕ → List ℕ → ℕ → Place
+clashInBallot k xs b = firstOver k (clashInRow k xs b)
+
+unfoldable pub firstClash : ℕ → ℕ → List ℕ → Place
+firstClash k n xs = firstOver n (clashInBallot k xs)
+
+-- Some l is put neither after i nor before j.
+unfoldable pub apart : ℕ → List ℕ → ℕ → ℕ → ℕ → Bool
+apart k xs b i j = someBelow k (λ l. not (before k xs b i l) && not (before k xs b l j))
+
+-- Some i is put before some j while some l is put neither after i nor before j. (Where no byte clashes, l is neither of the two.)
+unfoldable pub gapAfter : ℕ → List ℕ → ℕ → ℕ → Bool
+gapAfter k xs b i = someBelow k (λ j. before k xs b i j && apart k xs b i j)
+
+unfoldable pub gap : ℕ → List ℕ → ℕ → Bool
+gap k xs b = someBelow k (gapAfter k xs b)
+
+-- The first ballot that has such a gap.
+unfoldable pub firstGap : ℕ → ℕ → List ℕ → Place
+firstGap k n xs = firstOver n (λ b. cond (gap k xs b) (At b) Nowhere)

@@ -1,0 +1,122 @@
+// The tests of what ranked ballots say.
+use gates::place::Place;
+ghost use mathlib.Core.Path.{_≡_};
+ghost use Prim.Native.Nat.{_+_, _*_, _≤_, _<_};
+ghost use lib.ListN.{length};
+ghost use Rattle.jury.specs.Rankings as spec;
+
+// The first byte, through all ballots, that is 1 while its opposite is 1 too.
+pub fn first_clash(ballots: &[u8], k: usize, n: usize) -> Place
+    requires { ⌜ length (now ballots) ≡ n * k * k ⌝ }
+    ensures { λ r. ⌜ r ≡ spec.firstClash k n (now (ballots .entry)) ⌝ }
+{
+    let mut b = 0;
+    while b < n {
+        match clash_in_ballot(ballots, k, b) {
+            Place::At(place) => return Place::At(place),
+            Place::Nowhere => {}
+        }
+        b += 1;
+    }
+    Place::Nowhere
+}
+
+// The first such byte of ballot b.
+fn clash_in_ballot(ballots: &[u8], k: usize, b: usize) -> Place
+    requires { ⌜ (b + 1) * k * k ≤ length (now ballots) ⌝ }
+    ensures { λ r. ⌜ r ≡ spec.clashInBallot k (now (ballots .entry)) b ⌝ }
+{
+    let mut i = 0;
+    while i < k {
+        match clash_in_row(ballots, k, b, i) {
+            Place::At(place) => return Place::At(place),
+            Place::Nowhere => {}
+        }
+        i += 1;
+    }
+    Place::Nowhere
+}
+
+// The first such byte of row i of ballot b.
+fn clash_in_row(ballots: &[u8], k: usize, b: usize, i: usize) -> Place
+    requires { ⌜ ((b + 1) * k * k ≤ length (now ballots)) × (i < k) ⌝ }
+    ensures { λ r. ⌜ r ≡ spec.clashInRow k (now (ballots .entry)) b i ⌝ }
+{
+    let mut j = 0;
+    while j < k {
+        if is_before(ballots, k, b, i, j) && is_before(ballots, k, b, j, i) {
+            return Place::At((b * k + i) * k + j);
+        }
+        j += 1;
+    }
+    Place::Nowhere
+}
+
+// The first ballot in which some candidate is before another while a third is neither after the one nor before the other.
+pub fn first_gap(ballots: &[u8], k: usize, n: usize) -> Place
+    requires { ⌜ length (now ballots) ≡ n * k * k ⌝ }
+    ensures { λ r. ⌜ r ≡ spec.firstGap k n (now (ballots .entry)) ⌝ }
+{
+    let mut b = 0;
+    while b < n {
+        if has_gap(ballots, k, b) {
+            return Place::At(b);
+        }
+        b += 1;
+    }
+    Place::Nowhere
+}
+
+// Whether ballot b is such a ballot.
+fn has_gap(ballots: &[u8], k: usize, b: usize) -> bool
+    requires { ⌜ (b + 1) * k * k ≤ length (now ballots) ⌝ }
+    ensures { λ r. ⌜ r ≡ spec.gap k (now (ballots .entry)) b ⌝ }
+{
+    let mut i = 0;
+    while i < k {
+        if gap_after(ballots, k, b, i) {
+            return true;
+        }
+        i += 1;
+    }
+    false
+}
+
+// Whether i is before some candidate while a third is neither after i nor before that one.
+fn gap_after(ballots: &[u8], k: usize, b: usize, i: usize) -> bool
+    requires { ⌜ ((b + 1) * k * k ≤ length (now ballots)) × (i < k) ⌝ }
+    ensures { λ r. ⌜ r ≡ spec.gapAfter k (now (ballots .entry)) b i ⌝ }
+{
+    let mut j = 0;
+    while j < k {
+        if is_before(ballots, k, b, i, j) && is_apart(ballots, k, b, i, j) {
+            return true;
+        }
+        j += 1;
+    }
+    false
+}
+
+// Whether some candidate is neither after i nor before j.
+fn is_apart(ballots: &[u8], k: usize, b: usize, i: usize, j: usize) -> bool
+    requires { ⌜ ((b + 1) * k * k ≤ length (now ballots)) × (i < k) × (j < k) ⌝ }
+    ensures { λ r. ⌜ r ≡ spec.apart k (now (ballots .entry)) b i j ⌝ }
+{
+    let mut l = 0;
+    while l < k {
+        if !is_before(ballots, k, b, i, l) && !is_before(ballots, k, b, l, j) {
+            return true;
+        }
+        l += 1;
+    }
+    false
+}
+
+// Whether ballot b puts i strictly before j.
+fn is_before(ballots: &[u8], k: usize, b: usize, i: usize, j: usize) -> bool
+    requires { ⌜ ((b + 1) * k * k ≤ length (now ballots)) × (i < k) × (j < k) ⌝ }
+    ensures { λ r. ⌜ r ≡ spec.before k (now (ballots .entry)) b i j ⌝ }
+{
+    let at = (b * k + i) * k + j;
+    ballots[at] == 1
+}
