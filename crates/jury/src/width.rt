@@ -6,5 +6,11 @@ ghost use Rattle.jury.specs.Width.{widthOf};
 pub fn width(n: usize) -> usize
     ensures { λ r. ⌜ r ≡ widthOf n ⌝ }
 {
-    if n == 0 { 0 } else { width(n / 2) + 1 }
+    let mut digits = 0;
+    let mut rest = n;
+    while 0 < rest {
+        digits += 1;
+        rest = rest / 2;
+    }
+    digits
 }
