@@ -15,7 +15,7 @@
  *   3     a         1 - a                     no
  *   4     a b       a and b                   yes
  *   5     a b       a or b                    yes
- *   6     a b       a and b differ            yes
+ *   6     a b       a and b differ            no
  *   7     a b c     b where a is 1, else c    yes
  *
  * Answer: each function writes its answer into the lent array `answer` and returns answer[0] too.

@@ -8,7 +8,7 @@ MOST_GATES = 1_048_576
 # The table of kinds, once for all tests in Python: operands in use, and whether the gate is conditional.
 # tests/library_c/kinds.h has it for C.
 OPERANDS = {0: 0, 1: 0, 2: 1, 3: 1, 4: 2, 5: 2, 6: 2, 7: 3}
-CONDITIONAL = {0: False, 1: False, 2: False, 3: False, 4: True, 5: True, 6: True, 7: True}
+CONDITIONAL = {0: False, 1: False, 2: False, 3: False, 4: True, 5: True, 6: False, 7: True}
 
 
 def gate_value(kind, a, b, c):

@@ -8,6 +8,6 @@
 #define KINDS 8
 
 static const uint32_t kind_operands[KINDS] = {0, 0, 1, 1, 2, 2, 2, 3};
-static const uint8_t kind_conditional[KINDS] = {0, 0, 0, 0, 1, 1, 1, 1};
+static const uint8_t kind_conditional[KINDS] = {0, 0, 0, 0, 1, 1, 0, 1};
 
 #endif

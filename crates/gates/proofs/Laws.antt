@@ -69,7 +69,7 @@ pub operand-counts : (operandsOf 0 ≡ 0) × (operandsOf 1 ≡ 0) × (operandsOf
 unfolding operandsOf
 operand-counts = (refl, refl, refl, refl, refl, refl, refl, refl)
 
-pub marks : (conditionalOf 0 ≡ false) × (conditionalOf 1 ≡ false) × (conditionalOf 2 ≡ false) × (conditionalOf 3 ≡ false) × (conditionalOf 4 ≡ true) × (conditionalOf 5 ≡ true) × (conditionalOf 6 ≡ true) × (conditionalOf 7 ≡ true)
+pub marks : (conditionalOf 0 ≡ false) × (conditionalOf 1 ≡ false) × (conditionalOf 2 ≡ false) × (conditionalOf 3 ≡ false) × (conditionalOf 4 ≡ true) × (conditionalOf 5 ≡ true) × (conditionalOf 6 ≡ false) × (conditionalOf 7 ≡ true)
 unfolding conditionalOf
 marks = (refl, refl, refl, refl, refl, refl, refl, refl)
 

@@ -26,7 +26,7 @@ pub const KINDS: u32 = 8;
 pub const OPERANDS: [u32; 8] = [0, 0, 1, 1, 2, 2, 2, 3];
 
 // The conditional mark of each kind.
-pub const CONDITIONAL: [bool; 8] = [false, false, false, false, true, true, true, true];
+pub const CONDITIONAL: [bool; 8] = [false, false, false, false, true, true, false, true];
 
 // A gate's value, or its refusal: no kind above 7 has a value.
 pub enum Applied {

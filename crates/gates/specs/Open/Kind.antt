@@ -12,7 +12,7 @@ abbrev pub operandCounts : List ℕ
 operandCounts = 0 ∷ 0 ∷ 1 ∷ 1 ∷ 2 ∷ 2 ∷ 2 ∷ 3 ∷ []
 
 abbrev pub conditionalMarks : List Bool
-conditionalMarks = false ∷ false ∷ false ∷ false ∷ true ∷ true ∷ true ∷ true ∷ []
+conditionalMarks = false ∷ false ∷ false ∷ false ∷ true ∷ true ∷ false ∷ true ∷ []
 
 -- The column "operands": how many a kind uses, of a, b, c in this order.
 unfoldable pub operandsOf : ℕ → ℕ
