@@ -398,6 +398,7 @@ size_t core_run(size_t k, size_t d, size_t n, const uint32_t *table, size_t tabl
         }
     }
     memcpy(board + shown, wires + wires_length - k, k);
+    memset(wires, 0, wires_length);
     return put(s, answer);
 }
 

@@ -86,7 +86,9 @@ size_t jugy_test(size_t candidates, size_t grades, size_t ballots, const uint32_
  *   bytes  I ballot bytes
  *   tape   C bytes of 0 or 1, one for each conditional gate in order: fresh, secret random bits that are never used again.
  *          A tape that is used twice, or known, lets the board tell what the wires hold.
- *   wires  I + G bytes, whatever they held. Afterwards every wire in clear, the ballots first: as secret as the ballots.
+ *   wires  I + G bytes, whatever they held. While the function runs they hold the ballots and every wire in clear; afterwards
+ *          they are all zero. Ballots, tape and list stay readable where the caller keeps them: whoever has tape and board
+ *          can work out the shown wires, so wipe ballots and tape too.
  *   board  C + k bytes, whatever they held. Afterwards board[i], i below C, is the masked wire a of the i-th conditional
  *          gate, and board[C + i], i below k, is candidate i's closing byte: 1 where it wins, else 0. This may be published. */
 size_t jugy_run(size_t candidates, size_t grades, size_t ballots, const uint32_t *table, size_t table_length,

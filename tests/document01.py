@@ -203,4 +203,5 @@ def run_list(k, d, n, table, ballots, tape, wires, board):
     if fault is not None:
         return answer(fault, table), wires, board
     values, shown = run_gates(ballots, gates_of(table), tape)
-    return answer(None, table), values, shown + values[len(values) - k:]
+    # the wire table is emptied once the closing bytes stand on the board
+    return answer(None, table), [0] * len(values), shown + values[len(values) - k:]

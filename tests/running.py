@@ -172,7 +172,7 @@ def each_kind():
 
 
 def every_tape():
-    """One list on two sets of ballots under each tape: wires and closing bytes stay, and each board of one is one of the other."""
+    """One list on two sets of ballots under each tape: closing bytes stay, and each board of one is one of the other."""
     gates = [(6, 0, 3, 0), (2, 6, 0, 0), (7, 6, 1, 2), (4, 8, 5, 0), (5, 9, 0, 0), (3, 10, 0, 0)]
     boards = []
     for voters in ([1, 0, 0, 0, 0, 1], [0, 0, 1, 0, 0, 1]):

@@ -29,7 +29,7 @@ fn a_jury_is_measured_written_tested_run_and_counted() {
     let mut board = vec![7; m.conditional + 2];
     assert_eq!(run(SHAPE, table, &BALLOTS, &tape, &mut wires, &mut board), Ok(size));
     assert_eq!(board[m.conditional..], [1, 0]);
-    assert_eq!(wires[..18], BALLOTS);
+    assert!(wires.iter().all(|w| *w == 0));
     assert_eq!(count(SHAPE, &BALLOTS), Ok([1, 0, 0, 0, 0, 0, 0, 0]));
 }
 

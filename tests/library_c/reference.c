@@ -118,6 +118,7 @@ struct said reference_run(size_t k, size_t d, size_t n, const uint32_t *table, s
     }
     for (size_t i = 0; i < k; i++)
         board[shown + i] = wires[wires_length - k + i];
+    memset(wires, 0, wires_length);
     return s;
 }
 

@@ -8,14 +8,13 @@ use mathlib.Core.List.{List}
 use Prim.Native.Nat.{ℕ, _+_, _≤_, _<_}
 use native.Mathlib.Omega.{arith}
 use lib.Dec.{eqb}
-use lib.ListN.{length, getD, take}
+use lib.ListN.{length, getD, take, length-replicate}
 use Rattle.gates.specs.Gate.{Gate, gatesOf}
 use Rattle.gates.specs.Wires.{wiresOf, outputsOf}
 use Rattle.gates.specs.Board.{MaskTape}
 use Rattle.gates.specs.Test.{firstAboveOne}
 use Rattle.gates.specs.declared.place.Place.{Place}
 use Rattle.gates.specs.declared.place.Place.the-variants.{At, Nowhere}
-use Rattle.gates.proofs.WireLaws.{length-wires}
 use Rattle.jury.specs.declared.shape.Shape.{Shape}
 use Rattle.jury.specs.Shape.{ballotBytes}
 use Rattle.jury.specs.Reason.{Reason, reasonAt, unless, foundAt, firstOf}
@@ -72,7 +71,7 @@ module _ (s : Shape) (table ballots tape wires board : List ℕ) where
   lengths none e =
       let p = run-passed s table ballots tape wires board e in
       let f = run-finished s table ballots wires board tape p tape (p .mask) in (
-        ap length (run-wires s table ballots wires board tape p tape (p .mask)) ∙ omega (arith, length-wires ballots (gatesOf table), p .ballotsPassed .size, p .wiresLength),
+        ap length (run-wires s table ballots wires board tape p tape (p .mask)) ∙ length-replicate (length wires) 0,
         omega (arith, f .size, p .boardLength),
       )
 
@@ -175,6 +174,9 @@ memory =
       write-refused = λ s table r e. writing.write-refused s table r (refused-reason s table r e) .1;
       write-length = writing.write-length;
       run-refused = λ s table ballots tape wires board r e. let q = ran-refused s table ballots tape wires board r e in (q .1, q .2);
+      run-empties = λ s table ballots tape wires board size e.
+          let p = run-passed s table ballots tape wires board (ran-accepted s table ballots wires board tape size e .0) in
+          run-wires s table ballots wires board tape p tape (p .mask);
       run-length = λ s table ballots tape wires board. lengths s table ballots tape wires board (firstOf (runReasons s table ballots tape wires board)) refl;
     }
   where

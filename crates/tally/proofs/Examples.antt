@@ -5,6 +5,7 @@ use mathlib.Core.Bool.{true}
 use mathlib.Core.Option.{none}
 use mathlib.Core.List.{List, [], _∷_}
 use Prim.Native.Nat.{ℕ}
+use lib.ListN.{length, replicate}
 use Rattle.gates.specs.Gate.{gatesOf}
 use Rattle.gates.specs.Wires.{wiresOf}
 use Rattle.gates.specs.Board.{boardOf}
@@ -39,20 +40,19 @@ passed = test-passed oneBallot oneGate one (list-accepted oneBallot oneGate with
 -- an accepted run of the list, once its ballots and what is lent pass their tests
 module _ (ballots tape wires board : List ℕ) (b : firstOf (ballotReasons oneBallot ballots) ≡ none)
     (l : firstOf (lentReasons (ballotBytes oneBallot) (oneBallot .candidates) one tape wires board) ≡ none) where
-  outcome : (ws bs : List ℕ) → wiresOf ballots (gatesOf oneGate) ≡ ws → boardUnder ballots tape ≡ bs
-      → ran oneBallot oneGate ballots tape wires board ≡ record { answer = accepted (record { gates = 1; conditional = 1 }); wires = ws; board = bs }
+  outcome : (bs : List ℕ) → boardUnder ballots tape ≡ bs
+      → ran oneBallot oneGate ballots tape wires board ≡ record { answer = accepted (record { gates = 1; conditional = 1 }); wires = replicate (length wires) 0; board = bs }
   unfolding ranAfter boardUnder one oneBallot
-  outcome ws bs w e =
+  outcome bs e =
       ran-by oneBallot oneGate ballots tape wires board none (by-lent oneBallot oneGate ballots tape wires board (passed .reasons) one none (passed .size) b l)
-      ∙ ap (λ (z : Size). record { answer = accepted z; wires = wiresOf ballots (gatesOf oneGate); board = boardOf (wiresOf ballots (gatesOf oneGate)) (gatesOf oneGate) 1 tape }) (sym (passed .size))
-      ∙ ap (λ (z : List ℕ). record { answer = accepted one; wires = z; board = boardUnder ballots tape }) w
-      ∙ ap (λ (z : List ℕ). record { answer = accepted one; wires = ws; board = z }) e
+      ∙ ap (λ (z : Size). record { answer = accepted z; wires = replicate (length wires) 0; board = boardOf (wiresOf ballots (gatesOf oneGate)) (gatesOf oneGate) 1 tape }) (sym (passed .size))
+      ∙ ap (λ (z : List ℕ). record { answer = accepted one; wires = replicate (length wires) 0; board = z }) e
 
 pub pair-of-runs : PairOfRuns
 unfolding oneBallot ballotReasons lentReasons ballotBytes ones rowsOf firstBadRow unless foundAt firstOf firstAboveOne one
 pair-of-runs =
     record {
-      first-run = outcome (1 ∷ 0 ∷ []) (0 ∷ []) (9 ∷ 9 ∷ 9 ∷ []) (9 ∷ 9 ∷ []) refl refl (1 ∷ 0 ∷ 0 ∷ []) (1 ∷ 0 ∷ []) gates.first-wires gates.first-board;
-      second-run = outcome (0 ∷ 1 ∷ []) (1 ∷ []) (7 ∷ 7 ∷ 7 ∷ []) (7 ∷ 7 ∷ []) refl refl (0 ∷ 1 ∷ 0 ∷ []) (1 ∷ 0 ∷ []) gates.second-wires gates.second-board;
-      other-tape = ap (λ (r : Ran). r .board) (outcome (0 ∷ 1 ∷ []) (0 ∷ []) (7 ∷ 7 ∷ 7 ∷ []) (7 ∷ 7 ∷ []) refl refl (0 ∷ 1 ∷ 0 ∷ []) (0 ∷ 0 ∷ []) gates.second-wires gates.other-tape);
+      first-run = outcome (1 ∷ 0 ∷ []) (0 ∷ []) (9 ∷ 9 ∷ 9 ∷ []) (9 ∷ 9 ∷ []) refl refl (1 ∷ 0 ∷ []) gates.first-board;
+      second-run = outcome (0 ∷ 1 ∷ []) (1 ∷ []) (7 ∷ 7 ∷ 7 ∷ []) (7 ∷ 7 ∷ []) refl refl (1 ∷ 0 ∷ []) gates.second-board;
+      other-tape = ap (λ (r : Ran). r .board) (outcome (0 ∷ 1 ∷ []) (0 ∷ []) (7 ∷ 7 ∷ 7 ∷ []) (7 ∷ 7 ∷ []) refl refl (0 ∷ 0 ∷ []) gates.other-tape);
     }

@@ -5,7 +5,7 @@ use mathlib.Core.Option.{Option, none, some}
 use mathlib.Core.List.{List}
 use Prim.Native.Nat.{ℕ, _+_, _-_, _≤_}
 use native.Mathlib.Omega.{arith}
-use lib.ListN.{length, drop}
+use lib.ListN.{length, drop, replicate}
 use Rattle.gates.specs.Gate.{gatesOf}
 use Rattle.gates.specs.Wires.{wiresOf, outputsOf}
 use Rattle.gates.specs.Board.{conditionalCount, MaskTape, boardOf}
@@ -55,7 +55,7 @@ module _ (s : Shape) (table ballots wires board : List ℕ) where
     unfolding ranAfter
     run-answer = ap (λ (r : Ran). r .answer) outcome
 
-    pub run-wires : ran s table ballots u wires board .wires ≡ wiresOf ballots (gatesOf table)
+    pub run-wires : ran s table ballots u wires board .wires ≡ replicate (length wires) 0
     unfolding ranAfter
     run-wires = ap (λ (r : Ran). r .wires) outcome
 
@@ -94,10 +94,8 @@ board-tells-no-more s table xs ys t u vs ws bs ds first second e f closing =
       b .1,
       record {
         first-answer = run-answer s table xs vs bs t p;
-        first-wires = run-wires s table xs vs bs t p;
         first-board = run-finished s table xs vs bs t p;
         second-answer = run-answer s table ys ws ds u q;
-        second-wires = run-wires s table ys ws ds u q;
         second-board = run-finished s table ys ws ds u q;
         same-board = λ (v : List ℕ) m.
             let one = one-tape (wiresOf xs gs) (wiresOf ys gs) gs (s .candidates) o v m in

@@ -5,7 +5,7 @@ use mathlib.Core.Option.{some}
 use mathlib.Core.List.{List, [], _∷_}
 use Prim.Native.Nat.{ℕ, _+_, _*_, _<_}
 use lib.Dec.{T}
-use lib.ListN.{length, getD, take}
+use lib.ListN.{length, getD, take, replicate}
 use Rattle.gates.specs.Gate.{gatesOf}
 use Rattle.gates.specs.Board.{conditionalCount, MaskTape}
 use Rattle.jury.specs.declared.shape.Shape.{Shape}
@@ -22,7 +22,7 @@ use Rattle.tally.specs.Write.{writeSaid, written}
 use Rattle.tally.specs.Run.{ran}
 use Rattle.tally.specs.Hiding.{closingBytes, BoardTellsNoMore}
 
--- Demand 1: a refusal's number is that of a reason which concerns the entry point, a refusal alters no lent byte, and no call changes a length.
+-- Demand 1: a refusal's number is that of a reason which concerns the entry point, a refusal alters no lent byte, an accepted run leaves an empty wire table, and no call changes a length.
 pub record Memory : Type 0 where
   pub measure-number : (s : Shape) (r : Reason) → measureSaid s ≡ refused r → T (hasNumberIn (1 ∷ []) r)
   pub write-number : (s : Shape) (table : List ℕ) (r : Reason) → writeSaid s table ≡ refused r → T (hasNumberIn (1 ∷ 2 ∷ []) r)
@@ -34,6 +34,9 @@ pub record Memory : Type 0 where
   pub write-length : (s : Shape) (table : List ℕ) → length (written s table) ≡ length table
   pub run-refused : (s : Shape) (table ballots tape wires board : List ℕ) (r : Reason) → ran s table ballots tape wires board .answer ≡ refused r
       → (ran s table ballots tape wires board .wires ≡ wires) × (ran s table ballots tape wires board .board ≡ board)
+  -- an accepted run leaves nothing in the wire table (request 2.13)
+  pub run-empties : (s : Shape) (table ballots tape wires board : List ℕ) (size : Size) → ran s table ballots tape wires board .answer ≡ accepted size
+      → ran s table ballots tape wires board .wires ≡ replicate (length wires) 0
   pub run-length : (s : Shape) (table ballots tape wires board : List ℕ)
       → (length (ran s table ballots tape wires board .wires) ≡ length wires) × (length (ran s table ballots tape wires board .board) ≡ length board)
 

@@ -15,15 +15,13 @@ use Rattle.tally.specs.Run.{ran}
 unfoldable pub closingBytes : Shape → List ℕ → List ℕ
 closingBytes s board = drop (length board - s .candidates) board
 
--- What two runs of one shape and one list show of their ballots xs and ys, for wire tables vs and ws and boards bs and ds of any earlier contents. `Finished` says of a board's bytes that each shown bit is "its gate's wire a plus its own tape byte modulo 2", and that the closing bytes stand behind them.
+-- What two runs of one shape and one list show of their ballots xs and ys, for wire tables vs and ws and boards bs and ds of any earlier contents. `Finished` says of a board's bytes that each shown bit is its gate's wire a plus its own tape byte modulo 2, and that the closing bytes stand behind them; the wires it reads are `wiresOf`, which ballots and list alone decide, so that no mask alters a wire.
 pub record Hidden (s : Shape) (table xs ys vs ws bs ds : List ℕ) : Type 0 where
-  -- under every mask tape the first run answers the list's own G and C, fills the wire table with wires that the tape does not alter, and finishes its board
+  -- under every mask tape the first run answers the list's own G and C, and finishes its board over the same wires
   pub first-answer : (t : List ℕ) → MaskTape (gatesOf table) t → ran s table xs t vs bs .answer ≡ accepted (sizeOf (gatesOf table))
-  pub first-wires : (t : List ℕ) → MaskTape (gatesOf table) t → ran s table xs t vs bs .wires ≡ wiresOf xs (gatesOf table)
   pub first-board : (t : List ℕ) → MaskTape (gatesOf table) t → Finished (wiresOf xs (gatesOf table)) (gatesOf table) (s .candidates) t (ran s table xs t vs bs .board)
   -- and so does the second
   pub second-answer : (t : List ℕ) → MaskTape (gatesOf table) t → ran s table ys t ws ds .answer ≡ accepted (sizeOf (gatesOf table))
-  pub second-wires : (t : List ℕ) → MaskTape (gatesOf table) t → ran s table ys t ws ds .wires ≡ wiresOf ys (gatesOf table)
   pub second-board : (t : List ℕ) → MaskTape (gatesOf table) t → Finished (wiresOf ys (gatesOf table)) (gatesOf table) (s .candidates) t (ran s table ys t ws ds .board)
   -- "whatever the first tape, exactly one second tape makes the boards [..] equal in every byte"
   pub same-board : (t : List ℕ) → MaskTape (gatesOf table) t

@@ -3,7 +3,7 @@ use mathlib.Core.Option.{Option, none, some}
 use mathlib.Core.List.{List, [], _∷_, _++_}
 use Prim.Native.Nat.{ℕ, _+_}
 use lib.Dec.{eqb}
-use lib.ListN.{length}
+use lib.ListN.{length, replicate}
 use Rattle.gates.specs.Gate.{Gate, gatesOf}
 use Rattle.gates.specs.Wires.{wiresOf}
 use Rattle.gates.specs.Board.{boardOf}
@@ -35,11 +35,11 @@ pub record Ran : Type 0 where
   pub wires : List ℕ
   pub board : List ℕ
 
--- "Nothing lent is altered" by a refusal. After an accepted run "the wire table holds every wire's value", and the board its shown bits and closing bytes.
+-- A refusal alters nothing that is lent. An accepted run leaves the wire table all zero, and on the board the shown bits and the closing bytes of the wires that the ballots have under the list (request 2.13).
 unfoldable pub ranAfter : Option Reason → Shape → List Gate → List ℕ → List ℕ → List ℕ → List ℕ → Ran
 ranAfter (some r) s gs ballots tape wires board = record { answer = refused r; wires = wires; board = board }
 ranAfter none s gs ballots tape wires board =
-    record { answer = accepted (sizeOf gs); wires = wiresOf ballots gs; board = boardOf (wiresOf ballots gs) gs (s .candidates) tape }
+    record { answer = accepted (sizeOf gs); wires = replicate (length wires) 0; board = boardOf (wiresOf ballots gs) gs (s .candidates) tape }
 
 unfoldable pub ran : Shape → List ℕ → List ℕ → List ℕ → List ℕ → List ℕ → Ran
 ran s table ballots tape wires board =

@@ -1,6 +1,7 @@
 // The counting core's entry points.
 pub mod answer;
 pub mod count;
+pub mod empty;
 pub mod measure;
 pub mod run;
 pub mod test;

@@ -70,7 +70,8 @@ fn test_run(
     }
 }
 
-// Runs a list, whoever wrote it, on the ballots of a jury, with one mask for each conditional gate.
+// Runs a list, whoever wrote it, on the ballots of a jury, with one mask for each conditional gate. The wire table holds
+// the ballots and every value in clear while it runs, so it is emptied once the closing bytes stand on the board.
 pub fn run(
     shape: Shape,
     table: &[u32],
@@ -89,6 +90,7 @@ pub fn run(
         conditional: _,
     } = answer {
         gates::step::run(ballots, table, shape.candidates, tape, wires, board);
+        crate::empty::empty(wires);
     }
     answer
 }

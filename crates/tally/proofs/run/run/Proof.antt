@@ -1,9 +1,10 @@
--- `tally::run::run` meets its contract: where the tests pass, the evaluation fills the wire table and the board, and else nothing is touched.
+-- `tally::run::run` meets its contract: where the tests pass, the evaluation fills the wire table and the board and the wire table is emptied, and else nothing is touched.
 -- Assumes nothing.
 use mathlib.Core.Path.{_≡_, _∙_, sym, ap}
 use mathlib.Core.Option.{Option, none, some}
 use mathlib.Core.List.{List}
 use Prim.Native.Nat.{ℕ}
+use lib.ListN.{replicate}
 use borrow.Author.Needs.{needs}
 use Rattle.gates.specs.Gate.{gatesOf}
 use Rattle.jury.specs.Reason.{Reason, reasonOf, firstOf}
@@ -35,6 +36,9 @@ run-requires c κs =
     run-ready (a .shape) (a .table .now) (a .ballots .now) (a .tape .now) (a .wires .now) (a .board .now)
     (run-passed (a .shape) (a .table .now) (a .ballots .now) (a .tape .now) (a .wires .now) (a .board .now) (no-reason told))
 
+empty-requires : tie.Need-empty-requires
+empty-requires c κs = search needs
+
 enum-told-2 : tie.Need-enum-told-2
 enum-told-2 c = search needs
 
@@ -47,12 +51,14 @@ same-length-2 c = search needs
 returns : tie.Need-returns
 unfolding said ranAfter
 returns c =
-    let done = c .before .before .before .before in
+    let emptied = c .before .before in
+    let done = emptied .before .before .before .before .before .before in
     let told = done .before .before .before in
     let a = told .before .before .before .before .before .before .before .before .before .before .args in
-    let e = ran-by (a .shape) (a .table .now) (a .ballots .now) (a .tape .now) (a .wires .now) (a .board .now) none (no-reason told) in (
+    let e = ran-by (a .shape) (a .table .now) (a .ballots .now) (a .tape .now) (a .wires .now) (a .board .now) none (no-reason told) in
+    let same = done .run .kept .1 .1 .1 .1 .0 in (
       told .before .before .test-run .ensures ∙ ap (λ (o : Option Reason). said o (sizeOf (gatesOf (a .table .now)))) (no-reason told) ∙ sym (ap (λ (r : Ran). r .answer) e),
-      (done .run .ensures .0 ∙ sym (ap (λ (r : Ran). r .wires) e), done .run .ensures .1 ∙ sym (ap (λ (r : Ran). r .board) e)),
+      (emptied .empty .ensures ∙ ap (λ (n : ℕ). replicate n 0) same ∙ sym (ap (λ (r : Ran). r .wires) e), done .run .ensures .1 ∙ sym (ap (λ (r : Ran). r .board) e)),
     )
 
 same-length-3 : tie.Need-same-length-3
@@ -80,6 +86,7 @@ run-spec =
     test-run-requires
     enum-told
     run-requires
+    empty-requires
     enum-told-2
     same-length
     same-length-2
