@@ -63,6 +63,20 @@ module _ (s : Shape) (table ballots wires board : List ℕ) where
     unfolding ranAfter
     run-board = ap (λ (r : Ran). r .board) outcome
 
+    -- and it does not depend on what stood in the wire table and the board
+    pub same-buffers : (wires′ board′ : List ℕ) → length wires′ ≡ length wires → length board′ ≡ length board
+        → ran s table ballots u wires′ board′ .board ≡ boardOf (wiresOf ballots (gatesOf table)) (gatesOf table) (s .candidates) u
+    unfolding ranAfter
+    same-buffers wires′ board′ w b =
+        let other : RunPassed s table ballots u wires′ board′ = record {
+          test = passed .test;
+          ballotsPassed = passed .ballotsPassed;
+          mask = mask;
+          wiresLength = w ∙ passed .wiresLength;
+          boardLength = b ∙ passed .boardLength;
+        } in
+        ap (λ (r : Ran). r .board) (ran-by s table ballots u wires′ board′ none (run-passed-back s table ballots u wires′ board′ other))
+
     enough : s .candidates ≤ length (wiresOf ballots (gatesOf table))
     enough =
         let size = sizeOf (gatesOf table) in
@@ -104,5 +118,9 @@ board-tells-no-more s table xs ys t u vs ws bs ds first second e f closing =
               (one .1 .0, first-is ∙ one .1 .1 ∙ sym (run-board s table ys ws ds u q (one .0) (one .1 .0))),
               λ (w : List ℕ) r. one .2 w (r .0, sym first-is ∙ r .1 ∙ run-board s table ys ws ds u q w (r .0)),
             );
+        any-buffers = λ v w vs′ ws′ bs′ ds′ m n ev ew eb ed same.
+            same-buffers s table xs vs bs t p v m vs′ bs′ ev eb
+            ∙ sym (run-board s table xs vs bs t p v m) ∙ same ∙ run-board s table ys ws ds u q w n
+            ∙ sym (same-buffers s table ys ws ds u q w n ws′ ds′ ew ed);
       },
     )

@@ -26,6 +26,10 @@ pub record Hidden (s : Shape) (table xs ys vs ws bs ds : List ℕ) : Type 0 wher
   -- "whatever the first tape, exactly one second tape makes the boards [..] equal in every byte"
   pub same-board : (t : List ℕ) → MaskTape (gatesOf table) t
       → ExactlyOne (λ (u : List ℕ). MaskTape (gatesOf table) u × (ran s table xs t vs bs .board ≡ ran s table ys u ws ds .board))
+  -- and that one serves for whatever else may have stood in the wire tables and boards
+  pub any-buffers : (t u vs′ ws′ bs′ ds′ : List ℕ) → MaskTape (gatesOf table) t → MaskTape (gatesOf table) u
+      → length vs′ ≡ length vs → length ws′ ≡ length ws → length bs′ ≡ length bs → length ds′ ≡ length ds
+      → ran s table xs t vs bs .board ≡ ran s table ys u ws ds .board → ran s table xs t vs′ bs′ .board ≡ ran s table ys u ws′ ds′ .board
 
 -- "For any two accepted runs of one shape and one list, ours or a stranger's, with equal closing bytes".
 abbrev pub BoardTellsNoMore : Type 0
