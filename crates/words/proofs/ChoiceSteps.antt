@@ -11,10 +11,10 @@ use Rattle.words.specs.Gates.{gate, constant, andOf, muxOf}
 use Rattle.words.specs.Choice.{constants, each, choose, masked, chain, chainEnd}
 
 -- digits that are left count down
-left-one : (i n : ℕ) → i < n → n - i ≡ suc (n - (i + 1))
+pub left-one : (i n : ℕ) → i < n → n - i ≡ suc (n - (i + 1))
 left-one i n h = omega arith
 
-next-place : (x i : ℕ) → x + i + 1 ≡ x + (i + 1)
+pub next-place : (x i : ℕ) → x + i + 1 ≡ x + (i + 1)
 next-place x i = omega arith
 
 pub each-step : (kind x i n : ℕ) → i < n → each kind (x + i) (n - i) ≡ (gate kind (x + i) 0 0 ∷ []) ++ each kind (x + (i + 1)) (n - (i + 1))
@@ -55,7 +55,7 @@ length-chain kind n s at d zero = refl
 length-chain kind n s at d (suc m) = ap suc (length-chain kind (n + 1) n (at + d) d m)
 
 -- a countdown: the first gate, and the rest
-count-down : (n : ℕ) → 0 < n → n ≡ suc (n - 1)
+pub count-down : (n : ℕ) → 0 < n → n ≡ suc (n - 1)
 count-down n h = omega arith
 
 pub constants-step : (v n : ℕ) → 0 < n → constants v n ≡ (constant v ∷ []) ++ constants (v / 2) (n - 1)

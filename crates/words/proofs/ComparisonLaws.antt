@@ -151,3 +151,10 @@ module _ (W : ℕ → ℕ) (b : Binary W) where
       let mx = number-more W x 1 w in
       let my = number-more W y 1 w in
       ((λ l. r .0 (omega (arith, mx, my, l, b x, b y))), (λ l. r .1 (omega (arith, mx, my, l, b x, b y))))
+
+  -- so where it is 1 the first word is at least the second, and where it is 0 at most
+  pub above-one : (n f x y w : ℕ) → Holds W f (differences (x + 1) (y + 1) w) → Holds W n (above n f (x + 1) x w) → W (chainEnd n x w) ≡ 1 → number W y 1 (suc w) ≤ number W x 1 (suc w)
+  above-one n f x y w g h e = let no : ¬ (number W x 1 (suc w) < number W y 1 (suc w)) = λ l. let z = above-words n f x y w g h .1 l in omega arith in omega arith
+
+  pub above-zero : (n f x y w : ℕ) → Holds W f (differences (x + 1) (y + 1) w) → Holds W n (above n f (x + 1) x w) → W (chainEnd n x w) ≡ 0 → number W x 1 (suc w) ≤ number W y 1 (suc w)
+  above-zero n f x y w g h e = let no : ¬ (number W y 1 (suc w) < number W x 1 (suc w)) = λ l. let z = above-words n f x y w g h .0 l in omega arith in omega arith

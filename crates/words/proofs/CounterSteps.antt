@@ -13,7 +13,7 @@ use Rattle.words.specs.Gates.{copyOf}
 use Rattle.words.specs.Word.{Below}
 use Rattle.words.specs.Choice.{parity, chainEnd}
 use Rattle.words.specs.Counter.{level, adders, levelSum, countLevels, countDigits, counter, countSize, Countable, addLevels, addDigits, accumulator, addSize}
-use Rattle.words.proofs.ChoiceSteps.{length-chain}
+use Rattle.words.proofs.ChoiceSteps.{length-chain, count-down}
 use Rattle.words.proofs.WordSteps.{length-full, length-half, length-increment}
 
 pub level-two : (n s at d e m : ℕ) → 1 < m → level n s at d e m ≡ fullAdder n s at (at + d) ++ level (n + 3) (n + 1) (at + d + d) d e (m - 2)
@@ -48,9 +48,6 @@ length-level n s at d e (suc (suc m)) h =
     omega (arith, length-append (fullAdder n s at (at + d)) (level (n + 3) (n + 1) (at + d + d) d e m), length-full n s at (at + d), length-level (n + 3) (n + 1) (at + d + d) d e m h)
 
 -- a countdown of levels
-count-down : (r : ℕ) → 0 < r → r ≡ suc (r - 1)
-count-down r h = omega arith
-
 nothing : (r : ℕ) → r ≤ 0 → r ≡ 0
 nothing r h = omega arith
 

@@ -9,7 +9,7 @@ use Rattle.gates.specs.Gate.{Gate}
 use Rattle.gates.proofs.Counting.{count-most}
 use Rattle.words.specs.Writing.{Room, Wrote}
 use Rattle.words.specs.declared.writer.Writer.{Writer}
-use Rattle.words.proofs.Writing.{wrote-nothing, wrote-both, wrote-long}
+use Rattle.words.proofs.Writing.{wrote-nothing, wrote-both}
 
 -- once the rest is written from here, the whole is written from the start
 pub record Goes (w₀ : Writer) (t₀ : List ℕ) (whole : List Gate) (w : Writer) (t : List ℕ) (rest : List Gate) : Type 0 where
@@ -31,7 +31,7 @@ module _ (w₀ : Writer) (t₀ : List ℕ) (whole : List Gate) where
   goes-on w t b rest t₁ w₁ g a =
       record {
         ends = λ t′ r h. g .ends t′ r (wrote-both w t b t₁ w₁ rest t′ r a h);
-        long = wrote-long w t b t₁ w₁ a ∙ g .long;
+        long = a .long ∙ g .long;
         gateLeft = omega (arith, a .gates, g .gateLeft, length-append b rest);
         wireLeft = omega (arith, a .wires, g .wireLeft, length-append b rest);
         counted = omega (arith, a .gates, a .conditionals, g .counted, count-most b);

@@ -8,7 +8,7 @@ pub use Rattle.words.proofs.Places.{below-more, below-first, below-rest
 -- what the wires of a block spell
 pub use Rattle.words.proofs.ChoiceLaws.{constants-law, copies-law, copy-law, complements-law, choose-one, choose-zero, masked-one, masked-zero, any-one, any-zero}
 pub use Rattle.words.proofs.AdderLaws.{full-law, half-law, increment-law, add-law, add-bit-law}
-pub use Rattle.words.proofs.ComparisonLaws.{digit-up, digit-down, first-up, first-down, words-up, words-down, above-law, above-words}
+pub use Rattle.words.proofs.ComparisonLaws.{digit-up, digit-down, first-up, first-down, words-up, words-down, above-law, above-words, above-one, above-zero}
 pub use Rattle.words.proofs.CounterLaws.{level-law, parity-law, counter-law, accumulator-law, countable}
 -- operands that point back
 pub use Rattle.words.proofs.PointsBack.{full-good, half-good, increment-good, add-good, add-bit-good, constants-good, copies-good, complements-good, choose-good, masked-good, chain-good, any-good, compare-digit-good, first-digit-good, compare-good, differences-good, above-good, level-good, counter-good, accumulator-good}

@@ -11,12 +11,7 @@ use Rattle.gates.specs.Gate.{Gate}
 use Rattle.words.specs.Gates.{copyOf, notOf, andOf, orOf, xorOf, muxOf}
 use Rattle.words.specs.Adder.{fullAdder, halfAdder, increment, addWords, addWithBit}
 use Rattle.words.specs.Comparison.{compareDigit, firstDigit, compareWords, differences, above}
-
-left-one : (i n : ℕ) → i < n → n - i ≡ suc (n - (i + 1))
-left-one i n h = omega arith
-
-next-place : (x i : ℕ) → x + i + 1 ≡ x + (i + 1)
-next-place x i = omega arith
+use Rattle.words.proofs.ChoiceSteps.{left-one, next-place}
 
 pub add-step : (n x y c i w : ℕ) → i < w → addWords n (x + i) (y + i) c (w - i) ≡ fullAdder n (x + i) (y + i) c ++ addWords (n + 3) (x + (i + 1)) (y + (i + 1)) (n + 2) (w - (i + 1))
 unfolding addWords

@@ -1,14 +1,15 @@
 -- Writing blocks one after the other.
 -- Assumes nothing.
 use mathlib.Core.Path.{_≡_, _∙_, refl, sym, ap}
-use mathlib.Core.Bool.{cond}
+use mathlib.Core.Bool.{Bool, true, false, cond}
 use mathlib.Core.List.{List, [], _∷_, _++_}
-use Prim.Native.Nat.{ℕ, suc, _+_, _*_, _≤_}
+use Prim.Native.Nat.{ℕ, suc, _+_, _*_, _≤_, _<_}
 use native.Mathlib.Numerals.{add-one, add-two, add-three}
 use native.Mathlib.Omega.{arith}
 use lib.Dec.{ltb}
 use lib.ListN.{length, set, length-append}
-use lib.Seq.{sets, set-out, length-sets}
+use lib.Seq.{sets, length-sets}
+use borrow.Author.Tests.{lt-ltb}
 use Rattle.gates.specs.Kind.{operandsOf, conditionalOf}
 use Rattle.gates.specs.Gate.{Gate, numbersOf}
 use Rattle.gates.proofs.Counting.{count-nil, count-one, count-append, count-most}
@@ -26,7 +27,8 @@ sets-append (x ∷ xs) ys t i j e = sets-append xs ys (set t i x) (suc i) j (ome
 pub wrote-nothing : (w : Writer) (t : List ℕ) → Wrote w t [] t w
 wrote-nothing w t =
     record {
-      numbers = ap (sets t (4 * w .gate)) (sym numbers-nil);
+      long = refl;
+      numbers = λ h. ap (sets t (4 * w .gate)) (sym numbers-nil);
       gates = omega arith;
       wires = omega arith;
       conditionals = omega (arith, count-nil);
@@ -37,8 +39,10 @@ pub wrote-both : (w : Writer) (t : List ℕ) (gs : List Gate) (t₁ : List ℕ) 
     → Wrote w t gs t₁ w₁ → Wrote w₁ t₁ hs t₂ w₂ → Wrote w t (gs ++ hs) t₂ w₂
 wrote-both w t gs t₁ w₁ hs t₂ w₂ a b =
     record {
+      long = b .long ∙ a .long;
       numbers =
-          b .numbers ∙ ap (λ (l : List ℕ). sets l (4 * w₁ .gate) (numbersOf hs)) (a .numbers)
+          λ (h : 4 * (w .gate + length (gs ++ hs)) ≤ length t).
+          b .numbers (omega (arith, h, a .long, a .gates, length-append gs hs)) ∙ ap (λ (l : List ℕ). sets l (4 * w₁ .gate) (numbersOf hs)) (a .numbers (omega (arith, h, length-append gs hs)))
           ∙ sets-append (numbersOf gs) (numbersOf hs) t (4 * w .gate) (4 * w₁ .gate) (omega (arith, a .gates, length-numbers gs))
           ∙ ap (sets t (4 * w .gate)) (sym (numbers-append gs hs));
       gates = omega (arith, a .gates, b .gates, length-append gs hs);
@@ -64,26 +68,30 @@ room-after w t gs t₁ w₁ m n a h r =
 
 -- the table keeps its length
 pub wrote-long : (w : Writer) (t : List ℕ) (gs : List Gate) (t₁ : List ℕ) (w₁ : Writer) → Wrote w t gs t₁ w₁ → length t₁ ≡ length t
-wrote-long w t gs t₁ w₁ a = ap length (a .numbers) ∙ length-sets t (4 * w .gate) (numbersOf gs)
+wrote-long w t gs t₁ w₁ a = a .long
 
 -- four numbers stored one after the other
 pub sets-four : (t : List ℕ) (at k a b c : ℕ) → sets t at (k ∷ a ∷ b ∷ c ∷ []) ≡ set (set (set (set t at k) (at + 1) a) (at + 2) b) (at + 3) c
 sets-four t at k a b c = rw (add-one at, add-two at, add-three at)
 
--- nothing is stored past the end
-pub sets-out : (vs t : List ℕ) (i : ℕ) → length t ≤ i → sets t i vs ≡ t
-sets-out [] t i h = refl
-sets-out (v ∷ vs) t i h = ap (λ (l : List ℕ). sets l (suc i) vs) (set-out t i v h) ∙ sets-out vs t (suc i) (omega arith)
+-- a store that may not be made keeps the length
+kept-long : (done : Bool) (t : List ℕ) (i : ℕ) (vs : List ℕ) → length (cond done (sets t i vs) t) ≡ length t
+kept-long true t i vs = length-sets t i vs
+kept-long false t i vs = refl
 
 -- one gate: its kind, and the operands that its kind uses
 pub wrote-gate : (w : Writer) (t : List ℕ) (kind a b c count x y z mark : ℕ) (t₁ : List ℕ) → count ≡ operandsOf kind
     → x ≡ cond (ltb 0 count) a 0 → y ≡ cond (ltb 1 count) b 0 → z ≡ cond (ltb 2 count) c 0 → mark ≡ cond (conditionalOf kind) 1 0
-    → t₁ ≡ sets t (4 * w .gate) (kind ∷ x ∷ y ∷ z ∷ [])
+    → t₁ ≡ cond (ltb (4 * w .gate + 3) (length t)) (sets t (4 * w .gate) (kind ∷ x ∷ y ∷ z ∷ [])) t
     → Wrote w t (emitted kind a b c ∷ []) t₁ (record { gate = w .gate + 1; wire = w .wire + 1; conditional = w .conditional + mark })
 unfolding emitted
 wrote-gate w t kind a b c count x y z mark t₁ e ex ey ez em et =
     record {
-      numbers = rw (et, ex, ey, ez, e, numbers-one);
+      long = ap length et ∙ kept-long (ltb (4 * w .gate + 3) (length t)) t (4 * w .gate) (kind ∷ x ∷ y ∷ z ∷ []);
+      numbers =
+          λ (h : 4 * (w .gate + 1) ≤ length t).
+          let room : 4 * w .gate + 3 < length t = omega (arith, h) in
+          rw (et, lt-ltb (4 * w .gate + 3) (length t) room, ex, ey, ez, e, numbers-one);
       gates = refl;
       wires = refl;
       conditionals = ap (λ (n : ℕ). w .conditional + n) (em ∙ sym (count-one (emitted kind a b c)));

@@ -15,9 +15,10 @@ pub record Room (w : Writer) (gates : ℕ) : Type 0 where
   pub small : w .wire + gates < writerLimit
   pub counted : w .conditional ≤ w .gate
 
--- The table has the block's numbers from the writer's place on, as far as it has places for them, and is as it was elsewhere; the next writer stands behind the block and has counted its conditional gates.
+-- The table keeps its length; where it has room for the block, it has the block's numbers from the writer's place on and is as it was elsewhere. The next writer stands behind the block and has counted its conditional gates.
 pub record Wrote (w : Writer) (table : List ℕ) (block : List Gate) (table′ : List ℕ) (next : Writer) : Type 0 where
-  pub numbers : table′ ≡ sets table (4 * w .gate) (numbersOf block)
+  pub long : length table′ ≡ length table
+  pub numbers : 4 * (w .gate + length block) ≤ length table → table′ ≡ sets table (4 * w .gate) (numbersOf block)
   pub gates : next .gate ≡ w .gate + length block
   pub wires : next .wire ≡ w .wire + length block
   pub conditionals : next .conditional ≡ w .conditional + conditionalCount block

@@ -3,8 +3,8 @@ use gates::kind;
 ghost use mathlib.Core.Path.{_≡_};
 ghost use mathlib.Core.Bool.{cond};
 ghost use lib.Dec.{ltb};
-ghost use Prim.Native.Nat.{_*_, _<_};
-ghost use lib.ListN.{set};
+ghost use Prim.Native.Nat.{_+_, _*_, _<_};
+ghost use lib.ListN.{length};
 ghost use lib.Seq.{sets};
 ghost use mathlib.Core.List.{_∷_, []};
 ghost use Rattle.words.specs.Limits.{writerLimit};
@@ -25,34 +25,17 @@ fn operand(i: u32, count: u32, wire: u32) -> u32
     if i < count { wire } else { 0 }
 }
 
-// Stores a number where the table has its place.
-fn store(table: &mut [u32], at: usize, number: u32)
-    ensures { λ _. ⌜ now (table .exit) ≡ set (now (table .entry)) at number ⌝ }
-{
-    if at < table.len() {
-        table[at] = number;
-    }
-}
-
-// Stores the four numbers of a gate as far as the table has places for them. A table that ends before them is left as it
-// is at the cost of one test.
-fn store_gate(table: &mut [u32], at: usize, kind: u32, a: u32, b: u32, c: u32)
+// Stores the four numbers of a gate where the table has room for them.
+fn store(table: &mut [u32], at: usize, kind: u32, a: u32, b: u32, c: u32)
     requires { ⌜ at < 4 * writerLimit ⌝ }
-    ensures { λ _. ⌜ now (table .exit) ≡ sets (now (table .entry)) at (kind ∷ a ∷ b ∷ c ∷ []) ⌝ }
+    ensures { λ _. ⌜ now (table .exit) ≡ cond (ltb (at + 3) (length (now (table .entry)))) (sets (now (table .entry)) at (kind ∷ a ∷ b ∷ c ∷ [])) (now (table .entry)) ⌝ }
 {
-    if table.len() <= at {
-        return;
-    }
     if at + 3 < table.len() {
         table[at] = kind;
         table[at + 1] = a;
         table[at + 2] = b;
         table[at + 3] = c;
-        return;
     }
-    store(table, at, kind);
-    store(table, at + 1, a);
-    store(table, at + 2, b);
 }
 
 impl Writer {
@@ -67,8 +50,8 @@ impl Writer {
         }
     }
 
-    // Writes one gate as far as the table has places for its numbers, and counts it in any case: writing into an empty
-    // table measures a list. Its kind says which operands it uses; the others are written as 0.
+    // Writes one gate where the table has room for it, and counts it in any case: writing into an empty table measures a
+    // list. Its kind says which operands it uses; the others are written as 0.
     pub fn emit(self, table: &mut [u32], kind: u32, a: u32, b: u32, c: u32) -> Writer
         requires { ⌜ Room self 1 ⌝ }
         ensures { λ r. ⌜ Wrote self (now (table .entry)) (emitted kind a b c ∷ []) (now (table .exit)) r ⌝ }
@@ -76,7 +59,7 @@ impl Writer {
         let counts = kind::OPERANDS;
         let marks = kind::CONDITIONAL;
         let count = kind::operands(&counts, kind);
-        store_gate(
+        store(
             table,
             4 * self.gate,
             kind,

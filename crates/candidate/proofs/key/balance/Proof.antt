@@ -7,7 +7,7 @@ use lib.ListN.{length}
 use Rattle.words.specs.Adder.{addWithBit}
 use Rattle.words.specs.Writing.{Room}
 use Rattle.words.proofs.Laws.{length-constants, length-choose, length-add-bit}
-use Rattle.words.proofs.Writing.{room-less, room-after, wrote-long}
+use Rattle.words.proofs.Writing.{room-less, room-after}
 use Rattle.circuit.specs.Key.{upTo, balanceAt, balance}
 use Rattle.candidate.proofs.Writers.{balance-wrote}
 use Rattle.candidate.proofs.key.balance.Statement.{statement}
@@ -89,7 +89,7 @@ returns c =
     (c .before .before .before .before .before .before .before .before .before .before .before .before .before .before .before .before .before .before .before .before .constants .ensures) (c .before .before .before .before .before .before .before .before .before .before .before .before .before .before .choose .ensures) (c .before .before .before .before .before .before .before .add-with-bit .ensures) (c .before .before .some-of .ensures)
 
 same-length : tie.Need-same-length
-same-length c = let a = c .before .before .before .before .before .before .before .before .before .before .before .before .before .before .before .before .before .before .before .before .before .before .before .before .args in wrote-long (a .w) (a .table .now) (balance (a .p) (a .b)) (c .before .before .some-of .last .1 .0) (c .before .before .some-of .result) (returns c)
+same-length c = returns c .long
 
 pub balance-spec : {M : Type 1} → statement M
 balance-spec =

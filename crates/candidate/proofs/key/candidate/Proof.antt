@@ -5,7 +5,7 @@ use Prim.Native.Nat.{_+_, _-_, _*_}
 use native.Mathlib.Omega.{arith}
 use lib.ListN.{length}
 use Rattle.words.specs.Writing.{Room}
-use Rattle.words.proofs.Writing.{room-less, room-after, wrote-long}
+use Rattle.words.proofs.Writing.{room-less, room-after}
 use Rattle.circuit.specs.RunningSums.{firstSum, laterGrades, lastSum}
 use Rattle.circuit.specs.Key.{candidate}
 use Rattle.circuit.proofs.Sizes.{first-size, later-size, balance-size}
@@ -98,7 +98,7 @@ returns c =
     (c .before .before .before .before .before .before .before .before .before .before .before .before .before .before .before .before .first-grade .ensures) (first-is (c .before .before .before .before .before .before .before .before .before .before .before .before .before)) (c .before .before .before .before .before .before .before .before .before .before .before .later-grades .ensures) (last-is (c .before .before .before .before .before .before .before .before)) (c .before .before .before .before .before .before .balance .ensures) (c .before .before .key .ensures)
 
 same-length : tie.Need-same-length
-same-length c = let a = c .before .before .before .before .before .before .before .before .before .before .before .before .before .before .before .before .before .before .before .args in wrote-long (a .w) (a .table .now) (candidate (a .p) (a .w .wire) (a .c)) (c .before .before .key .last .1 .0) (c .before .before .key .result) (returns c)
+same-length c = returns c .long
 
 pub candidate-spec : {M : Type 1} → statement M
 candidate-spec = tie.close (tie.spec first-grade-requires sum-before-requires later-grades-requires sum-before-requires-2 balance-requires key-requires same-length returns)

@@ -8,7 +8,7 @@ use Rattle.words.specs.Word.{Below}
 use Rattle.words.specs.Writing.{Room}
 use Rattle.words.specs.Choice.{copies, choose}
 use Rattle.words.proofs.Laws.{length-each}
-use Rattle.words.proofs.Writing.{room-less, room-after, wrote-long}
+use Rattle.words.proofs.Writing.{room-less, room-after}
 use Rattle.circuit.specs.declared.plan.Plan.{Plan}
 use Rattle.circuit.specs.Plan.{Planned}
 use Rattle.circuit.specs.RunningSums.{beforeMedian, lastSum}
@@ -100,7 +100,7 @@ returns c =
     (c .before .before .before .before .before .before .before .before .before .before .before .before .before .before .before .before .before .before .before .key-sum .ensures) (c .before .before .before .before .before .before .before .before .before .before .before .before .before .before .before .before .middle-span .ensures) (c .before .before .before .before .before .before .before .before .before .before .before .before .copies-apart .ensures) (c .before .before .before .before .before .before .before .copies .ensures) (c .before .before .before .before .differ-at .ensures) (c .before .before .copies2 .ensures)
 
 same-length : tie.Need-same-length
-same-length c = let a = c .before .before .before .before .before .before .before .before .before .before .before .before .before .before .before .before .before .before .before .before .before .before .args in wrote-long (a .w) (a .table .now) (key (a .p) (a .a) (a .b)) (c .before .before .copies2 .last .1 .0) (c .before .before .copies2 .result) (returns c)
+same-length c = returns c .long
 
 pub key-spec : {M : Type 1} → statement M
 key-spec =

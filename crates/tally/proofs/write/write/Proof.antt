@@ -87,7 +87,7 @@ returns-3 c =
     let r = write-accepted (a .shape) (a .table .now) (fits (a .shape) (a .table .now) (limits within) (le-leb (4 * length (ownList (a .shape))) (length (a .table .now)) h)) in
     let w = done .own-list in (
       sized (a .shape) (w .result .gate) (w .result .conditional) (w .ensures .gates) (w .ensures .conditionals) ∙ sym (r .0),
-      (w .ensures .numbers ∙ stored (a .shape) (a .table .now) h ∙ sym (r .1), holds (a .shape)),
+      (w .ensures .numbers (omega (arith, h)) ∙ stored (a .shape) (a .table .now) h ∙ sym (r .1), holds (a .shape)),
     )
 
 pub write-spec : {M : Type 1} → statement M

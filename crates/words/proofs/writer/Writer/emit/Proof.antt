@@ -10,8 +10,8 @@ use Rattle.words.proofs.writer.Writer.emit.Tie as tie
 operands-requires : tie.Need-operands-requires
 operands-requires c κs = search needs
 
-mul-store-gate : tie.Need-mul-store-gate
-mul-store-gate c = search needs
+mul-store : tie.Need-mul-store
+mul-store c = search needs
 
 operand-requires : tie.Need-operand-requires
 operand-requires c κs = search needs
@@ -22,8 +22,8 @@ operand-requires-2 c κs = search needs
 operand-requires-3 : tie.Need-operand-requires-3
 operand-requires-3 c κs = search needs
 
-store-gate-requires : tie.Need-store-gate-requires
-store-gate-requires c κs = search needs
+store-requires : tie.Need-store-requires
+store-requires c κs = search needs
 
 add-t16 : tie.Need-add-t16
 add-t16 c = search needs
@@ -46,18 +46,18 @@ returns c =
     let counted = stored .before .before .before .before .before .before in
     let a = counted .before .before .before .args in
     wrote-gate (a .self) (a .table .now) (a .kind) (a .a) (a .b) (a .c) (counted .operands .result) _ _ _ _ _ (counted .operands .ensures)
-    (stored .before .before .before .operand .ensures) (stored .before .before .operand2 .ensures) (stored .before .operand3 .ensures) (c .before .mark .ensures) (stored .store-gate .ensures)
+    (stored .before .before .before .operand .ensures) (stored .before .before .operand2 .ensures) (stored .before .operand3 .ensures) (c .before .mark .ensures) (stored .store .ensures)
 
 pub emit-spec : {M : Type 1} → statement M
 emit-spec =
     tie.close
     (tie.spec
     operands-requires
-    mul-store-gate
+    mul-store
     operand-requires
     operand-requires-2
     operand-requires-3
-    store-gate-requires
+    store-requires
     add-t16
     add-t19
     mark-requires
