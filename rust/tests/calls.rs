@@ -46,7 +46,7 @@ fn refusals_have_number_and_place_and_alter_nothing() {
     let mut bad = BALLOTS;
     bad[17] = 2;
     assert_eq!(count(SHAPE, &bad), Err(refusal(5, 17)));
-    let list = [2, 17, 0, 0, 6, 0, 1, 0];
+    let list = [2, 17, 0, 0, 4, 0, 1, 0];
     let (mut wires, mut board) = ([7; 20], [7; 3]);
     assert_eq!(run(SHAPE, &list, &BALLOTS, &[2], &mut wires, &mut board), Err(refusal(8, 0)));
     assert_eq!(run(SHAPE, &list, &BALLOTS, &[1], &mut wires[..19], &mut board), Err(refusal(9, 0)));
@@ -55,7 +55,7 @@ fn refusals_have_number_and_place_and_alter_nothing() {
         run(SHAPE, &list, &BALLOTS, &[1], &mut wires, &mut board),
         Ok(Size { gates: 2, conditional: 1 })
     );
-    assert_eq!(board, [0, 1, 1]);
+    assert_eq!(board, [0, 1, 0]);
 }
 
 #[test]
