@@ -1,11 +1,11 @@
 -- Two rows of counts have equal sequences exactly where they are equal.
 -- Assumes nothing.
 use mathlib.Core.Path.{_≡_, _∙_, refl, sym, ap, subst}
-use mathlib.Core.Logic.{⊎-elim, _↔_}
-use mathlib.Core.List.{List, [], _∷_}
-use Prim.Native.Nat.{ℕ, zero, suc, _+_, _≤_, _<_}
+use mathlib.Core.Logic.{⊎-elim}
+use mathlib.Core.List.{List}
+use Prim.Native.Nat.{ℕ, zero, suc, _≤_, _<_}
 use native.Mathlib.Omega.{arith}
-use lib.ListN.{length, getD}
+use lib.ListN.{length}
 use lib.Seq.{ext-getD}
 use Rattle.jury.specs.Gauge.{sum}
 use Rattle.jury.proofs.Cases.{below-or-not}
@@ -14,7 +14,7 @@ use Rattle.judgment.specs.Judgment.{sequenceOf}
 use Rattle.judgment.specs.Theorems.{EqualSequences}
 use Rattle.judgment.proofs.Statements.{running}
 use Rattle.judgment.proofs.Positions.{gradeAt, grade-below, grade-not-below}
-use Rattle.judgment.proofs.Outward.{down, position, turn, turn-within, position-turn}
+use Rattle.judgment.proofs.Outward.{down, turn, turn-within, position-turn}
 use Rattle.judgment.proofs.SumRule.{struckGrade, outward-of}
 
 -- equal lists of values are of functions that agree

@@ -1,10 +1,10 @@
 -- A candidate that beats another by the gauge has the earlier sequence, so the gauge's winner wins, alone.
 -- Assumes nothing.
-use mathlib.Core.Path.{_≡_, _∙_, refl, sym, ap}
+use mathlib.Core.Path.{_≡_, _∙_, sym}
 use mathlib.Core.Bool.{true, false}
 use mathlib.Core.Logic.{⊎-elim, _≢_}
-use mathlib.Core.List.{List, [], _∷_}
-use Prim.Native.Nat.{ℕ, zero, suc, _+_, _*_, _≤_, _<_}
+use mathlib.Core.List.{List, []}
+use Prim.Native.Nat.{ℕ, suc, _+_, _*_, _≤_, _<_}
 use native.Mathlib.Omega.{arith}
 use lib.ListN.{length, getD, List·getD-eq-default}
 use lib.Seq.{ext-getD}
@@ -18,7 +18,7 @@ use Rattle.jury.proofs.Closing.{closing-length, closing-one, closing-zero, one-
 use Rattle.judgment.specs.Judgment.{sequenceOf, precedes, judgmentOf}
 use Rattle.judgment.specs.Theorems.{EachGets}
 use Rattle.judgment.proofs.Statements.{running, Precedes, Alike}
-use Rattle.judgment.proofs.Positions.{Median, median-at}
+use Rattle.judgment.proofs.Positions.{median-at}
 use Rattle.judgment.proofs.SumRule.{sum-rule, half-rule}
 use Rattle.judgment.proofs.Order.{precedes-one-way, precedes-self}
 use Rattle.judgment.proofs.Winners.{judgment-length, byte-one, byte-zero}

@@ -1,8 +1,8 @@
 -- A row whose running sums grow: its sequence stays or comes earlier, so that a winner still wins, and a sole winner wins alone.
 -- Assumes nothing.
-use mathlib.Core.Path.{_≡_, _∙_, refl, sym, ap, subst, subst₂}
-use mathlib.Core.Bool.{Bool, true, false, true≢false}
-use mathlib.Core.Logic.{_⊎_, inl, inr, ⊎-elim, _≢_}
+use mathlib.Core.Path.{_≡_, _∙_, refl, sym, subst, subst₂}
+use mathlib.Core.Bool.{true, false, true≢false}
+use mathlib.Core.Logic.{_⊎_, ⊎-elim, _≢_}
 use mathlib.Core.List.{List, []}
 use Prim.Native.Nat.{ℕ, suc, _≤_, _<_}
 use native.Mathlib.Omega.{arith}
@@ -11,7 +11,7 @@ use Rattle.jury.specs.Gauge.{sum}
 use Rattle.jury.proofs.Cases.{same-or-not}
 use Rattle.jury.proofs.Flags.{never-true}
 use Rattle.judgment.specs.Judgment.{sequenceOf, precedes, judgmentOf}
-use Rattle.judgment.proofs.Statements.{running, Alike}
+use Rattle.judgment.proofs.Statements.{running}
 use Rattle.judgment.proofs.Positions.{gradeAt, grade-at, grade-below}
 use Rattle.judgment.proofs.Outward.{position, position-within}
 use Rattle.judgment.proofs.Order.{Compared, compared, precedes-trans, precedes-self, never-worse}

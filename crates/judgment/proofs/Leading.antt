@@ -1,15 +1,15 @@
 -- The first of the candidates seen so far that none of them precedes, and the closing bytes by comparing counts with a winner's.
 -- Assumes nothing.
-use mathlib.Core.Path.{_≡_, _∙_, refl, sym, ap, subst}
-use mathlib.Core.Bool.{Bool, true, false, cond, true≢false}
+use mathlib.Core.Path.{_≡_, _∙_, sym, subst}
+use mathlib.Core.Bool.{true, false, true≢false}
 use mathlib.Core.Logic.{⊎-elim}
 use mathlib.Core.List.{List, []}
-use Prim.Native.Nat.{ℕ, _+_, _≤_, _<_}
+use Prim.Native.Nat.{ℕ, _+_, _<_}
 use native.Mathlib.Omega.{arith}
 use lib.ListN.{length, getD, List·getD-eq-default}
 use lib.Seq.{ext-getD}
 use borrow.Author.Count.{below-more}
-use Rattle.jury.specs.Gauge.{sum, eightBytes}
+use Rattle.jury.specs.Gauge.{eightBytes}
 use Rattle.jury.specs.Counts.{tabulate}
 use Rattle.jury.proofs.Cases.{below-or-not}
 use Rattle.jury.proofs.Flags.{never-true}
@@ -22,7 +22,7 @@ use Rattle.judgment.proofs.Order.{Compared, compared, precedes-self, pr
 use Rattle.judgment.proofs.Order.Compared.{first, equal, second}
 use Rattle.judgment.proofs.Equal.{equal-sequences}
 use Rattle.judgment.proofs.SameCounts.{same-holds, same-passes}
-use Rattle.judgment.proofs.Winners.{Unpreceded, judgment-length, byte-one, byte-zero, one-byte}
+use Rattle.judgment.proofs.Winners.{judgment-length, byte-one, byte-zero, one-byte}
 
 abbrev sequenceIn : List (List ℕ) → ℕ → List ℕ
 sequenceIn rows i = sequenceOf (getD rows i [])

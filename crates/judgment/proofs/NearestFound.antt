@@ -4,14 +4,13 @@ use mathlib.Core.Path.{_≡_, _∙_, refl, sym, subst}
 use mathlib.Core.Bool.{Bool, true, false, cond, not, _&&_}
 use mathlib.Core.Logic.{_⊎_, inl, inr, ⊎-elim, _≢_}
 use mathlib.Core.List.{List}
-use Prim.Native.Nat.{ℕ, zero, suc, _+_, _-_, _*_, _≤_, _<_}
+use Prim.Native.Nat.{ℕ, zero, suc, _+_, _*_, _≤_, _<_}
 use native.Mathlib.Omega.{arith}
 use lib.Dec.{ltb, leb, eqb}
 use lib.ListN.{length}
 use borrow.Author.Tests.{ltb-true, ltb-false, leb-true, leb-false, eqb-true, eqb-false, not-true, not-false}
-use Rattle.jury.specs.Gauge.{sum, medianOf}
-use Rattle.jury.proofs.Cases.{below-or-not, same-or-not}
-use Rattle.jury.proofs.Flags.{and-first, and-second}
+use Rattle.jury.specs.Gauge.{medianOf}
+use Rattle.jury.proofs.Cases.{below-or-not}
 use Rattle.jury.proofs.RunningSums.{running-start, running-grows, running-whole}
 use Rattle.judgment.proofs.Statements.{running, Alike, SameHalves, Nearest}
 use Rattle.judgment.proofs.Positions.{median-at}

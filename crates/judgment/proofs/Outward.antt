@@ -7,12 +7,12 @@ use mathlib.Core.List.{List, [], _∷_}
 use Prim.Native.Nat.{ℕ, zero, suc, _+_, _-_, _*_, _/_, _%_, min, _≤_, _<_}
 use native.Mathlib.Omega.{arith}
 use lib.Dec.{eqb, leb}
-use lib.ListN.{length, getD, set, take, length-set}
+use lib.ListN.{length, getD, length-set}
 use lib.Seq.{take-set-le}
 use borrow.Author.Tests.{eqb-true, eqb-false, leb-true, leb-false}
 use Rattle.jury.specs.Gauge.{sum, medianOf}
 use Rattle.jury.proofs.Cases.{below-or-not}
-use Rattle.jury.proofs.RunningSums.{running-next, running-most, running-whole, running-grows}
+use Rattle.jury.proofs.RunningSums.{running-next, running-whole, running-grows}
 use Rattle.judgment.specs.Judgment.{strike, strikes, sequenceOf}
 use Rattle.judgment.proofs.Statements.{running}
 use Rattle.judgment.proofs.Positions.{gradeAt, Grade, grade-at, grade-one, Median, median-at}

@@ -1,11 +1,11 @@
 -- A raised grade makes the candidate's counts better and leaves the other counts alone, so nothing is lost by it.
 -- Assumes nothing.
-use mathlib.Core.Path.{_≡_, _∙_, refl, sym, ap, subst₂}
+use mathlib.Core.Path.{_≡_, _∙_, refl, sym, ap}
 use mathlib.Core.Logic.{_⊎_, inl, inr, ⊎-elim, _≢_}
 use mathlib.Core.List.{List, []}
 use Prim.Native.Nat.{ℕ, zero, suc, _+_, _*_, _≤_, _<_}
 use native.Mathlib.Omega.{arith}
-use lib.ListN.{length, getD, take, drop}
+use lib.ListN.{length, getD, drop}
 use lib.Seq.{getD-drop}
 use Rattle.jury.specs.declared.shape.Shape.{Shape}
 use Rattle.jury.specs.Gauge.{sum}
@@ -18,8 +18,7 @@ use Rattle.jury.proofs.Sums.{addend, sum-last, sum-add, sum-ones}
 use Rattle.jury.proofs.CountLaws.{bit-added, count-step}
 use Rattle.jury.proofs.CountFacts.{counts-length, counts-row, counts-sum}
 use Rattle.jury.proofs.RunningSums.{running-whole, running-most}
-use Rattle.judgment.specs.Judgment.{judgmentOf}
-use Rattle.judgment.specs.Raised.{Raised, RaisedOften, NothingLost, WinsAlone, byteFor, LikedMore, StillAlone}
+use Rattle.judgment.specs.Raised.{Raised, NothingLost, byteFor, LikedMore, StillAlone}
 use Rattle.judgment.specs.Raised.RaisedOften.{unchanged, once-more}
 use Rattle.judgment.proofs.Statements.{running}
 use Rattle.judgment.proofs.Improved.{Improved, OneImproved, still-wins, still-loses}

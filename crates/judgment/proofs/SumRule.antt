@@ -2,12 +2,12 @@
 -- Assumes nothing.
 use mathlib.Core.Path.{_≡_, _∙_, sym, subst, subst₂}
 use mathlib.Core.Bool.{true}
-use mathlib.Core.Logic.{⊎-elim, _≢_}
+use mathlib.Core.Logic.{⊎-elim}
 use mathlib.Core.List.{List}
-use Prim.Native.Nat.{ℕ, suc, _+_, _*_, _≤_, _<_}
+use Prim.Native.Nat.{ℕ, suc, _≤_, _<_}
 use native.Mathlib.Omega.{arith}
 use Rattle.jury.specs.Gauge.{sum}
-use Rattle.jury.proofs.Cases.{below-or-not, same-or-not}
+use Rattle.jury.proofs.Cases.{below-or-not}
 use Rattle.jury.proofs.RunningSums.{running-grows, running-most}
 use Rattle.judgment.specs.Judgment.{sequenceOf, precedes}
 use Rattle.judgment.proofs.Statements.{running, Precedes, Alike, Decides, SumRule, HalfRule}

@@ -1,6 +1,5 @@
 -- Proofs of the statements of specs/Theorems.antt, and what accepted ballots bring for them.
 -- Assumes nothing.
-use mathlib.Core.Path.{_≡_}
 use mathlib.Core.List.{List}
 use Prim.Native.Nat.{ℕ}
 use native.Mathlib.Omega.{arith}

@@ -1,8 +1,8 @@
 -- One walk over the running sums of two rows, best grade first, up to the first difference at which half is reached.
 -- Assumes nothing.
-use mathlib.Core.Path.{_≡_, _∙_, refl, sym, subst}
-use mathlib.Core.Bool.{Bool, true, false, _||_}
-use mathlib.Core.Logic.{_⊎_, inl, inr, ⊎-elim, _≢_}
+use mathlib.Core.Path.{_≡_, _∙_, sym, subst}
+use mathlib.Core.Bool.{true, false, _||_}
+use mathlib.Core.Logic.{inl, inr, ⊎-elim, _≢_}
 use mathlib.Core.List.{List}
 use Prim.Native.Nat.{ℕ, suc, _+_, _*_, _≤_, _<_}
 use native.Mathlib.Omega.{arith}
@@ -11,7 +11,7 @@ use lib.ListN.{length, getD, take}
 use lib.Seq.{getD-take}
 use borrow.Author.Tests.{leb-true, leb-false, lt-ltb, le-ltb, le-leb}
 use Rattle.jury.specs.Gauge.{sum}
-use Rattle.jury.proofs.Cases.{below-or-not, same-or-not}
+use Rattle.jury.proofs.Cases.{below-or-not}
 use Rattle.jury.proofs.Flags.{or-either, or-first, or-second, never-true}
 use Rattle.jury.proofs.RunningSums.{running-start, running-next, running-whole, running-most}
 use Rattle.judgment.specs.declared.rule.Sums.{Sums}

@@ -1,10 +1,10 @@
 -- The closing bytes, place by place, and that there is always a winner.
 -- Assumes nothing.
-use mathlib.Core.Path.{_≡_, _∙_, refl, sym, ap, subst}
+use mathlib.Core.Path.{_≡_, _∙_, refl, sym, ap}
 use mathlib.Core.Bool.{Bool, true, false, cond, not, _&&_, and-false, true≢false}
-use mathlib.Core.Logic.{_⊎_, inl, inr, ⊎-elim, _↔_}
+use mathlib.Core.Logic.{_⊎_, inl, inr}
 use mathlib.Core.List.{List, [], _∷_, map}
-use Prim.Native.Nat.{ℕ, zero, suc, _≤_, _<_}
+use Prim.Native.Nat.{ℕ, zero, suc, _<_}
 use native.Mathlib.Omega.{arith}
 use lib.ListN.{length, getD, length-map}
 use Rattle.jury.specs.Gauge.{sum, medianOf}
@@ -12,7 +12,7 @@ use Rattle.jury.proofs.Flags.{and-both, never-true}
 use Rattle.judgment.specs.Judgment.{strike, strikes, sequenceOf, precedes, nonePrecedes, judgmentOf}
 use Rattle.judgment.specs.Winner.{Before, Wins}
 use Rattle.judgment.specs.Theorems.{EachGets, ByteSays, SomeWinner}
-use Rattle.judgment.proofs.Order.{precedes-here, precedes-later, precedes-cases, precedes-self, precedes-trans, precedes-one-way}
+use Rattle.judgment.proofs.Order.{precedes-here, precedes-later, precedes-cases, precedes-self, precedes-trans}
 
 -- an element of a mapped list
 pub getD-mapped : {A B : Type 0} (f : A → B) (l : List A) (i : ℕ) (d : A) (e : B) → i < length l → getD (map f l) i e ≡ f (getD l i d)

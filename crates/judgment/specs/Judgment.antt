@@ -6,20 +6,20 @@ use lib.Dec.{ltb, eqb}
 use lib.ListN.{getD, set}
 use Rattle.jury.specs.Gauge.{sum, medianOf}
 
--- A row of counts without one grade of the kind g.
+-- A row of counts with one grade g taken out.
 unfoldable pub strike : ℕ → List ℕ → List ℕ
 strike g row = set row g (getD row g 0 - 1)
 
--- The median of a row in which so many grades are left, then that of the row without one grade of that kind, and so on until none is left.
+-- The medians of a row that holds so many grades, each of them taken out before the next is looked for.
 unfoldable pub strikes : ℕ → List ℕ → List ℕ
 strikes zero row = []
 strikes (suc left) row = medianOf row ∷ strikes left (strike (medianOf row) row)
 
--- The sequence of a candidate: the medians of its counts, struck one after the other. Each is the gauge's median, of what is left then.
+-- The sequence of a candidate: as many medians as it has grades. Each is the gauge's median, over the number of grades that the row holds by then.
 unfoldable pub sequenceOf : List ℕ → List ℕ
 sequenceOf row = strikes (sum row) row
 
--- Dictionary order: the first place at which two sequences differ decides, the better grade, which is the smaller number, coming first.
+-- Lexicographic order: the first place at which two sequences differ decides, for the better grade, which is the smaller number.
 unfoldable pub precedes : List ℕ → List ℕ → Bool
 precedes [] [] = false
 precedes [] (y ∷ ys) = true
@@ -31,6 +31,6 @@ unfoldable pub nonePrecedes : List (List ℕ) → List ℕ → Bool
 nonePrecedes [] xs = true
 nonePrecedes (ys ∷ others) xs = not (precedes ys xs) && nonePrecedes others xs
 
--- The closing bytes of a matrix of counts, one row a candidate: 1 for each candidate whose sequence comes first, and 0 for any other. Candidates with equal sequences win together.
+-- The closing bytes of a matrix of counts, one row a candidate: 1 for a candidate whose sequence is preceded by none, and 0 for any other. Candidates with equal sequences win together.
 unfoldable pub judgmentOf : List (List ℕ) → List ℕ
 judgmentOf rows = map (λ (row : List ℕ). cond (nonePrecedes (map sequenceOf rows) (sequenceOf row)) 1 0) rows

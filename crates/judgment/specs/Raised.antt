@@ -9,7 +9,7 @@ use Rattle.jury.specs.Counts.{byteOf, countsOf}
 use Rattle.jury.specs.Accepted.{AcceptedBallots}
 use Rattle.judgment.specs.Judgment.{judgmentOf}
 
--- Two accepted sets of ballots in which one juror's grade of one candidate differs, the second being better by one grade or more, and all else is equal.
+-- Two accepted sets of ballots that agree in every row but one, where the second gives the candidate a grade that is better by one or more.
 pub record Raised (s : Shape) (candidate : ℕ) (old new : List ℕ) : Type 0 where
   pub old-accepted : AcceptedBallots s old
   pub new-accepted : AcceptedBallots s new

@@ -1,7 +1,7 @@
 -- Who wins by full majority judgment, said without a computation.
 use mathlib.Core.Path.{_≡_}
 use mathlib.Core.List.{List, []}
-use Prim.Native.Nat.{ℕ, _≤_, _<_}
+use Prim.Native.Nat.{ℕ, _<_}
 use lib.ListN.{length, getD}
 use Rattle.judgment.specs.Judgment.{sequenceOf}
 

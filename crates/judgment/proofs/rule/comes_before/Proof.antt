@@ -1,12 +1,12 @@
 -- `judgment::rule::comes_before` meets its contract: the walk so far holds the last difference below half, and returns at the first one that is not.
 -- Assumes nothing.
-use mathlib.Core.Path.{_≡_, _∙_, refl, sym, ap, subst}
-use mathlib.Core.Logic.{⊎-elim, _≢_}
-use Prim.Native.Nat.{ℕ, suc, _+_, _-_, _≤_, _<_}
+use mathlib.Core.Path.{_∙_, refl, sym, ap, subst}
+use mathlib.Core.Logic.{⊎-elim}
+use Prim.Native.Nat.{ℕ, suc, _+_, _-_, _≤_}
 use native.Mathlib.Numerals.{add-one}
 use native.Mathlib.Omega.{arith}
 use borrow.Author.Needs.{needs}
-use lib.ListN.{length, take, length-take}
+use lib.ListN.{take, length-take}
 use Rattle.jury.proofs.RunningSums.{running-most}
 use Rattle.judgment.specs.declared.rule.Sums.{Sums}
 use Rattle.judgment.proofs.Statements.{Alike}
