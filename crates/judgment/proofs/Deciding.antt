@@ -14,7 +14,8 @@ use Rattle.judgment.specs.declared.rule.Sums.{Sums}
 use Rattle.judgment.specs.Judgment.{sequenceOf, precedes}
 use Rattle.judgment.specs.Inner.{halfReached, decidedBy}
 use Rattle.judgment.proofs.Statements.{running, Precedes, Alike, Bracket, TwoDecide}
-use Rattle.judgment.proofs.Thresholds.{alike-back, bracket-back, bracket-decides}
+use Rattle.judgment.proofs.SumRule.{alike-back}
+use Rattle.judgment.proofs.Thresholds.{bracket-back, bracket-decides}
 use Rattle.judgment.proofs.Order.{precedes-one-way, precedes-self}
 
 module _ (n : ℕ) (sums : Sums) where

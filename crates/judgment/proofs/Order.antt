@@ -119,3 +119,29 @@ never-worse (suc n) f g h =
     ⊎-elim (λ l. inl (precedes-here (f (suc n)) (g (suc n)) (down n f) (down n g) l))
     (λ l. let e : f (suc n) ≡ g (suc n) = omega (arith, h (suc n) (omega arith) (omega arith)) in
     ⊎-elim (λ p. inl (precedes-later (f (suc n)) (g (suc n)) (down n f) (down n g) e p)) (λ p. inr (cc)) (never-worse n f g (λ m z p. h m z (omega arith)))) (below-or-not (f (suc n)) (g (suc n)))
+
+-- the first turn at which f and g differ, f being better there
+pub record FirstBetter (f g : ℕ → ℕ) (n : ℕ) : Type 0 where
+  pub at : ℕ
+  pub some : 0 < at
+  pub within : at ≤ n
+  pub better : f at < g at
+  pub same : (m : ℕ) → at < m → m ≤ n → f m ≡ g m
+
+-- where f comes first there is one
+pub better-first : (n : ℕ) (f g : ℕ → ℕ) → precedes (down n f) (down n g) ≡ true → FirstBetter f g n
+unfolding down precedes
+better-first zero f g h = absurd-flag h
+better-first (suc n) f g h = ⊎-elim here (λ r. later (r .0) (better-first n f g (r .1))) (precedes-cases (f (suc n)) (g (suc n)) (down n f) (down n g) h)
+  where
+    here : f (suc n) < g (suc n) → FirstBetter f g (suc n)
+    here l = record { at = suc n; some = omega arith; within = omega arith; better = l; same = λ m k j. absurd (omega arith) }
+
+    later : f (suc n) ≡ g (suc n) → FirstBetter f g n → FirstBetter f g (suc n)
+    later e b = record {
+      at = b .at;
+      some = b .some;
+      within = omega (arith, b .within);
+      better = b .better;
+      same = λ m k j. ⊎-elim (λ i. b .same m k (omega arith)) (λ i. subst (λ (x : ℕ). f x ≡ g x) {x = suc n} {y = m} (omega arith) e) (below-or-not m (suc n));
+    }

@@ -32,6 +32,14 @@ pub record Decides (n : ℕ) (a b : List ℕ) (i : ℕ) : Type 0 where
 abbrev pub SumRule : Type 0
 SumRule = (n : ℕ) (a b : List ℕ) → Alike n a b → (i : ℕ) → Decides n a b i → Precedes a b
 
+-- and where a comes first, some threshold does
+pub record SomeDecides (n : ℕ) (a b : List ℕ) : Type 0 where
+  pub threshold : ℕ
+  pub decides : Decides n a b threshold
+
+abbrev pub SumRuleBack : Type 0
+SumRuleBack = (n : ℕ) (a b : List ℕ) → Alike n a b → Precedes a b → SomeDecides n a b
+
 -- one row has half of its grades among the t best, the other has not
 abbrev pub HalfRule : Type 0
 HalfRule = (n : ℕ) (a b : List ℕ) → Alike n a b → (t : ℕ) → n ≤ 2 * running a t → 2 * running b t < n → Precedes a b

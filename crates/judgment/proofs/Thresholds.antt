@@ -8,12 +8,9 @@ use native.Mathlib.Omega.{arith}
 use Rattle.jury.proofs.Cases.{below-or-not, same-or-not}
 use Rattle.jury.proofs.RunningSums.{running-grows}
 use Rattle.judgment.proofs.Statements.{running, Precedes, Alike, Nearest, Bracket, TwoDecide, TwoThresholds}
-use Rattle.judgment.proofs.SumRule.{sum-rule, same-sequence}
+use Rattle.judgment.proofs.SumRule.{alike-back, sum-rule, same-sequence}
 
 -- the thresholds may be read from either row
-pub alike-back : (n : ℕ) (a b : List ℕ) → Alike n a b → Alike n b a
-alike-back n a b al = record { sum-a = al .sum-b; sum-b = al .sum-a }
-
 pub bracket-back : (n : ℕ) (a b : List ℕ) (lower upper : ℕ) → Bracket n a b lower upper → Bracket n b a lower upper
 bracket-back n a b lower upper near = record {
   between = λ t l h. sym (near .between t l h);
