@@ -1,0 +1,1 @@
+// The own list of a ranked tasting: Schulze's rule as a circuit.
