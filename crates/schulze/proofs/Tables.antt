@@ -69,7 +69,7 @@ module _ (t : List (List ℕ)) (k i : ℕ) where
 
 -- the table of the rule after a detour
 module _ (l : ℕ) (t : ℕ → ℕ → ℕ) (i j : ℕ) where
-  detour-stays : (eqb i l || eqb j l || eqb i j) ≡ true → detour l t i j ≡ t i j
+  pub detour-stays : (eqb i l || eqb j l || eqb i j) ≡ true → detour l t i j ≡ t i j
   unfolding detour
   detour-stays e = ap (λ (b : Bool). cond b (t i j) (max (t i j) (min (t i l) (t l j)))) e
 
