@@ -1,3 +1,4 @@
 pub mod Blocks
 pub mod Table
 pub mod Stages
+pub mod Paths

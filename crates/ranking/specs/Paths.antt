@@ -1,0 +1,51 @@
+-- The first part of a ranked tasting's own list, up to the strengths of the strongest paths: tables of the numbers of ballots, the links, the first paths, and a table for each further detour. The n ballots of k candidates are the first wires; a word has a digit and w more.
+use mathlib.Core.List.{List, [], _++_}
+use Prim.Native.Nat.{ℕ, zero, suc, _+_, _*_}
+use Rattle.gates.specs.Gate.{Gate}
+use Rattle.words.specs.Counter.{countSize}
+use Rattle.ranking.specs.Table.{table, place}
+use Rattle.ranking.specs.Stages.{votesBlock, linksBlock, linkWire, detourPad, detourBlock, firstPad, firstBlock}
+
+-- The sizes of the blocks of each table.
+unfoldable pub votesSize : ℕ → ℕ → ℕ
+votesSize n w = countSize n 0 w + suc w
+
+unfoldable pub linksSize : ℕ → ℕ
+linksSize w = 3 + 3 * w
+
+unfoldable pub firstSize : ℕ → ℕ
+firstSize w = firstPad w + suc w
+
+unfoldable pub detourSize : ℕ → ℕ
+detourSize w = detourPad w + suc w
+
+-- Where each table starts.
+unfoldable pub linksFrom : ℕ → ℕ → ℕ → ℕ
+linksFrom k n w = n * k * k + k * (k * votesSize n w)
+
+unfoldable pub firstFrom : ℕ → ℕ → ℕ → ℕ
+firstFrom k n w = linksFrom k n w + k * (k * linksSize w)
+
+-- The table of the detour over candidate m + 1.
+unfoldable pub detourFrom : ℕ → ℕ → ℕ → ℕ → ℕ
+detourFrom k n w m = firstFrom k n w + k * (k * firstSize w) + m * (k * (k * detourSize w))
+
+-- Where the number of ballots for i against j stands, the wire of their link, and the strength of the path from i to j after the detours over 0 to m.
+unfoldable pub votesAt : ℕ → ℕ → ℕ → ℕ → ℕ → ℕ
+votesAt k n w i j = place (n * k * k) (votesSize n w) k i j + countSize n 0 w
+
+unfoldable pub linkAt : ℕ → ℕ → ℕ → ℕ → ℕ → ℕ
+linkAt k n w i j = linkWire (place (linksFrom k n w) (linksSize w) k) w i j
+
+unfoldable pub pathAt : ℕ → ℕ → ℕ → ℕ → ℕ → ℕ → ℕ
+pathAt k n w zero i j = place (firstFrom k n w) (firstSize w) k i j + firstPad w
+pathAt k n w (suc m) i j = place (detourFrom k n w m) (detourSize w) k i j + detourPad w
+
+-- The tables up to the detour over candidate m.
+unfoldable pub pathTables : ℕ → ℕ → ℕ → ℕ → List Gate
+pathTables k n w zero =
+    table (n * k * k) (votesSize n w) k (votesBlock k n w)
+    ++ table (linksFrom k n w) (linksSize w) k (linksBlock (votesAt k n w) w)
+    ++ table (firstFrom k n w) (firstSize w) k (firstBlock (votesAt k n w) (linkAt k n w) (pathAt k n w 0) w)
+pathTables k n w (suc m) =
+    pathTables k n w m ++ table (detourFrom k n w m) (detourSize w) k (detourBlock (pathAt k n w m) (suc m) w)
