@@ -2,3 +2,5 @@ pub mod BlockLaws
 pub mod TableLaws
 pub mod StageLaws
 pub mod PathLaws
+pub mod LostLaws
+pub mod Accuracy

@@ -44,7 +44,7 @@ module _ (W : ℕ → ℕ) (b : Binary W) where
   unfolding votesBlock
   votes-law k n w at i j ne c h =
       let g : Holds W at (counter at (i * k + j) (k * k) n 0 w) =
-          subst (λ (t : Bool). Holds W at (cond t (constants 0 (countSize n 0 w + suc w)) (counter at (i * k + j) (k * k) n 0 w))) (ne-eqb i j ne) h in
+      subst (λ (t : Bool). Holds W at (cond t (constants 0 (countSize n 0 w + suc w)) (counter at (i * k + j) (k * k) n 0 w))) (ne-eqb i j ne) h in
       counter-law W b at (i * k + j) (k * k) n 0 w c g ∙ add-zero (ones W (i * k + j) (k * k) n)
 
   -- the strengths t of the paths so far, at the places `paths`
@@ -98,14 +98,14 @@ module _ (W : ℕ → ℕ) (b : Binary W) where
           later : j < i → Tells (ltb j i)
           later l =
               let here : Holds W (start i j) (compare (start i j) (paths i j) (paths j i) w) =
-                  subst (λ (c : Bool). Holds W (start i j) (cond c (compare (start i j) (paths i j) (paths j i) w) (constants 0 (3 + 3 * w)))) (lt-ltb j i l) (held i j hi hj) in
+              subst (λ (c : Bool). Holds W (start i j) (cond c (compare (start i j) (paths i j) (paths j i) w) (constants 0 (3 + 3 * w)))) (lt-ltb j i l) (held i j hi hj) in
               let r = compare-up W b (start i j) (paths i j) (paths j i) w here in
               subst Tells (sym (lt-ltb j i l)) ((λ q. r .0 (omega (arith, one, other))), (λ q. r .1 (omega (arith, one, other))))
 
           earlier : i ≤ j → Tells (ltb j i)
           earlier l =
               let here : Holds W (start j i) (compare (start j i) (paths j i) (paths i j) w) =
-                  subst (λ (c : Bool). Holds W (start j i) (cond c (compare (start j i) (paths j i) (paths i j) w) (constants 0 (3 + 3 * w)))) (lt-ltb i j (omega arith)) (held j i hj hi) in
+              subst (λ (c : Bool). Holds W (start j i) (cond c (compare (start j i) (paths j i) (paths i j) w) (constants 0 (3 + 3 * w)))) (lt-ltb i j (omega arith)) (held j i hj hi) in
               let r = compare-down W b (start j i) (paths j i) (paths i j) w here in
               subst Tells (sym (le-ltb j i l)) ((λ q. r .0 (omega (arith, one, other))), (λ q. r .1 (omega (arith, one, other))))
 
@@ -117,7 +117,7 @@ module _ (W : ℕ → ℕ) (b : Binary W) where
     unfolding firstBlock
     first-kept at i j hi hj ne e h =
         let g : Holds W at (constants 0 (firstPad w) ++ masked (links i j) (votes i j) (suc w)) =
-            subst (λ (c : Bool). Holds W at (cond c (constants 0 (firstPad w) ++ masked (links i j) (votes i j) (suc w)) (smaller at (paths i 0) (paths 0 j) w ++ largerIf (at + (2 * w + suc w)) (links i j) (votes i j) (at + 2 * w) w))) e h in
+        subst (λ (c : Bool). Holds W at (cond c (constants 0 (firstPad w) ++ masked (links i j) (votes i j) (suc w)) (smaller at (paths i 0) (paths 0 j) w ++ largerIf (at + (2 * w + suc w)) (links i j) (votes i j) (at + 2 * w) w))) e h in
         let m = behind-zeros at (firstPad w) (masked (links i j) (votes i j) (suc w)) g in
         ⊎-elim
         (λ (l : v j i < v i j). masked-one W b (at + firstPad w) (links i j) (votes i j) (suc w) (told i j hi hj ne .0 l) m ∙ spelled i j hi hj ne ∙ sym (link-won v i j l))
@@ -129,7 +129,7 @@ module _ (W : ℕ → ℕ) (b : Binary W) where
     unfolding firstBlock firstPad
     first-over at i j hi hj i0 j0 ne to from h =
         let g : Holds W at (smaller at (paths i 0) (paths 0 j) w ++ largerIf (at + (2 * w + suc w)) (links i j) (votes i j) (at + 2 * w) w) =
-            subst (λ (c : Bool). Holds W at (cond c (constants 0 (2 * w + suc w + (2 * w + 2)) ++ masked (links i j) (votes i j) (suc w)) (smaller at (paths i 0) (paths 0 j) w ++ largerIf (at + (2 * w + suc w)) (links i j) (votes i j) (at + 2 * w) w))) (none-equal) h in
+        subst (λ (c : Bool). Holds W at (cond c (constants 0 (2 * w + suc w + (2 * w + 2)) ++ masked (links i j) (votes i j) (suc w)) (smaller at (paths i 0) (paths 0 j) w ++ largerIf (at + (2 * w + suc w)) (links i j) (votes i j) (at + 2 * w) w))) (none-equal) h in
         let p = behind-smaller at (paths i 0) (paths 0 j) w (largerIf (at + (2 * w + suc w)) (links i j) (votes i j) (at + 2 * w) w) g in
         let s = smaller-law W b at (paths i 0) (paths 0 j) w (p .0) in
         let e : at + (2 * w + suc w) + 2 * w + 2 ≡ at + (2 * w + suc w + (2 * w + 2)) = omega arith in

@@ -2,3 +2,4 @@ pub mod Blocks
 pub mod Table
 pub mod Stages
 pub mod Paths
+pub mod RankedList
