@@ -4,3 +4,4 @@ pub mod StageLaws
 pub mod PathLaws
 pub mod LostLaws
 pub mod Accuracy
+pub mod Columns
