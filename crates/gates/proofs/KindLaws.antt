@@ -21,7 +21,7 @@ each-kind P p₀ p₁ p₂ p₃ p₄ p₅ p₆ p₇ (suc (suc (suc (suc (suc (su
 Agree : ℕ → ℕ → ℕ → ℕ → ℕ → ℕ → ℕ → Type 0
 Agree n a b c a′ b′ c′ = (0 < n → a ≡ a′) × (1 < n → b ≡ b′) × (2 < n → c ≡ c′)
 
--- "operands": a value depends only on the operands that its kind uses
+-- a value depends only on the operands that its kind uses
 pub value-uses : (k a b c a′ b′ c′ : ℕ) → k < 8 → (0 < operandsOf k → a ≡ a′) → (1 < operandsOf k → b ≡ b′) → (2 < operandsOf k → c ≡ c′)
     → valueOf k a b c ≡ valueOf k a′ b′ c′
 unfolding Agree operandsOf valueOf

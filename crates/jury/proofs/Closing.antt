@@ -156,7 +156,7 @@ one-winner rows i j ei ej = ⊎-elim (λ e. e) (λ ne. absurd (both ne)) (same-o
         let back = closing-one rows j hj .0 ej i hi ne in
         true≢false (sym back ∙ beats-one-way (getD rows i []) (getD rows j []) forth)
 
--- "A single candidate wins."
+-- a candidate without others wins
 pub single-wins : (a : List ℕ) → closingOf (a ∷ []) ≡ 1 ∷ []
 unfolding closingOf closingFrom beatsAll
 single-wins a = refl

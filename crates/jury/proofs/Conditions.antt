@@ -11,7 +11,7 @@ use borrow.Author.Tests.{ltb-true, lt-ltb, eqb-true, eq-eqb}
 use Rattle.jury.specs.Gauge.{medianOf, pOf, qOf, betterMedian, equalMedians, strongerMedian, largerP, smallerQ, beats}
 use Rattle.jury.proofs.Flags.{and-first, and-second, or-either, or-first, or-second, never-true}
 
--- "A beats B when one of these holds"
+-- to beat is to meet one of the four conditions
 pub data Beats (a b : List ℕ) : Type 0 where
   better-median : medianOf a < medianOf b → Beats a b
   stronger-median : medianOf a ≡ medianOf b → qOf a < pOf a → pOf b < qOf b → Beats a b

@@ -27,7 +27,7 @@ enough (suc i) (suc j) m hi hj = ap (λ (w : ℕ). cond {A = ℕ} (eqb m 0) 0 (s
 sub-one-suc : (n : ℕ) → suc n - 1 ≡ n
 sub-one-suc n = omega arith
 
--- "the width of 0 is 0"
+-- 0 has no digit
 pub width-zero : widthOf 0 ≡ 0
 unfolding widthOf widthWithin
 width-zero = refl
@@ -35,13 +35,13 @@ width-zero = refl
 width-of-zero : (m : ℕ) → m ≡ 0 → widthOf m ≡ 0
 width-of-zero m e = ap widthOf e ∙ width-zero
 
--- "that of m above 0 is one more than that of m divided by 2, rounded down"
+-- any other number has one digit more than its half
 pub width-half : (m : ℕ) → 0 < m → widthOf m ≡ suc (widthOf (m / 2))
 unfolding widthOf
 width-half zero h = absurd (omega arith)
 width-half (suc m) h = within-step m (suc m) h ∙ ap suc (enough m (suc m / 2) (suc m / 2) (omega arith) (omega arith))
 
--- "w is 1 for 1, 2 for 3, 3 for 4 and 8 for 255"
+-- the widths that document 01 gives as examples
 pub width-examples : (widthOf 1 ≡ 1) × (widthOf 3 ≡ 2) × (widthOf 4 ≡ 3) × (widthOf 255 ≡ 8)
 unfolding widthOf widthWithin
 width-examples = (refl, refl, refl, refl)

@@ -8,7 +8,7 @@ use Rattle.jury.specs.declared.shape.Shape.{Shape}
 use Rattle.jury.specs.Shape.{withinLimits, ballotBytes}
 use Rattle.jury.specs.Ballots.{ones}
 
--- The shape is within its limits, "there are I = n × k × d ballot bytes", "each byte is 0 or 1" (past the end `getD` gives 0), "and each row holds exactly one 1".
+-- The shape is within its limits, the length is I, all bytes are bits (past the end `getD` gives 0), and every row has a single 1.
 pub record AcceptedBallots (s : Shape) (xs : List ℕ) : Type 0 where
   pub within : withinLimits s ≡ true
   pub size : length xs ≡ ballotBytes s

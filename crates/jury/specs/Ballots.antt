@@ -17,12 +17,12 @@ unfoldable pub ones : List ℕ → ℕ
 ones [] = 0
 ones (x ∷ xs) = cond (eqb x 1) (suc (ones xs)) (ones xs)
 
--- "A ballot is k rows of d bytes", and "ballots follow each other without gaps": the first so many rows of d bytes.
+-- The first so many rows of d bytes. Rows and ballots stand one behind the other with nothing between.
 unfoldable pub rowsOf : ℕ → ℕ → List ℕ → List (List ℕ)
 rowsOf d zero xs = []
 rowsOf d (suc rows) xs = take d xs ∷ rowsOf d rows (drop d xs)
 
--- "A row does not hold exactly one 1; the place is the first such row", the first row here standing at place i.
+-- The place of the first row that has no 1 or several, the first row here standing at place i.
 unfoldable pub firstBadRow : ℕ → List (List ℕ) → Place
 firstBadRow i [] = Nowhere
 firstBadRow i (row ∷ rows) = cond (eqb (ones row) 1) (firstBadRow (suc i) rows) (At i)

@@ -8,7 +8,7 @@ use lib.ListN.{getD}
 use Rattle.jury.specs.declared.shape.Shape.{Shape}
 use Rattle.jury.specs.Gauge.{sum}
 
--- The byte of ballot b, candidate c and grade g: "A ballot is k rows of d bytes, candidate after candidate, best grade first. [..] Ballots follow each other without gaps".
+-- The byte of ballot b, candidate c and grade g: the rows of a ballot are its candidates, the bytes of a row the grades from the best on.
 unfoldable pub byteOf : Shape → List ℕ → ℕ → ℕ → ℕ → ℕ
 byteOf s xs b c g = getD xs ((b * s .candidates + c) * s .grades + g) 0
 
@@ -26,7 +26,7 @@ unfoldable pub tabulate : {A : Type 0} → ℕ → (ℕ → A) → List A
 tabulate zero f = []
 tabulate (suc n) f = f 0 ∷ tabulate n (λ i. f (suc i))
 
--- "a matrix of k rows of grade counts", d of them in each, best grade first.
+-- The matrix of grade counts: a row for each candidate, in it a count for each grade from the best on.
 unfoldable pub countsOf : Shape → List ℕ → List (List ℕ)
 countsOf s xs = tabulate (s .candidates) (λ c. tabulate (s .grades) (countOf s xs c))
 

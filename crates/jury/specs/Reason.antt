@@ -46,7 +46,7 @@ unfoldable pub shapedFor : Shaped → Option Reason
 shapedFor (Within s) = none
 shapedFor Outside = some (reasonAt 1 0)
 
--- The reason of that number unless its test passes: "where no place is named it is 0".
+-- The reason of that number, which names no place, unless its test passes.
 unfoldable pub unless : Bool → ℕ → Option Reason
 unless true number = none
 unless false number = some (reasonAt number 0)
@@ -64,7 +64,7 @@ listReason tested.TooFewGates = some (reasonAt 2 0)
 listReason tested.TooManyGates = some (reasonAt 2 0)
 listReason (tested.BadGate g) = some (reasonAt 3 g)
 
--- "The first that applies is returned with its place".
+-- The first reason in a list of tests.
 unfoldable pub firstOf : List (Option Reason) → Option Reason
 firstOf [] = none
 firstOf (none ∷ rest) = firstOf rest

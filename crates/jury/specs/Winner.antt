@@ -7,6 +7,6 @@ use Prim.Native.Nat.{ℕ, _<_}
 use lib.ListN.{length, getD}
 use Rattle.jury.specs.Gauge.{beats}
 
--- "A wins when it beats each other candidate": row i of a matrix of counts beats every other row.
+-- Row i of a matrix of counts beats every other row.
 abbrev pub BeatsOthers : List (List ℕ) → ℕ → Type 0
 BeatsOthers rows i = (j : ℕ) → j < length rows → j ≢ i → beats (getD rows i []) (getD rows j []) ≡ true

@@ -104,35 +104,35 @@ fn wide(count: u16) -> usize
     count as usize
 }
 
-// "A beats B when one of these holds".
+// Whether a beats b: one of the four conditions is met.
 fn beats(a: Gauge, b: Gauge) -> bool
     ensures { λ r. ⌜ r ≡ gaugeBeats a b ⌝ }
 {
     better_median(a, b) || stronger_median(a, b) || larger_p(a, b) || smaller_q(a, b)
 }
 
-// "1. A's median grade is better."
+// Condition 1: the better median.
 fn better_median(a: Gauge, b: Gauge) -> bool
     ensures { λ r. ⌜ r ≡ gaugeBetterMedian a b ⌝ }
 {
     a.median < b.median
 }
 
-// "2. Equal medians, A has p above q, B has p below q."
+// Condition 2: equal medians; a leans to the better side of it, b to the worse.
 fn stronger_median(a: Gauge, b: Gauge) -> bool
     ensures { λ r. ⌜ r ≡ gaugeStrongerMedian a b ⌝ }
 {
     a.median == b.median && a.p > a.q && b.p < b.q
 }
 
-// "3. Equal medians, p above q for both, A's p is larger."
+// Condition 3: equal medians, both lean to the better side, a by more grades.
 fn larger_p(a: Gauge, b: Gauge) -> bool
     ensures { λ r. ⌜ r ≡ gaugeLargerP a b ⌝ }
 {
     a.median == b.median && a.p > a.q && b.p > b.q && a.p > b.p
 }
 
-// "4. Equal medians, p below q for both, A's q is smaller."
+// Condition 4: equal medians, both lean to the worse side, a by fewer grades.
 fn smaller_q(a: Gauge, b: Gauge) -> bool
     ensures { λ r. ⌜ r ≡ gaugeSmallerQ a b ⌝ }
 {

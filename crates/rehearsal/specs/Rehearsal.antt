@@ -19,14 +19,14 @@ use Rattle.tally.specs.Write.{writeReasons}
 use Rattle.rehearsal.specs.declared.rehearse.Rehearsed.{Rehearsed}
 use Rattle.rehearsal.specs.declared.rehearse.Rehearsed.the-variants.{Winners, Refused}
 
--- "one byte each for k, d, n, a missing one counting as 0, then the ballots".
+-- The first three bytes are the shape, those behind them the ballots. A byte that is missing is 0.
 unfoldable pub shapeIn : List ℕ → Shape
 shapeIn input = record { candidates = getD input 0 0; grades = getD input 1 0; ballots = getD input 2 0 }
 
 unfoldable pub ballotsIn : List ℕ → List ℕ
 ballotsIn input = drop 3 input
 
--- "It writes the list, runs it": the reasons that concern writing come first. The list that was written passes its test, and tape, wire table and board are cut to their lengths, so only the ballots can turn the run away.
+-- The list is written, then run: the reasons that concern writing come first. The list that was written passes its test, and tape, wire table and board are cut to their lengths, so only the ballots can turn the run away.
 unfoldable pub rehearsalReasons : List ℕ → List ℕ → List (Option Reason)
 rehearsalReasons input table = writeReasons (shapeIn input) table ++ ballotReasons (shapeIn input) (ballotsIn input)
 
@@ -52,7 +52,7 @@ unfoldable pub endOn : Rehearsed → ℕ
 endOn (Winners s first) = first + s .candidates
 endOn (Refused r) = 0
 
--- What the program lends: "a tape of zeros and a gate table of 16,000 numbers", so at most 4,000 gates, and a wire table and a board that are long enough for them.
+-- What the program lends: a zero tape, a table for at most 4,000 gates, and a wire table and a board that are long enough for them.
 pub record Lent (table tape wires board : List ℕ) : Type 0 where
   pub tableLength : length table ≤ 16000
   pub tapeLength : 4000 ≤ length tape

@@ -38,7 +38,7 @@ refused k d n bytes number place = record {
   closing = 0 ∷ 0 ∷ 0 ∷ 0 ∷ 0 ∷ 0 ∷ 0 ∷ 0 ∷ [];
 }
 
--- "k 0 and 9, d 1 and 8, n 0 and 256 give 1", ballots that are too short and too long give 4, a byte 2 gives 5 at its place, "A row of zeros, and a row of two ones, give 6", and "a byte 2 in the last ballot and an empty first row give 5".
+-- Each number of a shape just outside its limits gives 1, ballots that are too short and too long give 4, a byte 2 gives 5 at its place, an empty row and a row of two ones give 6, and a byte 2 in the last ballot comes before an empty first row.
 pub edges : List Edge
 edges =
     refused 0 2 1 [] 1 0

@@ -54,7 +54,7 @@ module _ (s : Shape) (xs : List ℕ) (a : AcceptedBallots s xs) where
       ∙ take-append-le (s .candidates) (closingOf (countsOf s xs)) (replicate 8 0) (omega (arith, bytes-length))
       ∙ take-all (s .candidates) (closingOf (countsOf s xs)) (omega (arith, bytes-length))
 
-  -- "0 from place k on"
+  -- from place k on there are zeros
   pub plain-past : (i : ℕ) → s .candidates ≤ i → getD (plainClosing s xs) i 0 ≡ 0
   plain-past i h = ⊎-elim inside outside (below-or-not i 8)
     where

@@ -16,7 +16,7 @@ pub data Said (Values : Type 0) : Type 0 where
   refused : Reason → Said Values
   accepted : Values → Said Values
 
--- "A call is accepted when none of the reasons to turn it away that concern it applies."
+-- A call is accepted exactly where no reason applies.
 unfoldable pub said : {Values : Type 0} → Option Reason → Values → Said Values
 said (some r) values = refused r
 said none values = accepted values
@@ -26,12 +26,12 @@ unfoldable pub hasNumberIn : List ℕ → Reason → Bool
 hasNumberIn [] r = false
 hasNumberIn (n ∷ ns) r = eqb (r .number) n || hasNumberIn ns r
 
--- "Accepted writing, testing and running give G and C".
+-- What writing, testing and running give where they are accepted.
 pub record Size : Type 0 where
   pub gates : ℕ
   pub conditional : ℕ
 
--- "G is the number of gates in the lent list, C the number of conditional gates in it".
+-- G and C of a list of gates.
 unfoldable pub sizeOf : List Gate → Size
 sizeOf gs = record { gates = length gs; conditional = conditionalCount gs }
 

@@ -44,7 +44,7 @@ pub record Memory : Type 0 where
 unfoldable pub listIn : Shape → Size → List ℕ → List ℕ
 listIn s size table = take (4 * size .gates) (written s table)
 
--- Demand 2: "Under the list that the core writes for a shape, candidate i's closing byte is 1 exactly when i beats each other candidate by the four conditions of the majority gauge [..], else 0. The plain count gives the same bytes." It holds after an accepted write into a table of any earlier contents, G and C being what the write answered.
+-- Demand 2: run with the list that the core wrote, closing byte i is 1 for a candidate that beats all others by the gauge and 0 for any other, and the plain count says the same. It holds after an accepted write into a table of any earlier contents, G and C being what the write answered.
 pub record Accuracy (s : Shape) (table : List ℕ) (size : Size) : Type 0 where
   -- a run of the list is never refused for 2 or 3
   pub never-2-or-3 : (ballots tape wires board : List ℕ) (r : Reason) → ran s (listIn s size table) ballots tape wires board .answer ≡ refused r → (r .number ≢ 2) × (r .number ≢ 3)

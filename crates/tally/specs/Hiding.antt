@@ -1,4 +1,4 @@
--- Demand 3: "The board tells no more than its closing bytes."
+-- Demand 3: of the ballots, a board tells what its closing bytes tell and nothing else.
 use mathlib.Core.Path.{_≡_}
 use mathlib.Core.List.{List}
 use Prim.Native.Nat.{ℕ, _-_}
@@ -11,7 +11,7 @@ use Rattle.jury.specs.declared.shape.Shape.{Shape}
 use Rattle.tally.specs.Answer.{accepted, Size, sizeOf}
 use Rattle.tally.specs.Run.{ran}
 
--- "The last k board bytes [..] are the closing bytes."
+-- The closing bytes stand last on the board.
 unfoldable pub closingBytes : Shape → List ℕ → List ℕ
 closingBytes s board = drop (length board - s .candidates) board
 
@@ -23,7 +23,7 @@ pub record Hidden (s : Shape) (table xs ys vs ws bs ds : List ℕ) : Type 0 wher
   -- and so does the second
   pub second-answer : (t : List ℕ) → MaskTape (gatesOf table) t → ran s table ys t ws ds .answer ≡ accepted (sizeOf (gatesOf table))
   pub second-board : (t : List ℕ) → MaskTape (gatesOf table) t → Finished (wiresOf ys (gatesOf table)) (gatesOf table) (s .candidates) t (ran s table ys t ws ds .board)
-  -- "whatever the first tape, exactly one second tape makes the boards [..] equal in every byte"
+  -- for each first tape there is one second tape, and no other, under which the boards are the same
   pub same-board : (t : List ℕ) → MaskTape (gatesOf table) t
       → ExactlyOne (λ (u : List ℕ). MaskTape (gatesOf table) u × (ran s table xs t vs bs .board ≡ ran s table ys u ws ds .board))
   -- and that one serves for whatever else may have stood in the wire tables and boards
@@ -31,7 +31,7 @@ pub record Hidden (s : Shape) (table xs ys vs ws bs ds : List ℕ) : Type 0 wher
       → length vs′ ≡ length vs → length ws′ ≡ length ws → length bs′ ≡ length bs → length ds′ ≡ length ds
       → ran s table xs t vs bs .board ≡ ran s table ys u ws ds .board → ran s table xs t vs′ bs′ .board ≡ ran s table ys u ws′ ds′ .board
 
--- "For any two accepted runs of one shape and one list, ours or a stranger's, with equal closing bytes".
+-- It holds of all accepted runs of one shape and one list, whoever wrote it, that end with the same closing bytes.
 abbrev pub BoardTellsNoMore : Type 0
 BoardTellsNoMore =
     (s : Shape) (table xs ys t u vs ws bs ds : List ℕ) (first second : Size)

@@ -11,7 +11,7 @@ use Rattle.tally.specs.Answer.{Said, refused, accepted, said}
 use Rattle.tally.specs.declared.measure.Measured.{Measured}
 use Rattle.tally.specs.declared.measure.Measured.the-variants.{Accepted, Refused}
 
--- "G, C and I of its own list".
+-- The numbers of a shape's own list.
 pub record Measures : Type 0 where
   pub gates : ℕ
   pub conditional : ℕ

@@ -15,7 +15,7 @@ use Rattle.jury.specs.Ballots.{ballotReasons}
 use Rattle.tally.specs.Answer.{Said, refused, accepted, Size, sizeOf}
 use Rattle.tally.specs.Test.{testReasons}
 
--- The tests of what is lent besides the list and the ballots, in checking order: 7, 8, 9, 10. "With G gates, of which C are conditional, the tape is C bytes, the wire table I + G bytes and the board C + k bytes."
+-- The tests of what is lent besides the list and the ballots, in checking order: 7, 8, 9, 10. A tape byte is due for each conditional gate, a wire for each input and each gate, a board byte for each tape byte and each output.
 unfoldable pub lentReasons : ℕ → ℕ → Size → List ℕ → List ℕ → List ℕ → List (Option Reason)
 lentReasons i k size tape wires board =
     unless (eqb (length tape) (size .conditional)) 7
@@ -24,7 +24,7 @@ lentReasons i k size tape wires board =
     ∷ unless (eqb (length board) (size .conditional + k)) 10
     ∷ []
 
--- All ten reasons in checking order. "G and C on a run are those of the lent list."
+-- All ten reasons in checking order, by the size of the list that is lent.
 unfoldable pub runReasons : Shape → List ℕ → List ℕ → List ℕ → List ℕ → List ℕ → List (Option Reason)
 runReasons s table ballots tape wires board =
     testReasons s table ++ ballotReasons s ballots ++ lentReasons (ballotBytes s) (s .candidates) (sizeOf (gatesOf table)) tape wires board

@@ -9,7 +9,7 @@ use Rattle.jury.specs.Shape.{withinLimits, ballotBytes}
 use Rattle.jury.specs.Reason.{Reason, unless, listReason, firstOf}
 use Rattle.tally.specs.Answer.{Said, said, Size, sizeOf}
 
--- The reasons that concern a test, in checking order: 1, 2, 3. "Wires 0 to I − 1 are the ballot bytes", and there are k closing bytes.
+-- The reasons that concern a test, in checking order: 1, 2, 3. The ballot bytes are the inputs of the list, the k closing bytes its outputs.
 unfoldable pub testReasons : Shape → List ℕ → List (Option Reason)
 testReasons s table = unless (withinLimits s) 1 ∷ listReason (tested (ballotBytes s) (s .candidates) table) ∷ []
 

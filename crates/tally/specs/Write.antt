@@ -18,14 +18,14 @@ use Rattle.circuit.specs.Bound.{gateBound}
 use Rattle.tally.specs.Answer.{Said, accepted, said, Size, sizeOf}
 use Rattle.tally.specs.Test.{testSaid}
 
--- The reasons that concern writing, in checking order: 1, and 2, "The gate table is too short for four numbers a gate when a list is written".
+-- The reasons that concern writing, in checking order: 1, and 2 where the table has no room for all gates of the list.
 unfoldable pub writeReasons : Shape → List ℕ → List (Option Reason)
 writeReasons s table = unless (withinLimits s) 1 ∷ unless (leb (4 * length (ownList s)) (length table)) 2 ∷ []
 
 unfoldable pub writeSaid : Shape → List ℕ → Said Size
 writeSaid s table = said (firstOf (writeReasons s table)) (sizeOf (ownList s))
 
--- The table afterwards: the list's numbers, and "Numbers after the list are not touched"; "Nothing lent is altered" by a refusal.
+-- The table afterwards: the list's numbers and behind them what stood there; after a refusal all that stood there.
 unfoldable pub writtenAfter : Option Reason → List ℕ → List ℕ → List ℕ
 writtenAfter (some r) numbers table = table
 writtenAfter none numbers table = numbers ++ drop (length numbers) table
@@ -37,7 +37,7 @@ written s table = writtenAfter (firstOf (writeReasons s table)) (numbersOf (ownL
 pub record OwnListHolds (s : Shape) : Type 0 where
   -- the tester accepts its numbers for that shape, with its own G and C, C being the count of conditional marks in it
   pub passes : testSaid s (numbersOf (ownList s)) ≡ accepted (sizeOf (ownList s))
-  -- "G for a shape is at most 2kdnw + kd(30w + 20) + k²(20w + 6d + 20) + 2"
+  -- it has no more gates than document 01 allows
   pub bounded : length (ownList s) ≤ gateBound s
   -- its closing bytes are the gauge's, whatever the accepted ballots
   pub closing : (ballots : List ℕ) → AcceptedBallots s ballots → outputsOf (s .candidates) (wiresOf ballots (ownList s)) ≡ closingOf (countsOf s ballots)

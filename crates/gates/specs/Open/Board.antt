@@ -13,15 +13,15 @@ unfoldable pub conditionals : List Gate → List Gate
 conditionals [] = []
 conditionals (g ∷ gs) = cond (conditionalOf (g .kind)) (g ∷ conditionals gs) (conditionals gs)
 
--- C, "the number of conditional gates in it".
+-- C of a list: how many of its gates are conditional.
 unfoldable pub conditionalCount : List Gate → ℕ
 conditionalCount gs = length (conditionals gs)
 
--- "A conditional gate shows wire a": "a plus m modulo 2", m being the gate's own tape byte. A wire has one value, which it keeps, so ws may be the wires of the whole list.
+-- What a conditional gate shows: its wire a under the mask m, the sum modulo 2. A wire keeps the one value that it gets, so ws may be the wires of the whole list.
 unfoldable pub shownBit : List ℕ → Gate → ℕ → ℕ
 shownBit ws g m = (wire ws (g .a) + m) % 2
 
--- "the i-th conditional gate takes the i-th tape byte m and puts a plus m modulo 2 in board byte i".
+-- The shown bits in order: conditional gates and tape bytes are matched one to one.
 unfoldable pub shownBits : List ℕ → List Gate → List ℕ → List ℕ
 shownBits ws gs tape = zipWith (shownBit ws) (conditionals gs) tape
 
@@ -33,7 +33,7 @@ boardOf ws gs k tape = shownBits ws gs tape ++ outputsOf k ws
 abbrev pub Bits : List ℕ → Type 0
 Bits xs = (i : ℕ) → getD xs i 0 ≤ 1
 
--- "A mask tape of a list is any C bytes that are each 0 or 1; where C is 0 it is the empty one."
+-- A mask tape of a list: C bytes, all of them bits.
 pub record MaskTape (gs : List Gate) (tape : List ℕ) : Type 0 where
   pub size : length tape ≡ conditionalCount gs
   pub bits : Bits tape

@@ -2,7 +2,7 @@
 use mathlib.Core.List.{List, [], _∷_}
 use Prim.Native.Nat.{ℕ}
 
--- "A gate is four 32-bit numbers: kind, a, b, c."
+-- A gate: its kind and its three operands.
 pub record Gate : Type 0 where
   pub kind : ℕ
   pub a : ℕ

@@ -1,4 +1,4 @@
--- The eight kinds of gates, as the table of document 01, "Gates and wires", has them.
+-- The eight kinds of gates, as the table of kinds in document 01 has them, with the marks of request 2.6.
 use mathlib.Core.Bool.{Bool, true, false, cond}
 use mathlib.Core.List.{List, [], _∷_}
 use Prim.Native.Nat.{ℕ, _-_, min, max}
@@ -7,34 +7,34 @@ use lib.ListN.{getD}
 use Rattle.gates.specs.declared.kind.Applied.{Applied}
 use Rattle.gates.specs.declared.kind.Applied.the-variants.{Value, NoSuchKind}
 
--- The columns "operands" and "conditional" as the program's constant arrays have them.
+-- The columns of operand counts and of conditional marks, as the program's constant arrays have them.
 abbrev pub operandCounts : List ℕ
 operandCounts = 0 ∷ 0 ∷ 1 ∷ 1 ∷ 2 ∷ 2 ∷ 2 ∷ 3 ∷ []
 
 abbrev pub conditionalMarks : List Bool
 conditionalMarks = false ∷ false ∷ false ∷ false ∷ true ∷ true ∷ false ∷ true ∷ []
 
--- The column "operands": how many a kind uses, of a, b, c in this order.
+-- How many operands a kind uses, of a, b, c in this order.
 unfoldable pub operandsOf : ℕ → ℕ
 operandsOf kind = getD operandCounts kind 0
 
--- The column "conditional".
+-- Whether a kind is conditional.
 unfoldable pub conditionalOf : ℕ → Bool
 conditionalOf kind = getD conditionalMarks kind false
 
--- "1 exactly when a and b differ".
+-- Whether two numbers differ, as a bit.
 unfoldable pub differ : ℕ → ℕ → ℕ
 differ a b = cond (eqb a b) 0 1
 
--- "b where a is 1, c where a is 0".
+-- The first number chooses between the other two.
 unfoldable pub choose : ℕ → ℕ → ℕ → ℕ
 choose a b c = cond (eqb a 0) c b
 
--- The column "value", from the values of the operands. Of two bits, "a and b" is the smaller and "a or b" the larger. A kind above 7 has no value; where a number must stand it is 0.
+-- The value of a kind from the values of its operands. The conjunction of two bits is the smaller, their disjunction the larger. A kind above 7 has no value; where a number must stand it is 0.
 unfoldable pub valueOf : ℕ → ℕ → ℕ → ℕ → ℕ
 valueOf kind a b c =
     getD (0 ∷ 1 ∷ a ∷ (1 - a) ∷ min a b ∷ max a b ∷ differ a b ∷ choose a b c ∷ []) kind 0
 
--- "One match over kinds 0 to 7 with a range for all above, giving the gate's value or its refusal."
+-- The value where there is such a kind, and else its refusal.
 unfoldable pub applied : ℕ → ℕ → ℕ → ℕ → Applied
 applied kind a b c = cond (ltb kind 8) (Value (valueOf kind a b c)) NoSuchKind

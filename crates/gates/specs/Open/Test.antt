@@ -12,19 +12,19 @@ use Rattle.gates.specs.declared.place.Place.the-variants.{At, Nowhere}
 use Rattle.gates.specs.declared.list.Tested.{Tested}
 use Rattle.gates.specs.declared.list.Tested.the-variants.{Accepted, PartOfAGate, TooFewGates, TooManyGates, BadGate}
 
--- "An operand in use names a wire with a smaller number than the gate's own; an operand not in use is 0."
+-- An operand that its kind uses has to point to an earlier wire; any other has to be 0.
 unfoldable pub goodOperand : Bool → ℕ → ℕ → Bool
 goodOperand true own x = ltb x own
 goodOperand false own x = eqb x 0
 
--- Not "a kind above 7, an operand in use that is not below its own wire, or an unused operand that is not 0".
+-- A gate is good where its kind is one of the eight and its three operands are good.
 unfoldable pub goodGate : ℕ → Gate → Bool
 goodGate own g =
     ltb (g .kind) 8 && goodOperand (ltb 0 (operandsOf (g .kind))) own (g .a)
     && goodOperand (ltb 1 (operandsOf (g .kind))) own (g .b)
     && goodOperand (ltb 2 (operandsOf (g .kind))) own (g .c)
 
--- "the place is the first such gate": the first gate that is not good. Gate g of the whole list comes first here, and makes wire inputs + g.
+-- The place of the first gate that is not good. Gate g of the whole list comes first here, and makes wire inputs + g.
 unfoldable pub firstBad : ℕ → ℕ → List Gate → Place
 firstBad inputs g [] = Nowhere
 firstBad inputs g (x ∷ xs) = cond (goodGate (inputs + g) x) (firstBad inputs (suc g) xs) (At g)
@@ -34,7 +34,7 @@ unfoldable pub judged : Place → ℕ → ℕ → Tested
 judged (At g) gates conditional = BadGate g
 judged Nowhere gates conditional = Accepted gates conditional
 
--- "its length is not a multiple of four or it has fewer than k or more than 1,048,576 gates", then its gates, k being the number of outputs.
+-- First the length: whole gates, at least one for each of the k outputs, and at most 2 ^ 20 of them. Then the gates.
 unfoldable pub tested : ℕ → ℕ → List ℕ → Tested
 tested inputs k table =
     cond (not (eqb (length table % 4) 0)) PartOfAGate

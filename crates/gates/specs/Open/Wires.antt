@@ -13,11 +13,11 @@ wire ws i = getD ws i 0
 unfoldable pub value : List ℕ → Gate → ℕ
 value ws g = valueOf (g .kind) (wire ws (g .a)) (wire ws (g .b)) (wire ws (g .c))
 
--- "Gate g, counted from 0, makes wire I + g": each gate adds one wire to those before it. The first wires are the inputs.
+-- Each gate in turn adds one wire behind those that are there; the first wires are the inputs. So gate g of the list has wire inputs + g.
 unfoldable pub wiresOf : List ℕ → List Gate → List ℕ
 wiresOf ws [] = ws
 wiresOf ws (g ∷ gs) = wiresOf (ws ++ (value ws g ∷ [])) gs
 
--- "the wires of the last k gates, in order. They are the closing bytes": the last k wires are the outputs.
+-- The last k wires are the outputs, which a jury calls its closing bytes.
 unfoldable pub outputsOf : ℕ → List ℕ → List ℕ
 outputsOf k ws = drop (length ws - k) ws
