@@ -3,7 +3,7 @@ use Prim.Native.Nat.{ℕ, _+_, _*_}
 use Rattle.jury.specs.declared.shape.Shape.{Shape}
 use Rattle.jury.specs.Width.{widthOf}
 
--- "G for a shape is at most 2kdnw + kd(30w + 20) + k²(20w + 6d + 20) + 2", w being the width of n.
+-- The bound of [bound], w being the width of n.
 unfoldable pub boundOf : ℕ → ℕ → ℕ → ℕ → ℕ
 boundOf k d n w = 2 * k * d * n * w + k * d * (30 * w + 20) + k * k * (20 * w + 6 * d + 20) + 2
 

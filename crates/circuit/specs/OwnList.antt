@@ -42,6 +42,6 @@ circuit p =
     ∷ candidate p (p .inputs + 2) 0
     ++ rounds p (candidateEnd p (p .inputs + 2)) (keyOf p (p .inputs + 2)) 0 1 (p .candidates - 1)
 
--- "A single candidate wins": one gate says so.
+-- A single candidate wins, and one gate says so.
 unfoldable pub ownList : Shape → List Gate
 ownList s = cond (eqb (s .candidates) 1) (constant 1 ∷ []) (circuit (planOf s))

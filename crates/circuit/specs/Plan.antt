@@ -33,7 +33,7 @@ pub record Planned (p : Plan) : Type 0 where
   pub worst-is : p .worst + 1 + p .ballots / 2 ≡ 2 ^ p .digits
   pub inputs-is : p .inputs ≡ p .ballots * p .candidates * p .grades
 
--- Candidate c's bits of grade g: the first stands in the first ballot, "candidate after candidate, best grade first", and the next ones a ballot apart each.
+-- Candidate c's bits of grade g: the first stands in the first ballot, by the layout of [ballot], and the next ones a ballot apart each.
 abbrev pub bitsAt : Plan → ℕ → ℕ → ℕ
 bitsAt p c g = c * p .grades + g
 

@@ -48,7 +48,7 @@ unfoldable pub middleGrades : Plan → ℕ → ℕ → ℕ → ℕ → List Gate
 middleGrades p a c g zero = []
 middleGrades p a c g (suc t) = middleGrade p a c g ++ middleGrades p (a + middleSpan p) c (g + 1) t
 
--- The worst grade but one. Its sum is n less the count of the worst grade, since "for each candidate the grade counts add up to n".
+-- The worst grade but one. Its sum is n less the count of the worst grade, since the counts of a candidate add up to n [sum].
 unfoldable pub lastSpan : Plan → ℕ
 lastSpan p = 3 * p .digits + 1 + countSize (p .ballots) (p .worst) (p .digits) + (p .digits + 1)
 

@@ -1,4 +1,4 @@
-// "Count plainly" as a C program calls it.
+// Counting plainly, as a C program calls it.
 use crate::answer::SHORT_ANSWER;
 use crate::answer::put_count;
 use jury::reason::Refusal;

@@ -1,4 +1,4 @@
-// "Measure a shape" as a C program calls it.
+// Measuring a shape, as a C program calls it.
 use crate::answer::SHORT_ANSWER;
 use crate::answer::put_measures;
 use jury::reason::Refusal;

@@ -1,4 +1,4 @@
-// "Run a list" as a C program calls it.
+// Running a list, as a C program calls it.
 use crate::answer::SHORT_ANSWER;
 use crate::answer::put_size;
 use jury::reason::Refusal;

@@ -1,4 +1,4 @@
-// "Write the list of a shape" as a C program calls it.
+// Writing the list of a shape, as a C program calls it.
 use crate::answer::SHORT_ANSWER;
 use crate::answer::put_size;
 use jury::reason::Refusal;

@@ -1,4 +1,4 @@
--- The entry point "Count plainly".
+-- The entry point [count].
 use mathlib.Core.Option.{Option, none, some}
 use mathlib.Core.List.{List, [], _∷_}
 use Prim.Native.Nat.{ℕ}

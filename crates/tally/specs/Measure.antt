@@ -1,4 +1,4 @@
--- The entry point "Measure a shape".
+-- The entry point [measure].
 use mathlib.Core.List.{[], _∷_}
 use Prim.Native.Nat.{ℕ}
 use lib.ListN.{length}

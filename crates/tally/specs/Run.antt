@@ -1,4 +1,4 @@
--- The entry point "Run a list".
+-- The entry point [run].
 use mathlib.Core.Option.{Option, none, some}
 use mathlib.Core.List.{List, [], _∷_, _++_}
 use Prim.Native.Nat.{ℕ, _+_}

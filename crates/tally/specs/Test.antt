@@ -1,4 +1,4 @@
--- The entry point "Test a list".
+-- The entry point [test].
 use mathlib.Core.Option.{Option}
 use mathlib.Core.List.{List, [], _∷_}
 use Prim.Native.Nat.{ℕ}

@@ -1,4 +1,4 @@
--- The entry point "Write the list of a shape".
+-- The entry point [write].
 use mathlib.Core.Path.{_≡_}
 use mathlib.Core.Option.{Option, none, some}
 use mathlib.Core.List.{List, [], _∷_, _++_}

@@ -1,4 +1,4 @@
-// The entry point "Count plainly".
+// The entry point [count].
 use jury::reason::Refusal;
 use jury::reason::Verdict;
 use jury::shape::Shape;

@@ -1,4 +1,4 @@
-// The entry point "Measure a shape".
+// The entry point [measure].
 use jury::reason::Refusal;
 use jury::shape::Shape;
 ghost use mathlib.Core.Path.{_≡_};

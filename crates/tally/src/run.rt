@@ -1,4 +1,4 @@
-// The entry point "Run a list".
+// The entry point [run].
 use crate::answer::Answer;
 use gates::place::Place;
 use jury::reason::Refusal;

@@ -1,4 +1,4 @@
-// The entry point "Test a list".
+// The entry point [test].
 use crate::answer::Answer;
 use gates::list::Tested;
 use jury::reason::Refusal;

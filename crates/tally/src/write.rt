@@ -1,4 +1,4 @@
-// The entry point "Write the list of a shape".
+// The entry point [write].
 use crate::answer::Answer;
 use jury::reason::Refusal;
 use jury::shape::Shape;
