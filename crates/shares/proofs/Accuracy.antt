@@ -119,14 +119,14 @@ unfolding part
 part-new ws v n e = rw (sym e) (getD-append-seam ws v [] 0)
 
 -- a conditional gate has at least two operands
-conditional-operands : (kind : ℕ) → kind < 8 → conditionalOf kind ≡ true → 2 ≤ operandsOf kind
+pub conditional-operands : (kind : ℕ) → kind < 8 → conditionalOf kind ≡ true → 2 ≤ operandsOf kind
 conditional-operands kind h = each-kind (λ k. conditionalOf k ≡ true → 2 ≤ operandsOf k) (none 0 (marks .0)) (none 1 (marks .1)) (none 2 (marks .2)) (none 3 (marks .3))
     (λ e. omega (arith, operand-counts .4)) (λ e. omega (arith, operand-counts .5)) (λ e. omega (arith, operand-counts .6)) (λ e. omega (arith, operand-counts .7)) kind h
   where
     none : (k : ℕ) → conditionalOf k ≡ false → conditionalOf k ≡ true → 2 ≤ operandsOf k
     none k e f = let z : false ≡ true = sym e ∙ f in let y : _≡_ {A = ℕ} 0 1 = cc in absurd (omega arith)
 
-choice-operands : (kind : ℕ) → eqb kind 7 ≡ true → 2 < operandsOf kind
+pub choice-operands : (kind : ℕ) → eqb kind 7 ≡ true → 2 < operandsOf kind
 choice-operands kind e = rw (eqb-true kind 7 e) (omega (arith, operand-counts .7))
 
 -- the conditional gates of a list, by marks
@@ -146,7 +146,7 @@ second-opens t B C b c false e f = e
 
 module _ (t : ℕ) (some : 1 ≤ t) (dealt : Held) (w : ℕ → ℕ) (bits : (x : ℕ) → w x ≤ 1) where
   -- the wire of one gate
-  gate-opens : (n i : ℕ) (g : Gate) (held : Held) → GoodGate n g → (conditionalOf (g .kind) ≡ true → Triple t dealt i) → Split t w held n
+  pub gate-opens : (n i : ℕ) (g : Gate) (held : Held) → GoodGate n g → (conditionalOf (g .kind) ≡ true → Triple t dealt i) → Split t w held n
       → opened t (newPart t dealt held i g) ≡ valueOf (g .kind) (w (g .a)) (w (g .b)) (w (g .c))
   unfolding newPart openedFirst openedSecond maskedFirst maskedSecond firstFactor secondFactor productBy
   gate-opens n i g held good triple s =
@@ -165,7 +165,7 @@ module _ (t : ℕ) (some : 1 ≤ t) (dealt : Held) (w : ℕ → ℕ) (bits : (x 
           ∙ rw (a, second-opens t B C (w (g .b)) (w (g .c)) (eqb (g .kind) 7) b (λ e. s .sums (g .c) (good .c-below (choice-operands (g .kind) e)))))
 
   -- the wire of one gate more
-  more : (n i : ℕ) (g : Gate) (held : Held) → T (goodGate n g) → w n ≡ valueOf (g .kind) (w (g .a)) (w (g .b)) (w (g .c))
+  pub more : (n i : ℕ) (g : Gate) (held : Held) → T (goodGate n g) → w n ≡ valueOf (g .kind) (w (g .a)) (w (g .b)) (w (g .c))
       → (conditionalOf (g .kind) ≡ true → Triple t dealt i) → Split t w held n → Split t w (λ p. held p ++ (newPart t dealt held i g p ∷ [])) (suc n)
   more n i g held good is triple s =
       let new : ℕ → ℕ = newPart t dealt held i g in

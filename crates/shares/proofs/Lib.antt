@@ -1,3 +1,6 @@
 pub mod SumLaws
 pub mod Products
 pub mod Accuracy
+pub mod Tables
+pub mod Lists
+pub mod Exchange
