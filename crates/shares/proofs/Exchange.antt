@@ -16,7 +16,7 @@ use Rattle.gates.specs.Board.{conditionalCount}
 use Rattle.gates.specs.Test.{goodGate}
 use Rattle.gates.proofs.KindLaws.{each-kind}
 use Rattle.gates.proofs.Goodness.{GoodGate, good-gate}
-use Rattle.gates.proofs.Laws.{AllGood, Holds, marks}
+use Rattle.gates.proofs.Laws.{AllGood, Holds, operand-counts, marks}
 use Rattle.shares.specs.Shares.{sumOf, opened, part, uOf, vOf, firstFactor, secondFactor, maskedFirst, maskedSecond, entered, productPart, partOfKind, Held, openedFirst, openedSecond, newPart, markOf, partsOf}
 use Rattle.shares.proofs.SumLaws.{sum-change}
 use Rattle.shares.proofs.Products.{Triple}
@@ -54,10 +54,11 @@ ignores p kind a b c z y h =
     never k e f = let s : true ≡ false = sym e ∙ f in let x : _≡_ {A = ℕ} 0 1 = cc in absurd (omega arith)
 
 -- parts of gates are bits
-new-bit : (p kind a b c z : ℕ) → kind < 8 → a ≤ 1 → z ≤ 1 → partOfKind p kind a b c z ≤ 1
+new-bit : (p kind a b c z : ℕ) → kind < 8 → (0 < operandsOf kind → a ≤ 1) → z ≤ 1 → partOfKind p kind a b c z ≤ 1
 unfolding partOfKind entered
 new-bit p kind a b c z h ha hz =
-    each-kind (λ k. partOfKind p k a b c z ≤ 1) (omega arith) (one p) ha (omega arith) hz (omega arith) (omega arith) (omega arith) kind h
+    each-kind (λ k. (0 < operandsOf k → a ≤ 1) → partOfKind p k a b c z ≤ 1)
+    (λ u. omega arith) (λ u. one p) (λ u. u (omega (arith, operand-counts .2))) (λ u. omega arith) (λ u. hz) (λ u. omega arith) (λ u. omega arith) (λ u. omega arith) kind h ha
   where
     one : (p : ℕ) → entered p 1 ≤ 1
     one zero = omega arith
@@ -143,3 +144,105 @@ module _ (t q : ℕ) (hq : q < t) (vs ws : ℕ → ℕ) (bv : (x : ℕ) → vs x
               ≡ (cond (eqb (g .kind) 7) ((part (held p) (g .b) + part (held p) (g .c)) % 2) (part (held p) (g .b)) + vOf (dealt p) i) % 2
           go true e = let k : p ≡ q = eqb-true p q e in rw k (chosen (eqb (g .kind) 7) refl (d .v-is))
           go false e = rw (s .others p h (eqb-false p q e), same-dealt p h (eqb-false p q e))
+
+    module _ (held held′ : Held) (n i : ℕ) (g : Gate) (ok : T (goodGate n g)) (s : Same held held′ n) (d : conditionalOf (g .kind) ≡ true → DealtAt i g) where
+      good : GoodGate n g
+      good = good-gate n g ok
+
+      new : ℕ → ℕ
+      new = newPart t dealt held i g
+
+      new′ : ℕ → ℕ
+      new′ = newPart t dealt′ held′ i g
+
+      -- the others' parts of the gate's wire
+      new-others : (p : ℕ) → p < t → p ≢ q → new′ p ≡ new p
+      unfolding new new′ newPart openedFirst openedSecond
+      new-others p h other = rw (s .others p h other, same-dealt p h other) (go (conditionalOf (g .kind)) refl)
+        where
+          go : (b : Bool) → conditionalOf (g .kind) ≡ b
+              → partOfKind p (g .kind) (part (held p) (g .a)) (part (held p) (g .b)) (part (held p) (g .c)) (productPart p (dealt p) i (opened t (λ r. maskedFirst (held′ r) (dealt′ r) i g)) (opened t (λ r. maskedSecond (held′ r) (dealt′ r) i g)))
+              ≡ partOfKind p (g .kind) (part (held p) (g .a)) (part (held p) (g .b)) (part (held p) (g .c)) (productPart p (dealt p) i (opened t (λ r. maskedFirst (held r) (dealt r) i g)) (opened t (λ r. maskedSecond (held r) (dealt r) i g)))
+          go true is =
+              rw (
+                opened-same t (λ r. maskedFirst (held′ r) (dealt′ r) i g) (λ r. maskedFirst (held r) (dealt r) i g) (first-same held held′ n i g good s is (d is)),
+                opened-same t (λ r. maskedSecond (held′ r) (dealt′ r) i g) (λ r. maskedSecond (held r) (dealt r) i g) (second-same held held′ n i g good s is (d is)),
+              )
+          go false is =
+              ignores p (g .kind) (part (held p) (g .a)) (part (held p) (g .b)) (part (held p) (g .c))
+              (productPart p (dealt p) i (opened t (λ r. maskedFirst (held′ r) (dealt′ r) i g)) (opened t (λ r. maskedSecond (held′ r) (dealt′ r) i g)))
+              (productPart p (dealt p) i (opened t (λ r. maskedFirst (held r) (dealt r) i g)) (opened t (λ r. maskedSecond (held r) (dealt r) i g))) (good .known) is
+
+      new-is-bit : new q ≤ 1
+      unfolding new newPart
+      new-is-bit =
+          new-bit q (g .kind) (part (held q) (g .a)) (part (held q) (g .b)) (part (held q) (g .c)) (productPart q (dealt q) i (openedFirst t dealt held i g) (openedSecond t dealt held i g)) (good .known)
+          (λ u. s .bits (g .a) (good .a-below u)) (product-bit q (dealt q) i (openedFirst t dealt held i g) (openedSecond t dealt held i g))
+
+      left-out-bit : (x : ℕ) → x < n → part (held′ q) x ≤ 1
+      left-out-bit x h = omega (arith, s .left-out x h)
+
+      new-is-bit′ : new′ q ≤ 1
+      unfolding new′ newPart
+      new-is-bit′ =
+          new-bit q (g .kind) (part (held′ q) (g .a)) (part (held′ q) (g .b)) (part (held′ q) (g .c)) (productPart q (dealt′ q) i (openedFirst t dealt′ held′ i g) (openedSecond t dealt′ held′ i g)) (good .known)
+          (λ u. left-out-bit (g .a) (good .a-below u)) (product-bit q (dealt′ q) i (openedFirst t dealt′ held′ i g) (openedSecond t dealt′ held′ i g))
+
+      module _ (triple : conditionalOf (g .kind) ≡ true → Triple t dealt i) (triple′ : conditionalOf (g .kind) ≡ true → Triple t dealt′ i)
+          (is : vs n ≡ valueOf (g .kind) (vs (g .a)) (vs (g .b)) (vs (g .c))) (is′ : ws n ≡ valueOf (g .kind) (ws (g .a)) (ws (g .b)) (ws (g .c))) where
+        -- q's part of it: the sums of all parts are the two wires
+        new-left-out : new′ q ≡ (new q + diff n) % 2
+        unfolding opened diff new new′
+        new-left-out =
+            let a : opened t new ≡ vs n = gate-opens t (omega arith) dealt vs bv n i g held good triple (s .split) ∙ sym is in
+            let b : opened t new′ ≡ ws n = gate-opens t (omega arith) dealt′ ws bw n i g held′ good triple′ (s .split′) ∙ sym is′ in
+            differ (sumOf t new) (sumOf t new′) (new q) (new′ q) (vs n) (ws n) a b (sum-change t q new′ new hq new-others) new-is-bit′
+          where
+            differ : (a b x y v w : ℕ) → a % 2 ≡ v → b % 2 ≡ w → b + x ≡ a + y → y ≤ 1 → y ≡ (x + (v + w) % 2) % 2
+            differ a b x y v w ha hb e h = omega arith
+
+        pub same-more : Same (λ p. held p ++ (newPart t dealt held i g p ∷ [])) (λ p. held′ p ++ (newPart t dealt′ held′ i g p ∷ [])) (suc n)
+        unfolding new new′
+        same-more =
+            record {
+              split = more t (omega arith) dealt vs bv n i g held ok is triple (s .split);
+              split′ = more t (omega arith) dealt′ ws bw n i g held′ ok is′ triple′ (s .split′);
+              others = λ (p : ℕ) h other. rw (s .others p h other, new-others p h other);
+              left-out = λ (x : ℕ) h. at x h (ltb x n) refl;
+              bits = λ (x : ℕ) h. bit x h (ltb x n) refl;
+            }
+          where
+            at : (x : ℕ) → x < suc n → (b : Bool) → ltb x n ≡ b → part (held′ q ++ (new′ q ∷ [])) x ≡ (part (held q ++ (new q ∷ [])) x + diff x) % 2
+            at x h true e =
+                rw (part-before (held′ q) (new′ q) n x (s .split′ .sizes q hq) (ltb-true x n e), part-before (held q) (new q) n x (s .split .sizes q hq) (ltb-true x n e)) (s .left-out x (ltb-true x n e))
+            at x h false e =
+                let m : x ≡ n = omega (arith, ltb-false x n e) in
+                rw (m, part-new (held′ q) (new′ q) n (s .split′ .sizes q hq), part-new (held q) (new q) n (s .split .sizes q hq)) new-left-out
+            bit : (x : ℕ) → x < suc n → (b : Bool) → ltb x n ≡ b → part (held q ++ (new q ∷ [])) x ≤ 1
+            bit x h true e = rw (part-before (held q) (new q) n x (s .split .sizes q hq) (ltb-true x n e)) (s .bits x (ltb-true x n e))
+            bit x h false e =
+                let m : x ≡ n = omega (arith, ltb-false x n e) in
+                rw (m, part-new (held q) (new q) n (s .split .sizes q hq)) new-is-bit
+
+    -- all gates of a list
+    pub same-parts : (n i : ℕ) (gs : List Gate) (held held′ : Held) → AllGood n gs → Holds vs n gs → Holds ws n gs
+        → ((j : ℕ) → i ≤ j → j < i + conditionalCount gs → Triple t dealt j × Triple t dealt′ j)
+        → ((j : ℕ) → j < conditionalCount gs → DealtAt (i + j) (nthConditional gs j))
+        → Same held held′ n → Same (partsOf t dealt held i gs) (partsOf t dealt′ held′ i gs) (n + length gs)
+    unfolding partsOf
+    same-parts n i [] held held′ good holds holds′ triples d s = rw (add-zero n) s
+    same-parts n i (g ∷ gs) held held′ good holds holds′ triples d s =
+        let c = count-mark g gs in
+        let next : Held = λ p. held p ++ (newPart t dealt held i g p ∷ []) in
+        let next′ : Held = λ p. held′ p ++ (newPart t dealt′ held′ i g p ∷ []) in
+        subst (λ (m : ℕ). Same (partsOf t dealt next (i + markOf g) gs) (partsOf t dealt′ next′ (i + markOf g) gs) m) (omega arith)
+        (same-parts (suc n) (i + markOf g) gs next next′ (good .1) (holds .1) (holds′ .1)
+        (λ (j : ℕ) l h. triples j (omega arith) (omega arith))
+        (λ (j : ℕ) h.
+            let a : i + (markOf g + j) ≡ i + markOf g + j = omega arith in
+            subst (λ (x : Gate). DealtAt (i + markOf g + j) x) (nth-next g gs j) (subst (λ (m : ℕ). DealtAt m (nthConditional (g ∷ gs) (markOf g + j))) a (d (markOf g + j) (omega arith))))
+        (same-more held held′ n i g (good .0) s (λ is. first is (d 0 (omega (arith, mark-one g is))))
+        (λ is. triples i (omega arith) (omega (arith, mark-one g is)) .0) (λ is. triples i (omega arith) (omega (arith, mark-one g is)) .1) (holds .0) (holds′ .0)))
+      where
+        first : conditionalOf (g .kind) ≡ true → DealtAt (i + 0) (nthConditional (g ∷ gs) 0) → DealtAt i g
+        first is x = subst (λ (h : Gate). DealtAt i h) (nth-first g gs is) (subst (λ (m : ℕ). DealtAt m (nthConditional (g ∷ gs) 0)) (add-zero i) x)
