@@ -4,3 +4,4 @@ pub mod Accuracy
 pub mod Tables
 pub mod Lists
 pub mod Exchange
+pub mod Publishing

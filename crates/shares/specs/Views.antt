@@ -2,7 +2,7 @@
 use mathlib.Core.Path.{_≡_}
 use mathlib.Core.Bool.{cond}
 use mathlib.Core.List.{List, [], _∷_, _++_}
-use Prim.Native.Nat.{ℕ, zero, suc, _+_, _*_, _≤_, _<_}
+use Prim.Native.Nat.{ℕ, zero, suc, _+_, _-_, _*_, _≤_, _<_}
 use lib.Dec.{eqb}
 use lib.ListN.{length, getD, take, drop}
 use Rattle.gates.specs.Kind.{conditionalOf}
@@ -52,8 +52,11 @@ maskedFactors parts dealt i [] = []
 maskedFactors parts dealt i (g ∷ gs) =
     cond (conditionalOf (g .kind)) (maskedFirst parts dealt i g ∷ maskedSecond parts dealt i g ∷ maskedFactors parts dealt (i + 1) gs) (maskedFactors parts dealt i gs)
 
+unfoldable pub closingParts : ℕ → List ℕ → List ℕ
+closingParts k parts = drop (length parts - k) parts
+
 unfoldable pub publishedOf : ℕ → ℕ → List Gate → ℕ → Dealing → Held
-publishedOf t inputs gs k d p = maskedFactors (wirePartsOf t inputs gs d p) (dealtOf gs d p) 0 gs ++ outputsOf k (wirePartsOf t inputs gs d p)
+publishedOf t inputs gs k d p = maskedFactors (wirePartsOf t inputs gs d p) (dealtOf gs d p) 0 gs ++ closingParts k (wirePartsOf t inputs gs d p)
 
 -- The pieces of all trustees but q.
 unfoldable pub othersOf : ℕ → ℕ → Held → List (List ℕ)
