@@ -88,10 +88,10 @@ sums-differ a a′ b b′ x y e f =
 
 module _ (t q : ℕ) (hq : q < t) (vs ws : ℕ → ℕ) (bv : (x : ℕ) → vs x ≤ 1) (bw : (x : ℕ) → ws x ≤ 1) (dealt dealt′ : Held) where
   -- the difference of two wires
-  pub diff : ℕ → ℕ
+  unfoldable pub diff : ℕ → ℕ
   diff x = (vs x + ws x) % 2
 
-  pub diffSecond : Gate → ℕ
+  unfoldable pub diffSecond : Gate → ℕ
   diffSecond g = cond (eqb (g .kind) 7) ((diff (g .b) + diff (g .c)) % 2) (diff (g .b))
 
   -- the dealer parts of a conditional gate: q's bits of u and v differ as the factors do

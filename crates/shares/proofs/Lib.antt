@@ -5,3 +5,4 @@ pub mod Tables
 pub mod Lists
 pub mod Exchange
 pub mod Publishing
+pub mod Hiding

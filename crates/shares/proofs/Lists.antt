@@ -9,7 +9,7 @@ use lib.Seq.{ext-getD}
 use Rattle.shares.specs.Shares.{uOf, vOf, productOf}
 
 -- the values of f at 0, 1, and so on
-pub made : ℕ → (ℕ → ℕ) → List ℕ
+unfoldable pub made : ℕ → (ℕ → ℕ) → List ℕ
 made zero f = []
 made (suc n) f = f 0 ∷ made n (λ i. f (suc i))
 
@@ -25,7 +25,7 @@ made-at (suc n) f zero h = refl
 made-at (suc n) f (suc i) h = made-at n (λ j. f (suc j)) i (omega arith)
 
 -- n triples
-pub triples : ℕ → (ℕ → ℕ) → (ℕ → ℕ) → (ℕ → ℕ) → List ℕ
+unfoldable pub triples : ℕ → (ℕ → ℕ) → (ℕ → ℕ) → (ℕ → ℕ) → List ℕ
 triples zero u v w = []
 triples (suc n) u v w = u 0 ∷ v 0 ∷ w 0 ∷ triples n (λ i. u (suc i)) (λ i. v (suc i)) (λ i. w (suc i))
 
