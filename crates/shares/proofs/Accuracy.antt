@@ -158,11 +158,11 @@ module _ (t : ℕ) (some : 1 ≤ t) (dealt : Held) (w : ℕ → ℕ) (bits : (x 
       gives t some A B C Z (w (g .a)) (w (g .b)) (w (g .c)) (bits (g .a)) (bits (g .b)) (bits (g .c)) (g .kind) (good .known)
       (λ h. s .sums (g .a) (good .a-below h)) (λ h. s .sums (g .b) (good .b-below h)) (λ h. s .sums (g .c) (good .c-below h))
       (λ h.
-          let k = conditional-operands (g .kind) (good .known) h in
-          let a = s .sums (g .a) (good .a-below (omega arith)) in
-          let b = s .sums (g .b) (good .b-below (omega arith)) in
-          product-opens t dealt i A Y some (triple h)
-          ∙ rw (a, second-opens t B C (w (g .b)) (w (g .c)) (eqb (g .kind) 7) b (λ e. s .sums (g .c) (good .c-below (choice-operands (g .kind) e)))))
+      let k = conditional-operands (g .kind) (good .known) h in
+      let a = s .sums (g .a) (good .a-below (omega arith)) in
+      let b = s .sums (g .b) (good .b-below (omega arith)) in
+      product-opens t dealt i A Y some (triple h)
+      ∙ rw (a, second-opens t B C (w (g .b)) (w (g .c)) (eqb (g .kind) 7) b (λ e. s .sums (g .c) (good .c-below (choice-operands (g .kind) e)))))
 
   -- the wire of one gate more
   pub more : (n i : ℕ) (g : Gate) (held : Held) → T (goodGate n g) → w n ≡ valueOf (g .kind) (w (g .a)) (w (g .b)) (w (g .c))
@@ -176,6 +176,7 @@ module _ (t : ℕ) (some : 1 ≤ t) (dealt : Held) (w : ℕ → ℕ) (bits : (x 
     where
       new : ℕ → ℕ
       new = newPart t dealt held i g
+
       at : (x : ℕ) → x < suc n → (b : Bool) → ltb x n ≡ b → opened t (λ p. part (held p ++ (new p ∷ [])) x) ≡ w x
       at x h true e =
           opened-same t (λ p. part (held p ++ (new p ∷ [])) x) (λ p. part (held p) x) (λ (p : ℕ) l. part-before (held p) (new p) n x (s .sizes p l) (ltb-true x n e))

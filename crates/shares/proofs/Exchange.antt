@@ -72,7 +72,7 @@ product-bit p dealt i e f = omega arith
 cancels : (s s′ v v′ z : ℕ) → s′ % 2 ≡ (s + z) % 2 → v′ % 2 ≡ (v + z) % 2 → (s′ % 2 + v′) % 2 ≡ (s % 2 + v) % 2
 cancels s s′ v v′ z e f = omega arith
 
-add-mods : (a b : ℕ) → (a % 2 + b % 2) % 2 ≡ (a + b) % 2
+pub add-mods : (a b : ℕ) → (a % 2 + b % 2) % 2 ≡ (a + b) % 2
 add-mods a b = omega arith
 
 add-mod : (a b : ℕ) → (a + b % 2) % 2 ≡ (a + b) % 2
@@ -139,6 +139,7 @@ module _ (t q : ℕ) (hq : q < t) (vs ws : ℕ → ℕ) (bv : (x : ℕ) → vs x
           chosen false e v =
               let l = s .left-out (g .b) (good .b-below (omega (arith, operands))) in
               omega (arith, l, v)
+
           go : (b : Bool) → eqb p q ≡ b
               → (cond (eqb (g .kind) 7) ((part (held′ p) (g .b) + part (held′ p) (g .c)) % 2) (part (held′ p) (g .b)) + vOf (dealt′ p) i) % 2
               ≡ (cond (eqb (g .kind) 7) ((part (held p) (g .b) + part (held p) (g .c)) % 2) (part (held p) (g .b)) + vOf (dealt p) i) % 2
@@ -218,6 +219,7 @@ module _ (t q : ℕ) (hq : q < t) (vs ws : ℕ → ℕ) (bv : (x : ℕ) → vs x
             at x h false e =
                 let m : x ≡ n = omega (arith, ltb-false x n e) in
                 rw (m, part-new (held′ q) (new′ q) n (s .split′ .sizes q hq), part-new (held q) (new q) n (s .split .sizes q hq)) new-left-out
+
             bit : (x : ℕ) → x < suc n → (b : Bool) → ltb x n ≡ b → part (held q ++ (new q ∷ [])) x ≤ 1
             bit x h true e = rw (part-before (held q) (new q) n x (s .split .sizes q hq) (ltb-true x n e)) (s .bits x (ltb-true x n e))
             bit x h false e =
@@ -239,8 +241,8 @@ module _ (t q : ℕ) (hq : q < t) (vs ws : ℕ → ℕ) (bv : (x : ℕ) → vs x
         (same-parts (suc n) (i + markOf g) gs next next′ (good .1) (holds .1) (holds′ .1)
         (λ (j : ℕ) l h. triples j (omega arith) (omega arith))
         (λ (j : ℕ) h.
-            let a : i + (markOf g + j) ≡ i + markOf g + j = omega arith in
-            subst (λ (x : Gate). DealtAt (i + markOf g + j) x) (nth-next g gs j) (subst (λ (m : ℕ). DealtAt m (nthConditional (g ∷ gs) (markOf g + j))) a (d (markOf g + j) (omega arith))))
+        let a : i + (markOf g + j) ≡ i + markOf g + j = omega arith in
+        subst (λ (x : Gate). DealtAt (i + markOf g + j) x) (nth-next g gs j) (subst (λ (m : ℕ). DealtAt m (nthConditional (g ∷ gs) (markOf g + j))) a (d (markOf g + j) (omega arith))))
         (same-more held held′ n i g (good .0) s (λ is. first is (d 0 (omega (arith, mark-one g is))))
         (λ is. triples i (omega arith) (omega (arith, mark-one g is)) .0) (λ is. triples i (omega arith) (omega (arith, mark-one g is)) .1) (holds .0) (holds′ .0)))
       where

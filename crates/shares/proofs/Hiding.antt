@@ -18,16 +18,17 @@ use Rattle.gates.specs.Board.{conditionalCount, Bits}
 use Rattle.gates.specs.Test.{firstBad}
 use Rattle.gates.specs.Hiding.{ExactlyOne}
 use Rattle.gates.specs.declared.place.Place.the-variants.{Nowhere}
+use Rattle.gates.proofs.Goodness.{GoodGate}
 use Rattle.gates.proofs.WireLaws.{length-wires}
 use Rattle.gates.proofs.Laws.{AllGood, Holds, all-good, wires-hold, wires-start, wires-bits, wire-bit, output-is}
 use Rattle.shares.specs.Shares.{sumOf, opened, part, uOf, vOf, productOf, firstFactor, secondFactor, maskedFirst, maskedSecond, Held, partsOf}
 use Rattle.shares.specs.Views.{piece, joined, Dealing, ballotsOf, dealtOf, GoodDealing, wirePartsOf, maskedFactors, closingParts, publishedOf, othersOf, View, viewOf, ViewsHideInputs}
 use Rattle.shares.proofs.SumLaws.{sum-change}
 use Rattle.shares.proofs.Products.{Triple}
-use Rattle.shares.proofs.Accuracy.{Split, opened-same, parts-split}
+use Rattle.shares.proofs.Accuracy.{Split, opened-same, parts-split, conditional-operands, choice-operands}
 use Rattle.shares.proofs.Tables.{length-joined, piece-joined, whole-table, length-piece, joined-cong, joined-same, others-cong, others-same}
 use Rattle.shares.proofs.Lists.{made, length-made, made-at, triples, length-triples, triple-u, triple-v, triple-w, triples-same}
-use Rattle.shares.proofs.Exchange.{nthConditional, diff, diffSecond, DealtAt, Same, first-same, second-same, same-parts}
+use Rattle.shares.proofs.Exchange.{add-mods, nthConditional, diff, diffSecond, DealtAt, Same, first-same, second-same, same-parts}
 use Rattle.shares.proofs.Publishing.{nth-good, length-masked, AgreeAt, masked-cong, masked-same}
 
 -- one part changed by z changes the opened bit by z
@@ -103,6 +104,10 @@ swapped-all P q new f p a b = go (eqb p q)
     go : (c : Bool) → P (cond c new (f p))
     go true = a
     go false = b
+
+-- dealings of equal tables
+dealing-same : (a b : Dealing) → a .ballotParts ≡ b .ballotParts → a .dealerParts ≡ b .dealerParts → a ≡ b
+dealing-same a b e f = λ i. record { ballotParts = e i; dealerParts = f i }
 
 -- a product of bits is a bit
 bit-times : (x y : ℕ) → x ≤ 1 → y ≤ 1 → x * y ≤ 1
@@ -377,6 +382,7 @@ module _ (t q k : ℕ) (gs : List Gate) (xs ys : List ℕ) (d : Dealing) (hq : q
     where
       settle : (a b v w : ℕ) → b ≡ (a + (v + w) % 2) % 2 → v ≡ w → a ≤ 1 → b ≡ a
       settle a b v w e s h = omega arith
+
       at : (i : ℕ) → i < k → getD (drop (length (held′ q) - k) (held′ q)) i 0 ≡ getD (drop (length (held q) - k) (held q)) i 0
       at i h =
           let a = end .split .sizes q hq in
@@ -415,3 +421,177 @@ module _ (t q k : ℕ) (gs : List Gate) (xs ys : List ℕ) (d : Dealing) (hq : q
         others-cong t q (wirePartsOf t n gs d) (wirePartsOf t n gs second) (λ (p : ℕ) h e. sym (end .others p h e)),
         joined-cong t (publishedOf t n gs k d) (publishedOf t n gs k second) (λ (p : ℕ) h. sym (published-same p h)),
       )
+
+  -- any other dealing of the second inputs with that view is this one
+  module _ (e : Dealing) (fine : GoodDealing t gs ys e) (seen : viewOf t q n gs k second ≡ viewOf t q n gs k e) where
+    sees-bal : (p : ℕ) → p < t → p ≢ q → ballotsOf n e p ≡ ballotsOf n second p
+    unfolding viewOf
+    sees-bal p h o = sym (others-same t q (ballotsOf n second) (ballotsOf n e) (ap (λ (v : View). v .ballotParts) seen) p h o)
+
+    sees-dealt : (p : ℕ) → p < t → p ≢ q → dealtOf gs e p ≡ dealtOf gs second p
+    unfolding viewOf
+    sees-dealt p h o = sym (others-same t q (dealtOf gs second) (dealtOf gs e) (ap (λ (v : View). v .dealerParts) seen) p h o)
+
+    sees-parts : (p : ℕ) → p < t → p ≢ q → wirePartsOf t n gs e p ≡ wirePartsOf t n gs second p
+    unfolding viewOf
+    sees-parts p h o = sym (others-same t q (wirePartsOf t n gs second) (wirePartsOf t n gs e) (ap (λ (v : View). v .wireParts) seen) p h o)
+
+    -- its parts spell the same wires
+    size-bal : (p : ℕ) → p < t → length (ballotsOf n e p) ≡ n
+    unfolding ballotsOf n
+    size-bal p h = length-piece t (length xs) (e .ballotParts) p (omega (arith, fine .ballot-size, ap (λ (m : ℕ). t * m) same-length)) h
+
+    size-dealt : (p : ℕ) → p < t → length (dealtOf gs e p) ≡ 3 * C
+    unfolding dealtOf C
+    size-dealt p h = length-piece t (3 * conditionalCount gs) (e .dealerParts) p (fine .dealer-size) h
+
+    opens-e : (x : ℕ) → x < n → opened t (λ p. part (ballotsOf n e p) x) ≡ ws x
+    unfolding n
+    opens-e x h = subst (λ (m : ℕ). opened t (λ p. part (ballotsOf m e p) x) ≡ getD ys x 0) (sym same-length) (fine .ballot-sums x (omega arith)) ∙ sym (starts′ x h)
+
+    spells : Split t ws (wirePartsOf t n gs e) (n + length gs)
+    unfolding wirePartsOf
+    spells =
+        parts-split t (omega arith) (dealtOf gs e) ws bw n 0 gs (ballotsOf n e) good-list holds′ (λ (j : ℕ) l h. fine .products j (omega arith))
+        (record { sizes = size-bal; sums = opens-e })
+
+    -- so the left-out trustee's parts are equal, but for multiples of 2
+    parts-left : (x : ℕ) → x < n + length gs → part (wirePartsOf t n gs e q) x % 2 ≡ part (held′ q) x % 2
+    unfolding held′
+    parts-left x h =
+        opened-left t q (λ p. part (wirePartsOf t n gs second p) x) (λ p. part (wirePartsOf t n gs e p) x) hq (λ (p : ℕ) l o. ap (λ (z : List ℕ). part z x) (sees-parts p l o))
+        (spells .sums x h ∙ sym (end .split′ .sums x h))
+
+    bits-equal : (x y : ℕ) → x ≤ 1 → y ≤ 1 → x % 2 ≡ y % 2 → x ≡ y
+    bits-equal x y h l m = omega arith
+
+    part-bit : (l : List ℕ) → Bits l → (x : ℕ) → part l x ≤ 1
+    unfolding part
+    part-bit l b x = b x
+
+    bal-equal : (x : ℕ) → x < n → getD (ballotsOf n e q) x 0 ≡ getD (ballotsOf n second q) x 0
+    unfolding part ballotsOf
+    bal-equal x h =
+        bits-equal (part (ballotsOf n e q) x) (part (ballotsOf n second q) x)
+        (bits-piece n (e .ballotParts) q (fine .ballot-bits) x) (bits-piece n (second .ballotParts) q (second-good .ballot-bits) x)
+        (opened-left t q (λ p. part (ballotsOf n second p) x) (λ p. part (ballotsOf n e p) x) hq (λ (p : ℕ) l o. ap (λ (z : List ℕ). part z x) (sees-bal p l o)) (opens-e x h ∙ sym (opens-bal′ x h)))
+
+    same-bal : (p : ℕ) → p < t → ballotsOf n e p ≡ ballotsOf n second p
+    same-bal p h = go (eqb p q) refl
+      where
+        go : (b : Bool) → eqb p q ≡ b → ballotsOf n e p ≡ ballotsOf n second p
+        go true is =
+            let s : p ≡ q = eqb-true p q is in
+            rw s (ext-getD 0 (ballotsOf n e q) (ballotsOf n second q) (size-bal q hq ∙ sym (start .split′ .sizes q hq)) (λ (x : ℕ) l. bal-equal x (omega (arith, size-bal q hq))))
+        go false is = sees-bal p h (eqb-false p q is)
+
+    -- what the left-out trustee published
+    size-published : (f : Dealing) → ((p : ℕ) → p < t → length (wirePartsOf t n gs f p) ≡ n + length gs) → (p : ℕ) → p < t → length (publishedOf t n gs k f p) ≡ 2 * C + k
+    unfolding publishedOf closingParts C
+    size-published f l p h =
+        let parts = wirePartsOf t n gs f p in
+        omega (arith, length-append (maskedFactors parts (dealtOf gs f p) 0 gs) (drop (length parts - k) parts), length-masked parts (dealtOf gs f p) 0 gs, length-drop (length parts - k) parts, l p h)
+
+    publishes : publishedOf t n gs k e q ≡ publishedOf t n gs k second q
+    unfolding viewOf
+    publishes =
+        sym (joined-same t (2 * C + k) (publishedOf t n gs k second) (publishedOf t n gs k e)
+        (size-published second (unfold held′ in end .split′ .sizes)) (size-published e (spells .sizes)) (ap (λ (v : View). v .published) seen) q hq)
+
+    masked-agree : (j : ℕ) → j < C → AgreeAt (wirePartsOf t n gs e q) (held′ q) (dealtOf gs e q) (dealtOf gs second q) j (nthConditional gs j)
+    unfolding publishedOf held′ C
+    masked-agree j h =
+        let parts = wirePartsOf t n gs e q in
+        let parts′ = wirePartsOf t n gs second q in
+        let m = maskedFactors parts (dealtOf gs e q) 0 gs in
+        let m′ = maskedFactors parts′ (dealtOf gs second q) 0 gs in
+        let l = length-masked parts (dealtOf gs e q) 0 gs in
+        let l′ = length-masked parts′ (dealtOf gs second q) 0 gs in
+        let s : m ≡ m′ = sym (take-at m (closingParts k parts) (2 * conditionalCount gs) l) ∙ ap (take (2 * conditionalCount gs)) publishes ∙ take-at m′ (closingParts k parts′) (2 * conditionalCount gs) l′ in
+        let z : 0 + j ≡ j = omega arith in
+        subst (λ (i : ℕ). AgreeAt parts parts′ (dealtOf gs e q) (dealtOf gs second q) i (nthConditional gs j)) z (masked-same parts parts′ (dealtOf gs e q) (dealtOf gs second q) 0 gs s j h)
+
+    unmasked : (a b x y : ℕ) → (a + x) % 2 ≡ (b + y) % 2 → a % 2 ≡ b % 2 → x ≤ 1 → y ≤ 1 → x ≡ y
+    unmasked a b x y e s h l = omega arith
+
+    dealer-bit : (i : ℕ) → (getD (dealtOf gs e q) i 0 ≤ 1) × (getD (dealtOf gs second q) i 0 ≤ 1)
+    unfolding dealtOf
+    dealer-bit i = (bits-piece (3 * conditionalCount gs) (e .dealerParts) q (fine .dealer-bits) i, bits-piece (3 * conditionalCount gs) (second .dealerParts) q (second-good .dealer-bits) i)
+
+    u-equal : (i : ℕ) → i < C → uOf (dealtOf gs e q) i ≡ uOf (dealtOf gs second q) i
+    unfolding uOf maskedFirst firstFactor C
+    u-equal i h =
+        let g = nth-good n gs i good-list h in
+        let a = nthConditional gs i .a in
+        unmasked (part (wirePartsOf t n gs e q) a) (part (held′ q) a) (getD (dealtOf gs e q) (3 * i) 0) (getD (dealtOf gs second q) (3 * i) 0)
+        (masked-agree i h .0) (parts-left a (g .0 .a-below (omega (arith, conditional-operands (nthConditional gs i .kind) (g .0 .known) (g .1))))) (dealer-bit (3 * i) .0) (dealer-bit (3 * i) .1)
+
+    second-left : (g : Gate) → GoodGate (n + length gs) g → conditionalOf (g .kind) ≡ true → secondFactor (wirePartsOf t n gs e q) g % 2 ≡ secondFactor (held′ q) g % 2
+    unfolding secondFactor
+    second-left g good is = go (eqb (g .kind) 7) refl
+      where
+        b-left : part (wirePartsOf t n gs e q) (g .b) % 2 ≡ part (held′ q) (g .b) % 2
+        b-left = parts-left (g .b) (good .b-below (omega (arith, conditional-operands (g .kind) (good .known) is)))
+
+        add : (x y x′ y′ : ℕ) → x % 2 ≡ x′ % 2 → y % 2 ≡ y′ % 2 → (x + y) % 2 % 2 ≡ (x′ + y′) % 2 % 2
+        add x y x′ y′ e f = ap (λ (m : ℕ). m % 2) (sym (add-mods x y) ∙ rw (e, f) (add-mods x′ y′))
+
+        go : (b : Bool) → eqb (g .kind) 7 ≡ b
+            → cond b ((part (wirePartsOf t n gs e q) (g .b) + part (wirePartsOf t n gs e q) (g .c)) % 2) (part (wirePartsOf t n gs e q) (g .b)) % 2
+            ≡ cond b ((part (held′ q) (g .b) + part (held′ q) (g .c)) % 2) (part (held′ q) (g .b)) % 2
+        go true k = add (part (wirePartsOf t n gs e q) (g .b)) (part (wirePartsOf t n gs e q) (g .c)) (part (held′ q) (g .b)) (part (held′ q) (g .c)) b-left (parts-left (g .c) (good .c-below (choice-operands (g .kind) k)))
+        go false k = b-left
+
+    v-equal : (i : ℕ) → i < C → vOf (dealtOf gs e q) i ≡ vOf (dealtOf gs second q) i
+    unfolding vOf maskedSecond C
+    v-equal i h =
+        let g = nth-good n gs i good-list h in
+        unmasked (secondFactor (wirePartsOf t n gs e q) (nthConditional gs i)) (secondFactor (held′ q) (nthConditional gs i)) (getD (dealtOf gs e q) (3 * i + 1) 0) (getD (dealtOf gs second q) (3 * i + 1) 0)
+        (masked-agree i h .1) (second-left (nthConditional gs i) (g .0) (g .1)) (dealer-bit (3 * i + 1) .0) (dealer-bit (3 * i + 1) .1)
+
+    -- the same u and v of all trustees, so the same product
+    everywhere : (f : List ℕ → ℕ) → f (dealtOf gs e q) ≡ f (dealtOf gs second q) → (p : ℕ) → p < t → f (dealtOf gs e p) ≡ f (dealtOf gs second p)
+    everywhere f s p h = go (eqb p q) refl
+      where
+        go : (b : Bool) → eqb p q ≡ b → f (dealtOf gs e p) ≡ f (dealtOf gs second p)
+        go true is = let k : p ≡ q = eqb-true p q is in rw k s
+        go false is = ap f (sees-dealt p h (eqb-false p q is))
+
+    w-equal : (i : ℕ) → i < C → productOf (dealtOf gs e q) i ≡ productOf (dealtOf gs second q) i
+    unfolding productOf C
+    w-equal i h =
+        let su = opened-same t (λ p. uOf (dealtOf gs e p) i) (λ p. uOf (dealtOf gs second p) i) (everywhere (λ z. uOf z i) (u-equal i h)) in
+        let sv = opened-same t (λ p. vOf (dealtOf gs e p) i) (λ p. vOf (dealtOf gs second p) i) (everywhere (λ z. vOf z i) (v-equal i h)) in
+        bits-equal (getD (dealtOf gs e q) (3 * i + 2) 0) (getD (dealtOf gs second q) (3 * i + 2) 0) (dealer-bit (3 * i + 2) .0) (dealer-bit (3 * i + 2) .1)
+        (opened-left t q (λ p. productOf (dealtOf gs second p) i) (λ p. productOf (dealtOf gs e p) i) hq (λ (p : ℕ) l o. ap (λ (z : List ℕ). productOf z i) (sees-dealt p l o))
+        (fine .products i h ∙ rw (su, sv) (sym (second-triple i h))))
+
+    same-dealt : (p : ℕ) → p < t → dealtOf gs e p ≡ dealtOf gs second p
+    same-dealt p h = go (eqb p q) refl
+      where
+        go : (b : Bool) → eqb p q ≡ b → dealtOf gs e p ≡ dealtOf gs second p
+        go true is =
+            let s : p ≡ q = eqb-true p q is in
+            rw s (triples-same C (dealtOf gs e q) (dealtOf gs second q) (size-dealt q hq) (ap length (is-dealt′ q hq) ∙ dealt-size′ q hq) (λ (i : ℕ) l. (u-equal i l, v-equal i l, w-equal i l)))
+        go false is = sees-dealt p h (eqb-false p q is)
+
+    same-dealing : e ≡ second
+    same-dealing =
+        let b : e .ballotParts ≡ second .ballotParts =
+        sym (whole-table t n (e .ballotParts) (unfold n in omega (arith, fine .ballot-size, ap (λ (m : ℕ). t * m) same-length))) ∙ joined-cong t (piece n (e .ballotParts)) (piece n (second .ballotParts)) (unfold ballotsOf in same-bal)
+        ∙ whole-table t n (second .ballotParts) (unfold n in omega (arith, second-good .ballot-size, ap (λ (m : ℕ). t * m) same-length)) in
+        let c : e .dealerParts ≡ second .dealerParts =
+        sym (whole-table t (3 * conditionalCount gs) (e .dealerParts) (fine .dealer-size)) ∙ joined-cong t (piece (3 * conditionalCount gs) (e .dealerParts)) (piece (3 * conditionalCount gs) (second .dealerParts)) (unfold dealtOf in same-dealt)
+        ∙ whole-table t (3 * conditionalCount gs) (second .dealerParts) (second-good .dealer-size) in
+        dealing-same e second b c
+
+  pub exactly-one : ExactlyOne (λ (e : Dealing). GoodDealing t gs ys e × (viewOf t q (length xs) gs k d ≡ viewOf t q (length ys) gs k e))
+  unfolding n
+  exactly-one = (
+    second,
+    (second-good, same-view ∙ ap (λ (m : ℕ). viewOf t q m gs k second) same-length),
+    λ (e : Dealing) r. same-dealing e (r .0) (sym same-view ∙ r .1 ∙ ap (λ (m : ℕ). viewOf t q m gs k e) (sym same-length)),
+  )
+
+pub views-hide-inputs : ViewsHideInputs
+views-hide-inputs t q k gs xs ys d hq enough same bx by passes closing good = exactly-one t q k gs xs ys d hq enough same bx by passes closing good

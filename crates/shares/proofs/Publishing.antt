@@ -94,8 +94,8 @@ module _ (parts parts′ dealt dealt′ : List ℕ) where
           let o = mark-one g is in
           let first : Agree i g = subst (λ (h : Gate). Agree i h) (nth-first g gs is) (subst (λ (m : ℕ). Agree m (nthConditional (g ∷ gs) 0)) (add-zero i) (e 0 (omega arith))) in
           let rest = more (λ (j : ℕ) l.
-              let a : i + suc j ≡ i + 1 + j = omega arith in
-              subst (λ (h : Gate). Agree (i + 1 + j) h) (nth-behind g gs j is) (subst (λ (m : ℕ). Agree m (nthConditional (g ∷ gs) (suc j))) a (e (suc j) (omega arith)))) in
+          let a : i + suc j ≡ i + 1 + j = omega arith in
+          subst (λ (h : Gate). Agree (i + 1 + j) h) (nth-behind g gs j is) (subst (λ (m : ℕ). Agree m (nthConditional (g ∷ gs) (suc j))) a (e (suc j) (omega arith)))) in
           rw (first .0, first .1, rest)
       go false is more none = none (λ (j : ℕ) l. subst (λ (h : Gate). Agree (i + j) h) (nth-passed g gs j is) (e j (omega (arith, count-mark g gs, mark-none g is))))
 
