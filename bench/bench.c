@@ -1,4 +1,5 @@
 /* Times write, test, run and count of the core beside the same work in C (core.c), in one run.
+ *   bench same    compares the results of both at every shape there is
  *   bench times   OP K D N GATES CORE_NS C_NS RATIO a line
  *   bench counts  one call each between callgrind's dumps, labelled OP-K-D-N-WHO
  * Each pair's results are compared first. A time is processor time, the least of many short rounds; the two take turns,
@@ -99,6 +100,17 @@ static int by_size(const void *a, const void *b) {
     return x < y ? -1 : x > y;
 }
 
+static void same(void) {
+    size_t count = 0;
+    for (size_t i = 1; i <= 8; i++)
+        for (size_t j = 2; j <= 7; j++)
+            for (size_t m = 1; m <= 255; m++, count++) {
+                set_up((size_t[]){i, j, m});
+                take_down();
+            }
+    printf("bench: the same lists, answers, wires and boards at %zu shapes\n", count);
+}
+
 static void times(void) {
     for (size_t s = 0; s < sizeof shapes / sizeof *shapes; s++) {
         set_up(shapes[s]);
@@ -141,7 +153,9 @@ static void counts(void) {
 }
 
 int main(int argc, char **argv) {
-    if (argc == 2 && strcmp(argv[1], "times") == 0)
+    if (argc == 2 && strcmp(argv[1], "same") == 0)
+        same();
+    else if (argc == 2 && strcmp(argv[1], "times") == 0)
         times();
     else if (argc == 2 && strcmp(argv[1], "counts") == 0)
         counts();

@@ -20,225 +20,291 @@ static int within(size_t k, size_t d, size_t n) { return 1 <= k && k <= 8 && 2 <
 
 /* ---- writing: the circuit of crates/circuit, gate for gate */
 
+enum { ZERO, ONE, COPY, NOT, AND, OR, XOR, CHOICE };
+
+enum { MOST_CANDIDATES = 8, MOST_GRADES = 7, MOST_DIGITS = 8 };
+
+/* Wires are counted in another type than the table's numbers: a store into the table cannot alter the writer then, and
+ * the compiler keeps it in registers. */
 struct writer {
     uint32_t *next;
-    uint32_t wire;
-    size_t conditional;
+    size_t wire, conditional;
 };
 
+/* Sums have `digits` low digits and a top one, the number of a median grade `places` low digits and a top one. */
 struct plan {
-    uint32_t k, d, n, inputs, digits, offset, worst;
+    uint32_t k, d, n, inputs, digits, places, offset, worst;
 };
 
-static inline void emit(struct writer *w, uint32_t kind, uint32_t a, uint32_t b, uint32_t c) {
+/* Each part returns the wire of its result, or of its first digit. */
+static inline uint32_t emit(struct writer *w, uint32_t kind, uint32_t a, uint32_t b, uint32_t c) {
     w->next[0] = kind;
     w->next[1] = a;
     w->next[2] = b;
     w->next[3] = c;
     w->next += 4;
-    w->wire++;
     w->conditional += kind_conditional[kind];
+    return (uint32_t)w->wire++;
 }
 
-static void full_adder(struct writer *w, uint32_t s, uint32_t u, uint32_t v) {
-    uint32_t n = w->wire;
-    emit(w, 6, s, u, 0);
-    emit(w, 6, n, v, 0);
-    emit(w, 7, n, v, s);
+static uint32_t full_adder(struct writer *w, uint32_t s, uint32_t u, uint32_t v) {
+    uint32_t n = emit(w, XOR, s, u, 0);
+    emit(w, XOR, n, v, 0);
+    emit(w, CHOICE, n, v, s);
+    return n + 1;
 }
 
-static void half_adder(struct writer *w, uint32_t s, uint32_t u, uint32_t e) {
-    uint32_t n = w->wire;
-    emit(w, 6, s, u, 0);
-    emit(w, e ? 3 : 2, n, 0, 0);
-    emit(w, e ? 5 : 4, s, u, 0);
+static uint32_t half_adder(struct writer *w, uint32_t s, uint32_t u, uint32_t e) {
+    uint32_t n = emit(w, XOR, s, u, 0);
+    emit(w, e ? NOT : COPY, n, 0, 0);
+    emit(w, e ? OR : AND, s, u, 0);
+    return n + 1;
 }
 
-static void level(struct writer *w, uint32_t s, uint32_t at, uint32_t stride, uint32_t e, uint32_t left) {
-    for (; left > 1; left -= 2) {
-        uint32_t n = w->wire;
-        full_adder(w, s, at, at + stride);
-        s = n + 1;
-        at += 2 * stride;
-    }
+static uint32_t increment(struct writer *w, uint32_t s) {
+    uint32_t n = emit(w, NOT, s, 0, 0);
+    emit(w, COPY, n, 0, 0);
+    emit(w, COPY, s, 0, 0);
+    return n + 1;
+}
+
+static uint32_t chain(struct writer *w, uint32_t kind, uint32_t last, uint32_t at, uint32_t stride, uint32_t left) {
+    for (; left > 0; left--, at += stride)
+        last = emit(w, kind, last, at, 0);
+    return last;
+}
+
+static uint32_t each(struct writer *w, uint32_t kind, uint32_t x, uint32_t digits) {
+    uint32_t n = (uint32_t)w->wire;
+    for (uint32_t i = 0; i < digits; i++)
+        emit(w, kind, x + i, 0, 0);
+    return n;
+}
+
+static uint32_t choose(struct writer *w, uint32_t f, uint32_t x, uint32_t y, uint32_t digits) {
+    uint32_t n = (uint32_t)w->wire;
+    for (uint32_t i = 0; i < digits; i++)
+        emit(w, CHOICE, f, x + i, y + i);
+    return n;
+}
+
+static uint32_t side_by_side(struct writer *w, const uint32_t *wires, uint32_t count) {
+    uint32_t n = (uint32_t)w->wire;
+    for (uint32_t i = 0; i < count; i++)
+        emit(w, COPY, wires[i], 0, 0);
+    return n;
+}
+
+/* Counting bits by levels of adders: a level's carries are the next one's bits. */
+static uint32_t level(struct writer *w, uint32_t s, uint32_t at, uint32_t stride, uint32_t e, uint32_t left) {
+    for (; left > 1; left -= 2, at += 2 * stride)
+        s = full_adder(w, s, at, at + stride);
     if (left == 1)
-        half_adder(w, s, at, e);
-    else if (e) {
-        uint32_t n = w->wire;
-        emit(w, 3, s, 0, 0);
-        emit(w, 2, n, 0, 0);
-        emit(w, 2, s, 0, 0);
-    }
+        return half_adder(w, s, at, e);
+    return e ? increment(w, s) : s;
 }
 
 static uint32_t adders_of(uint32_t count, uint32_t e) { return (count + e + 1) / 2; }
 
-static uint32_t level_sum(uint32_t n, uint32_t s, uint32_t count, uint32_t e) {
-    uint32_t adders = adders_of(count, e);
-    return adders == 0 ? s : n + 3 * adders - 2;
-}
-
-static void counter(struct writer *w, uint32_t first, uint32_t stride, uint32_t count, uint32_t extra, uint32_t levels) {
-    uint32_t base = w->wire, at = first, d = stride, m = count, rest = extra;
-    for (uint32_t i = 0; i < levels; i++) {
-        uint32_t n = w->wire;
-        level(w, at, at + d, d, rest % 2, m - 1);
+static uint32_t counter(struct writer *w, uint32_t at, uint32_t stride, uint32_t count, uint32_t extra,
+                        uint32_t levels) {
+    uint32_t sums[MOST_DIGITS];
+    for (uint32_t i = 0; i < levels; i++, extra /= 2) {
+        uint32_t n = (uint32_t)w->wire;
+        sums[i] = level(w, at, at + stride, stride, extra % 2, count - 1);
         at = n + 2;
-        d = 3;
-        m = adders_of(m - 1, rest % 2);
-        rest /= 2;
+        stride = 3;
+        count = adders_of(count - 1, extra % 2);
     }
-    uint32_t n = base;
-    at = first, m = count, rest = extra;
+    sums[levels] = at;
+    return side_by_side(w, sums, levels + 1);
+}
+
+static uint32_t accumulator(struct writer *w, uint32_t word, uint32_t at, uint32_t stride, uint32_t count,
+                            uint32_t levels) {
+    uint32_t sums[MOST_DIGITS];
     for (uint32_t i = 0; i < levels; i++) {
-        emit(w, 2, level_sum(n, at, m - 1, rest % 2), 0, 0);
+        uint32_t n = (uint32_t)w->wire;
+        sums[i] = level(w, word + i, at, stride, 0, count);
         at = n + 2;
-        m = adders_of(m - 1, rest % 2);
-        n += 3 * m;
-        rest /= 2;
+        stride = 3;
+        count = adders_of(count, 0);
     }
-    emit(w, 2, at, 0, 0);
+    sums[levels] = chain(w, XOR, word + levels, at, stride, count);
+    return side_by_side(w, sums, levels + 1);
 }
 
-static void accumulator(struct writer *w, uint32_t word, uint32_t first, uint32_t stride, uint32_t count, uint32_t levels) {
-    uint32_t base = w->wire, a = word, at = first, d = stride, m = count;
-    for (uint32_t i = 0; i < levels; i++) {
-        uint32_t n = w->wire;
-        level(w, a++, at, d, 0, m);
-        at = n + 2;
-        d = 3;
-        m = adders_of(m, 0);
-    }
-    for (uint32_t i = 0, last = a; i < m; i++, at += d) {
-        uint32_t n = w->wire;
-        emit(w, 6, last, at, 0);
-        last = n;
-    }
-    uint32_t n = base;
-    a = word, m = count;
-    for (uint32_t i = 0; i < levels; i++) {
-        emit(w, 2, level_sum(n, a++, m, 0), 0, 0);
-        m = adders_of(m, 0);
-        n += 3 * m;
-    }
-    emit(w, 2, m == 0 ? a : n + m - 1, 0, 0);
-}
-
-static void constants(struct writer *w, uint32_t value, uint32_t digits) {
-    for (uint32_t i = 0; i < digits; i++, value /= 2)
-        emit(w, value % 2, 0, 0, 0);
-}
-
-static void each(struct writer *w, uint32_t kind, uint32_t x, uint32_t digits) {
-    for (uint32_t i = 0; i < digits; i++)
-        emit(w, kind, x + i, 0, 0);
-}
-
-static void choose(struct writer *w, uint32_t f, uint32_t x, uint32_t y, uint32_t digits) {
-    for (uint32_t i = 0; i < digits; i++)
-        emit(w, 7, f, x + i, y + i);
-}
-
-static void compare_words(struct writer *w, uint32_t x, uint32_t y, uint32_t up, uint32_t down, uint32_t digits) {
-    for (uint32_t i = 0; i < digits; i++) {
-        uint32_t n = w->wire;
-        emit(w, 6, x + i, y + i, 0);
-        emit(w, 7, n, x + i, up);
-        emit(w, 7, n, y + i, down);
-        up = n + 1;
-        down = n + 2;
-    }
-}
-
-static void chosen(struct writer *w, const struct plan *p, uint32_t a, uint32_t b) {
-    choose(w, a + p->digits, a + p->digits + 1, b, p->digits);
-    choose(w, b + p->digits, a + 2 * p->digits + 1, b, p->digits);
-}
-
-static void candidate(struct writer *w, const struct plan *p, uint32_t c) {
-    const uint32_t g = p->digits, stride = p->k * p->d, three = 3 * g + 1;
-    /* the best grade */
-    uint32_t n = w->wire;
-    constants(w, p->offset, g);
-    counter(w, c * p->d, stride, p->n, p->offset, g);
-    uint32_t sum = w->wire - (g + 1);
-    each(w, 2, sum, g);
-    choose(w, sum + g, n, sum, g);
-    const uint32_t a = w->wire - three;
-    /* the others but the worst */
-    uint32_t at = a, span = 0;
+/* A candidate's running sums, and its key: of each sum the low digits, and whether the median grade is worse. */
+static uint32_t candidate(struct writer *w, const struct plan *p, uint32_t c) {
+    const uint32_t bits = c * p->d, stride = p->k * p->d, digits = p->digits;
+    uint32_t sums[MOST_GRADES];
+    sums[0] = counter(w, bits, stride, p->n, p->offset, digits);
+    for (uint32_t g = 1; g < p->d - 2; g++)
+        sums[g] = accumulator(w, sums[g - 1], bits + g, stride, p->n, digits);
     if (p->d > 2) {
-        for (uint32_t i = 1; i < p->d - 2; i++) {
-            uint32_t start = w->wire;
-            accumulator(w, at, c * p->d + i, stride, p->n, g);
-            chosen(w, p, at, w->wire - (g + 1));
-            span = w->wire - start;
-            at = w->wire - three;
-        }
-        counter(w, c * p->d + p->d - 1, stride, p->n, p->worst, g);
-        each(w, 3, w->wire - (g + 1), g + 1);
-        chosen(w, p, at, w->wire - (g + 1));
+        uint32_t worst = counter(w, bits + p->d - 1, stride, p->n, p->worst, digits);
+        sums[p->d - 2] = each(w, NOT, worst, digits + 1);
     }
-    const uint32_t b = w->wire - three;
-    /* p against q */
-    n = w->wire;
-    constants(w, p->n / 2, g);
-    choose(w, b + g, b + g + 1, n, g);
-    uint32_t x = b + 2 * g + 1, y = n + g, carry = p->inputs + p->n % 2, differ = p->inputs;
-    if (g > 0) {
-        uint32_t first = w->wire;
-        half_adder(w, x, y, p->n % 2);
-        for (uint32_t i = 1; i < g; i++)
-            full_adder(w, x + i, y + i, w->wire - 1);
-        carry = w->wire - 1;
-        differ = first + 1;
-        for (uint32_t i = 1; i < g; i++) {
-            uint32_t last = w->wire;
-            emit(w, 5, differ, first + 1 + 3 * i, 0);
-            differ = last;
-        }
+    uint32_t key = (uint32_t)w->wire;
+    for (uint32_t g = 0; g < p->d - 1; g++) {
+        each(w, COPY, sums[g], digits);
+        emit(w, NOT, sums[g] + digits, 0, 0);
     }
-    /* the key */
-    choose(w, carry, x, b + 4 * g + 1, g);
-    emit(w, 2, carry, 0, 0);
-    for (uint32_t i = 0; i < p->d - 2; i++)
-        emit(w, 2, a + g + i * span, 0, 0);
-    emit(w, 2, b + g, 0, 0);
-    emit(w, 2, differ, 0, 0);
+    return key;
 }
 
-static void rounds(struct writer *w, const struct plan *p) {
-    const uint32_t g = p->digits, d = p->d;
-    uint32_t y = w->wire - 1 - d - g, at = 0;
-    for (uint32_t j = 1; j < p->k; j++) {
-        candidate(w, p, j);
-        uint32_t n = w->wire, x = n - 1 - d - g;
-        emit(w, 3, x, 0, 0);
-        emit(w, 3, y, 0, 0);
-        emit(w, 4, x, n + 1, 0);
-        emit(w, 4, n, y, 0);
-        compare_words(w, x + 1, y + 1, n + 2, n + 3, g);
-        uint32_t both = w->wire, up = g ? both - 2 : n + 2, down = g ? both - 1 : n + 3;
-        emit(w, 4, x + g + d, y + g + d, 0);
-        emit(w, 4, up, both, 0);
-        emit(w, 4, down, both, 0);
-        compare_words(w, x + g + 1, y + g + 1, both + 1, both + 2, d - 1);
-        up = w->wire - 2, down = w->wire - 1;
-        if (j + 1 < p->k) {
-            uint32_t end = w->wire;
-            emit(w, 7, down, y + g + d, both);
-            choose(w, up, x, y, g + d);
-            emit(w, 7, up, x + g + d, end);
-        }
-        if (j == 1)
-            emit(w, 2, down, 0, 0);
-        else
-            for (uint32_t i = 0; i < j; i++)
-                emit(w, 4, at + i, down, 0);
-        emit(w, 2, up, 0, 0);
-        at = w->wire - (j + 1);
-        y = at - (g + d + 1);
+/* Whether x and y differ, and, where they do, whether x is larger or comes first. */
+struct order {
+    uint32_t differ, first;
+};
+
+static uint32_t unequal(struct writer *w, uint32_t x, uint32_t y, uint32_t digits) {
+    uint32_t n = (uint32_t)w->wire;
+    for (uint32_t i = 0; i < digits; i++)
+        emit(w, XOR, x + i, y + i, 0);
+    return chain(w, OR, n, n + 1, 1, digits - 1);
+}
+
+static struct order versus(struct writer *w, uint32_t x, uint32_t y, uint32_t digits) {
+    uint32_t n = (uint32_t)w->wire, differ = unequal(w, x, y, digits), above = x;
+    for (uint32_t i = 1; i < digits; i++)
+        above = emit(w, CHOICE, n + i, x + i, above);
+    return (struct order){differ, above};
+}
+
+/* How many of the wires are 1, where these are the first ones. */
+static uint32_t median(struct writer *w, uint32_t at, uint32_t stride, uint32_t count, uint32_t digits) {
+    uint32_t sums[MOST_DIGITS];
+    for (uint32_t i = 0; i < digits; i++, count /= 2) {
+        sums[i] = chain(w, XOR, at, at + stride, stride, count - 1);
+        at += stride;
+        stride *= 2;
     }
+    return side_by_side(w, sums, digits);
+}
+
+/* A word of either key. */
+struct words {
+    uint32_t x, y;
+};
+
+static struct words words_of(const struct plan *p, struct words keys, uint32_t grade) {
+    uint32_t at = grade * (p->digits + 1);
+    return (struct words){keys.x + at, keys.y + at};
+}
+
+static struct words either(struct writer *w, uint32_t f, struct words one, struct words other, uint32_t digits) {
+    uint32_t x = choose(w, f, one.x, other.x, digits), y = choose(w, f, one.y, other.y, digits);
+    return (struct words){x, y};
+}
+
+/* The words of the grades nearest to the median at which the keys differ, below it and from it on. */
+static void nearest(struct writer *w, const struct plan *p, struct words keys, struct words *down, struct words *up) {
+    const uint32_t last = p->d - 2, digits = p->digits;
+    uint32_t below[MOST_GRADES], from[MOST_GRADES];
+    for (uint32_t g = 1; g < last; g++) {
+        struct words here = words_of(p, keys, g);
+        uint32_t differ = unequal(w, here.x, here.y, digits);
+        below[g] = emit(w, AND, differ, here.x + digits, 0);
+        from[g] = emit(w, XOR, differ, below[g], 0);
+    }
+    *down = keys;
+    for (uint32_t g = 1; g < last; g++)
+        *down = either(w, below[g], words_of(p, keys, g), *down, digits);
+    *up = words_of(p, keys, last);
+    for (uint32_t g = last - 1; g > 0; g--)
+        *up = either(w, from[g], words_of(p, keys, g), *up, digits);
+}
+
+static uint32_t carry_of_sum(struct writer *w, uint32_t x, uint32_t y, uint32_t e, uint32_t digits) {
+    uint32_t sum = half_adder(w, x, y, e);
+    for (uint32_t i = 1; i < digits; i++)
+        sum = full_adder(w, x + i, y + i, sum + 1);
+    return sum + 1;
+}
+
+/* Keys with equal medians: of the two nearest differences, the one that is struck first decides. */
+static struct order outward(struct writer *w, const struct plan *p, struct words keys) {
+    const uint32_t digits = p->digits, best = keys.x + digits, last = words_of(p, keys, p->d - 2).x + digits;
+    struct words down, up;
+    nearest(w, p, keys, &down, &up);
+    struct order lower = versus(w, down.x, down.y, digits), upper = versus(w, up.x, up.y, digits);
+    uint32_t carry_x = carry_of_sum(w, down.x, up.x, p->n % 2, digits);
+    uint32_t carry_y = carry_of_sum(w, down.y, up.y, p->n % 2, digits);
+    uint32_t reached = emit(w, CHOICE, lower.first, carry_x, carry_y);
+    uint32_t short_of_n = emit(w, NOT, reached, 0, 0);
+    uint32_t both_sides = emit(w, XOR, best, last, 0);
+    uint32_t upper_first = emit(w, CHOICE, both_sides, short_of_n, best);
+    uint32_t both_differ = emit(w, AND, lower.differ, upper.differ, 0);
+    uint32_t upper_of_both = emit(w, AND, both_differ, upper_first, 0);
+    uint32_t by_lower = emit(w, XOR, lower.differ, upper_of_both, 0);
+    uint32_t just_one = emit(w, XOR, lower.differ, upper.differ, 0);
+    uint32_t differ = emit(w, XOR, just_one, both_differ, 0);
+    uint32_t first = emit(w, CHOICE, by_lower, lower.first, upper.first);
+    return (struct order){differ, first};
+}
+
+static struct order below_medians(struct writer *w, const struct plan *p, struct words keys) {
+    if (p->digits == 0) {
+        uint32_t none = emit(w, ZERO, 0, 0, 0);
+        return (struct order){none, none};
+    }
+    return p->d == 2 ? versus(w, keys.x, keys.y, p->digits) : outward(w, p, keys);
+}
+
+static struct order contest(struct writer *w, const struct plan *p, struct words keys) {
+    const uint32_t stride = p->digits + 1;
+    uint32_t median_y = median(w, keys.y + p->digits, stride, p->d - 1, p->places + 1);
+    uint32_t median_x = median(w, keys.x + p->digits, stride, p->d - 1, p->places + 1);
+    struct order medians = versus(w, median_y, median_x, p->places + 1), rest = below_medians(w, p, keys);
+    uint32_t differ = emit(w, OR, medians.differ, rest.differ, 0);
+    uint32_t first = emit(w, CHOICE, medians.differ, medians.first, rest.first);
+    return (struct order){differ, first};
+}
+
+/* Candidates side by side: the key of the best, and, for more than one, a wire each that says who is as good. */
+struct group {
+    uint32_t size, key, won;
+};
+
+static void still_won(struct writer *w, struct group g, uint32_t stays) {
+    if (g.size == 1)
+        emit(w, COPY, stays, 0, 0);
+    else
+        for (uint32_t i = 0; i < g.size; i++)
+            emit(w, AND, g.won + i, stays, 0);
+}
+
+/* The key is left out: the last meeting keeps none. */
+static struct order meeting(struct writer *w, const struct plan *p, struct group x, struct group y, struct group *both) {
+    struct order keys = contest(w, p, (struct words){x.key, y.key});
+    uint32_t x_first = emit(w, AND, keys.differ, keys.first, 0);
+    uint32_t y_first = emit(w, XOR, keys.differ, x_first, 0);
+    uint32_t x_stays = emit(w, NOT, y_first, 0, 0);
+    uint32_t y_stays = emit(w, NOT, x_first, 0, 0);
+    *both = (struct group){x.size + y.size, 0, (uint32_t)w->wire};
+    still_won(w, x, x_stays);
+    still_won(w, y, y_stays);
+    return keys;
+}
+
+static uint32_t key_gates(const struct plan *p) { return (p->d - 1) * (p->digits + 1); }
+
+static struct group best_of(struct writer *w, const struct plan *p, const uint32_t *keys, uint32_t size) {
+    if (size == 1)
+        return (struct group){1, keys[0], 0};
+    struct group x = best_of(w, p, keys, size / 2), y = best_of(w, p, keys + size / 2, size - size / 2), both;
+    struct order order = meeting(w, p, x, y, &both);
+    if (size < p->k)
+        both.key = choose(w, order.first, x.key, y.key, key_gates(p));
+    return both;
+}
+
+static void circuit(struct writer *w, const struct plan *p) {
+    uint32_t keys[MOST_CANDIDATES];
+    for (uint32_t c = 0; c < p->k; c++)
+        keys[c] = candidate(w, p, c);
+    best_of(w, p, keys, p->k);
 }
 
 /* G alone, for the test of the table's length. */
@@ -260,14 +326,47 @@ static size_t accumulator_gates(uint32_t count, uint32_t levels) {
     return gates + count;
 }
 
+static size_t candidate_gates(const struct plan *p) {
+    size_t gates = counter_gates(p->n, p->offset, p->digits) + key_gates(p);
+    if (p->d > 2)
+        gates += (p->d - 3) * accumulator_gates(p->n, p->digits) + counter_gates(p->n, p->worst, p->digits) + p->digits + 1;
+    return gates;
+}
+
+static size_t versus_gates(uint32_t digits) { return 3 * digits - 2; }
+
+static size_t below_medians_gates(const struct plan *p) {
+    if (p->digits == 0)
+        return 1;
+    if (p->d == 2)
+        return versus_gates(p->digits);
+    size_t probe = 2 * p->digits + 1, chosen = 4 * p->digits, sums = 6 * p->digits, settled = 10;
+    return (p->d - 3) * (probe + chosen) + 2 * versus_gates(p->digits) + sums + settled;
+}
+
+static size_t contest_gates(const struct plan *p) {
+    size_t median = 0;
+    for (uint32_t count = p->d - 1; count > 0; count /= 2)
+        median += count;
+    return 2 * median + versus_gates(p->places + 1) + below_medians_gates(p) + 2;
+}
+
+static size_t won_gates(uint32_t size) { return size == 1 ? 0 : won_gates(size / 2) + won_gates(size - size / 2) + size; }
+
 static size_t list_gates(const struct plan *p) {
-    const size_t g = p->digits, d = p->d, k = p->k;
-    size_t one = counter_gates(p->n, p->offset, p->digits) + 3 * g;
-    if (d > 2)
-        one += (d - 3) * (accumulator_gates(p->n, p->digits) + 2 * g) + counter_gates(p->n, p->worst, p->digits) + 3 * g + 1;
-    one += 5 * g + (g ? g - 1 : 0) + g + d + 1;
-    size_t contest = 4 + 3 * g + 3 + 3 * (d - 1), merge = 2 + g + d;
-    return 2 + k * one + (k - 1) * contest + (k - 2) * merge + (k - 1) * (k + 2) / 2;
+    return p->k * candidate_gates(p) + (p->k - 1) * (contest_gates(p) + 4) + won_gates(p->k) + (p->k - 2) * key_gates(p);
+}
+
+static uint32_t low_digits(uint32_t m) {
+    uint32_t digits = 0;
+    for (; m > 1; m /= 2)
+        digits++;
+    return digits;
+}
+
+static struct plan plan_of(uint32_t k, uint32_t d, uint32_t n) {
+    uint32_t digits = low_digits(n), most = 1u << digits;
+    return (struct plan){k, d, n, n * k * d, digits, low_digits(d - 1), most - (n + 1) / 2, most - 1 - n / 2};
 }
 
 size_t core_write(size_t k, size_t d, size_t n, uint32_t *table, size_t table_length, size_t *answer,
@@ -276,24 +375,15 @@ size_t core_write(size_t k, size_t d, size_t n, uint32_t *table, size_t table_le
         return 255;
     if (!within(k, d, n))
         return put(refused(1, 0), answer);
-    uint32_t digits = 0;
-    while ((size_t)2 << digits <= n)
-        digits++;
-    uint32_t most = 1u << digits;
-    struct plan p = {(uint32_t)k, (uint32_t)d, (uint32_t)n, (uint32_t)(n * k * d), digits, most - ((uint32_t)n + 1) / 2,
-                     most - 1 - (uint32_t)n / 2};
+    struct plan p = plan_of((uint32_t)k, (uint32_t)d, (uint32_t)n);
     if (table_length / 4 < (k == 1 ? 1 : list_gates(&p)))
         return put(refused(2, 0), answer);
     struct writer w = {table, p.inputs, 0};
     if (k == 1)
-        emit(&w, 1, 0, 0, 0);
-    else {
-        emit(&w, 0, 0, 0, 0);
-        emit(&w, 1, 0, 0, 0);
-        candidate(&w, &p, 0);
-        rounds(&w, &p);
-    }
-    return put((struct said){0, 0, (size_t)(w.next - table) / 4, w.conditional}, answer);
+        emit(&w, ONE, 0, 0, 0);
+    else
+        circuit(&w, &p);
+    return put((struct said){0, 0, w.wire - p.inputs, w.conditional}, answer);
 }
 
 /* ---- testing */
@@ -404,31 +494,26 @@ size_t core_run(size_t k, size_t d, size_t n, const uint32_t *table, size_t tabl
 
 /* ---- counting */
 
-struct gauge {
-    size_t median, p, q;
-};
-
-static struct gauge gauge_of(const uint16_t *row, size_t d, size_t n) {
-    struct gauge u = {0, 0, 0};
-    size_t running = 0;
+/* Whether the first of two rows of running sums belongs to the sequence that comes first: of the differences nearest to
+ * the middle, one below half of n and one from half on, the one that is struck first decides. */
+static int comes_before(const uint16_t *a, const uint16_t *b, size_t d, size_t n) {
+    size_t x = 0, y = 0, lower_x = 0, lower_y = 0;
     for (size_t g = 0; g < d; g++) {
-        running += row[g];
-        if (2 * running >= n) {
-            u.median = g;
-            u.p = running - row[g];
-            u.q = n - running;
-            break;
+        x += a[g];
+        y += b[g];
+        if (x == y)
+            continue;
+        if (n <= 2 * x || n <= 2 * y) {
+            if (lower_x > lower_y)
+                return x >= y || lower_x + x >= n;
+            if (lower_x < lower_y)
+                return x > y && lower_y + y < n;
+            return x > y;
         }
+        lower_x = x;
+        lower_y = y;
     }
-    return u;
-}
-
-static int beats(struct gauge a, struct gauge b) {
-    if (a.median != b.median)
-        return a.median < b.median;
-    if (a.p > a.q)
-        return b.p < b.q || (b.p > b.q && a.p > b.p);
-    return a.p < a.q && b.p < b.q && a.q < b.q;
+    return lower_x > lower_y;
 }
 
 size_t core_count(size_t k, size_t d, size_t n, const uint8_t *bytes, size_t bytes_length, size_t *answer,
@@ -447,14 +532,11 @@ size_t core_count(size_t k, size_t d, size_t n, const uint8_t *bytes, size_t byt
         for (size_t c = 0; c < k; c++)
             for (size_t g = 0; g < d; g++)
                 counts[c][g] += bytes[(b * k + c) * d + g];
-    struct gauge u[8];
+    size_t first = 0;
+    for (size_t c = 1; c < k; c++)
+        if (comes_before(counts[c], counts[first], d, n))
+            first = c;
     for (size_t c = 0; c < k; c++)
-        u[c] = gauge_of(counts[c], d, n);
-    for (size_t i = 0; i < k; i++) {
-        int wins = 1;
-        for (size_t j = 0; j < k; j++)
-            wins &= j == i || beats(u[i], u[j]);
-        answer[2 + i] = wins;
-    }
+        answer[2 + c] = !memcmp(counts[c], counts[first], d * sizeof *counts[c]);
     return 0;
 }

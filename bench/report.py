@@ -7,7 +7,8 @@ import sys
 
 HERE = pathlib.Path(__file__).parent
 OPS = ["write", "test", "run", "count"]
-GOAL = 1.1
+# The most that a time ratio should be. The core writes a list in two passes, the first to measure it, and C in one.
+GOALS = {"write": 2.0, "test": 1.1, "run": 1.1, "count": 1.1}
 
 
 def read_times(path):
@@ -33,17 +34,23 @@ def read_counts(folder):
 
 def table(times, counts):
     lines = [
-        "| call | shape | gates | core, µs | C, µs | time ratio | core, instructions | C, instructions | ratio |",
-        "|---|---|--:|--:|--:|--:|--:|--:|--:|",
+        "| call | shape | gates | core, µs | C, µs | time ratio | goal | core, instructions | C, instructions | ratio |",
+        "|---|---|--:|--:|--:|--:|--:|--:|--:|--:|",
     ]
     for op in OPS:
         for (name, shape), (gates, core, c, ratio) in times.items():
             if name == op:
                 a, b = counts[op, shape, "core"], counts[op, shape, "c"]
                 lines.append(
-                    f"| {op} | {' '.join(map(str, shape))} | {gates} | {core / 1000:.2f} | {c / 1000:.2f} | {ratio:.2f} | {a} | {b} | {a / b:.2f} |"
+                    f"| {op} | {' '.join(map(str, shape))} | {gates} | {core / 1000:.2f} | {c / 1000:.2f} | {ratio:.2f} | {GOALS[op]} | {a} | {b} | {a / b:.2f} |"
                 )
     return "\n".join(lines)
+
+
+def missed(times):
+    """The calls and shapes whose time ratio, as the table shows it, is above the goal."""
+    found = [f"{op} at {' '.join(map(str, shape))}" for (op, shape), row in times.items() if round(row[3], 2) > GOALS[op]]
+    return "Time ratios above their goal: " + (", ".join(found) if found else "none") + "."
 
 
 def plot(times, counts):
@@ -52,7 +59,7 @@ def plot(times, counts):
     left, top, height, bar, gap = 60, 40, 260, 22, 30
     group = bar * len(shapes) + gap
     width = left + group * len(OPS) + 170
-    most = max([1.5] + [r[3] for r in times.values()] + [counts[o, s, "core"] / counts[o, s, "c"] for o, s in times]) * 1.08
+    most = max([1.5] + list(GOALS.values()) + [r[3] for r in times.values()] + [counts[o, s, "core"] / counts[o, s, "c"] for o, s in times]) * 1.08
     y = lambda v: top + height * (1 - v / most)
     colours = ["#c6dbef", "#9ecae1", "#6baed6", "#3182bd", "#08519c"]
     out = [
@@ -63,8 +70,7 @@ def plot(times, counts):
     for tick in [0.5 * i for i in range(int(most / 0.5) + 1)]:
         out.append(f'<line x1="{left}" x2="{left + group * len(OPS)}" y1="{y(tick):.1f}" y2="{y(tick):.1f}" stroke="#ddd"/>')
         out.append(f'<text x="{left - 8}" y="{y(tick) + 4:.1f}" text-anchor="end">{tick:.1f}</text>')
-    for value, dash in ((1, ""), (GOAL, ' stroke-dasharray="4 3"')):
-        out.append(f'<line x1="{left}" x2="{left + group * len(OPS)}" y1="{y(value):.1f}" y2="{y(value):.1f}" stroke="#333"{dash}/>')
+    out.append(f'<line x1="{left}" x2="{left + group * len(OPS)}" y1="{y(1):.1f}" y2="{y(1):.1f}" stroke="#333"/>')
     for i, op in enumerate(OPS):
         for j, shape in enumerate(shapes):
             x = left + gap / 2 + i * group + j * bar
@@ -72,6 +78,9 @@ def plot(times, counts):
             work = counts[op, shape, "core"] / counts[op, shape, "c"]
             out.append(f'<rect x="{x:.1f}" y="{y(ratio):.1f}" width="{bar - 3}" height="{y(0) - y(ratio):.1f}" fill="{colours[j]}"/>')
             out.append(f'<line x1="{x - 1:.1f}" x2="{x + bar - 2:.1f}" y1="{y(work):.1f}" y2="{y(work):.1f}" stroke="#d7301f" stroke-width="2"/>')
+        goal, start, end = y(GOALS[op]), left + i * group + gap / 4, left + (i + 1) * group
+        out.append(f'<line x1="{start:.1f}" x2="{end:.1f}" y1="{goal:.1f}" y2="{goal:.1f}" stroke="#333" stroke-dasharray="4 3"/>')
+        out.append(f'<text x="{end:.1f}" y="{goal - 4:.1f}" text-anchor="end">{GOALS[op]}</text>')
         out.append(f'<text x="{left + i * group + group / 2:.1f}" y="{top + height + 18}" text-anchor="middle">{op}</text>')
     out.append(f'<text x="{left + group * len(OPS) / 2:.1f}" y="{top + height + 40}" text-anchor="middle">call, at each shape k d n</text>')
     out.append(f'<text transform="translate(18 {top + height / 2:.1f}) rotate(-90)" text-anchor="middle">core / C</text>')
@@ -83,7 +92,7 @@ def plot(times, counts):
     out.append(f'<line x1="{x}" x2="{x + 14}" y1="{end + 8}" y2="{end + 8}" stroke="#d7301f" stroke-width="2"/>')
     out.append(f'<text x="{x + 20}" y="{end + 12}">instructions</text>')
     out.append(f'<line x1="{x}" x2="{x + 14}" y1="{end + 28}" y2="{end + 28}" stroke="#333" stroke-dasharray="4 3"/>')
-    out.append(f'<text x="{x + 20}" y="{end + 32}">goal {GOAL} (test, run)</text>')
+    out.append(f'<text x="{x + 20}" y="{end + 32}">goal, by call</text>')
     out.append("</svg>")
     return "\n".join(out) + "\n"
 
@@ -98,7 +107,7 @@ def machine():
 def main():
     folder = pathlib.Path(sys.argv[1])
     times, counts = read_times(folder / "times"), read_counts(folder)
-    text = table(times, counts)
+    text = f"{table(times, counts)}\n\n{missed(times)}"
     print(text)
     (HERE / "RESULT.md").write_text(
         "# The core against the same work in C\n\n"
@@ -106,6 +115,8 @@ def main():
         "- A time is the processor time of one call, the least over 201 short rounds of many calls each.\n"
         "- The time ratio is the middle one of the rounds' ratios: core and C take turns round by round, so that a slow stretch\n"
         "  of the machine meets both. It may differ a little from the quotient of the two least times.\n"
+        "- The goal is the most that the time ratio should be. Writing may take twice the time of C, since the core measures the\n"
+        "  list in a first pass by the same program, while C has a formula for it.\n"
         "- Instructions are those of one call, counted by callgrind, and repeat.\n\n"
         f"{text}\n\n![ratios](result.svg)\n"
     )

@@ -1,4 +1,4 @@
-/* Writes the list of a jury of two blends, three grades and three ballots, runs it and prints the winner.
+/* Writes the list of a jury of two blends, three grades and three ballots, runs it and prints who wins.
  * Build: cc -o example c/example.c target/staticlib/libjugyvaros.a */
 #include <stdio.h>
 #include <stdlib.h>
@@ -54,14 +54,9 @@ int main(void) {
              answer);
 
     printf("jury %zu %zu %zu: %zu gates, %zu conditional\n", k, d, n, gates, conditional);
-    size_t winner = k;
     for (size_t i = 0; i < k; i++)
         if (board[conditional + i])
-            winner = i;
-    if (winner < k)
-        printf("blend %zu wins\n", winner);
-    else
-        printf("no blend wins\n");
+            printf("blend %zu wins\n", i);
 
     free(table);
     free(tape);

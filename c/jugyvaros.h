@@ -70,8 +70,8 @@ extern "C" {
  * ballot bytes. Reason 1. */
 size_t jugy_measure(size_t candidates, size_t grades, size_t ballots, size_t *answer, size_t answer_length);
 
-/* Writes the shape's own list at the start of the gate table, 4 G numbers or more: answer[2] is G, answer[3] is C. Numbers
- * after the list are not touched. Reasons 1 and 2. */
+/* Writes the shape's own list at the start of the gate table, 4 G numbers or more: answer[2] is G, answer[3] is C. What
+ * stands behind the list stays. Reasons 1 and 2. */
 size_t jugy_write(size_t candidates, size_t grades, size_t ballots, uint32_t *table, size_t table_length,
                   size_t *answer, size_t answer_length);
 
@@ -81,8 +81,8 @@ size_t jugy_test(size_t candidates, size_t grades, size_t ballots, const uint32_
                  size_t *answer, size_t answer_length);
 
 /* Runs a list on the ballots: answer[2] is G, answer[3] is C. Reasons 1 to 10.
- *   table  4 G numbers, the list's own length. A longer table filled up with zeros is another list: its last k gates, which
- *          give the closing bytes, are then constants 0, and nobody wins.
+ *   table  4 G numbers, the list's own length. A longer table filled up with zeros is another list: constants 0
+ *          stand where its closing gates should, so its closing bytes do not say who wins.
  *   bytes  I ballot bytes
  *   tape   C bytes of 0 or 1, one for each conditional gate in order: fresh, secret random bits that are never used again.
  *          A tape that is used twice, or known, lets the board tell what the wires hold.
@@ -90,13 +90,14 @@ size_t jugy_test(size_t candidates, size_t grades, size_t ballots, const uint32_
  *          they are all zero. Ballots, tape and list stay readable where the caller keeps them: whoever has tape and board
  *          can work out the shown wires, so wipe ballots and tape too.
  *   board  C + k bytes, whatever they held. Afterwards board[i], i below C, is the masked wire a of the i-th conditional
- *          gate, and board[C + i], i below k, is candidate i's closing byte: 1 where it wins, else 0. This may be published. */
+ *          gate, and board[C + i], i below k, is candidate i's closing byte: 1 where it wins, by full majority
+ *          judgment under the shape's own list, else 0; several may win. This may be published. */
 size_t jugy_run(size_t candidates, size_t grades, size_t ballots, const uint32_t *table, size_t table_length,
                 const uint8_t *bytes, size_t bytes_length, const uint8_t *tape, size_t tape_length, uint8_t *wires,
                 size_t wires_length, uint8_t *board, size_t board_length, size_t *answer, size_t answer_length);
 
-/* Counts I ballot bytes plainly: answer[2 + i], i below 8, is candidate i's closing byte: 1 where it wins, else 0, and 0 from
- * place k on. Reasons 1, 4, 5 and 6. */
+/* Counts I ballot bytes plainly: answer[2 + i], i below 8, is candidate i's closing byte: 1 where it wins by full majority judgment, else 0, and 0
+ * from place k on; several may win. Reasons 1, 4, 5 and 6. */
 size_t jugy_count(size_t candidates, size_t grades, size_t ballots, const uint8_t *bytes, size_t bytes_length,
                   size_t *answer, size_t answer_length);
 

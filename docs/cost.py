@@ -28,9 +28,9 @@ def measure(shapes):
 
 
 def bound(k, d, n):
-    """Document 01's bound on G."""
+    """The bound on G, with what request 2.1 adds."""
     w = n.bit_length()
-    return 2 * k * d * n * w + k * d * (30 * w + 20) + k * k * (20 * w + 6 * d + 20) + 2
+    return 2 * k * d * n * w + k * d * (30 * w + 20) + k * k * (20 * w + 6 * d + 20) + 2 + k * d * (400 * w + 400)
 
 
 def source_gates(k, d, n):
@@ -77,11 +77,10 @@ def sheet(costs):
         )
     lines += [
         "",
-        "- **Bound on G**: document 01's, 2kdnw + kd(30w + 20) + k²(20w + 6d + 20) + 2.",
+        "- **Bound on G**: 2kdnw + kd(30w + 20) + k²(20w + 6d + 20) + 2 + kd(400w + 400).",
         "- **001's gates**: source 001, figure 3, prices its majority judgment under ElGamal at 60nkda + 40kmda(10 + d)",
         "  exponentiations with a authorities, and a conditional gate at 20a (figure 9): 3nkd + 2kmd(10 + d) conditional gates,",
-        "  m being the width w. These are its leading terms. It is the same job but for juries on which the gauge is silent,",
-        "  where its judgment goes on.",
+        "  m being the width w. These are its leading terms.",
         "- **001's rounds**: the same row's communications, read as the sum m(m + 1) + d(6m + 2 log k log m); the first term is",
         "  the aggregation's.",
         "- **A run is lent**: 16 G bytes of list, I of ballots, C of tape, I + G of wires, C + k of board.",

@@ -119,32 +119,19 @@ def median_grade(counts):
     raise ValueError(counts)
 
 
-def gauge(counts):
-    """The median grade, p and q."""
-    m = median_grade(counts)
-    return m, sum(counts[:m]), sum(counts[m + 1:])
-
-
-def condition(a, b):
-    """The number of the condition by which a beats b, both given by their counts, or None."""
-    (a_median, a_p, a_q), (b_median, b_p, b_q) = gauge(a), gauge(b)
-    if a_median < b_median:
-        return 1
-    if a_median > b_median:
-        return None
-    if a_p > a_q and b_p < b_q:
-        return 2
-    if a_p > a_q and b_p > b_q and a_p > b_p:
-        return 3
-    if a_p < a_q and b_p < b_q and a_q < b_q:
-        return 4
-    return None
+def sequence(counts):
+    """The medians of what is left, one grade of the median's kind being struck each time, until none is left."""
+    left, medians = list(counts), []
+    while sum(left):
+        medians.append(median_grade(left))
+        left[medians[-1]] -= 1
+    return medians
 
 
 def closing_bytes(counts):
-    """1 for a candidate that beats each other one, 0 for any other."""
-    others = [counts[:i] + counts[i + 1:] for i in range(len(counts))]
-    return [1 if all(condition(a, b) for b in rest) else 0 for a, rest in zip(counts, others)]
+    """1 for each candidate whose sequence comes first in the dictionary, better grades first, and 0 for any other."""
+    sequences = [sequence(row) for row in counts]
+    return [1 if found == min(sequences) else 0 for found in sequences]
 
 
 def count_plainly(k, d, n, ballots):

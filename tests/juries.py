@@ -4,21 +4,21 @@ Most random ones have candidates that are nearly equal: these tell a wrong rule,
 """
 
 import document01 as doc
-import sorted_gauge
+import sorted_judgment
 
-# Document 01's panels: counts, best grade first, and the closing bytes. P1 has too many ballots for a shape.
+# The panels P1 to P11, as request 2.1 has them: counts, best grade first, and the closing bytes. P1 has too many ballots for a shape.
 PANELS = [
     ([[31, 151, 529, 254, 35], [21, 48, 442, 301, 188], [101, 7, 2, 86, 804]], [1, 0, 0]),
     ([[1, 0, 0], [0, 1, 0]], [1, 0]),
-    ([[0, 1, 0], [0, 1, 0]], [0, 0]),
+    ([[0, 1, 0], [0, 1, 0]], [1, 1]),
     ([[1, 1, 1], [0, 0, 3]], [1, 0]),
     ([[2, 0, 2], [1, 2, 1]], [1, 0]),
     ([[1, 2, 0], [0, 2, 1]], [1, 0]),
     ([[2, 3, 0], [1, 4, 0]], [1, 0]),
     ([[0, 4, 1], [0, 3, 2]], [1, 0]),
-    ([[1, 1, 1], [0, 3, 0]], [0, 0]),
+    ([[1, 1, 1], [0, 3, 0]], [1, 0]),
     ([[0, 2]], [1]),
-    ([[1, 2, 0], [1, 2, 0], [0, 0, 3]], [0, 0, 0]),
+    ([[1, 2, 0], [1, 2, 0], [0, 0, 3]], [1, 1, 0]),
 ]
 
 
@@ -75,7 +75,7 @@ def level(rng, k, d, n):
 def closing_bytes(d, jury):
     """The closing bytes that the rule gives a jury, read plainly and by sorting."""
     plain = doc.closing_bytes([[grades.count(grade) for grade in range(d)] for grades in jury])
-    assert plain == sorted_gauge.winners(jury), jury
+    assert plain == sorted_judgment.winners(jury), jury
     return plain
 
 

@@ -1,4 +1,4 @@
-//! Writes the list of a jury of two blends, three grades and three ballots, runs it and prints the winner.
+//! Writes the list of a jury of two blends, three grades and three ballots, runs it and prints who wins.
 //! Run: cargo run --offline --manifest-path rust/Cargo.toml --example jury
 use jugyvaros::{measure, run, write, Shape};
 use std::error::Error;
@@ -35,9 +35,10 @@ fn main() -> Result<(), Box<dyn Error>> {
         "jury {} {} {}: {} gates, {} conditional",
         shape.candidates, shape.grades, shape.ballots, m.gates, m.conditional
     );
-    match board[m.conditional..].iter().position(|&byte| byte == 1) {
-        Some(winner) => println!("blend {winner} wins"),
-        None => println!("no blend wins"),
+    for (blend, &byte) in board[m.conditional..].iter().enumerate() {
+        if byte == 1 {
+            println!("blend {blend} wins");
+        }
     }
     Ok(())
 }

@@ -151,7 +151,7 @@ static struct said call_measure(size_t k, size_t d, size_t n, size_t al) {
 }
 
 /* Writes the own list into a table of some length over noise. The list itself is left to the core: it is held to the
- * measure, to the bound, to the tester, and by the callers to the gauge. Returns the table where the call is accepted. */
+ * measure, to the bound, to the tester, and by the callers to the rule. Returns the table where the call is accepted. */
 static uint32_t *call_write(size_t k, size_t d, size_t n, size_t length, struct said measured, size_t al) {
     what = "write";
     uint32_t *table = take(length * 4), *before_table = copy(table, length * 4);

@@ -14,7 +14,7 @@ static size_t digits(size_t n) {
 
 size_t gate_bound(size_t k, size_t d, size_t n) {
     size_t w = digits(n);
-    return 2 * k * d * n * w + k * d * (30 * w + 20) + k * k * (20 * w + 6 * d + 20) + 2;
+    return 2 * k * d * n * w + k * d * (30 * w + 20) + k * k * (20 * w + 6 * d + 20) + 2 + k * d * (400 * w + 400);
 }
 
 static struct said refused(size_t reason, size_t place) {
@@ -122,39 +122,31 @@ struct said reference_run(size_t k, size_t d, size_t n, const uint32_t *table, s
     return s;
 }
 
-struct gauge {
-    size_t median, p, q;
-};
-
-static struct gauge gauge_of(const size_t *counts, size_t d, size_t n) {
-    struct gauge u = {0, 0, 0};
+static size_t median_of(const size_t *counts, size_t d, size_t n) {
     size_t running = 0;
     for (size_t g = 0; g < d; g++) {
         running += counts[g];
-        if (2 * running >= n) {
-            u.median = g;
-            break;
-        }
+        if (2 * running >= n)
+            return g;
     }
-    for (size_t g = 0; g < d; g++) {
-        if (g < u.median)
-            u.p += counts[g];
-        if (g > u.median)
-            u.q += counts[g];
-    }
-    return u;
+    return d;
 }
 
-/* The four conditions, in their order. */
-static int beats(struct gauge a, struct gauge b) {
-    if (a.median != b.median)
-        return a.median < b.median;
-    if (a.p > a.q && b.p < b.q)
-        return 1;
-    if (a.p > a.q && b.p > b.q)
-        return a.p > b.p;
-    if (a.p < a.q && b.p < b.q)
-        return a.q < b.q;
+/* The sequence of a candidate: the median of what is left, struck each time. */
+static void sequence_of(const size_t *counts, size_t d, size_t n, size_t *sequence) {
+    size_t left[7];
+    for (size_t g = 0; g < d; g++)
+        left[g] = counts[g];
+    for (size_t i = 0; i < n; i++) {
+        sequence[i] = median_of(left, d, n - i);
+        left[sequence[i]]--;
+    }
+}
+
+static int comes_before(const size_t *a, const size_t *b, size_t n) {
+    for (size_t i = 0; i < n; i++)
+        if (a[i] != b[i])
+            return a[i] < b[i];
     return 0;
 }
 
@@ -167,10 +159,13 @@ struct said reference_count(size_t k, size_t d, size_t n, const uint8_t *ballots
     size_t counts[8][7] = {{0}};
     for (size_t i = 0; i < length; i++)
         counts[i / d % k][i % d] += ballots[i];
+    size_t sequences[8][255];
+    for (size_t i = 0; i < k; i++)
+        sequence_of(counts[i], d, n, sequences[i]);
     for (size_t i = 0; i < k; i++) {
         s.closing[i] = 1;
         for (size_t j = 0; j < k; j++)
-            if (j != i && !beats(gauge_of(counts[i], d, n), gauge_of(counts[j], d, n)))
+            if (comes_before(sequences[j], sequences[i], n))
                 s.closing[i] = 0;
     }
     return s;

@@ -1,11 +1,10 @@
--- Demand 2: the closing bytes of the own list are those of the majority gauge.
+-- Demand 2: the closing bytes of the own list are those of full majority judgment.
 -- Assumes nothing.
 use mathlib.Core.Path.{_≡_, _∙_, refl, sym, ap, subst}
 use mathlib.Core.Bool.{Bool, true, false, cond}
-use mathlib.Core.Logic.{⊎-elim, _≢_, _↔_}
+use mathlib.Core.Logic.{_⊎_, inl, inr, ⊎-elim}
 use mathlib.Core.List.{List, [], _∷_, _++_}
 use Prim.Native.Nat.{ℕ, zero, suc, _+_, _-_, _*_, _/_, _^_, _≤_, _<_}
-use native.Mathlib.Nat.{add-zero}
 use native.Mathlib.Omega.{arith}
 use lib.Dec.{eqb}
 use lib.ListN.{length, getD, take}
@@ -18,124 +17,97 @@ use Rattle.gates.proofs.WireLaws.{length-wires}
 use Rattle.jury.specs.declared.shape.Shape.{Shape}
 use Rattle.jury.specs.Shape.{withinLimits, ballotBytes}
 use Rattle.jury.specs.Counts.{countsOf, countOf}
-use Rattle.jury.specs.Gauge.{sum, medianOf, pOf, qOf, beats, closingOf}
+use Rattle.jury.specs.Gauge.{sum, medianOf}
 use Rattle.jury.specs.Accepted.{AcceptedBallots}
-use Rattle.jury.proofs.Cases.{below-or-not, same-or-not}
+use Rattle.jury.proofs.Cases.{below-or-not}
 use Rattle.jury.proofs.Limits.{within}
 use Rattle.jury.proofs.Tabulate.{length-tabulate}
 use Rattle.jury.proofs.CountFacts.{counts-length, counts-row, counts-at, counts-sum}
-use Rattle.jury.proofs.RunningSums.{running-start, running-next, q-is}
-use Rattle.jury.specs.Winner.{BeatsOthers}
-use Rattle.jury.proofs.Closing.{closing-length, closing-one, closing-zero}
+use Rattle.jury.proofs.RunningSums.{running-start, running-next}
+use Rattle.judgment.specs.Judgment.{sequenceOf, precedes, judgmentOf}
+use Rattle.judgment.proofs.Statements.{running, Precedes}
+use Rattle.judgment.proofs.Order.{precedes-self, precedes-one-way}
+use Rattle.judgment.proofs.Winners.{Unpreceded, judgment-length, byte-one, byte-zero}
 use Rattle.words.specs.Gates.{constant}
-use Rattle.words.specs.Word.{ones, number}
-use Rattle.words.proofs.Numbers.{Binary, bit-cases}
+use Rattle.words.specs.Word.{ones}
+use Rattle.words.proofs.Numbers.{Binary}
 use Rattle.words.proofs.PointsBack.{good-constant}
-use Rattle.words.proofs.GateValues.{constant-is, holds-first, holds-rest}
+use Rattle.words.proofs.GateValues.{constant-is, holds-first}
 use Rattle.circuit.specs.declared.plan.Plan.{Plan}
 use Rattle.circuit.specs.Plan.{planOf, Planned, bitsAt, apart}
-use Rattle.circuit.specs.Key.{candidate, keyOf, strictAt, candidateEnd}
-use Rattle.circuit.specs.OwnList.{rounds, circuit, ownList}
+use Rattle.circuit.specs.OwnList.{circuit, ownList}
 use Rattle.circuit.proofs.Planning.{planned}
-use Rattle.circuit.proofs.Cutting.{cut2}
-use Rattle.circuit.proofs.WellFormed.{candidate-block, candidate-end, circuit-block, roundsSize, wonAt, won-end, won-late}
 use Rattle.circuit.proofs.SumLaws.{Sums}
-use Rattle.circuit.proofs.KeyLaws.{KeyIs, candidate-law}
-use Rattle.circuit.proofs.Keys.{Key, wins, same}
-use Rattle.circuit.proofs.ContestLaws.{keyOn}
-use Rattle.circuit.proofs.RowKeys.{row-sums, rowKey, Row, Facts, facts, beats-wins, wins-beats}
-use Rattle.circuit.proofs.RoundLaws.{Among, Standing, wonBefore, Final, rounds-law}
+use Rattle.circuit.proofs.MeetingLaws.{Same, Rule}
+use Rattle.circuit.proofs.CircuitLaws.{circuit-block, wonFrom, won-end, Final, circuit-law}
+use Rattle.circuit.proofs.RuleLaws.{Row, upTo, row-sums, same-sequence, judgment-rule}
 use Rattle.circuit.proofs.Columns.{column}
 
--- a key of a row's sums is the row's key
-module _ (W : ℕ → ℕ) (b : Binary W) (p : Plan) (f : Planned p) (zeroth : W (p .inputs) ≡ 0) (oneth : W (p .inputs + 1) ≡ 1) (row : List ℕ) (r : Row p f row)
-    (sums : Sums (p .ballots) (p .grades) (λ g. sum (take (suc g) row)) (medianOf row) (pOf row)) where
-  row-key : (x : ℕ) → KeyIs W b p f zeroth oneth (λ g. sum (take (suc g) row)) (medianOf row) (pOf row) sums x → keyOn W b p f x ≡ rowKey p f row
-  row-key x k =
-      let o = facts p f row r in
-      let some : 0 < length row = omega (arith, r .long, f .d-least) in
-      let q = q-is row some in
-      let n = r .total in
-      same (keyOn W b p f x) (rowKey p f row)
-      (omega (arith, k .flags, o .flags))
-      (⊎-elim (λ (l : pOf row < qOf row). omega (arith, k .rank-no (omega arith), o .under l)) (λ (l : qOf row ≤ pOf row). omega (arith, k .rank-yes (omega arith), o .above l)) (below-or-not (pOf row) (qOf row)))
-      (⊎-elim (λ (e : pOf row ≡ qOf row). k .strict-no (omega arith) ∙ sym (o .equal e)) (λ (e : pOf row ≢ qOf row). k .strict-yes (λ z. e (omega arith)) ∙ sym (o .differ e)) (same-or-not (pOf row) (qOf row)))
+-- a test that does not hold
+not-true : (t : Bool) → (t ≡ true → ⊥) → t ≡ false
+not-true true h = absurd (h refl)
+not-true false h = refl
 
 -- wires of the circuit, over candidates with these rows of counts
 module _ (W : ℕ → ℕ) (b : Binary W) (p : Plan) (f : Planned p) (two : 1 < p .candidates) (h : Holds W (p .inputs) (circuit p))
-    (rows : ℕ → List ℕ) (row-is : (c : ℕ) → c < p .candidates → Row p f (rows c))
-    (counted : (c g : ℕ) → c < p .candidates → g < p .grades → ones W (bitsAt p c g) (apart p) (p .ballots) ≡ getD (rows c) g 0) where
-  start : ℕ
-  start = p .inputs + 2
+    (rows : List (List ℕ)) (long : length rows ≡ p .candidates) (row-is : (c : ℕ) → c < p .candidates → Row (p .ballots) (p .grades) (getD rows c []))
+    (counted : (c g : ℕ) → c < p .candidates → g < p .grades → ones W (bitsAt p c g) (apart p) (p .ballots) ≡ getD (getD rows c []) g 0) where
+  some : 0 < p .grades
+  some = omega (arith, f .d-least)
 
-  K : ℕ → Key
-  K c = rowKey p f (rows c)
+  -- the best candidate, and how all stand to it
+  pub record Judged : Type 0 where
+    pub best : ℕ
+    pub inside : best < p .candidates
+    pub as-good : (i : ℕ) → i < p .candidates → ((W (wonFrom p f two + i) ≡ 1) × (sequenceOf (getD rows i []) ≡ sequenceOf (getD rows best []))) ⊎ ((W (wonFrom p f two + i) ≡ 0) × Precedes (getD rows best []) (getD rows i []))
 
-  -- the two constants, the first candidate, and the rounds
-  cuts : (W (p .inputs) ≡ 0) × (W (p .inputs + 1) ≡ 1) × Holds W start (candidate p start 0) × Holds W (candidateEnd p start) (rounds p (candidateEnd p start) (keyOf p start) 0 1 (p .candidates - 1))
-  unfolding circuit start
-  cuts =
-      let i = p .inputs in
-      let one = candidate p (i + 2) 0 in
-      let e = candidateEnd p (i + 2) in
-      let size = candidate-end p f (i + 2) in
-      let long = candidate-block p f (i + 2) 0 (omega arith) (omega arith) .long in
-      let q = cut2 W i (constant 0 ∷ constant 1 ∷ one) (rounds p e (keyOf p (i + 2)) 0 1 (p .candidates - 1)) e (omega arith) h in
-      let first = holds-first W i (constant 0) (constant 1 ∷ one) (q .0) ∙ constant-is W b 0 in
-      let rest = holds-rest W i (constant 0) (constant 1 ∷ one) (q .0) in
-      let second = holds-first W (i + 1) (constant 1) one rest ∙ constant-is W b 1 in
-      let place : i + 1 + 1 ≡ i + 2 = omega arith in
-      (first, second, subst (λ (k : ℕ). Holds W k one) place (holds-rest W (i + 1) (constant 1) one rest), q .1)
+  rule : Rule (p .ballots) (p .grades - 1) (p .candidates) (λ c. upTo (getD rows c [])) (λ i j. Precedes (getD rows i []) (getD rows j []))
+  rule = judgment-rule (p .ballots) (p .grades) (p .candidates) some (λ c. getD rows c []) row-is
 
-  sums-of : (c : ℕ) → c < p .candidates → Sums (p .ballots) (p .grades) (λ g. sum (take (suc g) (rows c))) (medianOf (rows c)) (pOf (rows c))
-  sums-of c l =
-      let r = row-is c l in
-      subst (λ (n : ℕ). Sums n (p .grades) (λ g. sum (take (suc g) (rows c))) (medianOf (rows c)) (pOf (rows c))) (r .total)
-      (subst (λ (d : ℕ). Sums (sum (rows c)) d (λ g. sum (take (suc g) (rows c))) (medianOf (rows c)) (pOf (rows c))) (r .long) (row-sums (rows c) (omega (arith, r .long, f .d-least))))
+  sums : (c : ℕ) → c < p .candidates → Sums (p .ballots) (p .grades) (upTo (getD rows c [])) (medianOf (getD rows c []))
+  sums c l = row-sums (p .ballots) (p .grades) (getD rows c []) some (row-is c l)
 
-  -- each candidate's circuit makes its row's key
-  keyed : (c n : ℕ) → c < p .candidates → p .inputs + 2 ≤ n → Holds W n (candidate p n c) → keyOn W b p f (keyOf p n) ≡ K c
-  unfolding K
-  keyed c n l m w =
-      let row = rows c in
-      let s = sums-of c l in
-      let first : ones W (bitsAt p c 0) (apart p) (p .ballots) ≡ sum (take 1 row) = omega (arith, counted c 0 l (omega (arith, f .d-least)), running-next row 0, running-start row) in
-      let next : (g : ℕ) → suc g < p .grades → sum (take (suc g) row) + ones W (bitsAt p c (suc g)) (apart p) (p .ballots) ≡ sum (take (suc (suc g)) row) =
-      λ g k. omega (arith, counted c (suc g) l k, running-next row (suc g)) in
-      row-key W b p f (cuts .0) (cuts .1) row (row-is c l) s (keyOf p n)
-      (candidate-law W b p f (cuts .0) (cuts .1) (λ g. sum (take (suc g) row)) (medianOf row) (pOf row) s c l first next n m w)
+  -- the bits of a grade are what it adds to the sum
+  first-count : (c : ℕ) → c < p .candidates → ones W (bitsAt p c 0) (apart p) (p .ballots) ≡ upTo (getD rows c []) 0
+  first-count c l = omega (arith, counted c 0 l some, running-next (getD rows c []) 0, running-start (getD rows c []))
 
-  -- before the first round, candidate 0 has won
-  stands : Standing W b p f K (keyOf p start) 0 1
-  unfolding start wonBefore
-  stands =
-      let zero-key = keyed 0 (p .inputs + 2) (omega arith) (omega arith) (cuts .2) in
+  next-count : (c g : ℕ) → c < p .candidates → suc g < p .grades → upTo (getD rows c []) g + ones W (bitsAt p c (suc g)) (apart p) (p .ballots) ≡ upTo (getD rows c []) (suc g)
+  next-count c g l m = omega (arith, counted c (suc g) l m, running-next (getD rows c []) (suc g))
+
+  judged-by : Final p f two W b h (λ c. upTo (getD rows c [])) (λ i j. Precedes (getD rows i []) (getD rows j [])) rule (λ c. medianOf (getD rows c [])) sums first-count next-count → Judged
+  judged-by final =
       record {
-        under = λ z e o l. let eo : 0 ≡ o = omega arith in ap (wins z) (ap K (sym eo) ∙ sym zero-key) ∙ e;
-        over = λ z k. ap (wins z) zero-key ∙ k 0 (omega arith);
-        among = λ i l e o k ne. absurd (ne (omega arith));
-        has-won = λ i l k. refl;
-        best = λ i l e. let ei : 0 ≡ i = omega arith in zero-key ∙ ap K ei;
+        best = final .best;
+        inside = final .inside;
+        as-good = λ i l. ⊎-elim
+            (λ (z : (W (wonFrom p f two + i) ≡ 1) × Same (p .grades - 1) (λ c. upTo (getD rows c [])) i (final .best)).
+            inl (z .0, same-sequence (p .ballots) (p .grades) (p .candidates) some (λ c. getD rows c []) row-is i (final .best) l (final .inside) (z .1)))
+            (λ (z : (W (wonFrom p f two + i) ≡ 0) × Precedes (getD rows (final .best) []) (getD rows i [])). inr z)
+            (final .standing i l);
       }
 
-  -- the last k wires say who beats each other candidate
-  pub winners-are : (i : ℕ) → i < p .candidates → (W (p .inputs + length (circuit p) - p .candidates + i) ≡ 1) ↔ ((o : ℕ) → o < p .candidates → o ≢ i → beats (rows i) (rows o) ≡ true)
-  unfolding start K
-  winners-are i l =
-      let t = p .candidates - 2 in
-      let n = candidateEnd p (p .inputs + 2) in
-      let many : p .candidates - 1 ≡ suc t = omega arith in
-      let size = candidate-end p f (p .inputs + 2) in
-      let w = subst (λ (k : ℕ). Holds W n (rounds p n (keyOf p (p .inputs + 2)) 0 1 k)) many (cuts .3) in
-      let final = rounds-law W b p f K keyed n (keyOf p (p .inputs + 2)) 0 1 t (omega arith) (omega arith) (omega arith) (omega arith) (omega arith) stands w in
-      let end = won-end p f n 1 t in
-      let block = circuit-block p f .long in
-      let all : 1 + suc t ≡ p .candidates = omega arith in
-      let at : p .inputs + length (circuit p) - p .candidates ≡ wonAt p f n 1 (suc t) = omega (arith, ap (roundsSize p f 1) many) in
-      let wire-at : W (p .inputs + length (circuit p) - p .candidates + i) ≡ W (wonAt p f n 1 (suc t) + i) = ap (λ (k : ℕ). W (k + i)) at in (
-        λ e o k ne. wins-beats p f (rows i) (rows o) (row-is i l) (row-is o k) (final .among i (omega arith) (sym wire-at ∙ e) o (omega arith) ne),
-        λ k. wire-at ∙ final .has-won i (omega arith) (λ o m ne. beats-wins p f (rows i) (rows o) (row-is i l) (row-is o (omega arith)) (k o (omega arith) ne)),
-      )
+  judged : Judged
+  judged = judged-by (circuit-law p f two W b h (λ c. upTo (getD rows c [])) (λ i j. Precedes (getD rows i []) (getD rows j [])) rule (λ c. medianOf (getD rows c [])) sums first-count next-count)
+
+  -- no sequence precedes the best one's
+  unpreceded : (j : Judged) (c : ℕ) → c < p .candidates → precedes (sequenceOf (getD rows c [])) (sequenceOf (getD rows (j .best) [])) ≡ false
+  unpreceded j c l = ⊎-elim
+      (λ (z : (W (wonFrom p f two + c) ≡ 1) × (sequenceOf (getD rows c []) ≡ sequenceOf (getD rows (j .best) []))).
+      not-true (precedes (sequenceOf (getD rows c [])) (sequenceOf (getD rows (j .best) [])))
+      (λ e. precedes-self (sequenceOf (getD rows (j .best) [])) (subst (λ (q : List ℕ). precedes q (sequenceOf (getD rows (j .best) [])) ≡ true) (z .1) e)))
+      (λ (z : (W (wonFrom p f two + c) ≡ 0) × Precedes (getD rows (j .best) []) (getD rows c [])). precedes-one-way (sequenceOf (getD rows (j .best) [])) (sequenceOf (getD rows c [])) (z .1))
+      (j .as-good c l)
+
+  -- the last k wires are the closing bytes
+  pub closing-wires : (i : ℕ) → i < p .candidates → W (wonFrom p f two + i) ≡ getD (judgmentOf rows) i 0
+  closing-wires i l =
+      let j = judged in
+      ⊎-elim
+      (λ (z : (W (wonFrom p f two + i) ≡ 1) × (sequenceOf (getD rows i []) ≡ sequenceOf (getD rows (j .best) []))).
+      z .0 ∙ sym (byte-one rows i (omega arith) (λ c m. subst (λ (q : List ℕ). precedes (sequenceOf (getD rows c [])) q ≡ false) (sym (z .1)) (unpreceded j c (omega arith)))))
+      (λ (z : (W (wonFrom p f two + i) ≡ 0) × Precedes (getD rows (j .best) []) (getD rows i [])).
+      z .0 ∙ sym (byte-zero rows i (omega arith) (j .best) (omega (arith, j .inside)) (z .1)))
+      (j .as-good i l)
 
 -- a single candidate, and two or more
 own-single : (s : Shape) → s .candidates ≡ 1 → ownList s ≡ constant 1 ∷ []
@@ -152,14 +124,7 @@ pub record Own (s : Shape) : Type 0 where
   pub enough : s .candidates ≤ length (ownList s)
 
 enough-gates : (p : Plan) (f : Planned p) → 1 < p .candidates → p .candidates ≤ length (circuit p)
-enough-gates p f two =
-    let t = p .candidates - 2 in
-    let n = candidateEnd p (p .inputs + 2) in
-    let many : p .candidates - 1 ≡ suc t = omega arith in
-    let size = candidate-end p f (p .inputs + 2) in
-    let end = won-end p f n 1 t in
-    let late = won-late p f n 1 t in
-    omega (arith, circuit-block p f .long, ap (roundsSize p f 1) many)
+enough-gates p f two = omega (arith, circuit-block p f two .long)
 
 pub own : (s : Shape) → withinLimits s ≡ true → Own s
 unfolding planOf
@@ -172,71 +137,58 @@ own s e = ⊎-elim many one (below-or-not 1 (s .candidates))
 
     many : 1 < s .candidates → Own s
     many l =
-        let block = circuit-block (planOf s) (planned s e) in
+        let block = circuit-block (planOf s) (planned s e) l in
         record { good = rw (own-circuit s l) (block .good); enough = omega (arith, ap length (own-circuit s l), enough-gates (planOf s) (planned s e) l) }
 
--- bits that are 1 exactly where a candidate beats each other one are the closing bytes
-closing-from : (s : Shape) (xs : List ℕ) → AcceptedBallots s xs → (gs : List Gate) → Binary (wire (wiresOf xs gs)) → s .candidates ≤ length gs
-    → ((i : ℕ) → i < s .candidates → (wire (wiresOf xs gs) (length xs + length gs - s .candidates + i) ≡ 1) ↔ BeatsOthers (countsOf s xs) i)
-    → outputsOf (s .candidates) (wiresOf xs gs) ≡ closingOf (countsOf s xs)
-closing-from s xs a gs bits enough h =
+-- last wires that are the closing bytes, one by one
+closing-from : (s : Shape) (xs : List ℕ) (gs : List Gate) → s .candidates ≤ length gs
+    → ((i : ℕ) → i < s .candidates → wire (wiresOf xs gs) (length xs + length gs - s .candidates + i) ≡ getD (judgmentOf (countsOf s xs)) i 0)
+    → outputsOf (s .candidates) (wiresOf xs gs) ≡ judgmentOf (countsOf s xs)
+closing-from s xs gs enough h =
     let k = s .candidates in
     let long : length (outputsOf k (wiresOf xs gs)) ≡ k = length-outputs k (wiresOf xs gs) (omega (arith, length-wires xs gs)) in
-    let rows = counts-length s xs in
-    ext-getD 0 (outputsOf k (wiresOf xs gs)) (closingOf (countsOf s xs)) (omega (arith, closing-length (countsOf s xs)))
-    (λ i l.
-    let at = output-is k (wiresOf xs gs) i ∙ ap (λ (n : ℕ). wire (wiresOf xs gs) (n - k + i)) (length-wires xs gs) in
-    let iff = h i (omega arith) in
-    let inside : i < length (countsOf s xs) = omega arith in
-    ⊎-elim
-    (λ e. at ∙ e ∙ sym (closing-zero (countsOf s xs) i inside .1 (λ q. zero-one (sym e ∙ iff .1 q))))
-    (λ e. at ∙ e ∙ sym (closing-one (countsOf s xs) i inside .1 (iff .0 e)))
-    (bit-cases (wire (wiresOf xs gs) (length xs + length gs - k + i)) (bits (length xs + length gs - k + i))))
-  where
-    zero-one : _≡_ {A = ℕ} 0 1 → ⊥
-    zero-one e = omega arith
+    ext-getD 0 (outputsOf k (wiresOf xs gs)) (judgmentOf (countsOf s xs)) (omega (arith, judgment-length (countsOf s xs), counts-length s xs))
+    (λ i l. output-is k (wiresOf xs gs) i ∙ ap (λ (n : ℕ). wire (wiresOf xs gs) (n - k + i)) (length-wires xs gs) ∙ h i (omega arith))
 
--- Demand 2, over the definitions: for every shape within its limits and all accepted ballots, the last k wires of the own list are the gauge's closing bytes.
-pub own-list-is-accurate : (s : Shape) (xs : List ℕ) → AcceptedBallots s xs → outputsOf (s .candidates) (wiresOf xs (ownList s)) ≡ closingOf (countsOf s xs)
+-- Demand 2, over the definitions: for every shape within its limits and all accepted ballots, the last k wires of the own list are the closing bytes of full majority judgment.
+pub own-list-is-accurate : (s : Shape) (xs : List ℕ) → AcceptedBallots s xs → outputsOf (s .candidates) (wiresOf xs (ownList s)) ≡ judgmentOf (countsOf s xs)
 unfolding planOf
 own-list-is-accurate s xs a = ⊎-elim many one (below-or-not 1 (s .candidates))
   where
-    o : Own s
-    o = own s (a .within)
-
-    rows : ℕ → List ℕ
-    rows c = getD (countsOf s xs) c []
-
-    long : length (countsOf s xs) ≡ s .candidates
-    long = counts-length s xs
-
     bits-of : (gs : List Gate) → AllGood (length xs) gs → Binary (wire (wiresOf xs gs))
     bits-of gs good = wire-bit (wiresOf xs gs) (wires-bits xs gs good (a .bits))
 
-    one : s .candidates ≤ 1 → outputsOf (s .candidates) (wiresOf xs (ownList s)) ≡ closingOf (countsOf s xs)
+    -- the only candidate's sequence is preceded by none
+    only : s .candidates ≡ 1 → Unpreceded (countsOf s xs) 0
+    only k j l =
+        let e : j ≡ 0 = omega (arith, counts-length s xs) in
+        let q = sequenceOf (getD (countsOf s xs) 0 []) in
+        ap (λ (i : ℕ). precedes (sequenceOf (getD (countsOf s xs) i [])) q) e ∙ not-true (precedes q q) (precedes-self q)
+
+    one : s .candidates ≤ 1 → outputsOf (s .candidates) (wiresOf xs (ownList s)) ≡ judgmentOf (countsOf s xs)
     one l =
         let k : s .candidates ≡ 1 = omega (arith, within s (a .within) .k-least) in
         let gs = constant 1 ∷ [] in
         let good : AllGood (length xs) gs = (good-constant (length xs) 1, tt) in
         let w = holds-first (wire (wiresOf xs gs)) (length xs) (constant 1) [] (wires-hold xs gs good) ∙ constant-is (wire (wiresOf xs gs)) (bits-of gs good) 1 in
         ap (λ (l : List Gate). outputsOf (s .candidates) (wiresOf xs l)) (own-single s k)
-        ∙ closing-from s xs a gs (bits-of gs good) (omega arith)
-        (λ i h. let at : length xs + 1 - s .candidates + i ≡ length xs = omega arith in (λ e j m ne. absurd (ne (omega (arith, long))), λ q. ap (wire (wiresOf xs gs)) at ∙ w))
+        ∙ closing-from s xs gs (omega arith)
+        (λ i h. let at : length xs + 1 - s .candidates + i ≡ length xs = omega arith in
+        let e : 0 ≡ i = omega arith in
+        ap (wire (wiresOf xs gs)) at ∙ w ∙ sym (byte-one (countsOf s xs) 0 (omega (arith, counts-length s xs)) (only k)) ∙ ap (λ (j : ℕ). getD (judgmentOf (countsOf s xs)) j 0) e)
 
-    many : 1 < s .candidates → outputsOf (s .candidates) (wiresOf xs (ownList s)) ≡ closingOf (countsOf s xs)
+    many : 1 < s .candidates → outputsOf (s .candidates) (wiresOf xs (ownList s)) ≡ judgmentOf (countsOf s xs)
     many l =
         let p = planOf s in
         let f = planned s (a .within) in
         let gs = circuit p in
-        let same-list = own-circuit s l in
-        let good = subst (λ (n : ℕ). AllGood n gs) (sym (a .size)) (circuit-block p f .good) in
+        let good = subst (λ (n : ℕ). AllGood n gs) (sym (a .size)) (circuit-block p f l .good) in
         let W = wire (wiresOf xs gs) in
         let holds = subst (λ (n : ℕ). Holds W n gs) (a .size) (wires-hold xs gs good) in
-        let row-is : (c : ℕ) → c < s .candidates → Row p f (rows c) = λ c h. record { long = ap length (counts-row s xs c h) ∙ length-tabulate (s .grades) (countOf s xs c); total = counts-sum s xs a c h } in
-        let counted : (c g : ℕ) → c < s .candidates → g < s .grades → ones W (bitsAt p c g) (apart p) (p .ballots) ≡ getD (rows c) g 0 = λ c g hc hg. column s xs gs a c g hc hg ∙ sym (counts-at s xs c g hc hg) in
-        ap (λ (l : List Gate). outputsOf (s .candidates) (wiresOf xs l)) same-list
-        ∙ closing-from s xs a gs (bits-of gs good) (enough-gates p f l)
+        let row-is : (c : ℕ) → c < s .candidates → Row (s .ballots) (s .grades) (getD (countsOf s xs) c []) = λ c h. record { long = ap length (counts-row s xs c h) ∙ length-tabulate (s .grades) (countOf s xs c); total = counts-sum s xs a c h } in
+        let counted : (c g : ℕ) → c < s .candidates → g < s .grades → ones W (bitsAt p c g) (apart p) (p .ballots) ≡ getD (getD (countsOf s xs) c []) g 0 = λ c g hc hg. column s xs gs a c g hc hg ∙ sym (counts-at s xs c g hc hg) in
+        ap (λ (l : List Gate). outputsOf (s .candidates) (wiresOf xs l)) (own-circuit s l)
+        ∙ closing-from s xs gs (enough-gates p f l)
         (λ i h.
-        let iff = winners-are W (bits-of gs good) p f l holds rows row-is counted i h in
-        let at : W (length xs + length gs - s .candidates + i) ≡ W (p .inputs + length gs - s .candidates + i) = ap (λ (n : ℕ). W (n + length gs - s .candidates + i)) (a .size) in
-        (λ e j m ne. iff .0 (sym at ∙ e) j (omega (arith, long)) ne, λ q. at ∙ iff .1 (λ j m ne. q j (omega (arith, long)) ne)))
+        let at : length xs + length gs - s .candidates + i ≡ wonFrom p f l + i = omega (arith, won-end p f l, a .size) in
+        ap W at ∙ closing-wires W (bits-of gs good) p f l holds (countsOf s xs) (counts-length s xs) row-is counted i h)

@@ -9,16 +9,15 @@ use lib.ListN.{length, length-append}
 use Rattle.gates.specs.Gate.{Gate}
 use Rattle.gates.specs.Test.{goodGate}
 use Rattle.gates.proofs.Laws.{AllGood, good-append, Holds, holds-append, operand-counts, good-one, good-two, good-three}
-use Rattle.words.specs.Gates.{copyOf, andOf, muxOf}
+use Rattle.words.specs.Gates.{copyOf, notOf, andOf, orOf, xorOf, muxOf}
 use Rattle.words.specs.Word.{Below}
 use Rattle.words.specs.Adder.{addWithBit}
-use Rattle.words.specs.Choice.{constants, copies, complements, choose, anyOf}
-use Rattle.words.specs.Comparison.{compareDigit, compareWords}
+use Rattle.words.specs.Choice.{constants, copies, complements, choose, anyOf, parity}
 use Rattle.words.specs.Counter.{counter, countSize, accumulator, addSize, Countable}
 use Rattle.words.proofs.ChoiceSteps.{length-constants, length-each, length-choose, length-chain}
-use Rattle.words.proofs.WordSteps.{length-add-bit, length-compare, length-compare-digit}
+use Rattle.words.proofs.WordSteps.{length-add-bit}
 use Rattle.words.proofs.CounterSteps.{length-counter, length-accumulator}
-use Rattle.words.proofs.PointsBack.{constants-good, copies-good, complements-good, choose-good, any-good, add-bit-good, compare-digit-good, compare-good, counter-good, accumulator-good}
+use Rattle.words.proofs.PointsBack.{constants-good, copies-good, complements-good, choose-good, any-good, chain-good, add-bit-good, counter-good, accumulator-good}
 
 -- a block of m gates, well-formed where its first gate makes wire n
 pub record Block (n : ℕ) (gs : List Gate) (m : ℕ) : Type 0 where
@@ -67,11 +66,8 @@ any-block n s at d m hs bl = record { long = length-chain 5 n s at d m; good = a
 pub add-bit-block : (n x y e w : ℕ) → x + w ≤ n → y + w ≤ n → Block n (addWithBit n x y e w) (3 * w)
 add-bit-block n x y e w hx hy = record { long = length-add-bit n x y e w; good = add-bit-good n x y e w hx hy }
 
-pub compare-digit-block : (n x y : ℕ) → x < n → y < n → Block n (compareDigit n x y) 4
-compare-digit-block n x y hx hy = record { long = length-compare-digit n x y; good = compare-digit-good n x y hx hy }
-
-pub compare-block : (n x y up down w : ℕ) → x + w ≤ n → y + w ≤ n → up < n → down < n → Block n (compareWords n x y up down w) (3 * w)
-compare-block n x y up down w hx hy hu hd = record { long = length-compare n x y up down w; good = compare-good n x y up down w hx hy hu hd }
+pub parity-block : (n s at d m : ℕ) → s < n → Below n at d m → Block n (parity n s at d m) m
+parity-block n s at d m hs bl = record { long = length-chain 6 n s at d m; good = chain-good n 6 s at d m (omega arith) (operand-counts .6) hs bl }
 
 pub counter-block : (n at d m x r : ℕ) → Below n at d m → Countable m x r → Block n (counter n at d m x r) (countSize m x r + (r + 1))
 counter-block n at d m x r bl k = record { long = length-counter n at d m x r; good = counter-good n at d m x r bl k }
@@ -82,6 +78,15 @@ accumulator-block n a at d m r ha bl = record { long = length-accumulator n a at
 -- single gates
 pub copy-good : (n a : ℕ) → a < n → T (goodGate n (copyOf a))
 copy-good n a h = good-one n 2 a (omega arith) (operand-counts .2) h
+
+pub not-good : (n a : ℕ) → a < n → T (goodGate n (notOf a))
+not-good n a h = good-one n 3 a (omega arith) (operand-counts .3) h
+
+pub or-good : (n a b : ℕ) → a < n → b < n → T (goodGate n (orOf a b))
+or-good n a b ha hb = good-two n 5 a b (omega arith) (operand-counts .5) ha hb
+
+pub xor-good : (n a b : ℕ) → a < n → b < n → T (goodGate n (xorOf a b))
+xor-good n a b ha hb = good-two n 6 a b (omega arith) (operand-counts .6) ha hb
 
 pub and-good : (n a b : ℕ) → a < n → b < n → T (goodGate n (andOf a b))
 and-good n a b ha hb = good-two n 4 a b (omega arith) (operand-counts .4) ha hb

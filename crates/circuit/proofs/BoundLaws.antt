@@ -1,25 +1,43 @@
--- The own list keeps document 01's bound on the number of gates.
+-- The own list keeps the bound on the number of gates.
 -- Assumes nothing.
 use mathlib.Core.Path.{_≡_, _∙_, refl, sym, ap, subst}
-use mathlib.Core.Bool.{true}
 use mathlib.Core.Logic.{⊎-elim}
-use Prim.Native.Nat.{ℕ, zero, suc, _+_, _-_, _*_, _^_, _≤_, _<_}
-use native.Mathlib.Nat.{suc-mul, zero-mul, mul-comm, mul-assoc, mul-add, mul-suc, mul-le-mul, mul-le-mul-left}
+use mathlib.Core.List.{List}
+use Prim.Native.Nat.{ℕ, zero, suc, _+_, _-_, _*_, _/_, _^_, _≤_, _<_}
+use native.Mathlib.Nat.{pow-succ', suc-mul, zero-mul, add-mul, mul-comm, mul-assoc, mul-add, mul-le-mul, mul-le-mul-left, mul-le-mul-right}
 use native.Mathlib.Omega.{arith}
+use lib.ListN.{length}
 use lib.Pow.{pow-mono}
+use Rattle.jury.proofs.Cases.{below-or-not}
 use Rattle.words.specs.Counter.{countSize, addSize}
 use Rattle.words.proofs.CounterSteps.{count-size-most, add-size-most}
 use Rattle.circuit.specs.declared.plan.Plan.{Plan}
 use Rattle.circuit.specs.Plan.{Planned}
 use Rattle.circuit.specs.Bound.{boundOf}
-use Rattle.circuit.proofs.Sizes.{middleGates, lastGates, laterGates, candidateGates, contestGates, mergedGates, roundGates, roundsGates}
+use Rattle.circuit.specs.RunningSums.{wordSpan, middleSpan, lastSpan, laterSpan}
+use Rattle.circuit.specs.Key.{keySpan, candidateSpan}
+use Rattle.circuit.specs.Versus.{versusSpan}
+use Rattle.circuit.specs.Median.{medianSize}
+use Rattle.circuit.specs.Nearest.{probeSpan, eitherSpan}
+use Rattle.circuit.specs.Outward.{outwardSpan}
+use Rattle.circuit.specs.Contest.{lowerSpan, medianSpan, contestSpan}
+use Rattle.circuit.specs.Meeting.{meetingSpan}
+use Rattle.circuit.specs.OwnList.{levelsSpan, lowLevels, circuit}
+use Rattle.circuit.proofs.CandidateBlocks.{middle-span, last-span, candidate-span}
+use Rattle.circuit.proofs.LevelsLaws.{span-one, span-more}
+use Rattle.circuit.proofs.CircuitLaws.{circuit-block}
 
 -- the levels' bound by products of two numbers
-levels : (r n : ℕ) → r * (2 * n + 2) + 2 * n + 2 ≡ 2 * (n * suc r) + 2 * suc r
-levels r n =
+levels-product : (r n : ℕ) → r * (2 * n + 2) + 2 * n + 2 ≡ 2 * (n * suc r) + 2 * suc r
+levels-product r n =
     let whole : suc r * (2 * n + 2) ≡ suc r * (2 * n) + suc r * 2 = mul-add (suc r) (2 * n) 2 in
     let first : suc r * (2 * n) ≡ 2 * (n * suc r) = mul-comm (suc r) (2 * n) ∙ mul-assoc 2 n (suc r) in
     omega (arith, suc-mul r (2 * n + 2))
+
+median-size-most : (m r : ℕ) → medianSize m r ≤ 2 * m
+unfolding medianSize
+median-size-most m zero = omega arith
+median-size-most m (suc r) = omega (arith, median-size-most (m / 2) r)
 
 module _ (p : Plan) (f : Planned p) where
   -- the width, and the product of the number of ballots and the width
@@ -29,59 +47,136 @@ module _ (p : Plan) (f : Planned p) where
   nw : ℕ
   nw = p .ballots * suc (p .digits)
 
-  -- what a grade may take, and document 01's share of it
+  -- what a grade may take, and its share in the bound
   grade : ℕ
-  grade = 2 * nw + 8 * w + 2
+  grade = 2 * nw + 5 * w
 
   share : ℕ
   share = 2 * nw + (30 * w + 20)
 
-  first-most : countSize (p .ballots) (p .offset) (p .digits) + (p .digits + 1) + 3 * p .digits ≤ grade
+  first-most : countSize (p .ballots) (p .offset) (p .digits) + wordSpan p ≤ grade
   unfolding grade nw w
-  first-most = omega (arith, count-size-most (p .ballots) (p .offset) (p .digits) (p .ballots) (omega arith) (f .n-least), levels (p .digits) (p .ballots))
+  first-most = omega (arith, count-size-most (p .ballots) (p .offset) (p .digits) (p .ballots) (omega arith) (f .n-least), levels-product (p .digits) (p .ballots))
 
-  middle-most : middleGates p ≤ grade
-  unfolding grade nw w middleGates
-  middle-most = omega (arith, add-size-most (p .ballots) (p .digits) (p .ballots) (omega arith) (f .n-least), levels (p .digits) (p .ballots))
+  middle-most : middleSpan p ≤ grade
+  unfolding grade nw w
+  middle-most = omega (arith, middle-span p, add-size-most (p .ballots) (p .digits) (p .ballots) (omega arith) (f .n-least), levels-product (p .digits) (p .ballots))
 
-  last-most : lastGates p ≤ grade
-  unfolding grade nw w lastGates
-  last-most = omega (arith, count-size-most (p .ballots) (p .worst) (p .digits) (p .ballots) (omega arith) (f .n-least), levels (p .digits) (p .ballots))
+  last-most : lastSpan p ≤ grade
+  unfolding grade nw w
+  last-most = omega (arith, last-span p, count-size-most (p .ballots) (p .worst) (p .digits) (p .ballots) (omega arith) (f .n-least), levels-product (p .digits) (p .ballots))
 
-  later-most : (t : ℕ) → laterGates p t ≤ t * grade
-  unfolding laterGates
+  later-most : (t : ℕ) → laterSpan p t ≤ t * grade
+  unfolding laterSpan
   later-most zero = omega arith
-  later-most (suc t) = omega (arith, mul-le-mul-left {m = middleGates p} {n = grade} t middle-most, last-most, suc-mul t grade)
+  later-most (suc t) = omega (arith, mul-le-mul-left {m = middleSpan p} {n = grade} t middle-most, last-most, suc-mul t grade)
 
-  candidate-most : candidateGates p ≤ p .grades * share
-  unfolding candidateGates
+  -- a word of the key for each grade beside its sum
+  candidate-most : candidateSpan p ≤ p .grades * share
   candidate-most =
       let t = p .grades - 2 in
+      let words : p .grades - 1 ≡ suc t = omega (arith, f .d-least) in
       let d : p .grades ≡ suc (suc t) = omega (arith, f .d-least) in
-      let small : grade ≤ share = grade-share in
-      omega (arith, first-most, later-most t, mul-le-mul-left {m = grade} {n = share} t small, small, rest, ap (λ (k : ℕ). k * share) d, suc-mul (suc t) share, suc-mul t share)
+      let each : t * (grade + wordSpan p) ≡ t * grade + t * wordSpan p = mul-add t grade (wordSpan p) in
+      omega (
+        arith,
+        candidate-span p,
+        first-most,
+        later-most t,
+        each,
+        mul-le-mul-left {m = grade + wordSpan p} {n = share} t small,
+        small,
+        ap (λ (k : ℕ). k * wordSpan p) words,
+        suc-mul t (wordSpan p),
+        ap (λ (k : ℕ). k * share) d,
+        suc-mul (suc t) share,
+        suc-mul t share,
+      )
     where
-      grade-share : grade ≤ share
-      grade-share = unfold grade share in (omega arith)
+      small : grade + wordSpan p ≤ share
+      small = unfold grade share w in (omega arith)
 
-      rest : 7 * p .digits + p .grades + 1 ≤ share
-      rest = unfold share w in (omega (arith, f .d-most))
+  pub digits-most : p .digits ≤ 7
+  digits-most = let no : ¬ (8 ≤ p .digits) = not-eight in omega arith
+    where
+      not-eight : ¬ (8 ≤ p .digits)
+      not-eight eight =
+          let high : 2 ^ 8 ≤ 2 ^ p .digits = pow-mono {i = 8} {j = p .digits} eight in
+          omega (arith, f .low, f .n-most)
 
-  merged-most : (t : ℕ) → mergedGates p t ≤ 2 + p .digits + p .grades
-  unfolding mergedGates
-  merged-most zero = omega arith
-  merged-most (suc t) = omega arith
+  places-most : p .places ≤ 2
+  places-most = let no : ¬ (3 ≤ p .places) = not-three in omega arith
+    where
+      not-three : ¬ (3 ≤ p .places)
+      not-three three =
+          let high : 2 ^ 3 ≤ 2 ^ p .places = pow-mono {i = 3} {j = p .places} three in
+          omega (arith, f .median-low, f .d-most)
 
-  round-most : (j t : ℕ) → j ≤ 8 → roundGates p j t ≤ p .grades * share + (20 * w + 6 * p .grades + 20)
-  unfolding roundGates contestGates w
-  round-most j t h = omega (arith, candidate-most, merged-most t, f .d-least)
+  -- below the medians, for at most six sums
+  lower-most : (digits t : ℕ) → t ≤ 5 → lowerSpan digits t ≤ 36 * digits + 46
+  unfolding lowerSpan
+  lower-most zero t h = omega arith
+  lower-most (suc r) zero h = omega arith
+  lower-most (suc r) (suc t) h =
+      let few : t ≤ 4 = omega arith in
+      omega (arith, mul-le-mul-right {m = t} {n = 4} (probeSpan r) few, mul-le-mul-right {m = t} {n = 4} (eitherSpan r) few)
 
-  rounds-most : (j t : ℕ) → j + t ≤ 9 → roundsGates p j t ≤ t * (p .grades * share + (20 * w + 6 * p .grades + 20))
-  unfolding roundsGates
-  rounds-most j zero h = omega arith
-  rounds-most j (suc t) h = omega (arith, round-most j t (omega arith), rounds-most (j + 1) t (omega arith), suc-mul t (p .grades * share + (20 * w + 6 * p .grades + 20)))
+  key-most : keySpan p ≤ 6 * w
+  unfolding w
+  key-most = let few : p .grades - 1 ≤ 6 = omega (arith, f .d-most) in omega (arith, mul-le-mul-right {m = p .grades - 1} {n = 6} (wordSpan p) few)
 
-  -- document 01's products, put together from a candidate's share
+  -- a meeting of at most eight candidates, with the key that is kept
+  meet : ℕ
+  meet = 42 * w + 100
+
+  meet-most : (l m : ℕ) → l + m ≤ 8 → meetingSpan p l m + keySpan p ≤ meet
+  unfolding meet w
+  meet-most l m h =
+      omega (arith, key, median-size-most (p .grades - 1) (suc (p .places)), places-most, lower-most (p .digits) (p .grades - 2) (omega (arith, f .d-most)), f .d-most)
+    where
+      key : keySpan p ≤ 6 * suc (p .digits)
+      key = unfold w in key-most
+
+  levels-most : (r m : ℕ) → 0 < m → m ≤ 8 → m ≤ 2 ^ r → levelsSpan p r m + meet ≤ m * meet
+  levels-most zero m some few h = unfold levelsSpan in (let e : m ≡ 1 = omega arith in omega (arith, ap (λ (k : ℕ). k * meet) e))
+  levels-most (suc r) m some few h = ⊎-elim
+      (λ (l : 1 < m).
+      let e = pow r m h in
+      let whole : m ≡ m / 2 + (m - m / 2) = omega arith in
+      omega (
+        arith,
+        span-more p r m l,
+        levels-most r (m / 2) (omega arith) (omega arith) (omega arith),
+        levels-most r (m - m / 2) (omega arith) (omega arith) (omega arith),
+        meet-most (m / 2) (m - m / 2) (omega arith),
+        ap (λ (k : ℕ). k * meet) whole,
+        add-mul (m / 2) (m - m / 2) meet,
+      ))
+      (λ (l : m ≤ 1). let e : m ≡ 1 = omega arith in omega (arith, span-one p r m l, ap (λ (k : ℕ). k * meet) e))
+      (below-or-not 1 m)
+    where
+      pow : (r m : ℕ) → m ≤ 2 ^ suc r → m ≤ 2 * 2 ^ r
+      pow r m h = omega (arith, pow-succ' 2 r)
+
+  -- all of it: a share for each candidate and grade, and a meeting for each candidate
+  all-most : 1 < p .candidates → length (circuit p) ≤ p .candidates * (p .grades * share) + p .candidates * meet
+  all-most two =
+      let k = p .candidates in
+      let h = k / 2 in
+      let few = f .k-most in
+      let whole : k ≡ h + (k - h) = omega arith in
+      omega (
+        arith,
+        circuit-block p f two .long,
+        mul-le-mul-left {m = candidateSpan p} {n = p .grades * share} k candidate-most,
+        levels-most lowLevels h (omega arith) (omega arith) (omega arith),
+        levels-most lowLevels (k - h) (omega arith) (omega arith) (omega arith),
+        meet-most h (k - h) (omega arith),
+        ap (λ (x : ℕ). x * meet) whole,
+        add-mul h (k - h) meet,
+      )
+
+  -- the bound's products, put together from a candidate's share
   shares : p .candidates * (p .grades * share) ≡ 2 * p .candidates * p .grades * p .ballots * w + p .candidates * p .grades * (30 * w + 20)
   unfolding share nw w
   shares =
@@ -95,29 +190,22 @@ module _ (p : Plan) (f : Planned p) where
       sym (mul-assoc (k * d) 2 (n * v)) ∙ ap (λ (x : ℕ). x * (n * v)) (mul-comm (k * d) 2 ∙ sym (mul-assoc 2 k d)) ∙ sym (mul-assoc (2 * k * d) n v) in
       assoc ∙ split ∙ ap (λ (x : ℕ). x + k * d * (30 * v + 20)) first
 
-  pub gates-most : 2 + candidateGates p + roundsGates p 1 (p .candidates - 1) ≤ boundOf (p .candidates) (p .grades) (p .ballots) (suc (p .digits))
-  unfolding boundOf w
-  gates-most =
+  -- what request 2.1 adds is more than the meetings take
+  meets : p .candidates * meet ≤ p .candidates * p .grades * (400 * w + 400)
+  unfolding meet w
+  meets =
       let k = p .candidates in
-      let a = p .grades * share in
-      let e = 20 * suc (p .digits) + 6 * p .grades + 20 in
-      let t = k - 1 in
-      let many : k ≡ suc t = omega (arith, f .k-least) in
-      let more : t * e ≤ k * k * e = mul-le-mul {m₁ = e} {m₂ = e} (square k t many) (omega arith) in
-      omega (arith, candidate-most, rounds-most 1 t (omega (arith, f .k-most)), mul-add t a e, more, shares, ap (λ (x : ℕ). x * a) many, suc-mul t a)
-    where
-      square : (k t : ℕ) → k ≡ suc t → t ≤ k * k
-      square k t e = omega (arith, ap (λ (x : ℕ). k * x) e, mul-suc k t)
+      let d = p .grades in
+      let v = 400 * suc (p .digits) + 400 in
+      let one : 1 * v ≤ d * v = mul-le-mul-right {m = 1} {n = d} v (omega (arith, f .d-least)) in
+      let each : 42 * suc (p .digits) + 100 ≤ d * v = omega arith in
+      omega (arith, mul-le-mul-left {m = 42 * suc (p .digits) + 100} {n = d * v} k each, mul-assoc k d v)
+
+  pub gates-most : 1 < p .candidates → length (circuit p) ≤ boundOf (p .candidates) (p .grades) (p .ballots) (suc (p .digits))
+  unfolding boundOf w
+  gates-most two = omega (arith, all-most two, shares, meets)
 
   -- all of it in plain numbers
-  pub digits-most : p .digits ≤ 7
-  digits-most = let no : ¬ (8 ≤ p .digits) = not-eight in omega arith
-    where
-      not-eight : ¬ (8 ≤ p .digits)
-      not-eight eight =
-          let high : 2 ^ 8 ≤ 2 ^ p .digits = pow-mono {i = 8} {j = p .digits} eight in
-          omega (arith, f .low, f .n-most)
-
   nw-small : nw ≤ 2040
   unfolding nw
   nw-small =
@@ -125,39 +213,17 @@ module _ (p : Plan) (f : Planned p) where
       let h : p .ballots * suc (p .digits) ≤ 255 * 8 = mul-le-mul (f .n-most) r in
       omega arith
 
-  grade-small : grade ≤ 5000
-  unfolding grade w
-  grade-small = omega (arith, nw-small, digits-most)
-
   share-small : share ≤ 5000
   unfolding share w
   share-small = omega (arith, nw-small, digits-most)
 
-  pub first-small : countSize (p .ballots) (p .offset) (p .digits) + (p .digits + 1) + 3 * p .digits ≤ 5000
-  first-small = omega (arith, first-most, grade-small)
+  meet-small : meet ≤ 500
+  unfolding meet w
+  meet-small = omega (arith, digits-most)
 
-  pub middle-small : middleGates p ≤ 5000
-  middle-small = omega (arith, middle-most, grade-small)
-
-  pub last-small : lastGates p ≤ 5000
-  last-small = omega (arith, last-most, grade-small)
-
-  pub candidate-small : candidateGates p ≤ 35000
-  candidate-small = let h : p .grades * share ≤ 7 * 5000 = mul-le-mul (f .d-most) share-small in omega (arith, candidate-most)
-
-  pub contest-small : contestGates p ≤ 100
-  unfolding contestGates
-  contest-small = omega (arith, digits-most, f .d-most)
-
-  pub merged-small : (t : ℕ) → mergedGates p t ≤ 100
-  merged-small t = omega (arith, merged-most t, digits-most, f .d-most)
-
-  pub rounds-small : roundsGates p 1 (p .candidates - 1) ≤ 280000
-  unfolding w
-  rounds-small =
-      let h : p .grades * share ≤ 7 * 5000 = mul-le-mul (f .d-most) share-small in
-      let t = p .candidates - 1 in
-      let few : t ≤ 7 = omega (arith, f .k-most) in
-      let round : p .grades * share + (20 * suc (p .digits) + 6 * p .grades + 20) ≤ 36000 = omega (arith, digits-most, f .d-most) in
-      let turns : t * (p .grades * share + (20 * suc (p .digits) + 6 * p .grades + 20)) ≤ 7 * 36000 = mul-le-mul few round in
-      omega (arith, rounds-most 1 t (omega (arith, f .k-least, f .k-most)))
+  pub gates-small : 1 < p .candidates → length (circuit p) ≤ 284000
+  gates-small two =
+      let each : p .grades * share ≤ 7 * 5000 = mul-le-mul (f .d-most) share-small in
+      let all : p .candidates * (p .grades * share) ≤ 8 * 35000 = mul-le-mul (f .k-most) each in
+      let met : p .candidates * meet ≤ 8 * 500 = mul-le-mul (f .k-most) meet-small in
+      omega (arith, all-most two)

@@ -43,5 +43,7 @@ planned s e =
       high = high;
       offset-is = omega (arith, half-most n r high);
       worst-is = omega (arith, rest-most n r high);
+      median-low = least-width (s .grades - 1) (omega (arith, w .d-least));
+      median-high = high-width (s .grades - 1) (omega (arith, w .d-least));
       inputs-is = bytes-are s;
     }

@@ -1,49 +1,65 @@
--- Two keys compared both ways, and what is kept of both for the next candidate.
+-- Two keys compared by full majority judgment.
 use mathlib.Core.List.{List, [], _∷_, _++_}
-use Prim.Native.Nat.{ℕ, zero, suc, _+_, _-_, _*_}
+use Prim.Native.Nat.{ℕ, zero, suc, _+_, _-_}
 use Rattle.gates.specs.Gate.{Gate}
-use Rattle.words.specs.Gates.{copyOf, andOf, muxOf}
-use Rattle.words.specs.Choice.{choose}
-use Rattle.words.specs.Comparison.{compareDigit, compareWords, upEnd, downEnd}
+use Rattle.words.specs.Gates.{constant, orOf, muxOf}
 use Rattle.circuit.specs.declared.plan.Plan.{Plan}
-use Rattle.circuit.specs.Key.{flagsAt, strictAt}
+use Rattle.circuit.specs.RunningSums.{wordSpan}
+use Rattle.circuit.specs.Versus.{versus, versusSpan, unequalAt, aboveAt}
+use Rattle.circuit.specs.Median.{median, medianSize}
+use Rattle.circuit.specs.Outward.{outward, outwardSpan, settleAt}
 
--- One key beats another when its flags are above, or the flags are equal, p and q differ in both, and what stands below the flags is above. Wire `bothAt` says that p and q differ in both keys, x and y; wire `upAt` that x beats y, and `downAt` that y beats x.
-abbrev pub bothAt : Plan → ℕ → ℕ
-bothAt p n = n + 4 + 3 * p .digits
+-- Below the medians: sums of so many low digits, of the best grade and t grades more. Without a low digit there is one ballot, and its grade is the median: nothing differs. One sum alone is compared as it is.
+unfoldable pub lower : Plan → ℕ → ℕ → ℕ → ℕ → ℕ → List Gate
+lower p n x y zero t = constant 0 ∷ []
+lower p n x y (suc r) zero = versus n x y r
+lower p n x y (suc r) (suc t) = outward p n x y r t
 
-abbrev pub upAt : Plan → ℕ → ℕ
-upAt p n = upEnd (bothAt p n + 3) (bothAt p n + 1) (p .grades - 1)
+unfoldable pub lowerSpan : ℕ → ℕ → ℕ
+lowerSpan zero t = 1
+lowerSpan (suc r) zero = versusSpan r
+lowerSpan (suc r) (suc t) = outwardSpan r t
 
-abbrev pub downAt : Plan → ℕ → ℕ
-downAt p n = downEnd (bothAt p n + 3) (bothAt p n + 2) (p .grades - 1)
+-- The wires that say that the sums differ, and that x comes first.
+unfoldable pub lowerUnequal : ℕ → ℕ → ℕ → ℕ
+lowerUnequal n zero t = n
+lowerUnequal n (suc r) zero = unequalAt n r
+lowerUnequal n (suc r) (suc t) = settleAt n r t + 8
+
+unfoldable pub lowerFirst : ℕ → ℕ → ℕ → ℕ → ℕ
+lowerFirst n x zero t = n
+lowerFirst n x (suc r) zero = aboveAt n x r
+lowerFirst n x (suc r) (suc t) = settleAt n r t + 9
+
+-- The numbers of both median grades, y's first; whether they differ, and y's is larger, which is worse; what is below them; and of both, which decides.
+abbrev pub medianSpan : Plan → ℕ
+medianSpan p = medianSize (p .grades - 1) (suc (p .places)) + suc (p .places)
+
+abbrev pub rightMedian : Plan → ℕ → ℕ
+rightMedian p n = n + medianSize (p .grades - 1) (suc (p .places))
+
+abbrev pub leftMedian : Plan → ℕ → ℕ
+leftMedian p n = n + medianSpan p + medianSize (p .grades - 1) (suc (p .places))
+
+abbrev pub mediansAt : Plan → ℕ → ℕ
+mediansAt p n = n + medianSpan p + medianSpan p
+
+abbrev pub lowerAt : Plan → ℕ → ℕ
+lowerAt p n = mediansAt p n + versusSpan (p .places)
+
+abbrev pub resultAt : Plan → ℕ → ℕ
+resultAt p n = lowerAt p n + lowerSpan (p .digits) (p .grades - 2)
 
 unfoldable pub contest : Plan → ℕ → ℕ → ℕ → List Gate
 contest p n x y =
-    compareDigit n x y
-    ++ compareWords (n + 4) (x + 1) (y + 1) (n + 2) (n + 3) (p .digits)
-    ++ (andOf (strictAt p x) (strictAt p y)
-    ∷ andOf (upEnd (n + 4) (n + 2) (p .digits)) (bothAt p n)
-    ∷ andOf (downEnd (n + 4) (n + 3) (p .digits)) (bothAt p n)
+    median n (y + p .digits) (wordSpan p) (p .grades - 1) (suc (p .places))
+    ++ median (n + medianSpan p) (x + p .digits) (wordSpan p) (p .grades - 1) (suc (p .places))
+    ++ versus (mediansAt p n) (rightMedian p n) (leftMedian p n) (p .places)
+    ++ lower p (lowerAt p n) x y (p .digits) (p .grades - 2)
+    ++ (orOf (unequalAt (mediansAt p n) (p .places)) (lowerUnequal (lowerAt p n) (p .digits) (p .grades - 2))
+    ∷ muxOf (unequalAt (mediansAt p n) (p .places)) (aboveAt (mediansAt p n) (rightMedian p n) (p .places)) (lowerFirst (lowerAt p n) x (p .digits) (p .grades - 2))
     ∷ [])
-    ++ compareWords (bothAt p n + 3) (flagsAt p x) (flagsAt p y) (bothAt p n + 1) (bothAt p n + 2) (p .grades - 1)
 
-abbrev pub contestEnd : Plan → ℕ → ℕ
-contestEnd p n = bothAt p n + 3 + 3 * (p .grades - 1)
-
--- A key that is beaten by just those who beat both x and y: x where x beats y, else y; and where neither beats the other, p and q are taken to differ only if they do in both. The contest of x and y starts at wire n, and the new key stands one behind its end.
-unfoldable pub merge : Plan → ℕ → ℕ → ℕ → List Gate
-merge p n x y =
-    muxOf (downAt p n) (strictAt p y) (bothAt p n)
-    ∷ choose (upAt p n) x y (p .digits + p .grades)
-    ++ (muxOf (upAt p n) (strictAt p x) (contestEnd p n) ∷ [])
-
--- Who has won so far: each of the j candidates before, if it had won against the others before and now wins again; and the new candidate. With one candidate before, that one had won.
-unfoldable pub stillWon : ℕ → ℕ → ℕ → List Gate
-stillWon at down zero = []
-stillWon at down (suc j) = andOf at down ∷ stillWon (at + 1) down j
-
-unfoldable pub won : ℕ → ℕ → ℕ → ℕ → List Gate
-won at up down zero = copyOf up ∷ []
-won at up down (suc zero) = copyOf down ∷ copyOf up ∷ []
-won at up down (suc (suc j)) = stillWon at down (suc (suc j)) ++ (copyOf up ∷ [])
+-- Wire `resultAt` says that the keys differ, and the next one, where they do, that x comes first.
+abbrev pub contestSpan : Plan → ℕ
+contestSpan p = medianSpan p + medianSpan p + versusSpan (p .places) + lowerSpan (p .digits) (p .grades - 2) + 2

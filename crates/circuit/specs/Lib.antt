@@ -1,6 +1,11 @@
 pub mod Plan
 pub mod RunningSums
 pub mod Key
+pub mod Versus
+pub mod Median
+pub mod Nearest
+pub mod Outward
 pub mod Contest
+pub mod Meeting
 pub mod OwnList
 pub mod Bound

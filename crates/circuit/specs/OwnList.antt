@@ -1,47 +1,75 @@
 -- The own list of a shape.
 use mathlib.Core.Bool.{cond}
 use mathlib.Core.List.{List, [], _∷_, _++_}
-use Prim.Native.Nat.{ℕ, zero, suc, _+_, _-_}
-use lib.Dec.{eqb}
+use Prim.Native.Nat.{ℕ, zero, suc, _+_, _-_, _*_, _/_}
+use lib.Dec.{eqb, leb}
 use Rattle.gates.specs.Gate.{Gate}
 use Rattle.words.specs.Gates.{constant}
 use Rattle.jury.specs.declared.shape.Shape.{Shape}
 use Rattle.circuit.specs.declared.plan.Plan.{Plan}
 use Rattle.circuit.specs.Plan.{planOf}
-use Rattle.circuit.specs.Key.{candidate, keyOf, candidateEnd}
-use Rattle.circuit.specs.Contest.{contest, contestEnd, upAt, downAt, merge, won}
+use Rattle.circuit.specs.Key.{candidate, keyOf, keySpan, candidateSpan}
+use Rattle.circuit.specs.Meeting.{meeting, meetingSpan, wonAt, better}
 
--- One round: the candidate j, its contest with the key y that stands for all candidates before, the key that stands for all so far, unless no candidate is left, and who has won so far. Who had won before stands at wire `at`; t candidates are left.
-unfoldable pub merged : Plan → ℕ → ℕ → ℕ → ℕ → List Gate
-merged p n x y zero = []
-merged p n x y (suc t) = merge p n x y
+-- The circuits of m candidates, from candidate c on. They stand first, so that each one's key has its place.
+unfoldable pub candidates : Plan → ℕ → ℕ → ℕ → List Gate
+candidates p n c zero = []
+candidates p n c (suc m) = candidate p n c ++ candidates p (n + candidateSpan p) (c + 1) m
 
--- Where the merged key ends.
-unfoldable pub mergedEnd : Plan → ℕ → ℕ → ℕ
-mergedEnd p n zero = contestEnd p n
-mergedEnd p n (suc t) = contestEnd p n + 2 + p .digits + p .grades
+abbrev pub keyAt : Plan → ℕ → ℕ
+keyAt p c = keyOf p (p .inputs + c * candidateSpan p)
 
-unfoldable pub round : Plan → ℕ → ℕ → ℕ → ℕ → ℕ → List Gate
-round p n y at j t =
-    candidate p n j
-    ++ contest p (candidateEnd p n) (keyOf p n) y
-    ++ merged p (candidateEnd p n) (keyOf p n) y t
-    ++ won at (upAt p (candidateEnd p n)) (downAt p (candidateEnd p n)) j
+-- The best of m candidates from candidate c on, in r levels of meetings: the best of the first half and that of the other half meet, and the better key is kept. A single candidate meets nobody.
+unfoldable pub levelsSpan : Plan → ℕ → ℕ → ℕ
+levelsSpan p zero m = 0
+levelsSpan p (suc r) m = cond (leb m 1) 0 (levelsSpan p r (m / 2) + levelsSpan p r (m - m / 2) + meetingSpan p (m / 2) (m - m / 2) + keySpan p)
 
--- The rounds of t candidates from candidate j on.
-unfoldable pub rounds : Plan → ℕ → ℕ → ℕ → ℕ → ℕ → List Gate
-rounds p n y at j zero = []
-rounds p n y at j (suc t) =
-    round p n y at j t
-    ++ rounds p (mergedEnd p (candidateEnd p n) t + (j + 1)) (contestEnd p (candidateEnd p n) + 1) (mergedEnd p (candidateEnd p n) t) (j + 1) t
+-- Where the group's key and its candidates' wires stand, the levels being written from wire n on.
+unfoldable pub bestKey : Plan → ℕ → ℕ → ℕ → ℕ → ℕ
+bestKey p zero n c m = keyAt p c
+bestKey p (suc r) n c m = cond (leb m 1) (keyAt p c) (n + levelsSpan p r (m / 2) + levelsSpan p r (m - m / 2) + meetingSpan p (m / 2) (m - m / 2))
 
--- The circuit of a plan: the two constants stand first, then candidate 0, then a round for each other candidate. The last round's last k gates say who has won.
+unfoldable pub groupWon : Plan → ℕ → ℕ → ℕ → ℕ
+groupWon p zero n m = 0
+groupWon p (suc r) n m = cond (leb m 1) 0 (wonAt p (n + levelsSpan p r (m / 2) + levelsSpan p r (m - m / 2)))
+
+-- Two halves meet: the first is written from wire n on, the other behind it, and the meeting behind both.
+abbrev pub otherAt : Plan → ℕ → ℕ → ℕ → ℕ
+otherAt p r n m = n + levelsSpan p r (m / 2)
+
+abbrev pub meetAt : Plan → ℕ → ℕ → ℕ → ℕ
+meetAt p r n m = otherAt p r n m + levelsSpan p r (m - m / 2)
+
+unfoldable pub halvesMeet : Plan → ℕ → ℕ → ℕ → ℕ → List Gate
+halvesMeet p r n c m =
+    meeting p (meetAt p r n m)
+    (bestKey p r n c (m / 2)) (bestKey p r (otherAt p r n m) (c + m / 2) (m - m / 2))
+    (groupWon p r n (m / 2)) (groupWon p r (otherAt p r n m) (m - m / 2))
+    (m / 2) (m - m / 2)
+
+unfoldable pub halvesBetter : Plan → ℕ → ℕ → ℕ → ℕ → List Gate
+halvesBetter p r n c m = better p (meetAt p r n m) (bestKey p r n c (m / 2)) (bestKey p r (otherAt p r n m) (c + m / 2) (m - m / 2))
+
+unfoldable pub levels : Plan → ℕ → ℕ → ℕ → ℕ → List Gate
+levels p zero n c m = []
+levels p (suc r) n c m =
+    cond (leb m 1) []
+    (levels p r n c (m / 2) ++ levels p r (otherAt p r n m) (c + m / 2) (m - m / 2) ++ halvesMeet p r n c m ++ halvesBetter p r n c m)
+
+-- Eight candidates need three levels. The last one keeps no key, and its wires are the last k gates: they say who has won.
+abbrev pub lowLevels : ℕ
+lowLevels = 2
+
+abbrev pub levelsAt : Plan → ℕ
+levelsAt p = p .inputs + p .candidates * candidateSpan p
+
 unfoldable pub circuit : Plan → List Gate
 circuit p =
-    constant 0 ∷ constant 1
-    ∷ candidate p (p .inputs + 2) 0
-    ++ rounds p (candidateEnd p (p .inputs + 2)) (keyOf p (p .inputs + 2)) 0 1 (p .candidates - 1)
+    candidates p (p .inputs) 0 (p .candidates)
+    ++ levels p lowLevels (levelsAt p) 0 (p .candidates / 2)
+    ++ levels p lowLevels (otherAt p lowLevels (levelsAt p) (p .candidates)) (p .candidates / 2) (p .candidates - p .candidates / 2)
+    ++ halvesMeet p lowLevels (levelsAt p) 0 (p .candidates)
 
--- A single candidate wins, and one gate says so.
+-- A single candidate wins: one gate says so.
 unfoldable pub ownList : Shape → List Gate
 ownList s = cond (eqb (s .candidates) 1) (constant 1 ∷ []) (circuit (planOf s))

@@ -6,7 +6,7 @@ use Rattle.jury.specs.Shape.{ballotBytes}
 use Rattle.jury.specs.Width.{widthOf}
 use Rattle.circuit.specs.declared.plan.Plan.{Plan}
 
--- Sums have as many digits as n: `digits` low ones and a top one. `offset` is added to every running sum: then its top digit is 1 exactly where the sum is at least (n + 1) / 2, that is where twice the sum is at least n. `worst` is added to the count of the worst grade: then all digits complemented are the offset and the counts of the other grades.
+-- Sums have as many digits as n: `digits` low ones and a top one. The number of a median grade, which is at most d − 1, has as many digits as d − 1: `places` low ones and a top one. `offset` is added to every running sum: then its top digit is 1 exactly where the sum is at least (n + 1) / 2, that is where twice the sum is at least n. `worst` is added to the count of the worst grade: then all digits complemented are the offset and the counts of the other grades.
 unfoldable pub planOf : Shape → Plan
 planOf s =
     record {
@@ -17,6 +17,7 @@ planOf s =
       digits = widthOf (s .ballots) - 1;
       offset = 2 ^ (widthOf (s .ballots) - 1) - (s .ballots + 1) / 2;
       worst = 2 ^ (widthOf (s .ballots) - 1) - 1 - s .ballots / 2;
+      places = widthOf (s .grades - 1) - 1;
     }
 
 -- What holds of the plan of a shape within its limits.
@@ -31,9 +32,11 @@ pub record Planned (p : Plan) : Type 0 where
   pub high : p .ballots < 2 ^ suc (p .digits)
   pub offset-is : p .offset + (p .ballots + 1) / 2 ≡ 2 ^ p .digits
   pub worst-is : p .worst + 1 + p .ballots / 2 ≡ 2 ^ p .digits
+  pub median-low : 2 ^ p .places ≤ p .grades - 1
+  pub median-high : p .grades - 1 < 2 ^ suc (p .places)
   pub inputs-is : p .inputs ≡ p .ballots * p .candidates * p .grades
 
--- Candidate c's bits of grade g: the first stands in the first ballot, by the layout of [ballot], and the next ones a ballot apart each.
+-- Candidate c's bits of grade g: the first stands in the first ballot, where a candidate's grades stand side by side, and the next ones a ballot apart each.
 abbrev pub bitsAt : Plan → ℕ → ℕ → ℕ
 bitsAt p c g = c * p .grades + g
 

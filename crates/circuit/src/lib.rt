@@ -1,2 +1,2 @@
-// The own list of a shape: the majority gauge as a circuit.
+// The own list of a shape: full majority judgment as a circuit.
 pub mod plan;

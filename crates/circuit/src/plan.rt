@@ -6,7 +6,7 @@ ghost use lib.Dec.{T};
 ghost use Rattle.jury.specs.Shape.{withinLimits};
 ghost use Rattle.circuit.specs.Plan.{planOf};
 
-// A sum of grades has `digits` low digits and a top one; `offset` and `worst` are added to sums, as their definition says.
+// A sum of grades has `digits` low digits and a top one, and the number of a median grade `places` low digits and a top one; `offset` and `worst` are added to sums, as their definition says.
 pub struct Plan {
     pub candidates: u32,
     pub grades: u32,
@@ -15,6 +15,7 @@ pub struct Plan {
     pub digits: u32,
     pub offset: u32,
     pub worst: u32,
+    pub places: u32,
 }
 
 // 2 to the power of so many digits.
@@ -48,6 +49,7 @@ impl Plan {
             digits,
             offset: most - (ballots + 1) / 2,
             worst: most - 1 - ballots / 2,
+            places: jury::width::width(shape.grades - 1) as u32 - 1,
         }
     }
 }

@@ -88,7 +88,7 @@ module _ (n : ℕ) (rows : List (List ℕ)) (some : 1 ≤ n) (each : EachGets n 
       beats-precedes n (getD rows i []) (getD rows j []) (record { sum-a = each i row-at; sum-b = each j l }) some
       (closing-one rows i row-at .0 wins j l ne)
 
-  winner-wins : getD (judgmentOf rows) i 0 ≡ 1
+  pub winner-wins : getD (judgmentOf rows) i 0 ≡ 1
   winner-wins = byte-one rows i row-at (λ j l. ⊎-elim (λ e. same j e) (λ ne. precedes-one-way own (sequenceOf (getD rows j [])) (winner-first j l ne)) (same-or-not j i))
     where
       own : List ℕ
@@ -97,7 +97,7 @@ module _ (n : ℕ) (rows : List (List ℕ)) (some : 1 ≤ n) (each : EachGets n 
       same : (j : ℕ) → j ≡ i → precedes (sequenceOf (getD rows j [])) own ≡ false
       same j e = rw e (never-true (precedes own own) (precedes-self own))
 
-  other-loses : (j : ℕ) → j < length rows → j ≢ i → getD (judgmentOf rows) j 0 ≡ 0
+  pub other-loses : (j : ℕ) → j < length rows → j ≢ i → getD (judgmentOf rows) j 0 ≡ 0
   other-loses j l ne = byte-zero rows j l i row-at (winner-first j l ne)
 
   other-beaten : (j : ℕ) → j < length rows → j ≢ i → getD (closingOf rows) j 0 ≡ 0

@@ -12,7 +12,7 @@ use Rattle.jury.proofs.Matrix.{array-rows}
 use Rattle.jury.proofs.CountFacts.{counts-length, counts-sum}
 use Rattle.judgment.specs.Theorems.{EachGets, BytesSay, SomebodyWins, GaugeKept, EqualSequences}
 use Rattle.judgment.proofs.Winners.{byte-says, somebody-wins}
-use Rattle.judgment.proofs.GaugeAgrees.{gauge-kept}
+use Rattle.judgment.proofs.GaugeAgrees.{winner-wins, other-loses}
 use Rattle.judgment.proofs.Equal.{equal-sequences}
 
 pub bytes-say : BytesSay
@@ -22,7 +22,7 @@ pub somebody : SomebodyWins
 somebody = somebody-wins
 
 pub gauge-alone : GaugeKept
-gauge-alone n rows some each i wins = gauge-kept n rows some each i wins
+gauge-alone n rows some each i wins = record { wins = winner-wins n rows some each i wins; alone = other-loses n rows some each i wins }
 
 pub equal-exactly : EqualSequences
 equal-exactly = equal-sequences

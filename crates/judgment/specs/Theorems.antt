@@ -1,6 +1,6 @@
 -- What holds of full majority judgment, as statements; proofs/Theorems.antt has a proof of each.
 use mathlib.Core.Path.{_≡_}
-use mathlib.Core.Logic.{_↔_}
+use mathlib.Core.Logic.{_↔_, _≢_}
 use mathlib.Core.List.{List, []}
 use Prim.Native.Nat.{ℕ, _≤_, _<_}
 use lib.ListN.{length, getD}
@@ -29,9 +29,13 @@ pub record SomeWinner (rows : List (List ℕ)) : Type 0 where
 abbrev pub SomebodyWins : Type 0
 SomebodyWins = (rows : List (List ℕ)) → 0 < length rows → SomeWinner rows
 
--- Where the gauge names a winner, full majority judgment names that one and no other: the closing bytes of the two are the same.
+-- Where the gauge names a winner, full majority judgment names that one, and nobody else.
+pub record NamedAlone (rows : List (List ℕ)) (i : ℕ) : Type 0 where
+  pub wins : getD (judgmentOf rows) i 0 ≡ 1
+  pub alone : (j : ℕ) → j < length rows → j ≢ i → getD (judgmentOf rows) j 0 ≡ 0
+
 abbrev pub GaugeKept : Type 0
-GaugeKept = (n : ℕ) (rows : List (List ℕ)) → 1 ≤ n → EachGets n rows → (i : ℕ) → getD (closingOf rows) i 0 ≡ 1 → judgmentOf rows ≡ closingOf rows
+GaugeKept = (n : ℕ) (rows : List (List ℕ)) → 1 ≤ n → EachGets n rows → (i : ℕ) → getD (closingOf rows) i 0 ≡ 1 → NamedAlone rows i
 
 -- Two candidates have equal sequences, and so win together if one of them does, exactly where all their counts are equal.
 abbrev pub EqualSequences : Type 0

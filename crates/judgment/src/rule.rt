@@ -38,7 +38,7 @@ pub fn winners(shape: Shape, counts: [[u16; 7]; 8]) -> [u8; 8]
     closing
 }
 
-// The first candidate whose sequence no other one precedes.
+// A candidate whose sequence no other one precedes.
 fn first_winner(counts: [[u16; 7]; 8], k: usize, d: usize, n: usize) -> usize
     requires { ⌜ (0 < k) × (k ≤ 8) × (d ≤ 7) × (0 < n) × (n ≤ 255) ⌝ }
     requires { ⌜ EachGets n (rowsIn k d counts) ⌝ }

@@ -11,7 +11,6 @@ pub mod BallotLaws
 pub mod AcceptedLaws
 pub mod CountLaws
 pub mod Matrix
-pub mod GaugeLaws
 pub mod Rows
 -- Facts for readers and for the layers above.
 pub mod CountFacts

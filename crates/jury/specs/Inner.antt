@@ -1,12 +1,11 @@
 -- Definitions for inner functions and their proofs: no entry point's contract needs them.
-use mathlib.Core.Bool.{Bool, cond, _&&_, _||_}
+use mathlib.Core.Bool.{Bool, cond}
 use mathlib.Core.List.{List, [], _++_, map}
 use Prim.Native.Nat.{ℕ, suc, _+_, _*_}
-use lib.Dec.{ltb, eqb}
+use lib.Dec.{ltb}
 use lib.ListN.{getD, take, drop}
-use Rattle.jury.specs.declared.gauge.Gauge.{Gauge}
 use Rattle.jury.specs.Counts.{tabulate}
-use Rattle.jury.specs.Gauge.{medianOf, pOf, qOf, beatsAll}
+use Rattle.jury.specs.Gauge.{beatsAll}
 
 -- A row of counts with one row of a ballot added.
 unfoldable pub plusRow : List ℕ → List ℕ → List ℕ
@@ -15,26 +14,6 @@ plusRow counts bytes = tabulate 7 (λ g. getD counts g 0 + getD bytes g 0)
 -- The array of counts with one ballot, k rows of d bytes, added.
 unfoldable pub plusBallot : ℕ → ℕ → List (List ℕ) → List ℕ → List (List ℕ)
 plusBallot k d counts ballot = tabulate 8 (λ c. cond (ltb c k) (plusRow (getD counts c []) (take d (drop (c * d) ballot))) (getD counts c []))
-
--- What decides of a row of counts.
-unfoldable pub gaugeOf : List ℕ → Gauge
-gaugeOf row = record { median = medianOf row; p = pOf row; q = qOf row }
-
--- The conditions of beating, on what decides of two rows. `beats` says them of the rows.
-unfoldable pub gaugeBetterMedian : Gauge → Gauge → Bool
-gaugeBetterMedian a b = ltb (a .median) (b .median)
-
-unfoldable pub gaugeStrongerMedian : Gauge → Gauge → Bool
-gaugeStrongerMedian a b = eqb (a .median) (b .median) && ltb (a .q) (a .p) && ltb (b .p) (b .q)
-
-unfoldable pub gaugeLargerP : Gauge → Gauge → Bool
-gaugeLargerP a b = eqb (a .median) (b .median) && ltb (a .q) (a .p) && ltb (b .q) (b .p) && ltb (b .p) (a .p)
-
-unfoldable pub gaugeSmallerQ : Gauge → Gauge → Bool
-gaugeSmallerQ a b = eqb (a .median) (b .median) && ltb (a .p) (a .q) && ltb (b .p) (b .q) && ltb (a .q) (b .q)
-
-unfoldable pub gaugeBeats : Gauge → Gauge → Bool
-gaugeBeats a b = gaugeBetterMedian a b || gaugeStrongerMedian a b || gaugeLargerP a b || gaugeSmallerQ a b
 
 -- The first k rows of an array of counts, d counts of each.
 unfoldable pub rowsIn : ℕ → ℕ → List (List ℕ) → List (List ℕ)

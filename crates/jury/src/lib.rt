@@ -1,7 +1,6 @@
-// Counting a tasting jury: shapes, ballots, the majority gauge.
+// Tasting juries: shapes, ballots with their tests and counts, reasons.
 pub mod ballots;
 pub mod counts;
-pub mod gauge;
 pub mod rankings;
 pub mod reason;
 pub mod shape;

@@ -17,13 +17,13 @@ use Rattle.jury.specs.Shape.{withinLimits, ballotBytes}
 use Rattle.jury.specs.Reason.{Reason, reasonOf, reasonAt, firstOf}
 use Rattle.jury.specs.Ballots.{ballotReasons}
 use Rattle.jury.specs.Counts.{countsOf}
-use Rattle.jury.specs.Gauge.{closingOf}
+use Rattle.judgment.specs.Judgment.{judgmentOf}
 use Rattle.jury.specs.declared.reason.Refusal.{Refusal}
 use Rattle.jury.specs.declared.reason.Refusal.the-variants as refusal
 use Rattle.jury.proofs.Flags.{T-true, true-T}
 use Rattle.jury.proofs.Limits.{within-T, bytes-bound, bytes-are}
 use Rattle.jury.proofs.CountFacts.{counts-length}
-use Rattle.jury.proofs.Closing.{closing-length}
+use Rattle.judgment.proofs.Winners.{judgment-length}
 use Rattle.circuit.specs.OwnList.{ownList}
 use Rattle.tally.specs.Answer.{Said, refused, accepted, said, Size, sizeOf, saidBy}
 use Rattle.tally.specs.declared.answer.Answer.the-variants as answer
@@ -102,15 +102,15 @@ module _ (s : Shape) (list : List ℕ) (gates conditional : ℕ) (tape wires boa
 
     -- the closing bytes on the board, whatever stands behind
     placed : (b rest : List ℕ) → b ≡ ran s list ballots tape′ wires′ board′ .board → firstOf (ballotReasons s ballots) ≡ none
-        → take (s .candidates) (drop (conditionalCount (ownList s)) (b ++ rest)) ≡ closingOf (countsOf s ballots)
+        → take (s .candidates) (drop (conditionalCount (ownList s)) (b ++ rest)) ≡ judgmentOf (countsOf s ballots)
     placed b rest e none-applies =
         let n = conditionalCount (ownList s) in
         let p = own-closing s (T-true (withinLimits s) (u .within)) ballots tape′ wires′ board′ mask wires-long board-long none-applies in
         let f : b ≡ ran s (numbersOf (ownList s)) ballots tape′ wires′ board′ .board = e ∙ ap (λ (l : List ℕ). ran s l ballots tape′ wires′ board′ .board) (u .list-is) in
-        let closing = closingOf (countsOf s ballots) in
+        let closing = judgmentOf (countsOf s ballots) in
         let long : length b ≡ n + s .candidates = ap length f ∙ p .0 in
         ap (take (s .candidates)) (drop-append-le n b rest (omega arith) ∙ ap (λ (l : List ℕ). drop n l ++ rest) f ∙ ap (λ (l : List ℕ). l ++ rest) (p .1))
-        ∙ take-at closing rest (s .candidates) (closing-length (countsOf s ballots) ∙ counts-length s ballots)
+        ∙ take-at closing rest (s .candidates) (judgment-length (countsOf s ballots) ∙ counts-length s ballots)
 
     pub winners-said : (g c : ℕ) (b rest : List ℕ) → saidBy (answer.Accepted g c) ≡ ran s list ballots (take conditional tape) (take (inputs + gates) wires) (take (conditional + s .candidates) board) .answer
         → b ≡ ran s list ballots (take conditional tape) (take (inputs + gates) wires) (take (conditional + s .candidates) board) .board

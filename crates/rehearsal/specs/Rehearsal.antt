@@ -12,7 +12,7 @@ use Rattle.jury.specs.Shape.{withinLimits}
 use Rattle.jury.specs.Reason.{Reason, reasonOf, firstOf}
 use Rattle.jury.specs.Ballots.{ballotReasons}
 use Rattle.jury.specs.Counts.{countsOf}
-use Rattle.jury.specs.Gauge.{closingOf}
+use Rattle.judgment.specs.Judgment.{judgmentOf}
 use Rattle.circuit.specs.OwnList.{ownList}
 use Rattle.tally.specs.Answer.{Said, refused, accepted, said}
 use Rattle.tally.specs.Write.{writeReasons}
@@ -35,9 +35,9 @@ pub record Printed : Type 0 where
   pub jury : Shape
   pub winners : List ℕ
 
--- The winners are the closing bytes, and these are the gauge's.
+-- The winners are the closing bytes, and these are majority judgment's.
 unfoldable pub printedOf : Shape → List ℕ → Printed
-printedOf s ballots = record { jury = s; winners = closingOf (countsOf s ballots) }
+printedOf s ballots = record { jury = s; winners = judgmentOf (countsOf s ballots) }
 
 unfoldable pub rehearsalSaid : List ℕ → List ℕ → Said Printed
 rehearsalSaid input table = said (firstOf (rehearsalReasons input table)) (printedOf (shapeIn input) (ballotsIn input))

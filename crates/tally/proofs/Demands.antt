@@ -21,11 +21,11 @@ use Rattle.jury.specs.Reason.{Reason, reasonAt, unless, foundAt, firstOf}
 use Rattle.jury.specs.Ballots.{rowsOf, firstBadRow, ballotReasons}
 use Rattle.jury.specs.Accepted.{AcceptedBallots}
 use Rattle.jury.specs.Counts.{countsOf}
-use Rattle.jury.specs.Gauge.{closingOf}
-use Rattle.jury.specs.Winner.{BeatsOthers}
+use Rattle.judgment.specs.Judgment.{judgmentOf}
+use Rattle.judgment.specs.Winner.{Wins}
 use Rattle.jury.proofs.BallotLaws.{judged, judged-by}
 use Rattle.jury.proofs.CountFacts.{counts-length}
-use Rattle.jury.proofs.Closing.{closing-one, closing-zero}
+use Rattle.judgment.proofs.Theorems.{bytes-say, each-gets}
 use Rattle.circuit.specs.OwnList.{ownList}
 use Rattle.circuit.proofs.Accuracy.{own-list-is-accurate}
 use Rattle.tally.specs.Answer.{refused, accepted, said, Size, sizeOf}
@@ -141,7 +141,7 @@ module _ (s : Shape) (table : List ℕ) (size : Size) (p : writing.WritePassed s
     passed : RunPassed s list ballots tape wires board
     passed = run-passed s list ballots tape wires board (ran-accepted s list ballots wires board tape answer e .0)
 
-    closing : closingBytes s (ran s list ballots tape wires board .board) ≡ closingOf (countsOf s ballots)
+    closing : closingBytes s (ran s list ballots tape wires board .board) ≡ judgmentOf (countsOf s ballots)
     closing =
         run-closing s list ballots wires board tape passed tape (passed .mask)
         ∙ ap (λ (gs : List Gate). outputsOf (s .candidates) (wiresOf ballots gs)) gates
@@ -151,17 +151,17 @@ module _ (s : Shape) (table : List ℕ) (size : Size) (p : writing.WritePassed s
     plain = closing ∙ sym (plain-first s ballots (passed .ballotsPassed))
 
     module _ (i : ℕ) (h : i < s .candidates) where
-      byte : getD (closingBytes s (ran s list ballots tape wires board .board)) i 0 ≡ getD (closingOf (countsOf s ballots)) i 0
+      byte : getD (closingBytes s (ran s list ballots tape wires board .board)) i 0 ≡ getD (judgmentOf (countsOf s ballots)) i 0
       byte = ap (λ (bytes : List ℕ). getD bytes i 0) closing
 
       inside : i < length (countsOf s ballots)
       inside = omega (arith, counts-length s ballots)
 
-      winner : (getD (closingBytes s (ran s list ballots tape wires board .board)) i 0 ≡ 1) ↔ BeatsOthers (countsOf s ballots) i
-      winner = let iff = closing-one (countsOf s ballots) i inside in (λ one. iff .0 (sym byte ∙ one), λ beaten. byte ∙ iff .1 beaten)
+      winner : (getD (closingBytes s (ran s list ballots tape wires board .board)) i 0 ≡ 1) ↔ Wins (countsOf s ballots) i
+      winner = let iff = bytes-say (s .ballots) (countsOf s ballots) (each-gets s ballots (passed .ballotsPassed)) i inside .one in (λ one. iff .0 (sym byte ∙ one), λ wins. byte ∙ iff .1 wins)
 
-      loser : (getD (closingBytes s (ran s list ballots tape wires board .board)) i 0 ≡ 0) ↔ (¬ BeatsOthers (countsOf s ballots) i)
-      loser = let iff = closing-zero (countsOf s ballots) i inside in (λ zero. iff .0 (sym byte ∙ zero), λ unbeaten. byte ∙ iff .1 unbeaten)
+      loser : (getD (closingBytes s (ran s list ballots tape wires board .board)) i 0 ≡ 0) ↔ (¬ Wins (countsOf s ballots) i)
+      loser = let iff = bytes-say (s .ballots) (countsOf s ballots) (each-gets s ballots (passed .ballotsPassed)) i inside .zero in (λ zero. iff .0 (sym byte ∙ zero), λ loses. byte ∙ iff .1 loses)
 
 memory : Memory
 memory =

@@ -17,7 +17,8 @@ use Rattle.jury.specs.Shape.{withinLimits, ballotBytes}
 use Rattle.jury.specs.Reason.{Reason, reasonAt, unless, foundAt, listReason, firstOf}
 use Rattle.jury.specs.Ballots.{ones, rowsOf, firstBadRow, ballotReasons}
 use Rattle.jury.specs.Counts.{byteOf, countUpTo, countOf, tabulate, countsOf}
-use Rattle.jury.specs.Gauge.{sum, medianFrom, medianOf, pOf, qOf, betterMedian, equalMedians, strongerMedian, largerP, smallerQ, beats, beatsAll, closingFrom, closingOf, eightBytes}
+use Rattle.jury.specs.Gauge.{sum, medianFrom, medianOf, eightBytes}
+use Rattle.judgment.specs.Judgment.{strike, strikes, sequenceOf, precedes, nonePrecedes, judgmentOf}
 use Rattle.jury.proofs.Limits.{within}
 use Rattle.tally.specs.Count.{countReason, closingAfter, plainClosing}
 use Rattle.tally.specs.Answer.{refused as turnedAway, accepted}
@@ -38,7 +39,7 @@ refused k d n bytes number place = record {
   closing = 0 ∷ 0 ∷ 0 ∷ 0 ∷ 0 ∷ 0 ∷ 0 ∷ 0 ∷ [];
 }
 
--- Each number of a shape just outside its limits gives 1, ballots that are too short and too long give 4, a byte 2 gives 5 at its place, an empty row and a row of two ones give 6, and a byte 2 in the last ballot comes before an empty first row.
+-- Each number of a shape one below and one above its limits (1), ballots that are too short and too long (4), a byte 2 (5 at its place), rows without a 1 and with two (6), and a byte 2 behind an empty row (5, which is tested over all bytes first).
 pub edges : List Edge
 edges =
     refused 0 2 1 [] 1 0
@@ -66,7 +67,7 @@ unfolding edges refused countReason withinLimits ballotBytes reasonAt unless fou
 edges-reasons = refl
 
 pub edges-closing : map (λ (e : Edge). plainClosing (e .shape) (e .ballots)) edges ≡ map (λ (e : Edge). e .closing) edges
-unfolding edges refused countReason withinLimits ballotBytes reasonAt unless foundAt firstOf ones rowsOf firstBadRow ballotReasons firstAboveOne byteOf countUpTo countOf tabulate countsOf sum medianFrom medianOf pOf qOf betterMedian equalMedians strongerMedian largerP smallerQ beats beatsAll closingFrom closingOf eightBytes closingAfter plainClosing
+unfolding edges refused countReason withinLimits ballotBytes reasonAt unless foundAt firstOf ones rowsOf firstBadRow ballotReasons firstAboveOne byteOf countUpTo countOf tabulate countsOf sum medianFrom medianOf strike strikes sequenceOf precedes nonePrecedes judgmentOf eightBytes closingAfter plainClosing
 edges-closing = refl
 
 -- 1,048,576 gates are not too many.

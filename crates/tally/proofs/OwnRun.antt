@@ -1,4 +1,4 @@
--- A run of the own list with a mask tape and buffers of the right lengths: only its ballots can turn it away, and its closing bytes are the gauge's.
+-- A run of the own list with a mask tape and buffers of the right lengths: only its ballots can turn it away, and its closing bytes are majority judgment's.
 -- Assumes nothing.
 use mathlib.Core.Path.{_≡_, _∙_, refl, sym, ap, subst}
 use mathlib.Core.Bool.{true}
@@ -17,7 +17,7 @@ use Rattle.jury.specs.Shape.{withinLimits, ballotBytes}
 use Rattle.jury.specs.Reason.{Reason, firstOf}
 use Rattle.jury.specs.Ballots.{ballotReasons}
 use Rattle.jury.specs.Counts.{countsOf}
-use Rattle.jury.specs.Gauge.{closingOf}
+use Rattle.judgment.specs.Judgment.{judgmentOf}
 use Rattle.circuit.specs.OwnList.{ownList}
 use Rattle.circuit.proofs.Accuracy.{own-list-is-accurate}
 use Rattle.tally.specs.Answer.{accepted, said, Size, sizeOf}
@@ -81,7 +81,7 @@ module _ (s : Shape) (w : withinLimits s ≡ true) (ballots tape wires board : L
   -- where the ballots pass, the board has its closing bytes behind the shown bits
   pub own-closing : firstOf (ballotReasons s ballots) ≡ none
       → (length (ran s (numbersOf (ownList s)) ballots tape wires board .board) ≡ conditionalCount (ownList s) + s .candidates)
-      × (drop (conditionalCount (ownList s)) (ran s (numbersOf (ownList s)) ballots tape wires board .board) ≡ closingOf (countsOf s ballots))
+      × (drop (conditionalCount (ownList s)) (ran s (numbersOf (ownList s)) ballots tape wires board .board) ≡ judgmentOf (countsOf s ballots))
   unfolding list
   own-closing e =
       let p = run-passed s list ballots tape wires board (reason ∙ e) in

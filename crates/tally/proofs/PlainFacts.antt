@@ -11,15 +11,17 @@ use lib.Seq.{take-take, take-append-le, take-all}
 use Rattle.jury.specs.declared.shape.Shape.{Shape}
 use Rattle.jury.specs.Reason.{Reason}
 use Rattle.jury.specs.Counts.{countsOf}
-use Rattle.jury.specs.Gauge.{closingOf, eightBytes}
+use Rattle.jury.specs.Gauge.{eightBytes}
+use Rattle.judgment.specs.Judgment.{judgmentOf}
 use Rattle.tally.specs.Count.{countReason, closingAfter, plainClosing}
 use Rattle.jury.specs.Accepted.{AcceptedBallots}
 use Rattle.jury.proofs.Cases.{below-or-not}
 use Rattle.jury.proofs.Limits.{within}
 use Rattle.tally.proofs.CountReason.{count-accepts}
 use Rattle.jury.proofs.CountFacts.{counts-length}
-use Rattle.jury.specs.Winner.{BeatsOthers}
-use Rattle.jury.proofs.Closing.{closing-length, closing-one}
+use Rattle.judgment.specs.Winner.{Wins}
+use Rattle.judgment.proofs.Winners.{judgment-length}
+use Rattle.judgment.proofs.Theorems.{bytes-say, each-gets}
 use Rattle.jury.proofs.Rows.{eight-at, eight-length}
 
 after-length : (r : Option Reason) (bytes : List ℕ) → length (closingAfter r bytes) ≡ 8
@@ -30,47 +32,47 @@ after-length (some r) bytes = eight-length []
 -- there are eight bytes, whatever was handed in
 pub plain-length : (s : Shape) (xs : List ℕ) → length (plainClosing s xs) ≡ 8
 unfolding plainClosing
-plain-length s xs = after-length (countReason s xs) (closingOf (countsOf s xs))
+plain-length s xs = after-length (countReason s xs) (judgmentOf (countsOf s xs))
 
 -- a refusal has eight zeros
 pub plain-refused : (s : Shape) (xs : List ℕ) (r : Reason) → countReason s xs ≡ some r → plainClosing s xs ≡ replicate 8 0
 unfolding plainClosing closingAfter eightBytes
-plain-refused s xs r e = ap (λ (o : Option Reason). closingAfter o (closingOf (countsOf s xs))) e
+plain-refused s xs r e = ap (λ (o : Option Reason). closingAfter o (judgmentOf (countsOf s xs))) e
 
 module _ (s : Shape) (xs : List ℕ) (a : AcceptedBallots s xs) where
-  pub plain-accepted : plainClosing s xs ≡ eightBytes (closingOf (countsOf s xs))
+  pub plain-accepted : plainClosing s xs ≡ eightBytes (judgmentOf (countsOf s xs))
   unfolding plainClosing closingAfter
-  plain-accepted = ap (λ (o : Option Reason). closingAfter o (closingOf (countsOf s xs))) (count-accepts s xs .1 a)
+  plain-accepted = ap (λ (o : Option Reason). closingAfter o (judgmentOf (countsOf s xs))) (count-accepts s xs .1 a)
 
-  bytes-length : length (closingOf (countsOf s xs)) ≡ s .candidates
-  bytes-length = closing-length (countsOf s xs) ∙ counts-length s xs
+  bytes-length : length (judgmentOf (countsOf s xs)) ≡ s .candidates
+  bytes-length = judgment-length (countsOf s xs) ∙ counts-length s xs
 
   -- the first k bytes are the closing bytes of the counts
-  pub plain-first : take (s .candidates) (plainClosing s xs) ≡ closingOf (countsOf s xs)
+  pub plain-first : take (s .candidates) (plainClosing s xs) ≡ judgmentOf (countsOf s xs)
   unfolding eightBytes
   plain-first =
       ap (take (s .candidates)) plain-accepted
-      ∙ take-take (s .candidates) 8 (closingOf (countsOf s xs) ++ replicate 8 0) (within s (a .within) .k-most)
-      ∙ take-append-le (s .candidates) (closingOf (countsOf s xs)) (replicate 8 0) (omega (arith, bytes-length))
-      ∙ take-all (s .candidates) (closingOf (countsOf s xs)) (omega (arith, bytes-length))
+      ∙ take-take (s .candidates) 8 (judgmentOf (countsOf s xs) ++ replicate 8 0) (within s (a .within) .k-most)
+      ∙ take-append-le (s .candidates) (judgmentOf (countsOf s xs)) (replicate 8 0) (omega (arith, bytes-length))
+      ∙ take-all (s .candidates) (judgmentOf (countsOf s xs)) (omega (arith, bytes-length))
 
-  -- from place k on there are zeros
+  -- zeros from place k on
   pub plain-past : (i : ℕ) → s .candidates ≤ i → getD (plainClosing s xs) i 0 ≡ 0
   plain-past i h = ⊎-elim inside outside (below-or-not i 8)
     where
       inside : i < 8 → getD (plainClosing s xs) i 0 ≡ 0
       inside l =
           ap (λ (bytes : List ℕ). getD bytes i 0) plain-accepted
-          ∙ eight-at (closingOf (countsOf s xs)) i l
-          ∙ List·getD-eq-default (closingOf (countsOf s xs)) 0 {n = i} (omega (arith, bytes-length))
+          ∙ eight-at (judgmentOf (countsOf s xs)) i l
+          ∙ List·getD-eq-default (judgmentOf (countsOf s xs)) 0 {n = i} (omega (arith, bytes-length))
 
       outside : 8 ≤ i → getD (plainClosing s xs) i 0 ≡ 0
       outside l = List·getD-eq-default (plainClosing s xs) 0 {n = i} (omega (arith, plain-length s xs))
 
-  -- byte i is 1 exactly where candidate i beats each other candidate
-  pub plain-one : (i : ℕ) → i < s .candidates → (getD (plainClosing s xs) i 0 ≡ 1) ↔ BeatsOthers (countsOf s xs) i
+  -- byte i is 1 exactly where candidate i wins
+  pub plain-one : (i : ℕ) → i < s .candidates → (getD (plainClosing s xs) i 0 ≡ 1) ↔ Wins (countsOf s xs) i
   plain-one i h =
-      let e : getD (plainClosing s xs) i 0 ≡ getD (closingOf (countsOf s xs)) i 0 =
-      ap (λ (bytes : List ℕ). getD bytes i 0) plain-accepted ∙ eight-at (closingOf (countsOf s xs)) i (omega (arith, within s (a .within) .k-most)) in
-      let iff = closing-one (countsOf s xs) i (omega (arith, counts-length s xs)) in
-      (λ one. iff .0 (sym e ∙ one), λ beaten. e ∙ iff .1 beaten)
+      let e : getD (plainClosing s xs) i 0 ≡ getD (judgmentOf (countsOf s xs)) i 0 =
+      ap (λ (bytes : List ℕ). getD bytes i 0) plain-accepted ∙ eight-at (judgmentOf (countsOf s xs)) i (omega (arith, within s (a .within) .k-most)) in
+      let iff = bytes-say (s .ballots) (countsOf s xs) (each-gets s xs a) i (omega (arith, counts-length s xs)) .one in
+      (λ one. iff .0 (sym e ∙ one), λ wins. e ∙ iff .1 wins)

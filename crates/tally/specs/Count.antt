@@ -7,7 +7,8 @@ use Rattle.jury.specs.Shape.{withinLimits}
 use Rattle.jury.specs.Reason.{Reason, unless, firstOf}
 use Rattle.jury.specs.Ballots.{ballotReasons}
 use Rattle.jury.specs.Counts.{countsOf}
-use Rattle.jury.specs.Gauge.{closingOf, eightBytes}
+use Rattle.jury.specs.Gauge.{eightBytes}
+use Rattle.judgment.specs.Judgment.{judgmentOf}
 
 -- The reasons that concern a count, in checking order: 1, 4, 5, 6.
 unfoldable pub countReason : Shape → List ℕ → Option Reason
@@ -19,4 +20,4 @@ closingAfter none bytes = eightBytes bytes
 closingAfter (some r) bytes = eightBytes []
 
 unfoldable pub plainClosing : Shape → List ℕ → List ℕ
-plainClosing s xs = closingAfter (countReason s xs) (closingOf (countsOf s xs))
+plainClosing s xs = closingAfter (countReason s xs) (judgmentOf (countsOf s xs))

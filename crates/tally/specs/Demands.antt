@@ -13,7 +13,7 @@ use Rattle.jury.specs.Shape.{ballotBytes}
 use Rattle.jury.specs.Reason.{Reason}
 use Rattle.jury.specs.Accepted.{AcceptedBallots}
 use Rattle.jury.specs.Counts.{countsOf}
-use Rattle.jury.specs.Winner.{BeatsOthers}
+use Rattle.judgment.specs.Winner.{Wins}
 use Rattle.tally.specs.Answer.{refused, accepted, hasNumberIn, Size}
 use Rattle.tally.specs.Count.{countReason, plainClosing}
 use Rattle.tally.specs.Measure.{measureSaid}
@@ -22,7 +22,7 @@ use Rattle.tally.specs.Write.{writeSaid, written}
 use Rattle.tally.specs.Run.{ran}
 use Rattle.tally.specs.Hiding.{closingBytes, BoardTellsNoMore}
 
--- Demand 1: a refusal's number is that of a reason which concerns the entry point, a refusal alters no lent byte, an accepted run leaves an empty wire table, and no call changes a length.
+-- Demand 1: a refusal's number is that of a reason which concerns the entry point, a refusal alters no lent byte, an accepted run leaves a wire table of zeros, and no call changes a length.
 pub record Memory : Type 0 where
   pub measure-number : (s : Shape) (r : Reason) → measureSaid s ≡ refused r → T (hasNumberIn (1 ∷ []) r)
   pub write-number : (s : Shape) (table : List ℕ) (r : Reason) → writeSaid s table ≡ refused r → T (hasNumberIn (1 ∷ 2 ∷ []) r)
@@ -34,7 +34,7 @@ pub record Memory : Type 0 where
   pub write-length : (s : Shape) (table : List ℕ) → length (written s table) ≡ length table
   pub run-refused : (s : Shape) (table ballots tape wires board : List ℕ) (r : Reason) → ran s table ballots tape wires board .answer ≡ refused r
       → (ran s table ballots tape wires board .wires ≡ wires) × (ran s table ballots tape wires board .board ≡ board)
-  -- an accepted run leaves nothing in the wire table (request 2.13)
+  -- an accepted run leaves zeros in the wire table (request 2.13)
   pub run-empties : (s : Shape) (table ballots tape wires board : List ℕ) (size : Size) → ran s table ballots tape wires board .answer ≡ accepted size
       → ran s table ballots tape wires board .wires ≡ replicate (length wires) 0
   pub run-length : (s : Shape) (table ballots tape wires board : List ℕ)
@@ -44,7 +44,7 @@ pub record Memory : Type 0 where
 unfoldable pub listIn : Shape → Size → List ℕ → List ℕ
 listIn s size table = take (4 * size .gates) (written s table)
 
--- Demand 2: run with the list that the core wrote, closing byte i is 1 for a candidate that beats all others by the gauge and 0 for any other, and the plain count says the same. It holds after an accepted write into a table of any earlier contents, G and C being what the write answered.
+-- The demand [accuracy], for majority judgment [judgment]: with the list that the core writes for a shape, a candidate's closing byte is 1 if no candidate's sequence comes before its own, and 0 if one does; the plain count gives the same bytes. It holds after an accepted write into a table of any earlier contents, G and C being what the write answered.
 pub record Accuracy (s : Shape) (table : List ℕ) (size : Size) : Type 0 where
   -- a run of the list is never refused for 2 or 3
   pub never-2-or-3 : (ballots tape wires board : List ℕ) (r : Reason) → ran s (listIn s size table) ballots tape wires board .answer ≡ refused r → (r .number ≢ 2) × (r .number ≢ 3)
@@ -55,9 +55,9 @@ pub record Accuracy (s : Shape) (table : List ℕ) (size : Size) : Type 0 where
   pub plain : (ballots tape wires board : List ℕ) (answer : Size) → ran s (listIn s size table) ballots tape wires board .answer ≡ accepted answer
       → closingBytes s (ran s (listIn s size table) ballots tape wires board .board) ≡ take (s .candidates) (plainClosing s ballots)
   pub winners : (ballots tape wires board : List ℕ) (answer : Size) → ran s (listIn s size table) ballots tape wires board .answer ≡ accepted answer
-      → (i : ℕ) → i < s .candidates → (getD (closingBytes s (ran s (listIn s size table) ballots tape wires board .board)) i 0 ≡ 1) ↔ BeatsOthers (countsOf s ballots) i
+      → (i : ℕ) → i < s .candidates → (getD (closingBytes s (ran s (listIn s size table) ballots tape wires board .board)) i 0 ≡ 1) ↔ Wins (countsOf s ballots) i
   pub losers : (ballots tape wires board : List ℕ) (answer : Size) → ran s (listIn s size table) ballots tape wires board .answer ≡ accepted answer
-      → (i : ℕ) → i < s .candidates → (getD (closingBytes s (ran s (listIn s size table) ballots tape wires board .board)) i 0 ≡ 0) ↔ (¬ BeatsOthers (countsOf s ballots) i)
+      → (i : ℕ) → i < s .candidates → (getD (closingBytes s (ran s (listIn s size table) ballots tape wires board .board)) i 0 ≡ 0) ↔ (¬ Wins (countsOf s ballots) i)
 
 pub record ThreeDemands : Type 0 where
   pub memory : Memory

@@ -12,7 +12,7 @@ use Rattle.jury.specs.Shape.{withinLimits}
 use Rattle.jury.specs.Reason.{Reason, unless, firstOf}
 use Rattle.jury.specs.Accepted.{AcceptedBallots}
 use Rattle.jury.specs.Counts.{countsOf}
-use Rattle.jury.specs.Gauge.{closingOf}
+use Rattle.judgment.specs.Judgment.{judgmentOf}
 use Rattle.circuit.specs.OwnList.{ownList}
 use Rattle.circuit.specs.Bound.{gateBound}
 use Rattle.tally.specs.Answer.{Said, accepted, said, Size, sizeOf}
@@ -37,7 +37,7 @@ written s table = writtenAfter (firstOf (writeReasons s table)) (numbersOf (ownL
 pub record OwnListHolds (s : Shape) : Type 0 where
   -- the tester accepts its numbers for that shape, with its own G and C, C being the count of conditional marks in it
   pub passes : testSaid s (numbersOf (ownList s)) ≡ accepted (sizeOf (ownList s))
-  -- it has no more gates than document 01 allows
+  -- G keeps the bound of [bound] and [judgment-bound]
   pub bounded : length (ownList s) ≤ gateBound s
-  -- its closing bytes are the gauge's, whatever the accepted ballots
-  pub closing : (ballots : List ℕ) → AcceptedBallots s ballots → outputsOf (s .candidates) (wiresOf ballots (ownList s)) ≡ closingOf (countsOf s ballots)
+  -- its closing bytes are majority judgment's, whatever the accepted ballots
+  pub closing : (ballots : List ℕ) → AcceptedBallots s ballots → outputsOf (s .candidates) (wiresOf ballots (ownList s)) ≡ judgmentOf (countsOf s ballots)

@@ -32,7 +32,7 @@ pub fn count(shape: Shape, ballots: &[u8]) -> Counted
             let counts = jury::counts::counts(shape, ballots);
             Counted {
                 verdict: Verdict::Accepted,
-                closing: jury::gauge::winners(shape, counts),
+                closing: judgment::rule::winners(shape, counts),
             }
         }
     }

@@ -1,2 +1,1 @@
-pub mod ContestWriters
 pub mod ListWriters

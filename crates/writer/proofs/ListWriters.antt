@@ -1,49 +1,36 @@
--- What the writers of the rounds and of the own list rest on: where each part ends, and the list's size.
+-- What the list's writers share: the own list by its cases, and where keys and wires of groups stand.
 -- Assumes nothing.
 use mathlib.Core.Path.{_≡_, _∙_, refl, sym, ap, subst}
+use mathlib.Core.Bool.{Bool, true, false, cond}
+use mathlib.Core.Logic.{⊎-elim}
 use mathlib.Core.List.{List, [], _∷_, _++_}
-use Prim.Native.Nat.{ℕ, zero, suc, _+_, _-_, _*_, _≤_, _<_}
+use Prim.Native.Nat.{ℕ, zero, suc, _+_, _-_, _*_, _/_, _≤_, _<_}
+use native.Mathlib.Nat.{suc-mul, mul-comm, mul-div-cancel}
+use native.Mathlib.Numerals.{add-one}
 use native.Mathlib.Omega.{arith}
-use borrow.Author.Tests.{eq-eqb, ne-eqb}
-use lib.Dec.{T}
-use lib.ListN.{length, length-append}
+use lib.Dec.{T, leb, eqb}
+use lib.ListN.{length}
+use borrow.Author.Tests.{eq-eqb, ne-eqb, le-leb, lt-leb}
 use Rattle.gates.specs.Gate.{Gate}
-use Rattle.words.specs.Gates.{constant}
-use Rattle.words.specs.Writing.{Room, Wrote}
+use Rattle.words.specs.Gates.{constant, copyOf, andOf}
+use Rattle.words.specs.Choice.{choose}
 use Rattle.words.specs.declared.writer.Writer.{Writer}
-use Rattle.words.proofs.Writing.{wrote-as}
+use Rattle.words.specs.Writing.{Room}
 use Rattle.jury.specs.declared.shape.Shape.{Shape}
 use Rattle.jury.specs.Shape.{withinLimits, ballotBytes}
-use Rattle.jury.proofs.Limits.{within-T, within-back, bytes-are, bytes-bound}
+use Rattle.jury.proofs.Cases.{below-or-not}
+use Rattle.jury.proofs.Limits.{within, within-T, within-back, bytes-are, bytes-bound}
 use Rattle.circuit.specs.declared.plan.Plan.{Plan}
 use Rattle.circuit.specs.Plan.{planOf, Planned}
-use Rattle.circuit.specs.Key.{candidate, strictAt, candidateEnd}
-use Rattle.circuit.specs.Contest.{contest, contestEnd, merge, won}
-use Rattle.circuit.specs.OwnList.{merged, mergedEnd, round, rounds, circuit, ownList}
-use Rattle.circuit.proofs.WellFormed.{candidate-block, candidate-end, round-block, round-end}
+use Rattle.circuit.specs.Key.{keySpan, candidate, candidateSpan}
+use Rattle.circuit.specs.Contest.{resultAt, contestSpan}
+use Rattle.circuit.specs.Meeting.{bothOf, stillWon, meeting, meetingSpan, wonAt, better}
+use Rattle.circuit.specs.OwnList.{candidates, keyAt, levelsSpan, bestKey, groupWon, otherAt, meetAt, halvesMeet, halvesBetter, levels, levelsAt, circuit, ownList}
 use Rattle.circuit.proofs.Planning.{planned}
-use Rattle.circuit.proofs.Sizes.{candidateGates, contestGates, mergedGates, roundGates, round-size}
+use Rattle.circuit.proofs.CandidateBlocks.{key-of}
+use Rattle.circuit.proofs.LevelsLaws.{key-before, span-one, span-more, key-one, key-more, won-more, levels-one, levels-more}
 use Rattle.circuit.proofs.OwnListLaws.{own-list-short}
 
--- a key ends where its candidate does
-pub key-before : (m x d g : ℕ) → m ≡ x + d + g + 1 → m - 1 - g - d ≡ x
-key-before m x d g e = omega arith
-
--- the merged key, by the number of candidates left
-pub merged-none : (p : Plan) (n x y t : ℕ) → t ≡ 0 → [] ≡ merged p n x y t
-unfolding merged
-merged-none p n x y t e = rw e
-
-pub merged-more : (p : Plan) (n x y t : ℕ) → (t ≡ 0 → ⊥) → merge p n x y ≡ merged p n x y t
-unfolding merged
-merged-more p n x y zero h = absurd (h refl)
-merged-more p n x y (suc t) h = refl
-
-pub round-long : (p : Plan) (n y at j t : ℕ) → length (round p n y at j t) ≡ candidateGates p + contestGates p + mergedGates p t + (j + 1)
-unfolding roundGates
-round-long p n y at j t = round-size p n y at j t .gates
-
--- the own list, by the number of candidates
 pub own-one : (s : Shape) → s .candidates ≡ 1 → constant 1 ∷ [] ≡ ownList s
 unfolding ownList
 own-one s e = rw (eq-eqb (s .candidates) 1 e)
@@ -74,66 +61,153 @@ circuit-short s p l e h = omega (arith, ap (λ (gs : List Gate). length gs) (own
 pub plan-planned : (s : Shape) (p : Plan) → T (withinLimits s) → p ≡ planOf s → Planned p
 plan-planned s p l e = subst Planned (sym e) (planned s (within-back s (within-T s l)))
 
--- the blocks of a round, where the wires that they stand at were computed
-module _ (p : Plan) (w : Writer) (t t₁ : List ℕ) (w₁ : Writer) where
-  pub contest-moved : (n x x′ y : ℕ) → w .wire ≡ n → x ≡ x′ → Wrote w t (contest p (w .wire) x y) t₁ w₁ → Wrote w t (contest p n x′ y) t₁ w₁
-  contest-moved n x x′ y en ex h =
-      wrote-as w t (contest p (w .wire) x y) (contest p n x′ y) t₁ w₁ (ap (λ (k : ℕ). contest p k x y) en ∙ ap (λ (k : ℕ). contest p n k y) ex) h
+pub plan-many : (s : Shape) (p : Plan) → T (withinLimits s) → p ≡ planOf s → (s .candidates ≡ 1 → ⊥) → 1 < p .candidates
+plan-many s p l e h = subst (λ (q : Plan). 1 < q .candidates) (sym e) (two s (within-T s l .k-least) h)
+  where
+    two : (s : Shape) → 1 ≤ s .candidates → (s .candidates ≡ 1 → ⊥) → 1 < planOf s .candidates
+    two s k h = unfold planOf in (⊎-elim (λ (z : 1 < s .candidates). z) (λ (z : s .candidates ≤ 1). absurd (h (omega arith))) (below-or-not 1 (s .candidates)))
 
-  pub merged-moved : (n n′ x x′ y m : ℕ) → n ≡ n′ → x ≡ x′ → Wrote w t (merged p n x y m) t₁ w₁ → Wrote w t (merged p n′ x′ y m) t₁ w₁
-  merged-moved n n′ x x′ y m en ex h =
-      wrote-as w t (merged p n x y m) (merged p n′ x′ y m) t₁ w₁ (ap (λ (k : ℕ). merged p k x y m) en ∙ ap (λ (k : ℕ). merged p n′ k y m) ex) h
+-- one wire, or many
+pub both-step : (at stays i m : ℕ) → i < m → bothOf (at + i) stays (m - i) ≡ (andOf (at + i) stays ∷ []) ++ bothOf (at + (i + 1)) stays (m - (i + 1))
+both-step at stays i m h =
+    let e : m - i ≡ suc (m - (i + 1)) = omega arith in
+    let p : at + i + 1 ≡ at + (i + 1) = omega arith in
+    ap (bothOf (at + i) stays) e ∙ first (m - (i + 1)) ∙ ap (λ (k : ℕ). andOf (at + i) stays ∷ bothOf k stays (m - (i + 1))) p
+  where
+    first : (m : ℕ) → bothOf (at + i) stays (suc m) ≡ andOf (at + i) stays ∷ bothOf (at + i + 1) stays m
+    first m = unfold bothOf in refl
 
-  pub won-moved : (at up up′ down down′ j : ℕ) → up ≡ up′ → down ≡ down′ → Wrote w t (won at up down j) t₁ w₁ → Wrote w t (won at up′ down′ j) t₁ w₁
-  won-moved at up up′ down down′ j eu ed h =
-      wrote-as w t (won at up down j) (won at up′ down′ j) t₁ w₁ (ap (λ (k : ℕ). won at k down j) eu ∙ ap (λ (k : ℕ). won at up′ k j) ed) h
+pub both-none : (at stays i m : ℕ) → m ≤ i → bothOf at stays (m - i) ≡ []
+unfolding bothOf
+both-none at stays i m h = let e : m - i ≡ 0 = omega arith in rw e
 
--- the rounds, at wires that are the same
-pub rounds-same : (p : Plan) (n n′ y y′ at at′ j t : ℕ) → n ≡ n′ → y ≡ y′ → at ≡ at′ → rounds p n y at j t ≡ rounds p n′ y′ at′ j t
-rounds-same p n n′ y y′ at at′ j t en ey ea =
-    ap (λ (k : ℕ). rounds p k y at j t) en ∙ ap (λ (k : ℕ). rounds p n′ k at j t) ey ∙ ap (λ (k : ℕ). rounds p n′ y′ k j t) ea
+pub won-single : (at stays m : ℕ) → m ≡ 1 → copyOf stays ∷ [] ≡ stillWon at stays m
+unfolding stillWon
+won-single at stays m e = rw e
 
-pub rounds-none : (p : Plan) (n y at j k : ℕ) → k ≤ j → rounds p n y at j (k - j) ≡ []
-unfolding rounds
-rounds-none p n y at j k h = let e : k - j ≡ 0 = omega arith in rw e
+pub won-many : (at stays m : ℕ) → 1 < m → bothOf at stays m ≡ stillWon at stays m
+won-many at stays zero h = absurd (omega arith)
+won-many at stays (suc zero) h = absurd (omega arith)
+won-many at stays (suc (suc m)) h = unfold stillWon in refl
+
+-- the candidates that are left
+pub candidates-step : (p : Plan) (n c k : ℕ) → c < k → candidates p n c (k - c) ≡ candidate p n c ++ candidates p (n + candidateSpan p) (c + 1) (k - (c + 1))
+candidates-step p n c k h = let e : k - c ≡ suc (k - (c + 1)) = omega arith in ap (candidates p n c) e ∙ (unfold candidates in refl)
+
+pub candidates-none : (p : Plan) (n c k : ℕ) → k ≤ c → candidates p n c (k - c) ≡ []
+unfolding candidates
+candidates-none p n c k h = let e : k - c ≡ 0 = omega arith in rw e
+
+-- where the key of a group and its wires stand, by the end of its meetings
+module _ (p : Plan) (r n m : ℕ) where
+  pub key-is : (c : ℕ) → bestKey p (suc r) n c m ≡ cond (leb m 1) (keyAt p c) (n + levelsSpan p (suc r) m - keySpan p)
+  key-is c = ⊎-elim
+      (λ (l : 1 < m).
+      let e : n + levelsSpan p r (m / 2) + levelsSpan p r (m - m / 2) + meetingSpan p (m / 2) (m - m / 2) ≡ n + levelsSpan p (suc r) m - keySpan p = omega (arith, span-more p r m l) in
+      key-more p r m n c l ∙ e ∙ sym (ap (λ (t : Bool). cond t (keyAt p c) (n + levelsSpan p (suc r) m - keySpan p)) (lt-leb m 1 l)))
+      (λ (l : m ≤ 1). key-one p r m n c l ∙ sym (ap (λ (t : Bool). cond t (keyAt p c) (n + levelsSpan p (suc r) m - keySpan p)) (le-leb m 1 l)))
+      (below-or-not 1 m)
+
+  pub won-is : groupWon p (suc r) n m ≡ cond (leb m 1) 0 (n + levelsSpan p (suc r) m - keySpan p - m)
+  won-is = ⊎-elim
+      (λ (l : 1 < m).
+      let e : wonAt p (meetAt p r n m) ≡ n + levelsSpan p (suc r) m - keySpan p - m = omega (arith, span-more p r m l) in
+      won-more p r m n 0 l ∙ e ∙ sym (ap (λ (t : Bool). cond {A = ℕ} t 0 (n + levelsSpan p (suc r) m - keySpan p - m)) (lt-leb m 1 l)))
+      (λ (l : m ≤ 1). none l ∙ sym (ap (λ (t : Bool). cond {A = ℕ} t 0 (n + levelsSpan p (suc r) m - keySpan p - m)) (le-leb m 1 l)))
+      (below-or-not 1 m)
+    where
+      none : m ≤ 1 → groupWon p (suc r) n m ≡ 0
+      none l = unfold groupWon in (rw (le-leb m 1 l))
+
+-- two candidates: no meeting before theirs
+pair-parts : (p : Plan) (n c : ℕ) → levels p 0 n c 1 ++ levels p 0 (otherAt p 0 n 2) (c + 1) 1 ++ halvesMeet p 0 n c 2 ++ halvesBetter p 0 n c 2
+    ≡ meeting p (n + 0 + 0) (keyAt p c) (keyAt p (c + 1)) 0 0 1 1 ++ choose (resultAt p (n + 0 + 0) + 1) (keyAt p c) (keyAt p (c + 1)) (keySpan p)
+unfolding levels halvesMeet halvesBetter bestKey groupWon levelsSpan better
+pair-parts p n c = refl
+
+pub pair-is : (p : Plan) (n c : ℕ) → levels p 1 n c 2
+    ≡ meeting p n (keyAt p c) (keyAt p (c + 1)) 0 0 1 1 ++ choose (resultAt p n + 1) (keyAt p c) (keyAt p (c + 1)) (keySpan p)
+pair-is p n c =
+    let e : n + 0 + 0 ≡ n = omega arith in
+    levels-more p 0 2 n c (omega arith) ∙ pair-parts p n c
+    ∙ ap (λ (k : ℕ). meeting p k (keyAt p c) (keyAt p (c + 1)) 0 0 1 1 ++ choose (resultAt p k + 1) (keyAt p c) (keyAt p (c + 1)) (keySpan p)) e
+
+pub pair-span : (p : Plan) → levelsSpan p 1 2 ≡ meetingSpan p 1 1 + keySpan p
+pair-span p = span-more p 0 2 (omega arith) ∙ (unfold levelsSpan in (omega arith))
+
+-- two halves
+abbrev keyBy : Plan → ℕ → ℕ → ℕ → ℕ
+keyBy p c l end = cond (leb l 1) (keyAt p c) (end - keySpan p)
+
+abbrev wonBy : Plan → ℕ → ℕ → ℕ
+wonBy p l end = cond (leb l 1) 0 (end - keySpan p - l)
+
+pub meet-same : (p : Plan) (r n c m k mid end : ℕ) → k ≡ meetAt p (suc r) n m → mid ≡ otherAt p (suc r) n m → end ≡ meetAt p (suc r) n m
+    → meeting p k (cond (leb (m / 2) 1) (keyAt p c) (mid - keySpan p)) (cond (leb (m - m / 2) 1) (keyAt p (c + m / 2)) (end - keySpan p))
+    (cond (leb (m / 2) 1) 0 (mid - keySpan p - m / 2)) (cond (leb (m - m / 2) 1) 0 (end - keySpan p - (m - m / 2))) (m / 2) (m - m / 2)
+    ≡ halvesMeet p (suc r) n c m
+unfolding halvesMeet
+meet-same p r n c m k mid end ek em ee =
+    let l = m / 2 in
+    let h = m - m / 2 in
+    let o = otherAt p (suc r) n m in
+    let q = meetAt p (suc r) n m in
+    ap (λ (i : ℕ). meeting p i (keyBy p c l mid) (keyBy p (c + l) h end) (wonBy p l mid) (wonBy p h end) l h) ek
+    ∙ ap (λ (i : ℕ). meeting p q (keyBy p c l i) (keyBy p (c + l) h end) (wonBy p l i) (wonBy p h end) l h) em
+    ∙ ap (λ (i : ℕ). meeting p q (keyBy p c l o) (keyBy p (c + l) h i) (wonBy p l o) (wonBy p h i) l h) ee
+    ∙ ap (λ (i : ℕ). meeting p q i (keyBy p (c + l) h q) (wonBy p l o) (wonBy p h q) l h) (sym (key-is p r n l c))
+    ∙ ap (λ (i : ℕ). meeting p q (bestKey p (suc r) n c l) i (wonBy p l o) (wonBy p h q) l h) (sym (key-is p r o h (c + l)))
+    ∙ ap (λ (i : ℕ). meeting p q (bestKey p (suc r) n c l) (bestKey p (suc r) o (c + l) h) i (wonBy p h q) l h) (sym (won-is p r n l))
+    ∙ ap (λ (i : ℕ). meeting p q (bestKey p (suc r) n c l) (bestKey p (suc r) o (c + l) h) (groupWon p (suc r) n l) i l h) (sym (won-is p r o h))
+
+pub better-same : (p : Plan) (r n c m q mid end : ℕ) → q ≡ resultAt p (meetAt p (suc r) n m) + 1 → mid ≡ otherAt p (suc r) n m → end ≡ meetAt p (suc r) n m
+    → choose q (cond (leb (m / 2) 1) (keyAt p c) (mid - keySpan p)) (cond (leb (m - m / 2) 1) (keyAt p (c + m / 2)) (end - keySpan p)) (keySpan p)
+    ≡ halvesBetter p (suc r) n c m
+unfolding halvesBetter better
+better-same p r n c m q mid end eq em ee =
+    let l = m / 2 in
+    let h = m - m / 2 in
+    let o = otherAt p (suc r) n m in
+    let at = resultAt p (meetAt p (suc r) n m) + 1 in
+    ap (λ (i : ℕ). choose i (cond (leb l 1) (keyAt p c) (mid - keySpan p)) (keyBy p (c + l) h end) (keySpan p)) eq
+    ∙ ap (λ (i : ℕ). choose at (cond (leb l 1) (keyAt p c) (i - keySpan p)) (keyBy p (c + l) h end) (keySpan p)) em
+    ∙ ap (λ (i : ℕ). choose at (cond (leb l 1) (keyAt p c) (o - keySpan p)) (keyBy p (c + l) h i) (keySpan p)) ee
+    ∙ ap (λ (i : ℕ). choose at i (keyBy p (c + l) h (meetAt p (suc r) n m)) (keySpan p)) (sym (key-is p r n l c))
+    ∙ ap (λ (i : ℕ). choose at (bestKey p (suc r) n c l) i (keySpan p)) (sym (key-is p r o h (c + l)))
+
+-- a choice by a number that is 1 at most, or more
+pub small-case : (m x y : ℕ) → m ≤ 1 → x ≡ cond (leb m 1) x y
+small-case m x y h = sym (ap (λ (t : Bool). cond t x y) (le-leb m 1 h))
+
+pub large-case : (m x y : ℕ) → 1 < m → y ≡ cond (leb m 1) x y
+large-case m x y h = sym (ap (λ (t : Bool). cond t x y) (lt-leb m 1 h))
+
+pub length-both : (at stays m : ℕ) → length (bothOf at stays m) ≡ m
+unfolding bothOf
+length-both at stays zero = refl
+length-both at stays (suc m) = ap suc (length-both (at + 1) stays m)
+
+-- the place of a candidate's key, counted from its circuit's end
+pub key-from : (p : Plan) (c span : ℕ) → span ≡ candidateSpan p → p .inputs + (c + 1) * span ≡ keyAt p c + keySpan p
+key-from p c span e =
+    omega (arith, ap (λ (k : ℕ). (c + 1) * k) e, ap (λ (k : ℕ). k * candidateSpan p) (add-one c), suc-mul c (candidateSpan p), key-of p (p .inputs + c * candidateSpan p))
+
+-- a group of more than one has its wires and its key
+pub span-least : (p : Plan) (r m : ℕ) → 1 < m → m + keySpan p ≤ levelsSpan p (suc r) m
+span-least p r m h = omega (arith, span-more p r m h)
 
 module _ (p : Plan) (f : Planned p) where
-  -- where a candidate's circuit ends
-  pub candidate-ends : (n c : ℕ) → p .inputs + 2 ≤ n → c < p .candidates → n + length (candidate p n c) ≡ candidateEnd p n
-  candidate-ends n c h hc = ap (λ (k : ℕ). n + k) (candidate-block p f n c h hc .long) ∙ sym (candidate-end p f n)
+  pub key-below : (c l end n : ℕ) → c < p .candidates → levelsAt p ≤ n → end ≤ n → (1 < l → keySpan p ≤ end) → cond (leb l 1) (keyAt p c) (end - keySpan p) + keySpan p ≤ n
+  key-below c l end n hc h he k = ⊎-elim
+      (λ (z : 1 < l). let q = k z in omega (arith, large-case l (keyAt p c) (end - keySpan p) z))
+      (λ (z : l ≤ 1). omega (arith, small-case l (keyAt p c) (end - keySpan p) z, key-before p f c hc))
+      (below-or-not 1 l)
 
-  -- the rounds left behind a round, where the wires that they stand at were computed; nothing is left behind the last one
-  rest-same : (t e j n : ℕ) → n ≡ mergedEnd p e t + (j + 1)
-      → rounds p (mergedEnd p e t + (j + 1)) (contestEnd p e + 1) (mergedEnd p e t) (j + 1) t ≡ rounds p n (n - (j + 1) - (p .digits + p .grades + 1)) (n - (j + 1)) (j + 1) t
-  rest-same zero e j n h = unfold rounds in refl
-  rest-same (suc t) e j n h =
-      let m = mergedEnd p e (suc t) in
-      let end : m ≡ contestEnd p e + 2 + p .digits + p .grades = unfold mergedEnd in refl in
-      let at : m ≡ n - (j + 1) = omega arith in
-      let key : contestEnd p e + 1 ≡ n - (j + 1) - (p .digits + p .grades + 1) = before (contestEnd p e) m (p .digits) (p .grades) (n - (j + 1)) end at in
-      rounds-same p (m + (j + 1)) n (contestEnd p e + 1) (n - (j + 1) - (p .digits + p .grades + 1)) m (n - (j + 1)) (j + 1) (suc t) (sym h) key at
-    where
-      before : (a m d g k : ℕ) → m ≡ a + 2 + d + g → m ≡ k → a + 1 ≡ k - (d + g + 1)
-      before a m d g k h i = omega arith
+  pub won-below : (l end n : ℕ) → end ≤ n → (1 < l → l + keySpan p ≤ end) → 1 < l → cond (leb l 1) 0 (end - keySpan p - l) + l ≤ n
+  won-below l end n he k z = let q = k z in omega (arith, large-case l 0 (end - keySpan p - l) z)
 
-  -- the first round, and those behind it
-  pub rounds-step : (n y at j n′ : ℕ) → j < p .candidates → p .inputs + 2 ≤ n → strictAt p y < n → at + j ≤ n → n′ ≡ n + length (round p n y at j (p .candidates - 1 - j))
-      → rounds p n y at j (p .candidates - j) ≡ round p n y at j (p .candidates - 1 - j) ++ rounds p n′ (n′ - (j + 1) - (p .digits + p .grades + 1)) (n′ - (j + 1)) (j + 1) (p .candidates - (j + 1))
-  rounds-step n y at j n′ hj h hy hat e =
-      let t = p .candidates - 1 - j in
-      let now : p .candidates - j ≡ suc t = omega arith in
-      let left : t ≡ p .candidates - (j + 1) = omega arith in
-      let end : n′ ≡ mergedEnd p (candidateEnd p n) t + (j + 1) = e ∙ ap (λ (k : ℕ). n + k) (round-block p f n y at j t h hy hat hj .long) ∙ round-end p f n j t in
-      ap (rounds p n y at j) now ∙ first t
-      ∙ ap (λ (gs : List Gate). round p n y at j t ++ gs) (rest-same t (candidateEnd p n) j n′ end ∙ ap (rounds p n′ (n′ - (j + 1) - (p .digits + p .grades + 1)) (n′ - (j + 1)) (j + 1)) left)
-    where
-      first : (t : ℕ)
-          → rounds p n y at j (suc t) ≡ round p n y at j t ++ rounds p (mergedEnd p (candidateEnd p n) t + (j + 1)) (contestEnd p (candidateEnd p n) + 1) (mergedEnd p (candidateEnd p n) t) (j + 1) t
-      first t = unfold rounds in refl
-
-  pub round-within : (n y at j : ℕ) → j < p .candidates → p .inputs + 2 ≤ n → strictAt p y < n → at + j ≤ n → length (round p n y at j (p .candidates - 1 - j)) ≤ length (rounds p n y at j (p .candidates - j))
-  round-within n y at j hj h hy hat =
-      let b = round p n y at j (p .candidates - 1 - j) in
-      let n′ = n + length b in
-      let rest = rounds p n′ (n′ - (j + 1) - (p .digits + p .grades + 1)) (n′ - (j + 1)) (j + 1) (p .candidates - (j + 1)) in
-      omega (arith, ap (λ (gs : List Gate). length gs) (rounds-step n y at j n′ hj h hy hat refl), length-append b rest)
+-- a number of equal spans, divided by how many there are
+pub divided : (wire inputs k span : ℕ) → 0 < k → wire ≡ inputs + k * span → (wire - inputs) / k ≡ span
+divided wire inputs k span h e =
+    let whole : wire - inputs ≡ span * k = omega (arith, mul-comm k span) in
+    ap (λ (x : ℕ). x / k) whole ∙ mul-div-cancel span h

@@ -1,88 +1,151 @@
 // The own list of a shape.
-use crate::contest::contest;
-use crate::contest::down_at;
-use crate::contest::merge;
-use crate::contest::up_at;
-use crate::contest::won;
+use crate::meeting::better;
+use crate::meeting::key_span;
+use crate::meeting::meeting;
 use candidate::key::candidate;
 use circuit::plan::Plan;
 use gates::kind;
 use jury::shape::Shape;
 use words::writer::Writer;
 ghost use mathlib.Core.Path.{_≡_};
-ghost use Prim.Native.Nat.{_+_, _-_, _*_, _≤_, _<_};
-ghost use lib.Dec.{T};
+ghost use mathlib.Core.Bool.{cond};
+ghost use Prim.Native.Nat.{_+_, _-_, _*_, _/_, _≤_, _<_};
+ghost use lib.Dec.{T, leb};
 ghost use lib.ListN.{length};
 ghost use Rattle.gates.specs.Board.{conditionalCount};
+ghost use Rattle.words.specs.Limits.{writerLimit};
 ghost use Rattle.words.specs.Writing.{Room, Wrote};
 ghost use Rattle.jury.specs.Shape.{withinLimits, ballotBytes};
 ghost use Rattle.circuit.specs.Plan.{Planned};
-ghost use Rattle.circuit.specs.Key.{strictAt};
-ghost use Rattle.circuit.specs.Contest.{contestEnd};
-ghost use Rattle.circuit.specs.OwnList.{merged, round, rounds, circuit, ownList};
+ghost use Rattle.circuit.specs.Key.{keySpan, candidateSpan};
+ghost use Rattle.circuit.specs.Meeting.{meeting, meetingSpan};
+ghost use Rattle.circuit.specs.OwnList.{candidates, keyAt, levelsSpan, levels, levelsAt, circuit, ownList};
 
-// The key kept of two, unless no candidate is left.
-fn merged(w: Writer, table: &mut [u32], p: Plan, n: u32, x: u32, y: u32, left: u32) -> Writer
+// The circuits of all candidates.
+fn candidates(w: Writer, table: &mut [u32], p: Plan) -> Writer
     requires { ⌜ Planned p ⌝ }
-    requires { ⌜ Room w (length (merged p n x y left)) ⌝ }
-    requires { ⌜ (w .wire ≡ contestEnd p n) × (strictAt p x < n) × (strictAt p y < n) ⌝ }
-    ensures { λ r. ⌜ Wrote w (now (table .entry)) (merged p n x y left) (now (table .exit)) r ⌝ }
+    requires { ⌜ Room w (p .candidates * candidateSpan p) ⌝ }
+    requires { ⌜ p .inputs ≤ w .wire ⌝ }
+    ensures { λ r. ⌜ Wrote w (now (table .entry)) (candidates p (w .wire) 0 (p .candidates)) (now (table .exit)) r ⌝ }
 {
-    if left == 0 {
-        return w;
-    }
-    merge(w, table, p, n, x, y)
-}
-
-// One round: candidate j against the key y that stands for all before it. So many candidates are left.
-fn round(w: Writer, table: &mut [u32], p: Plan, y: u32, at: u32, j: u32, left: u32) -> Writer
-    requires { ⌜ Planned p ⌝ }
-    requires { ⌜ Room w (length (round p (w .wire) y at j left)) ⌝ }
-    requires { ⌜ (p .inputs + 2 ≤ w .wire) × (strictAt p y < w .wire) × (at + j ≤ w .wire) × (j < p .candidates) ⌝ }
-    ensures { λ r. ⌜ Wrote w (now (table .entry)) (round p (w .wire) y at j left) (now (table .exit)) r ⌝ }
-{
-    let added = candidate(w, table, p, j);
-    let n = added.wire;
-    let x = n - 1 - p.grades - p.digits;
-    let tested = contest(added, table, p, x, y);
-    let kept = merged(tested, table, p, n, x, y, left);
-    won(kept, table, at, up_at(p, n), down_at(p, n), j)
-}
-
-// A round for each candidate but the first, whose key is y.
-fn rounds(w: Writer, table: &mut [u32], p: Plan, y: u32) -> Writer
-    requires { ⌜ Planned p ⌝ }
-    requires { ⌜ Room w (length (rounds p (w .wire) y 0 1 (p .candidates - 1))) ⌝ }
-    requires { ⌜ (p .inputs + 2 ≤ w .wire) × (strictAt p y < w .wire) ⌝ }
-    ensures { λ r. ⌜ Wrote w (now (table .entry)) (rounds p (w .wire) y 0 1 (p .candidates - 1)) (now (table .exit)) r ⌝ }
-{
-    let candidates = p.candidates;
-    let span = p.digits + p.grades + 1;
+    let count = p.candidates;
     let mut next = w;
-    let mut key = y;
-    let mut at: u32 = 0;
-    let mut j: u32 = 1;
-    while j < candidates {
-        next = round(next, table, p, key, at, j, candidates - 1 - j);
-        j += 1;
-        at = next.wire - j;
-        key = at - span;
+    let mut c: u32 = 0;
+    while c < count {
+        next = candidate(next, table, p, c);
+        c += 1;
     }
     next
 }
 
-// The constants, candidate 0, and a round for each other candidate.
+// Where the key of candidate c stands; a candidate's circuit has `span` gates.
+fn key_at(p: Plan, span: u32, c: u32) -> u32
+    requires { ⌜ Planned p ⌝ }
+    requires { ⌜ (span ≡ candidateSpan p) × (c < p .candidates) × (levelsAt p < writerLimit) ⌝ }
+    ensures { λ r. ⌜ r ≡ keyAt p c ⌝ }
+{
+    p.inputs + (c + 1) * span - key_span(p)
+}
+
+// The key of the best of so many candidates from candidate c on, whose meetings end before wire `end`.
+fn best_key(p: Plan, span: u32, c: u32, count: u32, end: u32) -> u32
+    requires { ⌜ Planned p ⌝ }
+    requires { ⌜ (span ≡ candidateSpan p) × (c < p .candidates) × (levelsAt p < writerLimit) × (1 < count → keySpan p ≤ end) ⌝ }
+    ensures { λ r. ⌜ r ≡ cond (leb count 1) (keyAt p c) (end - keySpan p) ⌝ }
+{
+    if count <= 1 {
+        return key_at(p, span, c);
+    }
+    end - key_span(p)
+}
+
+// The wires of these candidates.
+fn group_won(p: Plan, count: u32, end: u32) -> u32
+    requires { ⌜ Planned p ⌝ }
+    requires { ⌜ (1 < count → count + keySpan p ≤ end) ⌝ }
+    ensures { λ r. ⌜ r ≡ cond (leb count 1) 0 (end - keySpan p - count) ⌝ }
+{
+    if count <= 1 {
+        return 0;
+    }
+    end - key_span(p) - count
+}
+
+// The best of one or two candidates from candidate c on.
+fn pair(w: Writer, table: &mut [u32], p: Plan, span: u32, c: u32, count: u32) -> Writer
+    requires { ⌜ Planned p ⌝ }
+    requires { ⌜ Room w (levelsSpan p 1 count) ⌝ }
+    requires { ⌜ (span ≡ candidateSpan p) × (levelsAt p ≤ w .wire) × (0 < count) × (count ≤ 2) × (c + count ≤ p .candidates) ⌝ }
+    ensures { λ r. ⌜ Wrote w (now (table .entry)) (levels p 1 (w .wire) c count) (now (table .exit)) r ⌝ }
+{
+    if count <= 1 {
+        return w;
+    }
+    let x = key_at(p, span, c);
+    let y = key_at(p, span, c + 1);
+    let met = meeting(w, table, p, x, y, 0, 0, 1, 1);
+    better(met, table, p, met.wire - 8, x, y)
+}
+
+// The meeting of the best of `first` candidates from candidate c on and of the `second` ones behind them: their own
+// meetings end before the wires `middle` and the writer's.
+fn halves(
+    w: Writer,
+    table: &mut [u32],
+    p: Plan,
+    span: u32,
+    c: u32,
+    first: u32,
+    second: u32,
+    middle: u32,
+) -> Writer
+    requires { ⌜ Planned p ⌝ }
+    requires { ⌜ Room w (meetingSpan p first second) ⌝ }
+    requires { ⌜ (span ≡ candidateSpan p) × (levelsAt p ≤ middle) × (middle ≤ w .wire) × (0 < first) × (0 < second) × (c + first + second ≤ p .candidates) ⌝ }
+    requires { ⌜ (1 < first → levelsAt p + first + keySpan p ≤ middle) × (1 < second → middle + second + keySpan p ≤ w .wire) ⌝ }
+    ensures { λ r. ⌜ Wrote w (now (table .entry)) (meeting p (w .wire) (cond (leb first 1) (keyAt p c) (middle - keySpan p)) (cond (leb second 1) (keyAt p (c + first)) (w .wire - keySpan p)) (cond (leb first 1) 0 (middle - keySpan p - first)) (cond (leb second 1) 0 (w .wire - keySpan p - second)) first second) (now (table .exit)) r ⌝ }
+{
+    let x = best_key(p, span, c, first, middle);
+    let y = best_key(p, span, c + first, second, w.wire);
+    let u = group_won(p, first, middle);
+    let v = group_won(p, second, w.wire);
+    meeting(w, table, p, x, y, u, v, first, second)
+}
+
+// The best of one to four candidates from candidate c on.
+fn four(w: Writer, table: &mut [u32], p: Plan, span: u32, c: u32, count: u32) -> Writer
+    requires { ⌜ Planned p ⌝ }
+    requires { ⌜ Room w (levelsSpan p 2 count) ⌝ }
+    requires { ⌜ (span ≡ candidateSpan p) × (levelsAt p ≤ w .wire) × (0 < count) × (count ≤ 4) × (c + count ≤ p .candidates) ⌝ }
+    ensures { λ r. ⌜ Wrote w (now (table .entry)) (levels p 2 (w .wire) c count) (now (table .exit)) r ⌝ }
+{
+    if count <= 1 {
+        return w;
+    }
+    let first = count / 2;
+    let second = count - first;
+    let low = pair(w, table, p, span, c, first);
+    let high = pair(low, table, p, span, c + first, second);
+    let met = halves(high, table, p, span, c, first, second, low.wire);
+    let x = best_key(p, span, c, first, low.wire);
+    let y = best_key(p, span, c + first, second, high.wire);
+    better(met, table, p, met.wire - count - 6, x, y)
+}
+
+// The candidates, and three levels of meetings.
 fn circuit(w: Writer, table: &mut [u32], p: Plan) -> Writer
     requires { ⌜ Planned p ⌝ }
     requires { ⌜ Room w (length (circuit p)) ⌝ }
-    requires { ⌜ w .wire ≡ p .inputs ⌝ }
+    requires { ⌜ (w .wire ≡ p .inputs) × (1 < p .candidates) ⌝ }
     ensures { λ r. ⌜ Wrote w (now (table .entry)) (circuit p) (now (table .exit)) r ⌝ }
 {
-    let zero = w.emit(table, kind::ZERO, 0, 0, 0);
-    let one = zero.emit(table, kind::ONE, 0, 0, 0);
-    let first = candidate(one, table, p, 0);
-    let key = first.wire - 1 - p.grades - p.digits;
-    rounds(first, table, p, key)
+    let all = candidates(w, table, p);
+    let span = (all.wire - p.inputs) / p.candidates;
+    let first = p.candidates / 2;
+    let second = p.candidates - first;
+    let low = four(all, table, p, span, 0, first);
+    let high = four(low, table, p, span, first, second);
+    halves(high, table, p, span, 0, first, second, low.wire)
 }
 
 // Writes the own list of a shape from the table's first number on, as far as the table goes. The writer says how many

@@ -1,104 +1,118 @@
--- `candidate::key::candidate` meets its contract: the sums, the balance and the key, each where the one before ends.
+-- `candidate::key::candidate` meets its contract: the sums, and the key behind them.
 -- Assumes nothing.
-use mathlib.Core.Path.{_≡_}
-use Prim.Native.Nat.{_+_, _-_, _*_}
+use mathlib.Core.Path.{_≡_, _∙_, refl, ap}
+use mathlib.Core.List.{List}
+use Prim.Native.Nat.{ℕ, suc, _+_, _-_, _*_, _≤_}
+use native.Mathlib.Nat.{suc-mul}
 use native.Mathlib.Omega.{arith}
-use lib.ListN.{length}
-use Rattle.words.specs.Writing.{Room}
-use Rattle.words.proofs.Writing.{room-less, room-after}
-use Rattle.circuit.specs.RunningSums.{firstSum, laterGrades, lastSum}
-use Rattle.circuit.specs.Key.{candidate}
-use Rattle.circuit.proofs.Sizes.{first-size, later-size, balance-size}
-use Rattle.circuit.proofs.WellFormed.{last-sum, later-block}
-use Rattle.candidate.proofs.Writers.{candidate-long, candidate-wrote}
+use borrow.Author.Needs.{needs}
+use Rattle.words.specs.declared.writer.Writer.{Writer}
+use Rattle.words.specs.Writing.{Wrote}
+use Rattle.words.specs.Counter.{counter, countSize}
+use Rattle.words.proofs.Laws.{length-counter}
+use Rattle.words.proofs.Writing.{wrote-as, room-less}
+use Rattle.circuit.specs.declared.plan.Plan.{Plan}
+use Rattle.circuit.specs.Plan.{Planned, bitsAt, apart}
+use Rattle.circuit.specs.RunningSums.{wordSpan, firstSum, firstGrade, middleSpan, laterGrades, laterSpan}
+use Rattle.circuit.specs.Key.{keyWord, keyWords, keySpan, candidate, candidateSpan}
+use Rattle.circuit.proofs.PlanFacts.{first-countable}
+use Rattle.circuit.proofs.CandidateBlocks.{candidate-span, later-block, key-words-block, earlier-words}
+use Rattle.circuit.proofs.Writers.{Stands, stands, stands-after, room-of, wrote-then}
 use Rattle.candidate.proofs.key.candidate.Statement.{statement}
 use Rattle.candidate.proofs.key.candidate.Tie as tie
 
-first-grade-requires : tie.Need-first-grade-requires
-first-grade-requires c κs =
-    let s = c .before .before in
-    let a = s .args in
-    let q = s .pre .1 .1 in
-    (s .pre .0, (room-less (a .w) _ _ (omega (arith, candidate-long (a .p) (a .w .wire) (a .c))) (s .pre .1 .0), (omega (arith, q .0), q .1)))
+-- the parts of its span
+parts : (p : Plan) → Planned p → candidateSpan p ≡ countSize (p .ballots) (p .offset) (p .digits) + (p .digits + 1) + (laterSpan p (p .grades - 2) + ((p .grades - 2) * wordSpan p + wordSpan p))
+parts p f =
+    let words : p .grades - 1 ≡ suc (p .grades - 2) = omega (arith, f .d-least) in
+    omega (arith, candidate-span p, ap (λ (k : ℕ). k * wordSpan p) words, suc-mul (p .grades - 2) (wordSpan p))
 
--- where the best grade ends, and the room left behind it
-place1 : (c : tie.After-first-grade) → c .first-grade .result .wire ≡ firstSum (c .before .before .before .args .p) (c .before .before .before .args .w .wire) + (3 * c .before .before .before .args .p .digits + 1)
-place1 c = let a = c .before .before .before .args in omega (arith, c .first-grade .ensures .wires, first-size (a .p) (a .w .wire) (a .c) .gates)
+candidate-wrote : (p : Plan) (w : Writer) (t : List ℕ) (c : ℕ) (t₁ : List ℕ) (w₁ : Writer) (a : ℕ) (t₂ : List ℕ) (w₂ : Writer) (b : ℕ) (t₃ : List ℕ) (w₃ : Writer) (t₄ : List ℕ) (w₄ : Writer)
+    → Wrote w t (counter (w .wire) (bitsAt p c 0) (apart p) (p .ballots) (p .offset) (p .digits)) t₁ w₁
+    → a ≡ firstSum p (w .wire) → Wrote w₁ t₁ (laterGrades p a c (p .grades - 2)) t₂ w₂
+    → Wrote w₂ t₂ (keyWords p a (p .grades - 2)) t₃ w₃
+    → b ≡ firstSum p (w .wire) + laterSpan p (p .grades - 2) → Wrote w₃ t₃ (keyWord p b) t₄ w₄
+    → Wrote w t (candidate p (w .wire) c) t₄ w₄
+unfolding candidate firstGrade
+candidate-wrote p w t c t₁ w₁ a t₂ w₂ b t₃ w₃ t₄ w₄ h₁ ea h₂ h₃ eb h₄ =
+    wrote-then w t _ t₃ w₃ _ _ t₄ w₄
+    (wrote-then w t _ t₂ w₂ _ _ t₃ w₃
+    (wrote-then w t _ t₁ w₁ _ _ t₂ w₂ h₁ h₂ (ap (λ (x : ℕ). laterGrades p x c (p .grades - 2)) ea))
+    h₃ (ap (λ (x : ℕ). keyWords p x (p .grades - 2)) ea))
+    h₄ (ap (keyWord p) eb)
 
-room1 : (c : tie.After-first-grade) → Room (c .first-grade .result)
-    (length (laterGrades (c .before .before .before .args .p) (firstSum (c .before .before .before .args .p) (c .before .before .before .args .w .wire)) (c .before .before .before .args .c) (c .before .before .before .args .p .grades - 2)) + (5 * c .before .before .before .args .p .digits + (c .before .before .before .args .p .digits - 1)) + (c .before .before .before .args .p .digits + (c .before .before .before .args .p .grades - 2) + 3))
-room1 c = let s = c .before .before .before in let a = s .args in room-after (a .w) (a .table .now) _ _ (c .first-grade .result) _ _ (c .first-grade .ensures) (omega (arith, candidate-long (a .p) (a .w .wire) (a .c))) (s .pre .1 .0)
+count-grade-requires : tie.Need-count-grade-requires
+count-grade-requires c κs =
+    ((c .before .before) .pre .0, (room-less ((c .before .before .args) .w) _ _ (omega (arith, parts ((c .before .before .args) .p) ((c .before .before) .pre .0))) ((c .before .before) .pre .1 .0), ((c .before .before) .pre .1 .1 .0, (c .before .before) .pre .1 .1 .1, omega (arith, (c .before .before) .pre .0 .d-least), first-countable ((c .before .before .args) .p) ((c .before .before) .pre .0))))
+
+-- behind the best grade
+
+best : (c : tie.After-count-grade) → Stands ((c .count-grade) .result) ((c .before .before .before .args) .w .wire + (countSize ((c .before .before .before .args) .p .ballots) ((c .before .before .before .args) .p .offset) ((c .before .before .before .args) .p .digits) + ((c .before .before .before .args) .p .digits + 1))) (laterSpan ((c .before .before .before .args) .p) ((c .before .before .before .args) .p .grades - 2) + (((c .before .before .before .args) .p .grades - 2) * wordSpan ((c .before .before .before .args) .p) + wordSpan ((c .before .before .before .args) .p)))
+best c =
+    let a = (c .before .before .before .args) in
+    stands-after (a .w) (a .table .now) _ ((c .count-grade) .last .1 .0) ((c .count-grade) .result) _ _ _ ((c .count-grade) .ensures) (length-counter (a .w .wire) (bitsAt (a .p) (a .c) 0) (apart (a .p)) (a .p .ballots) (a .p .offset) (a .p .digits))
+    (stands (a .w) (a .w .wire) _ _ refl (omega (arith, parts (a .p) ((c .before .before .before) .pre .0))) ((c .before .before .before) .pre .1 .0))
 
 sum-before-requires : tie.Need-sum-before-requires
-sum-before-requires c κs = (c .before .before .before .before .before .pre .0, omega (arith, place1 (c .before .before)))
+sum-before-requires c κs =
+    ((c .before .before .before .before .before) .pre .0, omega (arith, best (c .before .before) .place))
 
-first-is : (c : tie.After-sum-before) → c .sum-before .result ≡ firstSum (c .before .before .before .before .before .before .args .p) (c .before .before .before .before .before .before .args .w .wire)
-first-is c = omega (arith, c .sum-before .ensures, place1 (c .before .before .before))
+-- where its sum stands
+
+first-is : (c : tie.After-sum-before) → (c .sum-before) .result ≡ firstSum ((c .before .before .before .before .before .before .args) .p) ((c .before .before .before .before .before .before .args) .w .wire)
+first-is c =
+    omega (arith, (c .sum-before) .ensures, best (c .before .before .before) .place)
 
 later-grades-requires : tie.Need-later-grades-requires
 later-grades-requires c κs =
-    let s = c .before .before .before .before .before .before .before in
-    let a = s .args in
-    let q = s .pre .1 .1 in
-    let h = c .before .before .before .before .first-grade in
-    let m = c .before .sum-before in
-    let t = a .p .grades - 2 in (
-      s .pre .0,
-      (
-        room-less (h .result) _ _ (omega (arith, later-size (a .p) (m .result) (a .c) t .gates, later-size (a .p) (firstSum (a .p) (a .w .wire)) (a .c) t .gates)) (room1 (c .before .before .before .before)),
-        (omega (arith, q .0, first-is (c .before)), m .ensures, q .1),
-      ),
-    )
+    ((c .before .before .before .before .before .before .before) .pre .0, (room-of ((c .before .before .before .before .count-grade) .result) _ _ _ (best (c .before .before .before .before)) (omega arith), (omega (arith, first-is (c .before), (c .before .before .before .before .before .before .before) .pre .1 .1 .0), (c .before .sum-before) .ensures, (c .before .before .before .before .before .before .before) .pre .1 .1 .1)))
 
--- behind the later grades
-place2 : (c : tie.After-later-grades) → c .later-grades .result .wire ≡ lastSum (c .before .before .before .before .before .before .before .before .args .p) (c .before .before .sum-before .result) (c .before .before .before .before .before .before .before .before .args .p .grades - 2) + (3 * c .before .before .before .before .before .before .before .before .args .p .digits + 1)
-place2 c =
-    let s = c .before .before .before .before .before .before .before .before in
-    let a = s .args in
-    let q = s .pre .1 .1 in
-    let x = c .before .before .sum-before .result in
-    let t = a .p .grades - 2 in
-    omega (arith, c .later-grades .ensures .wires, c .before .before .sum-before .ensures, last-sum (a .p) (s .pre .0) x t, later-block (a .p) (s .pre .0) x (a .c) t (omega (arith, q .0, first-is (c .before .before))) (q .1) (omega (arith, s .pre .0 .d-least)) .long)
+-- behind all sums
 
-room2 : (c : tie.After-later-grades) → Room (c .later-grades .result) (5 * c .before .before .before .before .before .before .before .before .args .p .digits + (c .before .before .before .before .before .before .before .before .args .p .digits - 1) + (c .before .before .before .before .before .before .before .before .args .p .digits + (c .before .before .before .before .before .before .before .before .args .p .grades - 2) + 3))
-room2 c =
-    let a = c .before .before .before .before .before .before .before .before .args in
-    let h = c .before .before .before .before .before .first-grade in
-    let t = a .p .grades - 2 in
-    room-after (h .result) (h .last .1 .0) _ _ (c .later-grades .result) _ _ (c .later-grades .ensures) (omega (arith, later-size (a .p) (c .before .before .sum-before .result) (a .c) t .gates, later-size (a .p) (firstSum (a .p) (a .w .wire)) (a .c) t .gates)) (room1 (c .before .before .before .before .before))
+sums : (c : tie.After-later-grades) → Stands ((c .later-grades) .result) ((c .before .before .before .before .before .before .before .before .args) .w .wire + (countSize ((c .before .before .before .before .before .before .before .before .args) .p .ballots) ((c .before .before .before .before .before .before .before .before .args) .p .offset) ((c .before .before .before .before .before .before .before .before .args) .p .digits) + ((c .before .before .before .before .before .before .before .before .args) .p .digits + 1)) + laterSpan ((c .before .before .before .before .before .before .before .before .args) .p) ((c .before .before .before .before .before .before .before .before .args) .p .grades - 2)) (((c .before .before .before .before .before .before .before .before .args) .p .grades - 2) * wordSpan ((c .before .before .before .before .before .before .before .before .args) .p) + wordSpan ((c .before .before .before .before .before .before .before .before .args) .p))
+sums c =
+    let a = (c .before .before .before .before .before .before .before .before .args) in
+    stands-after ((c .before .before .before .before .before .count-grade) .result) ((c .before .before .before .before .before .count-grade) .last .1 .0) _ ((c .later-grades) .last .1 .0) ((c .later-grades) .result) _ _ _ ((c .later-grades) .ensures)
+    (later-block (a .p) ((c .before .before .before .before .before .before .before .before) .pre .0) ((c .before .before .sum-before) .result) (a .c) (a .p .grades - 2) (omega (arith, first-is (c .before .before), (c .before .before .before .before .before .before .before .before) .pre .1 .1 .0)) ((c .before .before .before .before .before .before .before .before) .pre .1 .1 .1) (omega (arith, (c .before .before .before .before .before .before .before .before) .pre .0 .d-least)) .long) (best (c .before .before .before .before .before))
 
 sum-before-requires-2 : tie.Need-sum-before-requires-2
-sum-before-requires-2 c κs = (c .before .before .before .before .before .before .before .before .before .before .pre .0, omega (arith, place2 (c .before .before)))
+sum-before-requires-2 c κs =
+    ((c .before .before .before .before .before .before .before .before .before .before) .pre .0, omega (arith, sums (c .before .before) .place))
 
-last-is : (c : tie.After-sum-before2) → c .sum-before2 .result ≡ lastSum (c .before .before .before .before .before .before .before .before .before .before .before .args .p) (c .before .before .before .before .before .sum-before .result) (c .before .before .before .before .before .before .before .before .before .before .before .args .p .grades - 2)
-last-is c = omega (arith, c .sum-before2 .ensures, place2 (c .before .before .before))
+sub-key-words : tie.Need-sub-key-words
+sub-key-words c =
+    omega (arith, (c .before .before .before .before .before .before .before .before .before .before .before .before .before) .pre .0 .d-least)
 
-balance-requires : tie.Need-balance-requires
-balance-requires c κs = let h = c .before .before .before .before .later-grades in (room-less (h .result) _ _ (omega arith) (room2 (c .before .before .before .before)), c .before .sum-before2 .ensures)
+-- the sums end before the key's words
 
-key-requires : tie.Need-key-requires
-key-requires c κs =
-    let s = c .before .before .before .before .before .before .before .before .before .before .before .before .before .before .before .before in
-    let a = s .args in
-    let h = c .before .before .before .before .before .before .before .before .later-grades in
-    let m = c .before .before .before .before .before .sum-before2 in
-    let k = c .before .before .before .balance in
-    let e = balance-size (a .p) (m .result) .gates in (
-      s .pre .0,
-      (
-        room-after (h .result) (h .last .1 .0) _ (k .last .1 .0) (k .result) _ _ (k .ensures) (omega (arith, e)) (room2 (c .before .before .before .before .before .before .before .before)),
-        (omega (arith, s .pre .1 .1 .0, first-is (c .before .before .before .before .before .before .before .before .before .before)), last-is (c .before .before .before .before .before), omega (arith, e, k .ensures .wires, m .ensures)),
-      ),
-    )
+sums-end : (c : tie.After-later-grades) → (c .before .before .sum-before) .result + ((c .before .before .before .before .before .before .before .before .args) .p .grades - 2) * middleSpan ((c .before .before .before .before .before .before .before .before .args) .p) + wordSpan ((c .before .before .before .before .before .before .before .before .args) .p) ≤ (c .later-grades) .result .wire + middleSpan ((c .before .before .before .before .before .before .before .before .args) .p)
+sums-end c =
+    omega (arith, first-is (c .before .before), sums c .place, earlier-words ((c .before .before .before .before .before .before .before .before .args) .p) ((c .before .before .before .before .before .before .before .before) .pre .0) ((c .before .before .before .before .before .before .before .before .args) .p .grades - 2))
+
+key-words-requires : tie.Need-key-words-requires
+key-words-requires c κs =
+    ((c .before .before .before .before .before .before .before .before .before .before .before .before .before) .pre .0, (room-of ((c .before .before .before .before .before .later-grades) .result) _ _ _ (sums (c .before .before .before .before .before)) (omega arith), sums-end (c .before .before .before .before .before)))
+
+-- behind the first words
+
+words : (c : tie.After-key-words) → Stands ((c .key-words) .result) ((c .before .before .before .before .before .before .before .before .before .before .before .before .before .before .args) .w .wire + (countSize ((c .before .before .before .before .before .before .before .before .before .before .before .before .before .before .args) .p .ballots) ((c .before .before .before .before .before .before .before .before .before .before .before .before .before .before .args) .p .offset) ((c .before .before .before .before .before .before .before .before .before .before .before .before .before .before .args) .p .digits) + ((c .before .before .before .before .before .before .before .before .before .before .before .before .before .before .args) .p .digits + 1)) + laterSpan ((c .before .before .before .before .before .before .before .before .before .before .before .before .before .before .args) .p) ((c .before .before .before .before .before .before .before .before .before .before .before .before .before .before .args) .p .grades - 2) + ((c .before .before .before .before .before .before .before .before .before .before .before .before .before .before .args) .p .grades - 2) * wordSpan ((c .before .before .before .before .before .before .before .before .before .before .before .before .before .before .args) .p)) (wordSpan ((c .before .before .before .before .before .before .before .before .before .before .before .before .before .before .args) .p))
+words c =
+    let a = (c .before .before .before .before .before .before .before .before .before .before .before .before .before .before .args) in
+    stands-after ((c .before .before .before .before .before .before .later-grades) .result) ((c .before .before .before .before .before .before .later-grades) .last .1 .0) _ ((c .key-words) .last .1 .0) ((c .key-words) .result) _ _ _ ((c .key-words) .ensures)
+    (key-words-block (a .p) ((c .before .before .before .before .before .before .before .before .before .before .before .before .before .before) .pre .0) ((c .before .before .before .before .before .before .later-grades) .result .wire) ((c .before .before .before .before .before .before .before .before .sum-before) .result) (a .p .grades - 2) (sums-end (c .before .before .before .before .before .before)) .long) (sums (c .before .before .before .before .before .before))
+
+key-word-requires : tie.Need-key-word-requires
+key-word-requires c κs =
+    (words (c .before .before .before) .left, omega (arith, (c .before .before .before .before .before .before .sum-before2) .ensures, words (c .before .before .before) .place, sums (c .before .before .before .before .before .before .before .before .before) .place))
 
 returns : tie.Need-returns
 returns c =
-    let a = c .before .before .before .before .before .before .before .before .before .before .before .before .before .before .before .before .before .before .before .args in
-    candidate-wrote (a .p) (a .w) (a .table .now) (a .c) _ (c .before .before .before .before .before .before .before .before .before .before .before .before .before .before .before .before .first-grade .result) (c .before .before .before .before .before .before .before .before .before .before .before .before .before .sum-before .result) _ (c .before .before .before .before .before .before .before .before .before .before .before .later-grades .result) (c .before .before .before .before .before .before .before .before .sum-before2 .result) _ (c .before .before .before .before .before .before .balance .result) _ (c .before .before .key .result)
-    (c .before .before .before .before .before .before .before .before .before .before .before .before .before .before .before .before .first-grade .ensures) (first-is (c .before .before .before .before .before .before .before .before .before .before .before .before .before)) (c .before .before .before .before .before .before .before .before .before .before .before .later-grades .ensures) (last-is (c .before .before .before .before .before .before .before .before)) (c .before .before .before .before .before .before .balance .ensures) (c .before .before .key .ensures)
+    let a = (c .before .before .before .before .before .before .before .before .before .before .before .before .before .before .before .before .before .before .before .before .args) in
+    candidate-wrote (a .p) (a .w) (a .table .now) (a .c) ((c .before .before .before .before .before .before .before .before .before .before .before .before .before .before .before .before .before .count-grade) .last .1 .0) ((c .before .before .before .before .before .before .before .before .before .before .before .before .before .before .before .before .before .count-grade) .result) ((c .before .before .before .before .before .before .before .before .before .before .before .before .before .before .sum-before) .result) ((c .before .before .before .before .before .before .before .before .before .before .before .before .later-grades) .last .1 .0) ((c .before .before .before .before .before .before .before .before .before .before .before .before .later-grades) .result) ((c .before .before .before .before .before .before .before .before .before .sum-before2) .result) ((c .before .before .before .before .before .before .key-words) .last .1 .0) ((c .before .before .before .before .before .before .key-words) .result) ((c .before .before .key-word) .last .1 .0) ((c .before .before .key-word) .result)
+    ((c .before .before .before .before .before .before .before .before .before .before .before .before .before .before .before .before .before .count-grade) .ensures) (first-is (c .before .before .before .before .before .before .before .before .before .before .before .before .before .before)) ((c .before .before .before .before .before .before .before .before .before .before .before .before .later-grades) .ensures) ((c .before .before .before .before .before .before .key-words) .ensures) (omega (arith, (c .before .before .before .before .before .before .before .before .before .sum-before2) .ensures, sums (c .before .before .before .before .before .before .before .before .before .before .before .before) .place)) ((c .before .before .key-word) .ensures)
 
 same-length : tie.Need-same-length
-same-length c = returns c .long
+same-length c = search needs
 
 pub candidate-spec : {M : Type 1} → statement M
-candidate-spec = tie.close (tie.spec first-grade-requires sum-before-requires later-grades-requires sum-before-requires-2 balance-requires key-requires same-length returns)
+candidate-spec = tie.close (tie.spec count-grade-requires sum-before-requires later-grades-requires sum-before-requires-2 sub-key-words key-words-requires key-word-requires same-length returns)

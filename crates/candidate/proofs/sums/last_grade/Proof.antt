@@ -1,87 +1,73 @@
--- `candidate::sums::last_grade` meets its contract: the worst grade is counted, the count complemented, and the two words behind it are chosen.
+-- `candidate::sums::last_grade` meets its contract: the worst grade is counted, and the count complemented.
 -- Assumes nothing.
-use mathlib.Core.Path.{_≡_, refl}
-use Prim.Native.Nat.{_+_, _-_}
+use mathlib.Core.Path.{_≡_, ap}
+use mathlib.Core.List.{List}
+use Prim.Native.Nat.{ℕ, _+_, _-_}
 use native.Mathlib.Omega.{arith}
 use borrow.Author.Needs.{needs}
-use Rattle.words.specs.Writing.{Room}
+use Rattle.words.specs.declared.writer.Writer.{Writer}
+use Rattle.words.specs.Writing.{Wrote}
+use Rattle.words.specs.Choice.{complements}
 use Rattle.words.specs.Counter.{counter, countSize}
-use Rattle.words.proofs.Laws.{length-counter, length-each}
-use Rattle.words.proofs.Writing.{room-less, room-after}
+use Rattle.words.proofs.Laws.{length-counter}
+use Rattle.words.proofs.Writing.{wrote-as, room-less}
+use Rattle.circuit.specs.declared.plan.Plan.{Plan}
 use Rattle.circuit.specs.Plan.{bitsAt, apart}
-use Rattle.circuit.specs.RunningSums.{behind, lastSpan}
+use Rattle.circuit.specs.RunningSums.{wordSpan, lastGrade}
 use Rattle.circuit.proofs.PlanFacts.{worst-countable}
-use Rattle.circuit.proofs.WellFormed.{last-span}
-use Rattle.candidate.proofs.Writers.{few-digits, worst-place, last-place, last-wrote}
+use Rattle.circuit.proofs.CandidateBlocks.{last-span}
+use Rattle.circuit.proofs.Writers.{Stands, stands, stands-after, room-of, wrote-then}
+use Rattle.candidate.proofs.Writers.{few-digits}
 use Rattle.candidate.proofs.sums.last_grade.Statement.{statement}
 use Rattle.candidate.proofs.sums.last_grade.Tie as tie
 
+last-wrote : (p : Plan) (w : Writer) (t : List ℕ) (a c : ℕ) (t₁ : List ℕ) (w₁ : Writer) (x : ℕ) (t₂ : List ℕ) (w₂ : Writer) → w .wire ≡ a + wordSpan p
+    → Wrote w t (counter (w .wire) (bitsAt p c (p .grades - 1)) (apart p) (p .ballots) (p .worst) (p .digits)) t₁ w₁
+    → x ≡ a + wordSpan p + countSize (p .ballots) (p .worst) (p .digits)
+    → Wrote w₁ t₁ (complements x (p .digits + 1)) t₂ w₂ → Wrote w t (lastGrade p a c) t₂ w₂
+unfolding lastGrade
+last-wrote p w t a c t₁ w₁ x t₂ w₂ e h₁ ex h₂ =
+    wrote-then w t _ t₁ w₁ _ _ t₂ w₂
+    (wrote-as w t _ _ t₁ w₁ (ap (λ (n : ℕ). counter n (bitsAt p c (p .grades - 1)) (apart p) (p .ballots) (p .worst) (p .digits)) e) h₁)
+    h₂ (ap (λ (n : ℕ). complements n (p .digits + 1)) ex)
+
 sub-count-grade : tie.Need-sub-count-grade
-sub-count-grade c = omega (arith, c .before .before .before .pre .0 .d-least)
+sub-count-grade c =
+    omega (arith, (c .before .before .before) .pre .0 .d-least)
 
 count-grade-requires : tie.Need-count-grade-requires
 count-grade-requires c κs =
-    let s = c .before .before .before in
-    let a = s .args in
-    let q = s .pre .1 .1 in
-    (s .pre .0, (room-less (a .w) _ _ (omega (arith, last-span (a .p))) (s .pre .1 .0), (omega (arith, q .0, q .1), q .2, omega (arith, s .pre .0 .d-least), worst-countable (a .p) (s .pre .0))))
+    let q = (c .before .before .before) .pre .1 .1 in
+    ((c .before .before .before) .pre .0, (room-less ((c .before .before .before .args) .w) _ _ (omega (arith, last-span ((c .before .before .before .args) .p))) ((c .before .before .before) .pre .1 .0), (omega (arith, q .0, q .1), q .2, omega (arith, (c .before .before .before) .pre .0 .d-least), worst-countable ((c .before .before .before .args) .p) ((c .before .before .before) .pre .0))))
 
--- behind the count: where it stands, and the room left
-counted : (c : tie.After-count-grade) → c .count-grade .result .wire ≡ behind (c .before .before .before .before .args .p) (c .before .before .before .before .args .a) + countSize (c .before .before .before .before .args .p .ballots) (c .before .before .before .before .args .p .worst) (c .before .before .before .before .args .p .digits) + (c .before .before .before .before .args .p .digits + 1)
-counted c = let s = c .before .before .before .before in let a = s .args in worst-place (a .p) (s .pre .0) (a .w) (a .table .now) (a .a) (a .c) _ (c .count-grade .result) (s .pre .1 .1 .1) (c .count-grade .ensures)
+-- behind the count
 
-room : (c : tie.After-count-grade) → Room (c .count-grade .result) (c .before .before .before .before .args .p .digits + 1 + (c .before .before .before .before .args .p .digits + c .before .before .before .before .args .p .digits))
-room c =
-    let s = c .before .before .before .before in
-    let a = s .args in
-    room-after (a .w) (a .table .now) (counter (a .w .wire) (bitsAt (a .p) (a .c) (a .p .grades - 1)) (apart (a .p)) (a .p .ballots) (a .p .worst) (a .p .digits)) _ (c .count-grade .result) _ _ (c .count-grade .ensures) (omega (arith, last-span (a .p), length-counter (a .w .wire) (bitsAt (a .p) (a .c) (a .p .grades - 1)) (apart (a .p)) (a .p .ballots) (a .p .worst) (a .p .digits))) (s .pre .1 .0)
+counted : (c : tie.After-count-grade) → Stands ((c .count-grade) .result) ((c .before .before .before .before .args) .a + wordSpan ((c .before .before .before .before .args) .p) + (countSize ((c .before .before .before .before .args) .p .ballots) ((c .before .before .before .before .args) .p .worst) ((c .before .before .before .before .args) .p .digits) + ((c .before .before .before .before .args) .p .digits + 1))) ((c .before .before .before .before .args) .p .digits + 1)
+counted c =
+    let a = (c .before .before .before .before .args) in
+    stands-after (a .w) (a .table .now) _ ((c .count-grade) .last .1 .0) ((c .count-grade) .result) _ _ _ ((c .count-grade) .ensures) (length-counter (a .w .wire) (bitsAt (a .p) (a .c) (a .p .grades - 1)) (apart (a .p)) (a .p .ballots) (a .p .worst) (a .p .digits))
+    (stands (a .w) (a .a + wordSpan (a .p)) _ _ ((c .before .before .before .before) .pre .1 .1 .1) (omega (arith, last-span (a .p))) ((c .before .before .before .before) .pre .1 .0))
+
+sum-before-requires : tie.Need-sum-before-requires
+sum-before-requires c κs =
+    ((c .before .before .before .before .before .before) .pre .0, omega (arith, counted (c .before .before) .place))
 
 add-complements : tie.Need-add-complements
-add-complements c = let s = c .before .before .before .before .before .before .before .before in omega (arith, few-digits (s .args .p) (s .pre .0))
-
-sub-complements : tie.Need-sub-complements
-sub-complements c = omega (arith, counted (c .before .before .before .before .before))
-
-add-complements-2 : tie.Need-add-complements-2
-add-complements-2 c = let s = c .before .before .before .before .before .before .before .before .before .before in omega (arith, few-digits (s .args .p) (s .pre .0))
+add-complements c =
+    omega (arith, few-digits ((c .before .before .before .before .before .before .before .before .before .args) .p) ((c .before .before .before .before .before .before .before .before .before) .pre .0))
 
 complements-requires : tie.Need-complements-requires
-complements-requires c κs = let h = c .before .before .before .before .before .before .count-grade in (room-less (h .result) _ _ (omega arith) (room (c .before .before .before .before .before .before)), omega (arith, counted (c .before .before .before .before .before .before)))
+complements-requires c κs =
+    (counted (c .before .before .before .before .before) .left, omega (arith, (c .before .before .sum-before) .ensures))
 
--- where the sum stands
-place : (c : tie.After-complements) → c .complements .result .wire ≡ c .before .before .before .before .before .before .before .before .before .before .before .args .a + lastSpan (c .before .before .before .before .before .before .before .before .before .before .before .args .p) + (c .before .before .before .before .before .before .before .before .before .before .before .args .p .digits + 1)
-place c =
-    let s = c .before .before .before .before .before .before .before .before .before .before .before in
-    let a = s .args in
-    last-place (a .p) (s .pre .0) (a .w) (a .table .now) (a .a) (a .c) _ (c .before .before .before .before .before .before .before .count-grade .result) _ _ (c .complements .result) (s .pre .1 .1 .1) (c .before .before .before .before .before .before .before .count-grade .ensures) (c .complements .ensures)
-
-add-chosen : tie.Need-add-chosen
-add-chosen c = let s = c .before .before .before .before .before .before .before .before .before .before .before .before .before .before .before in omega (arith, few-digits (s .args .p) (s .pre .0))
-
-sub-chosen : tie.Need-sub-chosen
-sub-chosen c = omega (arith, place (c .before .before .before .before .before))
-
-chosen-requires : tie.Need-chosen-requires
-chosen-requires c κs =
-    let a = c .before .before .before .before .before .before .before .before .before .before .before .before .before .before .before .before .args in
-    let h = c .before .before .before .before .before .before .before .before .before .before .before .before .count-grade in
-    let k = c .before .before .before .before .before .complements in (
-      room-after (h .result) (h .last .1 .0) _ (k .last .1 .0) (k .result) _ _ (k .ensures) (omega (arith, length-each 3 (h .result .wire - (a .p .digits + 1)) (a .p .digits + 1))) (room (c .before .before .before .before .before .before .before .before .before .before .before .before)),
-      (omega (arith, last-span (a .p), place (c .before .before .before .before .before)), omega (arith, place (c .before .before .before .before .before))),
-    )
+returns : tie.Need-returns
+returns c =
+    let a = (c .before .before .before .before .before .before .before .before .before .before .before .before .args) in
+    last-wrote (a .p) (a .w) (a .table .now) (a .a) (a .c) ((c .before .before .before .before .before .before .before .before .count-grade) .last .1 .0) ((c .before .before .before .before .before .before .before .before .count-grade) .result) ((c .before .before .before .before .before .sum-before) .result) ((c .before .before .complements) .last .1 .0) ((c .before .before .complements) .result) ((c .before .before .before .before .before .before .before .before .before .before .before .before) .pre .1 .1 .1) ((c .before .before .before .before .before .before .before .before .count-grade) .ensures)
+    (omega (arith, (c .before .before .before .before .before .sum-before) .ensures, counted (c .before .before .before .before .before .before .before .before) .place)) ((c .before .before .complements) .ensures)
 
 same-length : tie.Need-same-length
 same-length c = search needs
 
-returns : tie.Need-returns
-returns c =
-    let s = c .before .before .before .before .before .before .before .before .before .before .before .before .before .before .before .before .before .before .before in
-    let a = s .args in
-    let h = c .before .before .before .before .before .before .before .before .before .before .before .before .before .before .before .count-grade in
-    let k = c .before .before .before .before .before .before .before .before .complements in
-    last-wrote (a .p) (s .pre .0) (a .w) (a .table .now) (a .a) (a .c) _ (h .result) _ _ (k .result) _ _ (c .before .before .chosen .result) (s .pre .1 .1 .1) (h .ensures) refl (k .ensures) refl (c .before .before .chosen .ensures)
-
 pub last-grade-spec : {M : Type 1} → statement M
-last-grade-spec =
-    tie.close
-    (tie.spec sub-count-grade count-grade-requires add-complements sub-complements add-complements-2 complements-requires add-chosen sub-chosen chosen-requires same-length returns)
+last-grade-spec = tie.close (tie.spec sub-count-grade count-grade-requires sum-before-requires add-complements complements-requires same-length returns)

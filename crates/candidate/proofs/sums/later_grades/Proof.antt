@@ -4,14 +4,13 @@ use mathlib.Core.Path.{_≡_, _∙_, refl, sym, ap}
 use mathlib.Core.List.{[], _++_}
 use Prim.Native.Nat.{ℕ, suc, _+_, _-_, _*_, _≤_, _<_}
 use native.Mathlib.Omega.{arith}
-use lib.ListN.{length, length-append}
 use borrow.Author.Needs.{needs}
-use Rattle.words.proofs.Writing.{wrote-nothing, wrote-as, room-less, room-after}
+use lib.ListN.{length}
+use Rattle.words.proofs.Writing.{wrote-nothing, wrote-as, room-less}
 use Rattle.circuit.specs.declared.plan.Plan.{Plan}
-use Rattle.circuit.specs.Plan.{Planned}
-use Rattle.circuit.specs.RunningSums.{behind, middleSpan, middleGrades, lastSpan, lastGrade, laterGrades}
-use Rattle.circuit.proofs.WellFormed.{middles-block, last-block}
-use Rattle.candidate.proofs.Writers.{wrote-then}
+use Rattle.circuit.specs.RunningSums.{wordSpan, middleSpan, middleGrades, lastSpan, lastGrade, laterGrades, laterSpan}
+use Rattle.circuit.proofs.CandidateBlocks.{middles-block}
+use Rattle.circuit.proofs.Writers.{Stands, stands, stands-after, wrote-then}
 use Rattle.candidate.proofs.sums.later_grades.Statement.{statement}
 use Rattle.candidate.proofs.sums.later_grades.Tie as tie
 
@@ -30,70 +29,66 @@ grades-are p a c h =
     let e : p .grades - 2 - 1 ≡ p .grades - 3 = omega arith in
     some-grade p a c (p .grades - 2) (omega arith) ∙ ap (λ (t : ℕ). middleGrades p a c 1 t ++ lastGrade p (a + t * middleSpan p) c) e
 
-middles-long : (p : Plan) → Planned p → (a c : ℕ) → p .inputs ≤ a → c < p .candidates → length (middleGrades p a c 1 (p .grades - 3)) ≡ (p .grades - 3) * middleSpan p
-middles-long p f a c ha hc = middles-block p f a c 1 (p .grades - 3) ha hc (omega (arith, f .d-least)) .long
-
-later-long : (p : Plan) → Planned p → (a c : ℕ) → p .inputs ≤ a → c < p .candidates → 2 < p .grades → length (laterGrades p a c (p .grades - 2)) ≡ (p .grades - 3) * middleSpan p + lastSpan p
-later-long p f a c ha hc h =
-    let b = a + (p .grades - 3) * middleSpan p in
-    omega (arith, ap length (grades-are p a c h), length-append (middleGrades p a c 1 (p .grades - 3)) (lastGrade p b c), middles-long p f a c ha hc, last-block p f b c (omega (arith, ha)) hc .long)
+later-span : (p : Plan) → 2 < p .grades → laterSpan p (p .grades - 2) ≡ (p .grades - 3) * middleSpan p + lastSpan p
+later-span p h = let e : p .grades - 2 ≡ suc (p .grades - 3) = omega arith in ap (laterSpan p) e ∙ first (p .grades - 3)
+  where
+    first : (t : ℕ) → laterSpan p (suc t) ≡ t * middleSpan p + lastSpan p
+    first t = unfold laterSpan in refl
 
 returns : tie.Need-returns
 returns c =
-    let a = c .before .before .before .args in
-    wrote-as (a .w) (a .table .now) [] _ (a .table .now) (a .w) (no-grade (a .p) (a .a) (a .c) (a .p .grades - 2) (omega (arith, c .if1 .taken))) (wrote-nothing (a .w) (a .table .now))
+    let a = (c .before .before .before .args) in
+    wrote-as (a .w) (a .table .now) [] _ (a .table .now) (a .w) (no-grade (a .p) (a .a) (a .c) (a .p .grades - 2) (omega (arith, (c .if1) .taken))) (wrote-nothing (a .w) (a .table .now))
 
 -- there are three grades or more
-more : (c : tie.Else1) → 2 < c .before .before .before .args .p .grades
-more c = omega (arith, c .if1 .left, c .before .before .before .pre .0 .d-least)
+
+more : (c : tie.Else1) → 2 < (c .before .before .before .args) .p .grades
+more c =
+    omega (arith, (c .if1) .left, (c .before .before .before) .pre .0 .d-least)
 
 sub-middle-grades : tie.Need-sub-middle-grades
-sub-middle-grades c = omega (arith, more (c .before .before))
+sub-middle-grades c =
+    omega (arith, more (c .before .before))
 
 middle-grades-requires : tie.Need-middle-grades-requires
 middle-grades-requires c κs =
-    let s = c .before .before .before .before .before in
-    let a = s .args in
-    let q = s .pre .1 .1 in (
-      s .pre .0,
-      (room-less (a .w) _ _ (omega (arith, later-long (a .p) (s .pre .0) (a .a) (a .c) (q .0) (q .2) (more (c .before .before)))) (s .pre .1 .0), (q .0, q .1, q .2, omega (arith, s .pre .0 .d-least))),
-    )
+    let q = (c .before .before .before .before .before) .pre .1 .1 in
+    ((c .before .before .before .before .before) .pre .0, (room-less ((c .before .before .before .before .before .args) .w) _ _ (omega (arith, later-span ((c .before .before .before .before .before .args) .p) (more (c .before .before)))) ((c .before .before .before .before .before) .pre .1 .0), (q .0, q .1, q .2, omega (arith, (c .before .before .before .before .before) .pre .0 .d-least))))
 
--- where the words of the middle grades end
-place : (c : tie.After-middle-grades) → c .middle-grades .result .wire ≡ behind (c .before .before .before .before .before .before .args .p) (c .before .before .before .before .before .before .args .a + (c .before .before .before .before .before .before .args .p .grades - 3) * middleSpan (c .before .before .before .before .before .before .args .p))
-place c =
-    let s = c .before .before .before .before .before .before in
-    let a = s .args in
-    let q = s .pre .1 .1 in
-    omega (arith, q .1, c .middle-grades .ensures .wires, middles-long (a .p) (s .pre .0) (a .a) (a .c) (q .0) (q .2))
+-- behind the middle grades
+
+middle : (c : tie.After-middle-grades) → Stands ((c .middle-grades) .result) ((c .before .before .before .before .before .before .args) .a + wordSpan ((c .before .before .before .before .before .before .args) .p) + ((c .before .before .before .before .before .before .args) .p .grades - 3) * middleSpan ((c .before .before .before .before .before .before .args) .p)) (lastSpan ((c .before .before .before .before .before .before .args) .p))
+middle c =
+    let a = (c .before .before .before .before .before .before .args) in
+    let q = (c .before .before .before .before .before .before) .pre .1 .1 in
+    stands-after (a .w) (a .table .now) _ ((c .middle-grades) .last .1 .0) ((c .middle-grades) .result) _ _ _ ((c .middle-grades) .ensures)
+    (middles-block (a .p) ((c .before .before .before .before .before .before) .pre .0) (a .a) (a .c) 1 (a .p .grades - 3) (q .0) (q .2) (omega (arith, (c .before .before .before .before .before .before) .pre .0 .d-least)) .long)
+    (stands (a .w) (a .a + wordSpan (a .p)) _ _ (q .1) (omega (arith, later-span (a .p) (more (c .before .before .before)))) ((c .before .before .before .before .before .before) .pre .1 .0))
 
 sum-before-requires : tie.Need-sum-before-requires
-sum-before-requires c κs = (c .before .before .before .before .before .before .before .before .before .pre .0, omega (arith, place (c .before .before .before)))
+sum-before-requires c κs =
+    ((c .before .before .before .before .before .before .before .before .before) .pre .0, omega (arith, middle (c .before .before .before) .place))
+
+-- the sum before the last
+
+before-last : (c : tie.After-sum-before) → (c .sum-before) .result ≡ (c .before .before .before .before .before .before .before .before .before .before .args) .a + ((c .before .before .before .before .before .before .before .before .before .before .args) .p .grades - 3) * middleSpan ((c .before .before .before .before .before .before .before .before .before .before .args) .p)
+before-last c =
+    omega (arith, (c .sum-before) .ensures, middle (c .before .before .before .before) .place)
 
 last-grade-requires : tie.Need-last-grade-requires
 last-grade-requires c κs =
-    let s = c .before .before .before .before .before .before .before .before .before .before in
-    let a = s .args in
-    let q = s .pre .1 .1 in
-    let h = c .before .before .before .before .middle-grades in (
-      s .pre .0,
-      (
-        room-after (a .w) (a .table .now) _ (h .last .1 .0) (h .result) _ _ (h .ensures) (omega (arith, middles-long (a .p) (s .pre .0) (a .a) (a .c) (q .0) (q .2), later-long (a .p) (s .pre .0) (a .a) (a .c) (q .0) (q .2) (more (c .before .before .before .before .before .before .before)))) (s .pre .1 .0),
-        (omega (arith, q .0, place (c .before .before .before .before), c .sum-before .ensures), c .sum-before .ensures, q .2),
-      ),
-    )
-
-same-length : tie.Need-same-length
-same-length c = search needs
+    let q = (c .before .before .before .before .before .before .before .before .before .before) .pre .1 .1 in
+    ((c .before .before .before .before .before .before .before .before .before .before) .pre .0, (middle (c .before .before .before .before) .left, (omega (arith, q .0, before-last c), (c .sum-before) .ensures, q .2)))
 
 returns-2 : tie.Need-returns-2
 returns-2 c =
-    let s = c .before .before .before .before .before .before .before .before .before .before .before .before .before in
-    let a = s .args in
-    let h = c .before .before .before .before .before .before .before .middle-grades in
-    let e : c .before .before .before .sum-before .result ≡ a .a + (a .p .grades - 3) * middleSpan (a .p) = omega (arith, place (c .before .before .before .before .before .before .before), c .before .before .before .sum-before .ensures) in
+    let a = (c .before .before .before .before .before .before .before .before .before .before .before .before .before .args) in
     wrote-as (a .w) (a .table .now) _ _ _ _ (sym (grades-are (a .p) (a .a) (a .c) (more (c .before .before .before .before .before .before .before .before .before .before))))
-    (wrote-then (a .w) (a .table .now) (middleGrades (a .p) (a .a) (a .c) 1 (a .p .grades - 3)) _ (h .result) (lastGrade (a .p) (c .before .before .before .sum-before .result) (a .c)) _ _ _ (h .ensures) (c .before .before .last-grade .ensures) (ap (λ (x : ℕ). lastGrade (a .p) x (a .c)) e))
+    (wrote-then (a .w) (a .table .now) (middleGrades (a .p) (a .a) (a .c) 1 (a .p .grades - 3)) ((c .before .before .before .before .before .before .before .middle-grades) .last .1 .0) ((c .before .before .before .before .before .before .before .middle-grades) .result) (lastGrade (a .p) ((c .before .before .before .sum-before) .result) (a .c)) _ _ _ ((c .before .before .before .before .before .before .before .middle-grades) .ensures) ((c .before .before .last-grade) .ensures)
+    (ap (λ (x : ℕ). lastGrade (a .p) x (a .c)) (before-last (c .before .before .before))))
+
+same-length : tie.Need-same-length
+same-length c = search needs
 
 pub later-grades-spec : {M : Type 1} → statement M
 later-grades-spec = tie.close (tie.spec returns sub-middle-grades middle-grades-requires sum-before-requires last-grade-requires same-length returns-2)

@@ -1,11 +1,11 @@
--- `candidate::sums::middle_span` meets its contract: it is the size of the accumulator's levels, and the three words of a grade.
+-- `candidate::sums::middle_span` meets its contract: a sum, and the accumulator's levels.
 -- Assumes nothing.
 use Prim.Native.Nat.{_<_}
 use native.Mathlib.Omega.{arith}
 use Rattle.words.specs.Counter.{addSize}
 use Rattle.circuit.specs.declared.plan.Plan.{Plan}
 use Rattle.circuit.specs.Plan.{Planned}
-use Rattle.circuit.proofs.WellFormed.{middle-span}
+use Rattle.circuit.proofs.CandidateBlocks.{middle-span}
 use Rattle.candidate.proofs.Writers.{few-digits, span-most}
 use Rattle.candidate.proofs.sums.middle_span.Statement.{statement}
 use Rattle.candidate.proofs.sums.middle_span.Tie as tie
@@ -14,20 +14,21 @@ use Rattle.candidate.proofs.sums.middle_span.Tie as tie
 few-gates : (p : Plan) → Planned p → (addSize (p .ballots) (p .digits) < 1000000) × (p .digits < 255)
 few-gates p f = (omega (arith, middle-span p, span-most p f), few-digits p f)
 
-add-size-requires : tie.Need-add-size-requires
-add-size-requires c κs = omega (arith, c .pre .n-most, few-gates (c .args .p) (c .pre))
-
-mul-result : tie.Need-mul-result
-mul-result c = omega (arith, c .before .add-size .ensures, few-gates (c .before .before .args .p) (c .before .before .pre))
-
 add-result : tie.Need-add-result
-add-result c = omega (arith, c .before .add-size .ensures, few-gates (c .before .before .args .p) (c .before .before .pre))
+add-result c =
+    omega (arith, few-gates ((c .before .args) .p) ((c .before) .pre))
+
+add-size-requires : tie.Need-add-size-requires
+add-size-requires c κs =
+    omega (arith, (c .before) .pre .n-most, few-gates ((c .before .args) .p) ((c .before) .pre))
 
 add-result-2 : tie.Need-add-result-2
-add-result-2 c = omega (arith, c .before .add-size .ensures, few-gates (c .before .before .args .p) (c .before .before .pre))
+add-result-2 c =
+    omega (arith, (c .add-size) .ensures, few-gates ((c .before .before .args) .p) ((c .before .before) .pre))
 
 returns : tie.Need-returns
-returns c = omega (arith, c .before .add-size .ensures, middle-span (c .before .before .args .p))
+returns c =
+    omega (arith, (c .add-size) .ensures, middle-span ((c .before .before .args) .p))
 
 pub middle-span-spec : {M : Type 1} → statement M
-middle-span-spec = tie.close (tie.spec add-size-requires mul-result add-result add-result-2 returns)
+middle-span-spec = tie.close (tie.spec add-result add-size-requires add-result-2 returns)

@@ -1,137 +1,111 @@
--- `writer::list::circuit` meets its contract: the constants, candidate 0, and the rounds.
+-- `writer::list::circuit` meets its contract: the candidates, and three levels of meetings.
 -- Assumes nothing.
-use mathlib.Core.Path.{_≡_, _∙_, refl, ap}
-use Prim.Native.Nat.{ℕ, _+_, _-_, _≤_, _<_}
+use mathlib.Core.Path.{_≡_, _∙_, refl, sym, ap, subst}
+use mathlib.Core.List.{List, [], _++_}
+use Prim.Native.Nat.{ℕ, _+_, _-_, _*_, _/_, _≤_, _<_}
+use native.Mathlib.Nat.{zero-add, mul-comm}
 use native.Mathlib.Omega.{arith}
-use borrow.Author.Needs.{needs}
-use Rattle.words.specs.Writing.{Room}
-use Rattle.words.proofs.Writing.{wrote-both, wrote-as, room-less, room-after}
-use Rattle.words.proofs.Emitting.{constant-wrote}
-use Rattle.circuit.specs.Key.{candidate, keyOf, strictAt, candidateEnd}
-use Rattle.circuit.specs.OwnList.{rounds, circuit}
-use Rattle.circuit.proofs.Sizes.{candidateGates, roundsGates, candidate-size, rounds-size, circuit-size}
-use Rattle.writer.proofs.ListWriters.{key-before, candidate-ends, rounds-same}
+use lib.ListN.{length}
+use Rattle.words.proofs.Writing.{wrote-as, wrote-long, room-less}
+use Rattle.circuit.specs.Key.{keySpan, candidateSpan}
+use Rattle.circuit.specs.Meeting.{meetingSpan}
+use Rattle.circuit.specs.OwnList.{candidates, levelsSpan, otherAt, meetAt, halvesMeet, levels, lowLevels, levelsAt, circuit}
+use Rattle.circuit.proofs.LevelsLaws.{candidates-block, levels-block}
+use Rattle.circuit.proofs.CircuitLaws.{circuit-block}
+use Rattle.circuit.proofs.Writers.{Stands, stands, stands-after, room-of, wrote-then}
+use Rattle.writer.proofs.ListWriters.{span-least, meet-same, divided}
 use Rattle.writer.proofs.list.circuit.Statement.{statement}
 use Rattle.writer.proofs.list.circuit.Tie as tie
 
-emit-requires : tie.Need-emit-requires
-emit-requires c κs =
-    let s = c .before .before in
-    let a = s .args in
-    room-less (a .w) 1 _ (omega (arith, circuit-size (a .p) .gates)) (s .pre .1 .0)
+long : (c : tie.After-slice-known) → length (circuit ((c .before .args) .p)) ≡ (c .before .args) .p .candidates * candidateSpan ((c .before .args) .p) + (levelsSpan ((c .before .args) .p) 2 ((c .before .args) .p .candidates / 2) + (levelsSpan ((c .before .args) .p) 2 ((c .before .args) .p .candidates - (c .before .args) .p .candidates / 2) + meetingSpan ((c .before .args) .p) ((c .before .args) .p .candidates / 2) ((c .before .args) .p .candidates - (c .before .args) .p .candidates / 2)))
+long c =
+    omega (arith, circuit-block ((c .before .args) .p) ((c .before) .pre .0) ((c .before) .pre .1 .1 .1) .long)
 
--- room for what is left after the first constant
-zero-left : (c : tie.After-emit) → let p = c .before .before .before .args .p in Room (c .emit .result) (1 + candidateGates p + roundsGates p 1 (p .candidates - 1))
-zero-left c =
-    let s = c .before .before .before in
-    let a = s .args in
-    room-after (a .w) (a .table .now) _ (c .emit .last .1 .0) (c .emit .result) _ _ (c .emit .ensures) (omega (arith, circuit-size (a .p) .gates)) (s .pre .1 .0)
+candidates-requires : tie.Need-candidates-requires
+candidates-requires c κs =
+    ((c .before .before) .pre .0, (room-less ((c .before .before .args) .w) _ _ (omega (arith, long (c .before))) ((c .before .before) .pre .1 .0), omega (arith, (c .before .before) .pre .1 .1 .0)))
 
-emit-requires-2 : tie.Need-emit-requires-2
-emit-requires-2 c κs = let e = c .before .before .before .emit in room-less (e .result) 1 _ (omega arith) (zero-left (c .before .before .before))
+all : (c : tie.After-candidates) → Stands ((c .candidates) .result) ((c .before .before .before .args) .p .inputs + (c .before .before .before .args) .p .candidates * candidateSpan ((c .before .before .before .args) .p)) (levelsSpan ((c .before .before .before .args) .p) 2 ((c .before .before .before .args) .p .candidates / 2) + (levelsSpan ((c .before .before .before .args) .p) 2 ((c .before .before .before .args) .p .candidates - (c .before .before .before .args) .p .candidates / 2) + meetingSpan ((c .before .before .before .args) .p) ((c .before .before .before .args) .p .candidates / 2) ((c .before .before .before .args) .p .candidates - (c .before .before .before .args) .p .candidates / 2)))
+all c =
+    let a = (c .before .before .before .args) in
+    let e = (c .before .before .before) .pre .1 .1 .0 in
+    stands-after (a .w) (a .table .now) _ ((c .candidates) .last .1 .0) ((c .candidates) .result) _ _ _ ((c .candidates) .ensures) (candidates-block (a .p) ((c .before .before .before) .pre .0) (a .w .wire) 0 (a .p .candidates) (omega (arith, e)) (omega arith) .long)
+    (stands (a .w) (a .p .inputs) _ _ e (omega (arith, long (c .before .before))) ((c .before .before .before) .pre .1 .0))
 
--- after both constants: the wire, and room for what is left
-one-ends : (c : tie.After-emit2) → c .emit2 .result .wire ≡ c .before .before .before .before .before .before .before .args .p .inputs + 2
-one-ends c = omega (arith, c .emit2 .ensures .wires, c .before .before .before .before .emit .ensures .wires, c .before .before .before .before .before .before .before .pre .1 .1)
+sub-span : tie.Need-sub-span
+sub-span c =
+    omega (arith, all (c .before .before .before .before) .place)
 
-one-left : (c : tie.After-emit2) → let p = c .before .before .before .before .before .before .before .args .p in Room (c .emit2 .result) (candidateGates p + roundsGates p 1 (p .candidates - 1))
-one-left c =
-    let e = c .before .before .before .before .emit in
-    room-after (e .result) (e .last .1 .0) _ (c .emit2 .last .1 .0) (c .emit2 .result) _ _ (c .emit2 .ensures) (omega arith) (zero-left (c .before .before .before .before))
+div-span : tie.Need-div-span
+div-span c =
+    omega (arith, (c .before .before .before .before .before .before .before .before) .pre .1 .1 .1)
 
-candidate-requires : tie.Need-candidate-requires
-candidate-requires c κs =
-    let s = c .before .before .before .before .before .before .before .before .before .before in
-    let e = c .before .before .before .emit2 in (
-      s .pre .0,
+sub-second : tie.Need-sub-second
+sub-second c =
+    omega arith
+
+span-is : (c : tie.After-candidates) → ((c .candidates) .result .wire - (c .before .before .before .args) .p .inputs) / (c .before .before .before .args) .p .candidates ≡ candidateSpan ((c .before .before .before .args) .p)
+span-is c =
+    divided ((c .candidates) .result .wire) ((c .before .before .before .args) .p .inputs) ((c .before .before .before .args) .p .candidates) (candidateSpan ((c .before .before .before .args) .p)) (omega (arith, (c .before .before .before) .pre .1 .1 .1)) (all c .place)
+
+four-requires : tie.Need-four-requires
+four-requires c κs =
+    let q = (c .before .before .before .before .before .before .before .before .before .before .before) .pre .1 .1 .1 in
+    ((c .before .before .before .before .before .before .before .before .before .before .before) .pre .0, (room-of ((c .before .before .before .before .before .before .before .before .candidates) .result) _ _ _ (all (c .before .before .before .before .before .before .before .before)) (omega arith), (span-is (c .before .before .before .before .before .before .before .before), omega (arith, all (c .before .before .before .before .before .before .before .before) .place), omega (arith, q), omega (arith, (c .before .before .before .before .before .before .before .before .before .before .before) .pre .0 .k-most), omega arith)))
+
+low : (c : tie.After-four) → Stands ((c .four) .result) ((c .before .before .before .before .before .before .before .before .before .before .before .before .args) .p .inputs + (c .before .before .before .before .before .before .before .before .before .before .before .before .args) .p .candidates * candidateSpan ((c .before .before .before .before .before .before .before .before .before .before .before .before .args) .p) + levelsSpan ((c .before .before .before .before .before .before .before .before .before .before .before .before .args) .p) 2 ((c .before .before .before .before .before .before .before .before .before .before .before .before .args) .p .candidates / 2)) (levelsSpan ((c .before .before .before .before .before .before .before .before .before .before .before .before .args) .p) 2 ((c .before .before .before .before .before .before .before .before .before .before .before .before .args) .p .candidates - (c .before .before .before .before .before .before .before .before .before .before .before .before .args) .p .candidates / 2) + meetingSpan ((c .before .before .before .before .before .before .before .before .before .before .before .before .args) .p) ((c .before .before .before .before .before .before .before .before .before .before .before .before .args) .p .candidates / 2) ((c .before .before .before .before .before .before .before .before .before .before .before .before .args) .p .candidates - (c .before .before .before .before .before .before .before .before .before .before .before .before .args) .p .candidates / 2))
+low c =
+    let a = (c .before .before .before .before .before .before .before .before .before .before .before .before .args) in
+    let q = (c .before .before .before .before .before .before .before .before .before .before .before .before) .pre .1 .1 .1 in
+    stands-after ((c .before .before .before .before .before .before .before .before .before .candidates) .result) ((c .before .before .before .before .before .before .before .before .before .candidates) .last .1 .0) _ ((c .four) .last .1 .0) ((c .four) .result) _ _ _ ((c .four) .ensures)
+    (levels-block (a .p) ((c .before .before .before .before .before .before .before .before .before .before .before .before) .pre .0) 2 ((c .before .before .before .before .before .before .before .before .before .candidates) .result .wire) 0 (a .p .candidates / 2) (omega (arith, all (c .before .before .before .before .before .before .before .before .before) .place)) (omega (arith, q)) (omega (arith, (c .before .before .before .before .before .before .before .before .before .before .before .before) .pre .0 .k-most)) (omega arith) .long) (all (c .before .before .before .before .before .before .before .before .before))
+
+four-requires-2 : tie.Need-four-requires-2
+four-requires-2 c κs =
+    let q = (c .before .before .before .before .before .before .before .before .before .before .before .before .before .before .before) .pre .1 .1 .1 in
+    ((c .before .before .before .before .before .before .before .before .before .before .before .before .before .before .before) .pre .0, (room-of ((c .before .before .before .four) .result) _ _ _ (low (c .before .before .before)) (omega arith), (span-is (c .before .before .before .before .before .before .before .before .before .before .before .before), omega (arith, low (c .before .before .before) .place), omega (arith, q), omega (arith, (c .before .before .before .before .before .before .before .before .before .before .before .before .before .before .before) .pre .0 .k-most), omega arith)))
+
+high : (c : tie.After-four2) → Stands ((c .four2) .result) ((c .before .before .before .before .before .before .before .before .before .before .before .before .before .before .before .before .args) .p .inputs + (c .before .before .before .before .before .before .before .before .before .before .before .before .before .before .before .before .args) .p .candidates * candidateSpan ((c .before .before .before .before .before .before .before .before .before .before .before .before .before .before .before .before .args) .p) + levelsSpan ((c .before .before .before .before .before .before .before .before .before .before .before .before .before .before .before .before .args) .p) 2 ((c .before .before .before .before .before .before .before .before .before .before .before .before .before .before .before .before .args) .p .candidates / 2) + levelsSpan ((c .before .before .before .before .before .before .before .before .before .before .before .before .before .before .before .before .args) .p) 2 ((c .before .before .before .before .before .before .before .before .before .before .before .before .before .before .before .before .args) .p .candidates - (c .before .before .before .before .before .before .before .before .before .before .before .before .before .before .before .before .args) .p .candidates / 2)) (meetingSpan ((c .before .before .before .before .before .before .before .before .before .before .before .before .before .before .before .before .args) .p) ((c .before .before .before .before .before .before .before .before .before .before .before .before .before .before .before .before .args) .p .candidates / 2) ((c .before .before .before .before .before .before .before .before .before .before .before .before .before .before .before .before .args) .p .candidates - (c .before .before .before .before .before .before .before .before .before .before .before .before .before .before .before .before .args) .p .candidates / 2))
+high c =
+    let a = (c .before .before .before .before .before .before .before .before .before .before .before .before .before .before .before .before .args) in
+    let q = (c .before .before .before .before .before .before .before .before .before .before .before .before .before .before .before .before) .pre .1 .1 .1 in
+    stands-after ((c .before .before .before .before .four) .result) ((c .before .before .before .before .four) .last .1 .0) _ ((c .four2) .last .1 .0) ((c .four2) .result) _ _ _ ((c .four2) .ensures)
+    (levels-block (a .p) ((c .before .before .before .before .before .before .before .before .before .before .before .before .before .before .before .before) .pre .0) 2 ((c .before .before .before .before .four) .result .wire) (a .p .candidates / 2) (a .p .candidates - a .p .candidates / 2) (omega (arith, low (c .before .before .before .before) .place)) (omega (arith, q)) (omega (arith, (c .before .before .before .before .before .before .before .before .before .before .before .before .before .before .before .before) .pre .0 .k-most)) (omega arith) .long) (low (c .before .before .before .before))
+
+halves-requires : tie.Need-halves-requires
+halves-requires c κs =
+    let a = (c .before .before .before .before .before .before .before .before .before .before .before .before .before .before .before .before .before .before .before .args) in
+    let q = (c .before .before .before .before .before .before .before .before .before .before .before .before .before .before .before .before .before .before .before) .pre .1 .1 .1 in
+    let e = low (c .before .before .before .before .before .before .before) .place in
+    let e′ = high (c .before .before .before) .place in (
+      (c .before .before .before .before .before .before .before .before .before .before .before .before .before .before .before .before .before .before .before) .pre .0,
       (
-        room-less (e .result) _ _ (omega (arith, candidate-size (s .args .p) (e .result .wire) 0 .gates)) (one-left (c .before .before .before)),
-        (omega (arith, one-ends (c .before .before .before)), s .pre .0 .k-least),
+        high (c .before .before .before) .left,
+        (
+          (span-is (c .before .before .before .before .before .before .before .before .before .before .before .before .before .before .before .before), omega (arith, e), omega (arith, e, e′), omega (arith, q), omega (arith, q), omega arith),
+          (λ z. omega (arith, e, span-least (a .p) 1 (a .p .candidates / 2) z), λ z. omega (arith, e, e′, span-least (a .p) 1 (a .p .candidates - a .p .candidates / 2) z)),
+        ),
       ),
     )
-
--- where candidate 0 ends, and where its key stands
-first-ends : (c : tie.After-candidate) → c .candidate .result .wire ≡ candidateEnd (c .before .before .before .before .before .before .before .before .before .before .before .args .p) (c .before .before .before .before .before .before .before .before .before .before .before .args .p .inputs + 2)
-first-ends c =
-    let s = c .before .before .before .before .before .before .before .before .before .before .before in
-    let p = s .args .p in
-    let e = one-ends (c .before .before .before .before) in
-    c .candidate .ensures .wires ∙ candidate-ends p (s .pre .0) (c .before .before .before .before .emit2 .result .wire) 0 (omega arith) (s .pre .0 .k-least) ∙ ap (candidateEnd p) e
-
-key-ends : (c : tie.After-candidate) → let p = c .before .before .before .before .before .before .before .before .before .before .before .args .p in c .candidate .result .wire ≡ keyOf p (p .inputs + 2) + p .digits + p .grades + 1
-key-ends c = first-ends c
-
-first-late : (c : tie.After-candidate) → c .before .before .before .before .before .before .before .before .before .before .before .args .p .inputs + 2 ≤ c .candidate .result .wire
-first-late c = omega (arith, one-ends (c .before .before .before .before), c .candidate .ensures .wires)
-
-sub-key : tie.Need-sub-key
-sub-key c = search needs
-
--- a key stands before its candidate's end
-behind : (m x d g : ℕ) → m ≡ x + d + g + 1 → (g ≤ m - 1) × (d ≤ m - 1 - g) × (m - 1 - g - d + d + g < m)
-behind m x d g e = omega arith
-
-first-behind : (c : tie.After-candidate) → let m = c .candidate .result .wire in let p = c .before .before .before .before .before .before .before .before .before .before .before .args .p in (p .grades ≤ m - 1) × (p .digits ≤ m - 1 - p .grades) × (strictAt p (m - 1 - p .grades - p .digits) < m)
-first-behind c =
-    let p = c .before .before .before .before .before .before .before .before .before .before .before .args .p in
-    behind (c .candidate .result .wire) (keyOf p (p .inputs + 2)) (p .digits) (p .grades) (key-ends c)
-
-sub-key-2 : tie.Need-sub-key-2
-sub-key-2 c = first-behind (c .before .before .before .before) .0
-
-sub-key-3 : tie.Need-sub-key-3
-sub-key-3 c = first-behind (c .before .before .before .before .before) .1
-
-rounds-requires : tie.Need-rounds-requires
-rounds-requires c κs =
-    let s = c .before .before .before .before .before .before .before .before .before .before .before .before .before .before .before .before .before in
-    let p = s .args .p in
-    let e = c .before .before .before .before .before .before .before .before .before .before .emit2 in
-    let h = c .before .before .before .before .before .before .candidate in
-    let m = h .result .wire in (
-      s .pre .0,
-      (
-        room-after (e .result) (e .last .1 .0) _ (h .last .1 .0) (h .result) _ _ (h .ensures)
-            (omega (arith, candidate-size p (e .result .wire) 0 .gates, rounds-size p m (m - 1 - p .grades - p .digits) 0 1 (p .candidates - 1) .gates)) (one-left (c .before .before .before .before .before .before .before .before .before .before)),
-        (first-late (c .before .before .before .before .before .before), first-behind (c .before .before .before .before .before .before) .2),
-      ),
-    )
-
-same-length : tie.Need-same-length
-same-length c = search needs
 
 returns : tie.Need-returns
 unfolding circuit
 returns c =
-    let s = c .before .before .before .before .before .before .before .before .before .before .before .before .before .before .before .before .before .before .before .before in
-    let a = s .args in
+    let a = (c .before .before .before .before .before .before .before .before .before .before .before .before .before .before .before .before .before .before .before .before .before .before .args) in
     let p = a .p in
-    let e = c .before .before .before .before .before .before .before .before .before .before .before .before .before .before .before .before .before .emit in
-    let e2 = c .before .before .before .before .before .before .before .before .before .before .before .before .before .emit2 in
-    let h = c .before .before .before .before .before .before .before .before .before .candidate in
-    let r = c .before .before .rounds in
-    let n = p .inputs + 2 in
-    let m = h .result .wire in
-    wrote-both (a .w) (a .table .now) _ (h .last .1 .0) (h .result) _ _ _
-    (wrote-both (a .w) (a .table .now) _ (e2 .last .1 .0) (e2 .result) _ _ _
-    (wrote-both (a .w) (a .table .now) _ (e .last .1 .0) (e .result) _ _ _
-    (constant-wrote (a .w) (a .table .now) (e .last .1 .0) (e .result) 0 0 0 0 (e .ensures))
-    (constant-wrote (e .result) (e .last .1 .0) (e2 .last .1 .0) (e2 .result) 0 0 0 1 (e2 .ensures)))
-    (wrote-as (e2 .result) (e2 .last .1 .0) _ _ _ _ (ap (λ (k : ℕ). candidate p k 0) (one-ends (c .before .before .before .before .before .before .before .before .before .before .before .before .before))) (h .ensures)))
-    (wrote-as (h .result) (h .last .1 .0) _ _ _ _
-    (rounds-same p m (candidateEnd p n) (m - 1 - p .grades - p .digits) (keyOf p n) 0 0 1 (p .candidates - 1) (first-ends (c .before .before .before .before .before .before .before .before .before)) (key-before m (keyOf p n) (p .digits) (p .grades) (key-ends (c .before .before .before .before .before .before .before .before .before))) refl)
-    (r .ensures))
+    let k = p .candidates in
+    let n = levelsAt p in
+    wrote-then (a .w) (a .table .now) _ ((c .before .before .before .before .before .before .four2) .last .1 .0) ((c .before .before .before .before .before .before .four2) .result) _ _ _ _
+    (wrote-then (a .w) (a .table .now) _ ((c .before .before .before .before .before .before .before .before .before .before .four) .last .1 .0) ((c .before .before .before .before .before .before .before .before .before .before .four) .result) _ _ _ _
+    (wrote-then (a .w) (a .table .now) _ ((c .before .before .before .before .before .before .before .before .before .before .before .before .before .before .before .before .before .before .before .candidates) .last .1 .0) ((c .before .before .before .before .before .before .before .before .before .before .before .before .before .before .before .before .before .before .before .candidates) .result) _ _ _ _
+    (wrote-as (a .w) (a .table .now) _ _ _ _ (ap (λ (i : ℕ). candidates p i 0 k) ((c .before .before .before .before .before .before .before .before .before .before .before .before .before .before .before .before .before .before .before .before .before .before) .pre .1 .1 .0)) ((c .before .before .before .before .before .before .before .before .before .before .before .before .before .before .before .before .before .before .before .candidates) .ensures))
+    ((c .before .before .before .before .before .before .before .before .before .before .four) .ensures) (ap (λ (i : ℕ). levels p 2 i 0 (k / 2)) (all (c .before .before .before .before .before .before .before .before .before .before .before .before .before .before .before .before .before .before .before) .place)))
+    ((c .before .before .before .before .before .before .four2) .ensures) (ap (λ (i : ℕ). levels p 2 i (k / 2) (k - k / 2)) (low (c .before .before .before .before .before .before .before .before .before .before) .place)))
+    ((c .before .before .halves) .ensures) (meet-same p 1 n 0 k ((c .before .before .before .before .before .before .four2) .result .wire) ((c .before .before .before .before .before .before .before .before .before .before .four) .result .wire) ((c .before .before .before .before .before .before .four2) .result .wire) (high (c .before .before .before .before .before .before) .place) (low (c .before .before .before .before .before .before .before .before .before .before) .place) (high (c .before .before .before .before .before .before) .place))
+
+same-length : tie.Need-same-length
+same-length c =
+    wrote-long ((c .before .before .before .before .before .before .before .before .before .before .before .before .before .before .before .before .before .before .before .before .before .before .args) .w) ((c .before .before .before .before .before .before .before .before .before .before .before .before .before .before .before .before .before .before .before .before .before .before .args) .table .now) (circuit ((c .before .before .before .before .before .before .before .before .before .before .before .before .before .before .before .before .before .before .before .before .before .before .args) .p)) ((c .before .before .halves) .last .1 .0) ((c .before .before .halves) .result) (returns c)
 
 pub circuit-spec : {M : Type 1} → statement M
-circuit-spec =
-    tie.close
-    (tie.spec
-    emit-requires
-    emit-requires-2
-    candidate-requires
-    sub-key
-    sub-key-2
-    sub-key-3
-    rounds-requires
-    same-length
-    returns)
+circuit-spec = tie.close (tie.spec candidates-requires sub-span div-span sub-second four-requires four-requires-2 halves-requires same-length returns)

@@ -5,7 +5,6 @@ use mathlib.Core.List.{List, [], _∷_}
 use native.Mathlib.Omega.{arith}
 use borrow.Author.Needs.{needs}
 use lib.ListN.{length}
-use Rattle.gates.specs.Gate.{Gate}
 use Rattle.words.specs.Gates.{constant}
 use Rattle.words.specs.Writing.{Wrote}
 use Rattle.words.specs.declared.writer.Writer.{Writer}
@@ -13,73 +12,61 @@ use Rattle.words.proofs.Writing.{wrote-as}
 use Rattle.words.proofs.Emitting.{constant-wrote}
 use Rattle.jury.specs.Shape.{ballotBytes}
 use Rattle.circuit.specs.OwnList.{circuit, ownList}
-use Rattle.writer.proofs.ListWriters.{own-one, own-more, first-writer, first-room, plan-planned, circuit-short}
+use Rattle.writer.proofs.ListWriters.{own-one, own-more, first-writer, first-room, plan-planned, plan-many, circuit-short}
 use Rattle.writer.proofs.list.own_list.Statement.{statement}
 use Rattle.writer.proofs.list.own_list.Tie as tie
 
 new-requires : tie.Need-new-requires
-new-requires c κs = search needs
+new-requires c κs =
+    search needs
 
 new-requires-2 : tie.Need-new-requires-2
-new-requires-2 c κs = search needs
+new-requires-2 c κs =
+    search needs
 
--- the writer before the first gate
-start : (c : tie.After-new2) → c .new2 .result ≡ record { gate = 0; wire = ballotBytes (c .before .before .before .args .shape); conditional = 0 }
-start c = first-writer (c .before .before .before .args .shape) (c .before .new .result) (c .new2 .result) (c .before .new .ensures) (c .new2 .ensures)
+start : (c : tie.After-new2) → (c .new2) .result ≡ record { gate = 0; wire = ballotBytes ((c .before .before .before .args) .shape); conditional = 0 }
+start c =
+    first-writer ((c .before .before .before .args) .shape) ((c .before .new) .result) ((c .new2) .result) ((c .before .new) .ensures) ((c .new2) .ensures)
 
 emit-requires : tie.Need-emit-requires
 emit-requires c κs =
-    let s = c .before .before .before .before .before .before in
-    let shape = s .args .shape in
-    first-room shape (c .before .before .before .new2 .result) 1 (s .pre) (start (c .before .before .before)) (omega arith)
-
-same-length : tie.Need-same-length
-same-length c = search needs
+    first-room ((c .before .before .before .before .before .before .args) .shape) ((c .before .before .before .new2) .result) 1 ((c .before .before .before .before .before .before) .pre) (start (c .before .before .before)) (omega arith)
 
 returns : tie.Need-returns
 returns c =
-    let a = c .before .before .before .before .before .before .before .before .before .args in
-    let w = c .before .before .before .before .before .before .new2 .result in
-    let e = c .before .before .emit in
+    let a = (c .before .before .before .before .before .before .before .before .before .args) in
+    let w = (c .before .before .before .before .before .before .new2) .result in
+    let e = (c .before .before .emit) in
     subst (λ (v : Writer). Wrote v (a .table .now) (ownList (a .shape)) (e .last .1 .0) (e .result)) (start (c .before .before .before .before .before .before))
-    (wrote-as w (a .table .now) (constant 1 ∷ []) (ownList (a .shape)) (e .last .1 .0) (e .result) (own-one (a .shape) (c .before .before .before .before .if1 .taken))
-    (constant-wrote w (a .table .now) (e .last .1 .0) (e .result) 0 0 0 1 (e .ensures)))
+    (wrote-as w (a .table .now) (constant 1 ∷ []) (ownList (a .shape)) (e .last .1 .0) (e .result) (own-one (a .shape) ((c .before .before .before .before .if1) .taken)) (constant-wrote w (a .table .now) (e .last .1 .0) (e .result) 0 0 0 1 (e .ensures)))
 
 circuit-requires : tie.Need-circuit-requires
 circuit-requires c κs =
-    let s = c .before .before .before .before .before .before in
-    let shape = s .args .shape in
-    let p = c .before .before .before .before .new .result in
-    let w = c .before .before .before .new2 .result in
-    let f = plan-planned shape p (s .pre) (c .before .before .before .before .new .ensures) in (
-      f,
+    let shape = (c .before .before .before .before .before .before .args) .shape in
+    let p = (c .before .before .before .before .new) .result in
+    let w = (c .before .before .before .new2) .result in (
+      plan-planned shape p ((c .before .before .before .before .before .before) .pre) ((c .before .before .before .before .new) .ensures),
       (
-        first-room shape w (length (circuit p)) (s .pre) (start (c .before .before .before)) (circuit-short shape p (s .pre) (c .before .before .before .before .new .ensures) (c .before .if1 .left)),
-        ap (λ (v : Writer). v .wire) (c .before .before .before .new2 .ensures),
+        first-room shape w (length (circuit p)) ((c .before .before .before .before .before .before) .pre) (start (c .before .before .before)) (circuit-short shape p ((c .before .before .before .before .before .before) .pre) ((c .before .before .before .before .new) .ensures) ((c .before .if1) .left)),
+        (ap (λ (v : Writer). v .wire) ((c .before .before .before .new2) .ensures), plan-many shape p ((c .before .before .before .before .before .before) .pre) ((c .before .before .before .before .new) .ensures) ((c .before .if1) .left)),
       ),
     )
 
 same-length-2 : tie.Need-same-length-2
-same-length-2 c = search needs
+same-length-2 c =
+    search needs
 
 returns-2 : tie.Need-returns-2
 returns-2 c =
-    let a = c .before .before .before .before .before .before .before .before .before .args in
-    let p = c .before .before .before .before .before .before .before .new .result in
-    let w = c .before .before .before .before .before .before .new2 .result in
-    let e = c .before .before .circuit in
+    let a = (c .before .before .before .before .before .before .before .before .before .args) in
+    let p = (c .before .before .before .before .before .before .before .new) .result in
+    let w = (c .before .before .before .before .before .before .new2) .result in
+    let e = (c .before .before .circuit) in
     subst (λ (v : Writer). Wrote v (a .table .now) (ownList (a .shape)) (e .last .1 .0) (e .result)) (start (c .before .before .before .before .before .before))
-    (wrote-as w (a .table .now) (circuit p) (ownList (a .shape)) (e .last .1 .0) (e .result) (own-more (a .shape) p (c .before .before .before .before .before .before .before .new .ensures) (c .before .before .before .before .if1 .left)) (e .ensures))
+    (wrote-as w (a .table .now) (circuit p) (ownList (a .shape)) (e .last .1 .0) (e .result) (own-more (a .shape) p ((c .before .before .before .before .before .before .before .new) .ensures) ((c .before .before .before .before .if1) .left)) (e .ensures))
+
+same-length : tie.Need-same-length
+same-length c = search needs
 
 pub own-list-spec : {M : Type 1} → statement M
-own-list-spec =
-    tie.close
-    (tie.spec
-    new-requires
-    new-requires-2
-    emit-requires
-    same-length
-    returns
-    circuit-requires
-    same-length-2
-    returns-2)
+own-list-spec = tie.close (tie.spec new-requires new-requires-2 emit-requires same-length returns circuit-requires same-length-2 returns-2)

@@ -68,8 +68,26 @@ sub-t12 c = let a = c .before .before .before .before .before .before in let e =
 sub-t14 : tie.Need-sub-t14
 sub-t14 c = let a = c .before .before .before .before .before .before in let e = power-is c in omega (arith, halves (a .args .shape) (a .pre))
 
-planned : Shape → ℕ → ℕ → ℕ → Plan
-planned s inputs width most =
+-- the width of the number of a grade
+grade-widths : (s : Shape) → T (withinLimits s) → (1 ≤ widthOf (s .grades - 1)) × (widthOf (s .grades - 1) ≤ 8)
+grade-widths s t =
+    let w = within-T s t in
+    (omega (arith, width-half (s .grades - 1) (omega (arith, w .d-least))), width-most (s .grades - 1) (omega (arith, w .d-most)))
+
+sub-width : tie.Need-sub-width
+sub-width c = let a = c .before .before .before .before .before .before .before in omega (arith, within-T (a .args .shape) (a .pre) .d-least)
+
+width-requires-2 : tie.Need-width-requires-2
+width-requires-2 c κs = search needs
+
+cast-t17 : tie.Need-cast-t17
+cast-t17 c = let a = c .before .before .before .before .before .before .before .before in omega (arith, c .width2 .ensures, grade-widths (a .args .shape) (a .pre))
+
+sub-t18 : tie.Need-sub-t18
+sub-t18 c = let a = c .before .before .before .before .before .before .before .before in omega (arith, c .width2 .ensures, grade-widths (a .args .shape) (a .pre))
+
+planned : Shape → ℕ → ℕ → ℕ → ℕ → Plan
+planned s inputs width most graded =
     record {
       candidates = s .candidates;
       grades = s .grades;
@@ -78,19 +96,25 @@ planned s inputs width most =
       digits = width - 1;
       offset = most - (s .ballots + 1) / 2;
       worst = most - 1 - s .ballots / 2;
+      places = graded - 1;
     }
 
-same-plan : (s : Shape) (inputs width most : ℕ) → inputs ≡ ballotBytes s → width ≡ widthOf (s .ballots) → most ≡ 2 ^ (widthOf (s .ballots) - 1) → planned s inputs width most ≡ planOf s
+same-plan : (s : Shape) (inputs width most graded : ℕ) → inputs ≡ ballotBytes s → width ≡ widthOf (s .ballots) → most ≡ 2 ^ (widthOf (s .ballots) - 1)
+    → graded ≡ widthOf (s .grades - 1) → planned s inputs width most graded ≡ planOf s
 unfolding planned planOf
-same-plan s inputs width most e₁ e₂ e₃ =
-    ap (λ (k : ℕ). planned s k width most) e₁ ∙ ap (λ (k : ℕ). planned s (ballotBytes s) k most) e₂ ∙ ap (λ (k : ℕ). planned s (ballotBytes s) (widthOf (s .ballots)) k) e₃
+same-plan s inputs width most graded e₁ e₂ e₃ e₄ =
+    ap (λ (k : ℕ). planned s k width most graded) e₁
+    ∙ ap (λ (k : ℕ). planned s (ballotBytes s) k most graded) e₂
+    ∙ ap (λ (k : ℕ). planned s (ballotBytes s) (widthOf (s .ballots)) k graded) e₃
+    ∙ ap (λ (k : ℕ). planned s (ballotBytes s) (widthOf (s .ballots)) (2 ^ (widthOf (s .ballots) - 1)) k) e₄
 
 returns : tie.Need-returns
 unfolding planned
 returns c =
-    let a = c .before .before .before .before .before .before in
-    same-plan (a .args .shape) (c .ballot-bytes .result) (c .before .before .before .before .width .result) (c .before .before .before .power .result)
-    (c .ballot-bytes .ensures) (c .before .before .before .before .width .ensures) (power-is c)
+    let l = c .before .before in
+    let a = l .before .before .before .before .before .before in
+    same-plan (a .args .shape) (l .ballot-bytes .result) (l .before .before .before .before .width .result) (l .before .before .before .power .result) (c .width2 .result)
+    (l .ballot-bytes .ensures) (l .before .before .before .before .width .ensures) (power-is l) (c .width2 .ensures)
 
 pub new-spec : {M : Type 1} → statement M
 new-spec =
@@ -109,4 +133,8 @@ new-spec =
     sub-t11
     sub-t12
     sub-t14
+    sub-width
+    width-requires-2
+    cast-t17
+    sub-t18
     returns)
