@@ -11,3 +11,4 @@ pub mod Writing
 pub mod Demands
 pub mod OwnRun
 pub mod Examples
+pub mod Monotone

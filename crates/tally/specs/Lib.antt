@@ -7,3 +7,4 @@ pub mod Hiding
 pub mod Examples
 pub mod Write
 pub mod Demands
+pub mod Monotone
