@@ -1,0 +1,4 @@
+pub mod MaskLaws
+pub mod RunLaws
+pub mod SumLaws
+pub mod Reasons
