@@ -1,7 +1,7 @@
 -- `season::run::winners` meets its contract: the bits counted so far and those of the rest are all bits.
 -- Assumes nothing.
 use mathlib.Core.Path.{_≡_}
-use Prim.Native.Nat.{ℕ, _+_, _-_, _≤_}
+use Prim.Native.Nat.{_+_, _-_, _≤_}
 use native.Mathlib.Omega.{arith}
 use Rattle.season.specs.Season.{onesIn}
 use Rattle.season.proofs.MaskLaws.{ones-step, ones-end}

@@ -1,7 +1,6 @@
 -- `season::sheet::first_bad` meets its contract: testing the runs from here is testing all from the start.
 -- Assumes nothing.
 use mathlib.Core.Path.{_≡_, _∙_, sym, ap}
-use mathlib.Core.Bool.{Bool, true, false}
 use mathlib.Core.List.{List}
 use Prim.Native.Nat.{ℕ, _+_, _-_, _*_, _≤_}
 use native.Mathlib.Nat.{sub-zero}
@@ -9,7 +8,6 @@ use native.Mathlib.Omega.{arith}
 use borrow.Author.Needs.{needs}
 use borrow.Author.Tests.{not-true, not-false}
 use lib.ListN.{length, take, drop}
-use Rattle.season.specs.declared.run.Run.{Run}
 use Rattle.season.specs.Season.{runBytes, runOf, firstRuns, goodRun, firstBadRun}
 use Rattle.season.proofs.RunLaws.{part-long, part-is, bad-here, bad-turn, bad-end}
 use Rattle.season.proofs.sheet.first_bad.Statement.{statement}

@@ -1,6 +1,6 @@
 -- `season::run::Run::is_good` meets its contract: the shape is tested, and then the mask.
 -- Assumes nothing.
-use mathlib.Core.Path.{_∙_, refl, sym}
+use mathlib.Core.Path.{_∙_, sym}
 use Rattle.jury.proofs.Flags.{and-taken, and-left}
 use Rattle.season.specs.Season.{goodRun}
 use borrow.Author.Needs.{needs}
