@@ -1,0 +1,73 @@
+-- What the sheet answers, from the outcomes of its tests, and which numbers its refusals have.
+-- Assumes nothing.
+use mathlib.Core.Path.{_≡_, _∙_, refl, sym, ap}
+use mathlib.Core.Logic.{_⊎_, inl, inr}
+use mathlib.Core.Bool.{Bool, true, false, _&&_}
+use mathlib.Core.Option.{Option, none, some}
+use mathlib.Core.List.{List, [], _∷_}
+use Prim.Native.Nat.{ℕ, _*_, _%_, _≤_, _<_}
+use native.Mathlib.Omega.{arith}
+use lib.Dec.{leb, eqb}
+use lib.ListN.{length}
+use borrow.Author.Tests.{eq-eqb, ne-eqb, le-leb, lt-leb}
+use Rattle.gates.specs.declared.place.Place.{Place}
+use Rattle.gates.specs.declared.place.Place.the-variants.{At, Nowhere}
+use Rattle.jury.specs.Reason.{Reason, reasonAt, unless, foundAt, firstOf}
+use Rattle.jury.proofs.Flags.{and-both, and-first-fails, and-second-fails}
+use Rattle.season.specs.declared.sheet.Totals.{Totals}
+use Rattle.season.specs.declared.sheet.Refusal.{Refusal}
+use Rattle.season.specs.declared.sheet.Refusal.the-variants.{Length, BadRun}
+use Rattle.season.specs.declared.sheet.Answer.the-variants.{Accepted, Refused}
+use Rattle.season.specs.Season.{runBytes, mostRuns, runsIn, firstBadRun, totalsOf, sheetReasons, reasonOf, reasonFor, totalsFor, totalsAfter, SheetMemory}
+
+-- the answer of both tests
+unfoldable pub judged : Bool → Place → Option Reason
+judged size run = firstOf (unless size 21 ∷ foundAt 22 run ∷ [])
+
+pub judged-by : (bytes : List ℕ) (size : Bool) (run : Place) → (eqb (length bytes % runBytes) 0 && leb (length bytes) (mostRuns * runBytes)) ≡ size → firstBadRun 0 (runsIn bytes) ≡ run →
+    firstOf (sheetReasons bytes) ≡ judged size run
+unfolding judged sheetReasons
+judged-by bytes size run e₁ e₂ = ap (λ (t : Bool). judged t (firstBadRun 0 (runsIn bytes))) e₁ ∙ ap (judged size) e₂
+
+module _ (bytes : List ℕ) where
+  -- the three ways to be turned away, and the one to be accepted
+  pub part-of-a-run : (length bytes % runBytes ≡ 0 → ⊥) → firstOf (sheetReasons bytes) ≡ some (reasonOf Length)
+  unfolding judged unless firstOf reasonOf
+  part-of-a-run h = judged-by bytes false (firstBadRun 0 (runsIn bytes)) (and-first-fails _ (leb (length bytes) (mostRuns * runBytes)) (ne-eqb (length bytes % runBytes) 0 h)) refl
+
+  pub too-many : mostRuns * runBytes < length bytes → firstOf (sheetReasons bytes) ≡ some (reasonOf Length)
+  unfolding judged unless firstOf reasonOf
+  too-many h = judged-by bytes false (firstBadRun 0 (runsIn bytes)) (and-second-fails (eqb (length bytes % runBytes) 0) _ (lt-leb (length bytes) (mostRuns * runBytes) h)) refl
+
+  size-passes : length bytes % runBytes ≡ 0 → length bytes ≤ mostRuns * runBytes → (eqb (length bytes % runBytes) 0 && leb (length bytes) (mostRuns * runBytes)) ≡ true
+  size-passes h l = and-both _ _ (eq-eqb (length bytes % runBytes) 0 h) (le-leb (length bytes) (mostRuns * runBytes) l)
+
+  pub bad-run : (i : ℕ) → length bytes % runBytes ≡ 0 → length bytes ≤ mostRuns * runBytes → firstBadRun 0 (runsIn bytes) ≡ At i → firstOf (sheetReasons bytes) ≡ some (reasonOf (BadRun i))
+  unfolding judged unless foundAt firstOf reasonOf
+  bad-run i h l e = judged-by bytes true (At i) (size-passes h l) e
+
+  pub no-reason : length bytes % runBytes ≡ 0 → length bytes ≤ mostRuns * runBytes → firstBadRun 0 (runsIn bytes) ≡ Nowhere → firstOf (sheetReasons bytes) ≡ none
+  unfolding judged unless foundAt firstOf
+  no-reason h l e = judged-by bytes true Nowhere (size-passes h l) e
+
+  -- the program's answers are the definition's
+  pub refused-is : (r : Refusal) → firstOf (sheetReasons bytes) ≡ some (reasonOf r) →
+      (reasonFor (Refused r) ≡ firstOf (sheetReasons bytes)) × (totalsFor (Refused r) ≡ totalsAfter (firstOf (sheetReasons bytes)) (totalsOf (runsIn bytes)))
+  unfolding reasonFor totalsFor totalsAfter
+  refused-is r e = (sym e, sym (ap (λ (o : Option Reason). totalsAfter o (totalsOf (runsIn bytes))) e))
+
+  pub accepted-is : (t : Totals) → firstOf (sheetReasons bytes) ≡ none → t ≡ totalsOf (runsIn bytes) →
+      (reasonFor (Accepted t) ≡ firstOf (sheetReasons bytes)) × (totalsFor (Accepted t) ≡ totalsAfter (firstOf (sheetReasons bytes)) (totalsOf (runsIn bytes)))
+  unfolding reasonFor totalsFor totalsAfter
+  accepted-is t e h = (sym e, ap some h ∙ sym (ap (λ (o : Option Reason). totalsAfter o (totalsOf (runsIn bytes))) e))
+
+judged-number : (size : Bool) (run : Place) (r : Reason) → judged size run ≡ some r → (r .number ≡ 21) ⊎ (r .number ≡ 22)
+unfolding judged unless foundAt firstOf reasonAt
+judged-number false run r e = let h : reasonAt 21 0 ≡ r = cc in inl (ap (λ (x : Reason). x .number) (sym h))
+judged-number true (At i) r e = let h : reasonAt 22 i ≡ r = cc in inr (ap (λ (x : Reason). x .number) (sym h))
+judged-number true Nowhere r e = let z : _≡_ {A = ℕ} 0 1 = cc in absurd (omega arith)
+
+pub sheet-memory : SheetMemory
+sheet-memory = record {
+  number = λ bytes r e. judged-number (eqb (length bytes % runBytes) 0 && leb (length bytes) (mostRuns * runBytes)) (firstBadRun 0 (runsIn bytes)) r (sym (judged-by bytes _ _ refl refl) ∙ e);
+}

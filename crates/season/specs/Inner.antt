@@ -1,0 +1,29 @@
+-- Definitions for inner functions and their proofs: no entry point's contract needs them.
+use Prim.Native.Nat.{ℕ, _+_, _*_, _<_, _≤_, _^_}
+use Rattle.season.specs.declared.run.Run.{Run}
+use Rattle.season.specs.declared.sheet.Totals.{Totals}
+use Rattle.season.specs.Season.{sharedOf}
+
+-- A run's numbers are as small as its bytes make them.
+pub record Small (r : Run) : Type 0 where
+  pub ballots-small : r .ballots < 256
+  pub gates-small : r .gates < 2 ^ 32
+  pub conditional-small : r .conditional < 2 ^ 32
+
+-- No sum is larger than so many runs can make it.
+pub record SumsOf (n : ℕ) (t : Totals) : Type 0 where
+  pub runs-most : t .runs ≤ n
+  pub gates-most : t .gates ≤ 4294967296 * n
+  pub conditional-most : t .conditional ≤ 4294967296 * n
+  pub ballots-most : t .ballots ≤ 256 * n
+  pub shared-most : t .shared ≤ n
+
+-- The totals with one run more.
+unfoldable pub plusRun : Totals → Run → Totals
+plusRun t r = record {
+  runs = t .runs + 1;
+  gates = t .gates + r .gates;
+  conditional = t .conditional + r .conditional;
+  ballots = t .ballots + r .ballots;
+  shared = t .shared + sharedOf r;
+}

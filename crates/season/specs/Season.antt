@@ -1,0 +1,117 @@
+-- The season sheet, [sheet]: what the bytes of a season tell, which of them are turned away, and the sums over all runs.
+use mathlib.Core.Path.{_≡_}
+use mathlib.Core.Logic.{_⊎_}
+use mathlib.Core.Bool.{Bool, cond, _&&_}
+use mathlib.Core.Option.{Option, none, some}
+use mathlib.Core.List.{List, [], _∷_}
+use Prim.Native.Nat.{ℕ, zero, suc, _+_, _*_, _/_, _%_, _^_}
+use lib.Dec.{ltb, leb, eqb}
+use lib.ListN.{length, getD, take, drop}
+use Rattle.gates.specs.declared.place.Place.{Place}
+use Rattle.gates.specs.declared.place.Place.the-variants.{At, Nowhere}
+use Rattle.jury.specs.Shape.{withinLimits}
+use Rattle.jury.specs.Reason.{Reason, reasonAt, unless, foundAt, firstOf}
+use Rattle.season.specs.declared.run.Run.{Run}
+use Rattle.season.specs.declared.sheet.Totals.{Totals}
+use Rattle.season.specs.declared.sheet.Refusal.{Refusal}
+use Rattle.season.specs.declared.sheet.Refusal.the-variants.{Length, BadRun}
+use Rattle.season.specs.declared.sheet.Answer.{Answer}
+use Rattle.season.specs.declared.sheet.Answer.the-variants.{Accepted, Refused}
+
+-- The bytes of one run, and the most runs of a season.
+abbrev pub runBytes : ℕ
+runBytes = 12
+
+abbrev pub mostRuns : ℕ
+mostRuns = 4096
+
+-- The 32-bit number that starts at a place, low byte first.
+unfoldable pub numberAt : ℕ → List ℕ → ℕ
+numberAt at bytes = getD bytes at 0 + 256 * (getD bytes (at + 1) 0 + 256 * (getD bytes (at + 2) 0 + 256 * getD bytes (at + 3) 0))
+
+-- A run: k, d, n, the mask of closing bytes, then G and C.
+unfoldable pub runOf : List ℕ → Run
+runOf bytes = record {
+  candidates = getD bytes 0 0;
+  grades = getD bytes 1 0;
+  ballots = getD bytes 2 0;
+  mask = getD bytes 3 0;
+  gates = numberAt 4 bytes;
+  conditional = numberAt 8 bytes;
+}
+
+-- The first so many runs, which follow each other without gaps.
+unfoldable pub firstRuns : ℕ → List ℕ → List Run
+firstRuns zero bytes = []
+firstRuns (suc n) bytes = runOf (take runBytes bytes) ∷ firstRuns n (drop runBytes bytes)
+
+-- All runs of a season.
+unfoldable pub runsIn : List ℕ → List Run
+runsIn bytes = firstRuns (length bytes / runBytes) bytes
+
+-- How many of the lowest so many binary digits of a number are 1.
+unfoldable pub onesIn : ℕ → ℕ → ℕ
+onesIn zero m = 0
+onesIn (suc digits) m = m % 2 + onesIn digits (m / 2)
+
+-- The number of winners: the bits of the mask, which is a byte.
+unfoldable pub winnersOf : Run → ℕ
+winnersOf r = onesIn 8 (r .mask)
+
+-- The shape of a run is within the limits, and its mask has no bit from k on.
+unfoldable pub goodRun : Run → Bool
+goodRun r = withinLimits (record { candidates = r .candidates; grades = r .grades; ballots = r .ballots }) && ltb (r .mask) (2 ^ r .candidates)
+
+-- The first run that is not good, the first run here standing at place i.
+unfoldable pub firstBadRun : ℕ → List Run → Place
+firstBadRun i [] = Nowhere
+firstBadRun i (r ∷ rs) = cond (goodRun r) (firstBadRun (suc i) rs) (At i)
+
+-- The reasons in checking order: 21 for the length, then 22 at the first bad run.
+unfoldable pub sheetReasons : List ℕ → List (Option Reason)
+sheetReasons bytes =
+    unless (eqb (length bytes % runBytes) 0 && leb (length bytes) (mostRuns * runBytes)) 21
+    ∷ foundAt 22 (firstBadRun 0 (runsIn bytes))
+    ∷ []
+
+-- The sum of a number over all runs.
+unfoldable pub sumOver : (Run → ℕ) → List Run → ℕ
+sumOver f [] = 0
+sumOver f (r ∷ rs) = f r + sumOver f rs
+
+-- 1 for a run with more than one winner, else 0.
+unfoldable pub sharedOf : Run → ℕ
+sharedOf r = cond (ltb 1 (winnersOf r)) 1 0
+
+-- The five numbers of the sheet.
+unfoldable pub totalsOf : List Run → Totals
+totalsOf rs = record {
+  runs = length rs;
+  gates = sumOver (λ r. r .gates) rs;
+  conditional = sumOver (λ r. r .conditional) rs;
+  ballots = sumOver (λ r. r .ballots) rs;
+  shared = sumOver sharedOf rs;
+}
+
+-- Number and place of each refusal.
+unfoldable pub reasonOf : Refusal → Reason
+reasonOf Length = reasonAt 21 0
+reasonOf (BadRun i) = reasonAt 22 i
+
+-- The reason of an answer, where it is a refusal, and its values, where it is none.
+unfoldable pub reasonFor : Answer → Option Reason
+reasonFor (Accepted totals) = none
+reasonFor (Refused r) = some (reasonOf r)
+
+unfoldable pub totalsFor : Answer → Option Totals
+totalsFor (Accepted totals) = some totals
+totalsFor (Refused r) = none
+
+-- A refused sheet has no values.
+unfoldable pub totalsAfter : Option Reason → Totals → Option Totals
+totalsAfter none totals = some totals
+totalsAfter (some r) totals = none
+
+-- The memory demand for the sheet: nothing is lent for writing, and a refusal has one of the two numbers.
+pub record SheetMemory : Type 0 where
+  pub number : (bytes : List ℕ) (r : Reason) → firstOf (sheetReasons bytes) ≡ some r → (r .number ≡ 21) ⊎ (r .number ≡ 22)

@@ -1,0 +1,107 @@
+// One run of a season, as its twelve bytes tell it.
+use jury::shape::Shape;
+ghost use mathlib.Core.Path.{_≡_};
+ghost use Prim.Native.Nat.{_+_, _<_, _≤_, _^_};
+ghost use lib.Dec.{ltb};
+ghost use lib.ListN.{length};
+ghost use Rattle.season.specs.Season.{runBytes, runOf, numberAt, onesIn, winnersOf, goodRun};
+ghost use Rattle.season.specs.Inner.{Small};
+
+// The bytes of a run.
+pub const RUN_BYTES: usize = 12;
+
+// The bits of a mask.
+const MASK_BITS: usize = 8;
+
+// The shape of a jury, its closing bytes as a mask with candidate 0 in the lowest bit, and its list's G and C.
+pub struct Run {
+    pub candidates: usize,
+    pub grades: usize,
+    pub ballots: usize,
+    pub mask: usize,
+    pub gates: usize,
+    pub conditional: usize,
+}
+
+// A byte as a wider number, of which it is still known that it is small.
+fn wide(x: u8) -> usize
+    ensures { λ r. ⌜ r ≡ x ⌝ }
+    ensures { λ r. ⌜ r < 256 ⌝ }
+{
+    x as usize
+}
+
+// The number that four bytes write, low byte first.
+fn number(bytes: &[u8], at: usize) -> usize
+    requires { ⌜ at + 4 ≤ length (now bytes) ⌝ }
+    ensures { λ r. ⌜ r ≡ numberAt at (now (bytes .entry)) ⌝ }
+    ensures { λ r. ⌜ r < 2 ^ 32 ⌝ }
+{
+    wide(bytes[at])
+        + 256 * (wide(bytes[at + 1]) + 256 * (wide(bytes[at + 2]) + 256 * wide(bytes[at + 3])))
+}
+
+// Whether a mask has no bit from k on.
+fn mask_fits(mask: usize, k: usize) -> bool
+    ensures { λ r. ⌜ r ≡ ltb mask (2 ^ k) ⌝ }
+{
+    let mut rest = mask;
+    let mut i = 0;
+    while i < k {
+        rest = rest / 2;
+        i += 1;
+    }
+    rest < 1
+}
+
+// How many bits of a mask are 1.
+fn winners(mask: usize) -> usize
+    ensures { λ r. ⌜ r ≡ onesIn 8 mask ⌝ }
+{
+    let mut count = 0;
+    let mut rest = mask;
+    let mut i = 0;
+    while i < MASK_BITS {
+        count += rest % 2;
+        rest = rest / 2;
+        i += 1;
+    }
+    count
+}
+
+impl Run {
+    // The run that twelve bytes tell.
+    pub fn read(bytes: &[u8]) -> Run
+        requires { ⌜ runBytes ≤ length (now bytes) ⌝ }
+        ensures { λ r. ⌜ r ≡ runOf (now (bytes .entry)) ⌝ }
+        ensures { λ r. ⌜ Small r ⌝ }
+    {
+        Run {
+            candidates: wide(bytes[0]),
+            grades: wide(bytes[1]),
+            ballots: wide(bytes[2]),
+            mask: wide(bytes[3]),
+            gates: number(bytes, 4),
+            conditional: number(bytes, 8),
+        }
+    }
+
+    // Whether its shape is within the limits and each winner is a candidate.
+    pub fn is_good(self) -> bool
+        ensures { λ r. ⌜ r ≡ goodRun self ⌝ }
+    {
+        let shape = Shape {
+            candidates: self.candidates,
+            grades: self.grades,
+            ballots: self.ballots,
+        };
+        shape.is_within_limits() && mask_fits(self.mask, self.candidates)
+    }
+
+    // Whether several candidates won.
+    pub fn is_shared(self) -> bool
+        ensures { λ r. ⌜ r ≡ ltb 1 (winnersOf self) ⌝ }
+    {
+        1 < winners(self.mask)
+    }
+}

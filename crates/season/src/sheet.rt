@@ -1,0 +1,137 @@
+// The season sheet: the sums over all runs of a season.
+use crate::run;
+use crate::run::Run;
+use gates::place::Place;
+ghost use mathlib.Core.Path.{_≡_};
+ghost use Prim.Native.Nat.{_*_, _≤_};
+ghost use lib.ListN.{length};
+ghost use Rattle.jury.specs.Reason.{firstOf};
+ghost use Rattle.season.specs.Season.{runBytes, mostRuns, firstRuns, runsIn, firstBadRun, totalsOf, reasonOf, reasonFor, totalsFor, sheetReasons, totalsAfter};
+ghost use Rattle.season.specs.Inner.{Small, SumsOf, plusRun};
+
+// The most bytes of a sheet: 4,096 runs.
+pub const MOST_BYTES: usize = 49152;
+
+// What the sheet tells: how many runs, their gates, conditional gates and ballots, and how many runs have several winners.
+pub struct Totals {
+    pub runs: usize,
+    pub gates: usize,
+    pub conditional: usize,
+    pub ballots: usize,
+    pub shared: usize,
+}
+
+// Why a sheet is turned away: its length, or the first bad run.
+pub enum Refusal {
+    Length,
+    BadRun(usize),
+}
+
+// The answer of a sheet.
+pub enum Answer {
+    Accepted(Totals),
+    Refused(Refusal),
+}
+
+impl Refusal {
+    // The number of the reason.
+    pub fn number(self) -> usize
+        ensures { λ r. ⌜ r ≡ (reasonOf self) .number ⌝ }
+    {
+        match self {
+            Refusal::Length => 21,
+            Refusal::BadRun(_) => 22,
+        }
+    }
+
+    // Its place, 0 where none is named.
+    pub fn place(self) -> usize
+        ensures { λ r. ⌜ r ≡ (reasonOf self) .place ⌝ }
+    {
+        match self {
+            Refusal::Length => 0,
+            Refusal::BadRun(i) => i,
+        }
+    }
+}
+
+impl Totals {
+    // The totals with one run more, of which there are few enough so far.
+    fn plus(self, run: Run) -> Totals
+        requires { ⌜ Small run ⌝ }
+        requires { ⌜ SumsOf 4096 self ⌝ }
+        ensures { λ r. ⌜ r ≡ plusRun self run ⌝ }
+    {
+        let mut shared = self.shared;
+        if run.is_shared() {
+            shared += 1;
+        }
+        Totals {
+            runs: self.runs + 1,
+            gates: self.gates + run.gates,
+            conditional: self.conditional + run.conditional,
+            ballots: self.ballots + run.ballots,
+            shared,
+        }
+    }
+}
+
+// The first of so many runs that is not good.
+fn first_bad(bytes: &[u8], runs: usize) -> Place
+    requires { ⌜ length (now bytes) ≡ runs * runBytes ⌝ }
+    ensures { λ r. ⌜ r ≡ firstBadRun 0 (firstRuns runs (now (bytes .entry))) ⌝ }
+{
+    let mut i = 0;
+    let mut at = 0;
+    while i < runs {
+        let end = at + run::RUN_BYTES;
+        if !Run::read(&bytes[at..end]).is_good() {
+            return Place::At(i);
+        }
+        i += 1;
+        at = end;
+    }
+    Place::Nowhere
+}
+
+// The sums over so many runs.
+fn sums(bytes: &[u8], runs: usize) -> Totals
+    requires { ⌜ length (now bytes) ≡ runs * runBytes ⌝ }
+    requires { ⌜ runs ≤ mostRuns ⌝ }
+    ensures { λ r. ⌜ r ≡ totalsOf (firstRuns runs (now (bytes .entry))) ⌝ }
+{
+    let mut totals = Totals {
+        runs: 0,
+        gates: 0,
+        conditional: 0,
+        ballots: 0,
+        shared: 0,
+    };
+    let mut done = 0;
+    let mut at = 0;
+    while done < runs {
+        let end = at + run::RUN_BYTES;
+        totals = totals.plus(Run::read(&bytes[at..end]));
+        done += 1;
+        at = end;
+    }
+    totals
+}
+
+// The sheet of any bytes. The length is tested before any run is looked at.
+pub fn sheet(bytes: &[u8]) -> Answer
+    ensures { λ r. ⌜ reasonFor r ≡ firstOf (sheetReasons (now (bytes .entry))) ⌝ }
+    ensures { λ r. ⌜ totalsFor r ≡ totalsAfter (firstOf (sheetReasons (now (bytes .entry)))) (totalsOf (runsIn (now (bytes .entry)))) ⌝ }
+{
+    if bytes.len() % run::RUN_BYTES != 0 {
+        return Answer::Refused(Refusal::Length);
+    }
+    if MOST_BYTES < bytes.len() {
+        return Answer::Refused(Refusal::Length);
+    }
+    let runs = bytes.len() / run::RUN_BYTES;
+    match first_bad(bytes, runs) {
+        Place::At(i) => Answer::Refused(Refusal::BadRun(i)),
+        Place::Nowhere => Answer::Accepted(sums(bytes, runs)),
+    }
+}
