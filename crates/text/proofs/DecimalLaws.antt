@@ -1,14 +1,16 @@
 -- Numbers in decimal: what is written is read back, and what is read is what is written.
 -- Assumes nothing.
-use mathlib.Core.Path.{_≡_, _∙_, refl, sym, ap}
+use mathlib.Core.Path.{_≡_, _∙_, refl, sym, ap, subst}
 use mathlib.Core.Bool.{Bool, true, false, cond, _&&_}
 use mathlib.Core.Option.{Option, none, some, Option·some-injective, Option·none-ne-some}
 use mathlib.Core.List.{List, [], _∷_, _++_, append-assoc}
 use Prim.Native.Nat.{ℕ, zero, suc, _+_, _-_, _*_, _/_, _%_, _^_, _≤_, _<_}
-use native.Mathlib.Nat.{pow-succ'}
+use native.Mathlib.Nat.{pow-succ', one-le-pow}
+use native.Mathlib.Numerals.{add-one}
 use native.Mathlib.Omega.{arith}
 use lib.Dec.{leb, ltb, eqb}
-use lib.ListN.{length}
+use lib.ListN.{length, getD, drop, length-append, drop-of-length-le}
+use lib.Seq.{drop-cons}
 use borrow.Author.Tests.{lt-ltb, le-ltb, le-leb, lt-leb, ne-eqb, ltb-true, ltb-false, leb-true, leb-false, eqb-true, eqb-false}
 use Rattle.text.specs.Decimal.{decimalWithin, decimal, isDigit, Taken, taken, digitsIn, numberIn}
 
@@ -92,6 +94,10 @@ spare (suc f) n h = by (ltb n 10) refl (spare f (n / 10) (tenth (suc f) n h))
         let more = ltb-false n 10 e in
         more-digits (suc (suc f)) n more ∙ ap (λ (l : List ℕ). l ++ (48 + n % 10) ∷ []) ih ∙ sym (more-digits (suc f) n more)
 
+pub decimal-one : (n : ℕ) → n < 10 → decimal n ≡ (48 + n) ∷ []
+unfolding decimal
+decimal-one n h = one-digit 9 n h
+
 -- a digit behind a number above 0
 pub decimal-more : (n d : ℕ) → 0 < n → d < 10 → 10 * n + d ≤ 4294967295 → decimal (10 * n + d) ≡ decimal n ++ (48 + d) ∷ []
 unfolding decimal
@@ -104,7 +110,7 @@ decimal-more n d pos small fits =
     ∙ ap (λ (l : List ℕ). l ++ (48 + d) ∷ []) (sym (spare 8 n (omega arith)))
 
 -- what a digit is
-digit-is : (c : ℕ) → isDigit c ≡ true → (c ≡ 48 + (c - 48)) × (c - 48 < 10)
+pub digit-is : (c : ℕ) → isDigit c ≡ true → (c ≡ 48 + (c - 48)) × (c - 48 < 10)
 unfolding isDigit
 digit-is c e = by (leb 48 c) (leb c 57) refl refl e
   where
@@ -181,3 +187,73 @@ wrote-number (c ∷ cs) n rest e = digit (isDigit c) refl e
     digit : (t : Bool) → isDigit c ≡ t → cond t (cond (eqb c 48) (taken 0 cs) (digitsIn (c - 48) cs)) none ≡ taken n rest → Wrote (c ∷ cs) n rest
     digit true d e = first d (eqb c 48) refl e
     digit false d e = nothing e
+
+-- How many digits a number has.
+abbrev pub Least : ℕ → ℕ → Type 0
+Least zero n = Unit {0}
+Least (suc j) n = 10 ^ suc j ≤ n
+
+digits-count : (f j n : ℕ) → n < 10 ^ suc f → n < 10 ^ suc j → Least j n → length (decimalWithin (suc f) n) ≡ suc j
+digits-count f zero n small few l = ap length (one-digit f n (omega arith))
+digits-count zero (suc j) n small few l =
+    let p = pow-succ' 10 j in
+    let q = one-le-pow j 10 (omega arith) in
+    absurd (omega arith)
+digits-count (suc f) (suc j) n small few l =
+    let p = pow-succ' 10 j in
+    let q = one-le-pow j 10 (omega arith) in
+    ap length (more-digits (suc f) n (omega arith))
+    ∙ length-append (decimalWithin (suc f) (n / 10)) ((48 + n % 10) ∷ [])
+    ∙ add-one (length (decimalWithin (suc f) (n / 10)))
+    ∙ ap suc (digits-count f j (n / 10) (tenth (suc f) n small) (tenth (suc j) n few) (least-tenth j n l))
+  where
+    least-tenth : (j n : ℕ) → 10 ^ suc j ≤ n → Least j (n / 10)
+    least-tenth zero n l = tt
+    least-tenth (suc j) n l = let p = pow-succ' 10 (suc j) in omega arith
+
+pub count-is : (j n : ℕ) → n ≤ 4294967295 → n < 10 ^ suc j → Least j n → length (decimal n) ≡ suc j
+unfolding decimal
+count-is j n fits few l = digits-count 9 j n (omega arith) few l
+
+-- A reading of digits from a place of a text on.
+module _ (n : ℕ) (text : List ℕ) (i : ℕ) where
+  pub digits-stop : i < length text → isDigit (getD text i 0) ≡ false → digitsIn n (drop i text) ≡ taken n (drop i text)
+  digits-stop h e = digits-end n (drop i text) (subst Apart (sym (drop-cons text i 0 h)) e)
+
+  pub digits-all : length text ≤ i → digitsIn n (drop i text) ≡ taken n (drop i text)
+  digits-all h = digits-end n (drop i text) (subst Apart (sym (drop-of-length-le text {i = i} h)) tt)
+
+  pub digits-step : i < length text → isDigit (getD text i 0) ≡ true → 10 * n + (getD text i 0 - 48) ≤ 4294967295
+      → digitsIn n (drop i text) ≡ digitsIn (10 * n + (getD text i 0 - 48)) (drop (suc i) text)
+  unfolding digitsIn
+  digits-step h e fits = rw (drop-cons text i 0 h, e, le-leb (10 * n + (getD text i 0 - 48)) 4294967295 fits)
+
+  pub digits-over : i < length text → isDigit (getD text i 0) ≡ true → 4294967295 < 10 * n + (getD text i 0 - 48) → digitsIn n (drop i text) ≡ none
+  unfolding digitsIn
+  digits-over h e over = rw (drop-cons text i 0 h, e, lt-leb (10 * n + (getD text i 0 - 48)) 4294967295 over)
+
+-- The number at a place of a text.
+module _ (text : List ℕ) (i : ℕ) where
+  pub number-none : length text ≤ i → numberIn (drop i text) ≡ none
+  unfolding numberIn
+  number-none h = rw (drop-of-length-le text {i = i} h)
+
+  pub number-other : i < length text → isDigit (getD text i 0) ≡ false → numberIn (drop i text) ≡ none
+  unfolding numberIn
+  number-other h e = rw (drop-cons text i 0 h, e)
+
+  pub number-zero : i < length text → getD text i 0 ≡ 48 → numberIn (drop i text) ≡ taken 0 (drop (suc i) text)
+  unfolding numberIn isDigit
+  number-zero h e = rw (drop-cons text i 0 h, e)
+
+  pub number-digits : i < length text → isDigit (getD text i 0) ≡ true → (getD text i 0 ≡ 48 → ⊥) → numberIn (drop i text) ≡ digitsIn (getD text i 0 - 48) (drop (suc i) text)
+  unfolding numberIn
+  number-digits h e ne = rw (drop-cons text i 0 h, e, ne-eqb (getD text i 0) 48 ne)
+
+pub length-positive : (n : ℕ) → 0 < length (decimal n)
+unfolding decimal decimalWithin
+length-positive n = by (ltb n 10)
+  where
+    by : (t : Bool) → 0 < length (cond t ((48 + n) ∷ []) (decimalWithin 9 (n / 10) ++ (48 + n % 10) ∷ []))
+    by true = omega arith
+    by false = omega (arith, length-append (decimalWithin 9 (n / 10)) ((48 + n % 10) ∷ []))

@@ -1,3 +1,5 @@
 pub mod DecimalLaws
 pub mod LineLaws
 pub mod TextLaws
+pub mod Found
+pub mod Storing
