@@ -3,3 +3,5 @@ pub mod LineLaws
 pub mod TextLaws
 pub mod Found
 pub mod Storing
+pub mod Scanning
+pub mod Reasons

@@ -97,12 +97,12 @@ flatten-lines (c ∷ cs) = by (eqb c 10) (flatten-lines cs)
     by false ih = flatten-front c (linesOf cs) ∙ ap (λ (l : List ℕ). c ∷ l) ih
 
 -- a text that is not empty has a line
-record FirstLine (cs : List ℕ) : Type 0 where
-  line : List ℕ
-  later : List (List ℕ)
-  is : linesOf cs ≡ line ∷ later
+pub record FirstLine (cs : List ℕ) : Type 0 where
+  pub line : List ℕ
+  pub later : List (List ℕ)
+  pub is : linesOf cs ≡ line ∷ later
 
-first-line : (c : ℕ) (cs : List ℕ) → FirstLine (c ∷ cs)
+pub first-line : (c : ℕ) (cs : List ℕ) → FirstLine (c ∷ cs)
 unfolding linesOf
 first-line c cs = by (eqb c 10) refl
   where

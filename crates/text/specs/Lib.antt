@@ -3,3 +3,5 @@ pub mod Line
 pub mod Text
 pub mod Answer
 pub mod Inner
+pub mod Write
+pub mod Read

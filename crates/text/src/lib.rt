@@ -2,3 +2,7 @@
 pub mod answer;
 mod decimal;
 mod line;
+mod print;
+pub mod read;
+mod scan;
+pub mod write;
