@@ -5,3 +5,4 @@ pub mod Found
 pub mod Storing
 pub mod Scanning
 pub mod Reasons
+pub mod Whole
