@@ -6,3 +6,4 @@ pub mod Storing
 pub mod Scanning
 pub mod Reasons
 pub mod Whole
+pub mod RoundTrip

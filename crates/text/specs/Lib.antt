@@ -5,3 +5,4 @@ pub mod Answer
 pub mod Inner
 pub mod Write
 pub mod Read
+pub mod RoundTrip
