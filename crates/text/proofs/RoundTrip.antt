@@ -94,9 +94,10 @@ back s table output numbers n e room =
     let written : take n (textWritten s table output) ≡ text = ap (take n) (sym (text-accepted s table output (p .0) .1)) ∙ take-at text (drop (length text) output) n (p .1) in
     let none-applies = numbers-good s text numbers (t .within) (omega (arith, f .enough, l .as-many)) (omega (arith, f .few, l .as-many)) (l .all-gates 0) (ap (firstBad (ballotBytes s) 0) (l .read-back) ∙ f .good) (omega arith) in
     let r = read-accepted s text numbers none-applies in
-    let same : numbersOf (gatesIn (linesOf text)) ≡ table = ap numbersOf (l .read-back) ∙ whole in
-    (ap (λ (x : List ℕ). readSaid s x numbers) written ∙ sym (r .0) ∙ ap (λ (k : ℕ). accepted k) long,
-        ap (λ (x : List ℕ). numbersRead s x numbers) written ∙ sym (r .1) ∙ ap (λ (x : List ℕ). x ++ drop (length x) numbers) same)
+    let same : numbersOf (gatesIn (linesOf text)) ≡ table = ap numbersOf (l .read-back) ∙ whole in (
+      ap (λ (x : List ℕ). readSaid s x numbers) written ∙ sym (r .0) ∙ ap (λ (k : ℕ). accepted k) long,
+      ap (λ (x : List ℕ). numbersRead s x numbers) written ∙ sym (r .1) ∙ ap (λ (x : List ℕ). x ++ drop (length x) numbers) same,
+    )
 
 forth : (s : Shape) (text numbers output : List ℕ) (n : ℕ) → readSaid s text numbers ≡ accepted n → length text ≤ length output
     → (textSaid s (take n (numbersRead s text numbers)) output ≡ accepted (length text))
@@ -114,9 +115,10 @@ forth s text numbers output n e room =
     let ok = good-list-accepted (ballotBytes s) (s .candidates) gs good (omega (arith, f .enough, many)) (omega (arith, f .few, many)) in
     let passes = test-passed-back s ns (f .limits) (length gs) (conditionalCount gs) ok in
     let same : textOf (gatesOf ns) ≡ text = ap textOf (read-whole gs) ∙ sym (text-is text (f .all-gates)) in
-    let w = text-accepted s ns output (text-good s ns output passes (omega (arith, ap length same))) in
-    (ap (λ (x : List ℕ). textSaid s x output) read ∙ sym (w .0) ∙ ap (λ (x : List ℕ). accepted (length x)) same,
-        ap (λ (x : List ℕ). textWritten s x output) read ∙ sym (w .1) ∙ ap (λ (x : List ℕ). x ++ drop (length x) output) same)
+    let w = text-accepted s ns output (text-good s ns output passes (omega (arith, ap length same))) in (
+      ap (λ (x : List ℕ). textSaid s x output) read ∙ sym (w .0) ∙ ap (λ (x : List ℕ). accepted (length x)) same,
+      ap (λ (x : List ℕ). textWritten s x output) read ∙ sym (w .1) ∙ ap (λ (x : List ℕ). x ++ drop (length x) output) same,
+    )
 
 pub round-trip : RoundTrip
 round-trip = record { back = back; forth = forth }

@@ -48,20 +48,36 @@ pub(crate) fn gate_at(text: &[u8], at: usize) -> Line
     ensures { λ r. ⌜ lineFound (now (text .entry)) r ≡ gateIn (drop at (now (text .entry))) ⌝ }
     ensures { λ r. ⌜ LineWithin (now (text .entry)) r ⌝ }
 {
-    let Found::Value { value: kind, next: kind_end } = decimal::number(text, at) else {
+    let Found::Value {
+        value: kind,
+        next: kind_end,
+    } = decimal::number(text, at)
+    else {
         return Line::Other;
     };
     if 7 < kind {
         return Line::Other;
     }
     let count = gates::kind::operands(kind);
-    let Found::Value { value: a, next: a_end } = operand(0 < count, text, kind_end) else {
+    let Found::Value {
+        value: a,
+        next: a_end,
+    } = operand(0 < count, text, kind_end)
+    else {
         return Line::Other;
     };
-    let Found::Value { value: b, next: b_end } = operand(1 < count, text, a_end) else {
+    let Found::Value {
+        value: b,
+        next: b_end,
+    } = operand(1 < count, text, a_end)
+    else {
         return Line::Other;
     };
-    let Found::Value { value: c, next: c_end } = operand(2 < count, text, b_end) else {
+    let Found::Value {
+        value: c,
+        next: c_end,
+    } = operand(2 < count, text, b_end)
+    else {
         return Line::Other;
     };
     if text.len() <= c_end {

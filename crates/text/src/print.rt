@@ -44,14 +44,7 @@ fn put_operand(used: bool, n: u32, at: usize, output: &mut [u8]) -> usize
 }
 
 // Puts a gate's line, and answers the place behind it.
-pub(crate) fn put_line(
-    kind: u32,
-    a: u32,
-    b: u32,
-    c: u32,
-    at: usize,
-    output: &mut [u8],
-) -> usize
+pub(crate) fn put_line(kind: u32, a: u32, b: u32, c: u32, at: usize, output: &mut [u8]) -> usize
     requires { ⌜ at + length (lineOf (record { kind = kind; a = a; b = b; c = c })) ≤ length (now output) ⌝ }
     ensures { λ r. ⌜ r ≡ at + length (lineOf (record { kind = kind; a = a; b = b; c = c })) ⌝ }
     ensures { λ _. ⌜ now (output .exit) ≡ sets (now (output .entry)) at (lineOf (record { kind = kind; a = a; b = b; c = c })) ⌝ }

@@ -49,7 +49,8 @@ pub(crate) fn first_other(text: &[u8]) -> Place
             b: _,
             c: _,
             next,
-        } = line::gate_at(text, at) else {
+        } = line::gate_at(text, at)
+        else {
             return Place::At(i);
         };
         at = next;
@@ -85,7 +86,14 @@ pub(crate) fn first_bad(inputs: usize, text: &[u8]) -> Place
     let mut at = 0;
     let mut i = 0;
     while at < text.len() {
-        let Line::Gate { kind, a, b, c, next } = line::gate_at(text, at) else {
+        let Line::Gate {
+            kind,
+            a,
+            b,
+            c,
+            next,
+        } = line::gate_at(text, at)
+        else {
             return Place::Nowhere;
         };
         if !is_good(inputs + i, kind, a, b, c) {
@@ -106,7 +114,14 @@ pub(crate) fn put_gates(text: &[u8], output: &mut [u32])
     let mut at = 0;
     let mut i = 0;
     while at < text.len() {
-        let Line::Gate { kind, a, b, c, next } = line::gate_at(text, at) else {
+        let Line::Gate {
+            kind,
+            a,
+            b,
+            c,
+            next,
+        } = line::gate_at(text, at)
+        else {
             return;
         };
         output[i] = kind;

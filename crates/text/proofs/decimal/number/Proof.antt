@@ -60,9 +60,11 @@ digits-requires c κs = search needs
 returns-4 : tie.Need-returns-4
 returns-4 c =
     let a = c .before .before .before .before .before .before .before .args in
-    let text = a .text .now in
-    (c .digits .ensures .0 ∙ ap (λ (k : ℕ). digitsIn (getD text (a .at) 0 - 48) (drop k text)) (add-one (a .at))
-        ∙ sym (number-digits text (a .at) (omega arith) (is-digit-here (c .before .before)) (c .before .if3 .left)), c .digits .ensures .1)
+    let text = a .text .now in (
+      c .digits .ensures .0 ∙ ap (λ (k : ℕ). digitsIn (getD text (a .at) 0 - 48) (drop k text)) (add-one (a .at))
+          ∙ sym (number-digits text (a .at) (omega arith) (is-digit-here (c .before .before)) (c .before .if3 .left)),
+      c .digits .ensures .1,
+    )
 
 pub number-spec : {M : Type 1} → statement M
 number-spec =

@@ -48,9 +48,11 @@ number-requires c κs = search needs
 
 returns-4 : tie.Need-returns-4
 returns-4 c =
-    let a = c .before .before .before .before .before .before .args in
-    (c .number .ensures .0 ∙ ap (λ (k : ℕ). numberIn (drop k (a .text .now))) (add-one (a .at))
-        ∙ sym (in-use (c .before .before .before .before) ∙ operand-number (a .text .now) (a .at) (c .before .before .before .if2 .left) (c .before .if3 .left)), c .number .ensures .1)
+    let a = c .before .before .before .before .before .before .args in (
+      c .number .ensures .0 ∙ ap (λ (k : ℕ). numberIn (drop k (a .text .now))) (add-one (a .at))
+          ∙ sym (in-use (c .before .before .before .before) ∙ operand-number (a .text .now) (a .at) (c .before .before .before .if2 .left) (c .before .if3 .left)),
+      c .number .ensures .1,
+    )
 
 pub operand-spec : {M : Type 1} → statement M
 operand-spec =

@@ -44,9 +44,10 @@ same-length c =
 returns-2 : tie.Need-returns-2
 returns-2 c =
     let a = c .before .before .before .before .before .before .args in
-    let p = c .before .before .put .ensures in
-    (omega (arith, p .0, ap length (in-use (c .before .before .before .before))),
-        p .1 ∙ ap (λ (k : ℕ). sets (set (a .output .now) (a .at) 32) k (decimal (a .n))) (add-one (a .at)) ∙ sym (ap (sets (a .output .now) (a .at)) (in-use (c .before .before .before .before))))
+    let p = c .before .before .put .ensures in (
+      omega (arith, p .0, ap length (in-use (c .before .before .before .before))),
+      p .1 ∙ ap (λ (k : ℕ). sets (set (a .output .now) (a .at) 32) k (decimal (a .n))) (add-one (a .at)) ∙ sym (ap (sets (a .output .now) (a .at)) (in-use (c .before .before .before .before))),
+    )
 
 pub put-operand-spec : {M : Type 1} → statement M
 put-operand-spec =
