@@ -1,21 +1,18 @@
 -- A table or a list read gate by gate: what the layers above use of it. They open none of the gate layer's definitions.
 -- Assumes nothing.
-use mathlib.Core.Path.{_≡_, _∙_, refl, sym, ap, subst}
+use mathlib.Core.Path.{_≡_, _∙_, refl, sym, ap}
 use mathlib.Core.Bool.{Bool, true, false, cond, _&&_}
 use mathlib.Core.List.{List, [], _∷_}
-use Prim.Native.Nat.{ℕ, suc, _+_, _*_, _%_}
-use native.Mathlib.Nat.{add-zero}
+use Prim.Native.Nat.{ℕ, suc, _+_, _*_, _%_, _<_}
 use native.Mathlib.Omega.{arith}
 use lib.Dec.{T, ltb, eqb→eq}
 use lib.ListN.{length, getD}
+use borrow.Author.Tests.{lt-ltb, eq-eqb}
 use Rattle.gates.specs.Kind.{operandsOf}
 use Rattle.gates.specs.Gate.{Gate, gatesOf, numbersOf}
-use Rattle.gates.specs.Board.{conditionalCount}
 use Rattle.gates.specs.Step.{gateAt}
-use Rattle.gates.specs.Test.{goodOperand, goodGate, firstBad, judged, tested}
-use Rattle.gates.specs.declared.place.Place.{Place}
+use Rattle.gates.specs.Test.{goodOperand, goodGate, firstBad}
 use Rattle.gates.specs.declared.place.Place.the-variants.{At, Nowhere}
-use Rattle.gates.specs.declared.list.Tested.the-variants.{Accepted, BadGate}
 use Rattle.gates.proofs.Goodness.{and-left, and-right}
 
 -- gate g by its four numbers
@@ -49,13 +46,6 @@ pub first-bad-cons : (inputs g : ℕ) (x : Gate) (xs : List Gate) → firstBad i
 unfolding firstBad
 first-bad-cons inputs g x xs = refl
 
--- the test of a list of one gate, for as many inputs as there are wires before it
-pub one-gate : (own k a b c : ℕ) (ok : Bool) → goodGate own (record { kind = k; a = a; b = b; c = c }) ≡ ok
-    → tested own 0 (k ∷ a ∷ b ∷ c ∷ []) ≡ cond ok (Accepted 1 (conditionalCount (record { kind = k; a = a; b = b; c = c } ∷ []))) (BadGate 0)
-unfolding tested firstBad gatesOf judged
-one-gate own k a b c true e = rw (add-zero own, e)
-one-gate own k a b c false e = rw (add-zero own, e)
-
 -- an operand of a good gate is 0 where it is not in use
 pub record Unused (g : Gate) : Type 0 where
   pub a-zero : ltb 0 (operandsOf (g .kind)) ≡ false → g .a ≡ 0
@@ -81,3 +71,22 @@ good-unused own g t =
       b-zero = unused-zero (ltb 1 n) own (g .b) (and-right (k && x) y tkxy);
       c-zero = unused-zero (ltb 2 n) own (g .c) (and-right (k && x && y) z t);
     }
+
+-- where the operands that are not in use are 0, a gate of a known kind is good as all its operands are below its own wire
+below-by : (used : Bool) (own x : ℕ) → 0 < own → (used ≡ false → x ≡ 0) → goodOperand used own x ≡ ltb x own
+unfolding goodOperand
+below-by true own x pos h = refl
+below-by false own x pos h =
+    let z = h refl in
+    eq-eqb x 0 z ∙ sym (lt-ltb x own (omega arith))
+
+pub good-by : (own : ℕ) (g : Gate) → 0 < own → g .kind < 8 → Unused g → goodGate own g ≡ (ltb (g .a) own && ltb (g .b) own && ltb (g .c) own)
+unfolding goodGate
+good-by own g pos known u =
+    let n = operandsOf (g .kind) in
+    rw (
+      lt-ltb (g .kind) 8 known,
+      below-by (ltb 0 n) own (g .a) pos (u .a-zero),
+      below-by (ltb 1 n) own (g .b) pos (u .b-zero),
+      below-by (ltb 2 n) own (g .c) pos (u .c-zero),
+    )

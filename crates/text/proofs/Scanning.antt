@@ -1,24 +1,21 @@
 -- A text read from line to line: what a line that was read at a place says of the lines from there on.
 -- Assumes nothing.
 use mathlib.Core.Path.{_≡_, _∙_, refl, sym, ap, subst}
-use mathlib.Core.Bool.{Bool, true, false, cond}
+use mathlib.Core.Bool.{Bool, true, false, cond, _&&_}
 use mathlib.Core.Option.{Option, none, some}
 use mathlib.Core.List.{List, [], _∷_}
 use Prim.Native.Nat.{ℕ, zero, suc, _+_, _-_, _≤_, _<_}
 use native.Mathlib.Nat.{add-zero}
 use native.Mathlib.Omega.{arith}
-use lib.Dec.{eqb}
+use lib.Dec.{ltb, eqb}
 use lib.ListN.{length, getD, drop, length-drop, drop-of-length-le}
 use lib.Seq.{drop-cons}
 use borrow.Author.Tests.{eq-eqb, ne-eqb}
 use Rattle.gates.specs.Gate.{Gate}
-use Rattle.gates.specs.Board.{conditionalCount}
-use Rattle.gates.specs.Test.{goodGate, firstBad, tested}
+use Rattle.gates.specs.Test.{goodGate, firstBad}
 use Rattle.gates.specs.declared.place.Place.{Place}
 use Rattle.gates.specs.declared.place.Place.the-variants.{At, Nowhere}
-use Rattle.gates.specs.declared.list.Tested.{Tested}
-use Rattle.gates.specs.declared.list.Tested.the-variants.{Accepted, BadGate}
-use Rattle.gates.proofs.Reading.{first-bad-nil, first-bad-cons, one-gate}
+use Rattle.gates.proofs.Reading.{first-bad-nil, first-bad-cons, good-by}
 use Rattle.text.specs.Decimal.{taken}
 use Rattle.text.specs.Line.{gateIn, gateOf}
 use Rattle.text.specs.Text.{inFront, linesOf, otherAt, firstOther, gatesIn}
@@ -53,6 +50,12 @@ module _ (text : List ℕ) (at : ℕ) (r : Line) (e : lineFound text r ≡ gateI
 
     pub later-lines : length (linesOf (drop at text)) ≡ suc (length (linesOf (drop next text)))
     later-lines = ap length (gate-first (drop at text) (record { value = gate kind a b c; behind = drop next text }) gate-here .lines)
+
+    -- a gate that was read is good as all its operands are below its own wire
+    pub good-here : (own : ℕ) → 0 < own → goodGate own (gate kind a b c) ≡ (ltb a own && ltb b own && ltb c own)
+    good-here own pos =
+        let w = gate-first (drop at text) (record { value = gate kind a b c; behind = drop next text }) gate-here .writable in
+        good-by own (gate kind a b c) pos (w .known) (record { a-zero = w .a-holds .unused; b-zero = w .b-holds .unused; c-zero = w .c-holds .unused })
 
     pub later-good : (inputs i : ℕ) → true ≡ goodGate (inputs + i) (gate kind a b c)
         → firstBad inputs i (gatesIn (linesOf (drop at text))) ≡ firstBad inputs (suc i) (gatesIn (linesOf (drop next text)))
@@ -98,28 +101,6 @@ nowhere-any (l ∷ ls) i j e = by (gateOf l) e (nowhere-any ls (suc i) (suc j))
     by : (o : Option Gate) → otherAt o i (firstOther (suc i) ls) ≡ Nowhere → (firstOther (suc i) ls ≡ Nowhere → firstOther (suc j) ls ≡ Nowhere) → otherAt o j (firstOther (suc j) ls) ≡ Nowhere
     by none e ih = let z : _≡_ {A = ℕ} 0 1 = cc in absurd (omega arith)
     by (some g) e ih = ih e
-
--- The test of a list of one gate says whether the gate is good.
-module _ (own kind a b c : ℕ) (t : Tested) (e : t ≡ tested own 0 (kind ∷ a ∷ b ∷ c ∷ [])) where
-  answer : Bool → Tested
-  answer ok = cond ok (Accepted 1 (conditionalCount (gate kind a b c ∷ []))) (BadGate 0)
-
-  pub good-is : (g n : ℕ) → t ≡ Accepted g n → true ≡ goodGate own (gate kind a b c)
-  unfolding answer
-  good-is g n p = by (goodGate own (gate kind a b c)) refl
-    where
-      by : (ok : Bool) → goodGate own (gate kind a b c) ≡ ok → true ≡ ok
-      by true q = refl
-      by false q =
-          let z : Accepted g n ≡ BadGate 0 = sym p ∙ e ∙ one-gate own kind a b c false q in
-          let y : _≡_ {A = ℕ} 0 1 = cc in absurd (omega arith)
-
-  pub bad-is : ((g n : ℕ) → t ≡ Accepted g n → ⊥) → false ≡ goodGate own (gate kind a b c)
-  bad-is no-way = by (goodGate own (gate kind a b c)) refl
-    where
-      by : (ok : Bool) → goodGate own (gate kind a b c) ≡ ok → false ≡ ok
-      by false q = refl
-      by true q = absurd (no-way 1 (conditionalCount (gate kind a b c ∷ [])) (e ∙ one-gate own kind a b c true q))
 
 -- The number of lines: the line feeds, and one more where characters stand behind the last of them.
 feeds : List ℕ → ℕ

@@ -1,14 +1,15 @@
 // A text line by line: one pass for each test, and one that puts the numbers.
 use crate::line;
 use crate::line::Line;
-use gates::list::Tested;
 use gates::place::Place;
 ghost use mathlib.Core.Path.{_≡_};
 ghost use Prim.Native.Nat.{_+_, _*_, _≤_, _<_};
 ghost use lib.ListN.{length};
 ghost use lib.Seq.{sets};
 ghost use Rattle.gates.specs.Gate.{numbersOf};
-ghost use Rattle.gates.specs.Test.{goodGate, firstBad};
+ghost use lib.Dec.{ltb};
+ghost use mathlib.Core.Bool.{_&&_};
+ghost use Rattle.gates.specs.Test.{firstBad};
 ghost use Rattle.gates.specs.declared.place.Place.the-variants.{Nowhere};
 ghost use Rattle.text.specs.Text.{linesOf, firstOther, gatesIn};
 
@@ -59,26 +60,22 @@ pub(crate) fn first_other(text: &[u8]) -> Place
     Place::Nowhere
 }
 
-// Whether a gate is good for its own wire: the gate layer's test of a list of this one gate, whose inputs are the wires
-// before it.
-fn is_good(own: usize, kind: u32, a: u32, b: u32, c: u32) -> bool
-    ensures { λ r. ⌜ r ≡ goodGate own (record { kind = kind; a = a; b = b; c = c }) ⌝ }
+// Whether all operands are below a wire. Those that are not in use are read as 0, which is below every gate's own wire.
+fn are_below(own: usize, a: u32, b: u32, c: u32) -> bool
+    ensures { λ r. ⌜ r ≡ (ltb a own && ltb b own && ltb c own) ⌝ }
 {
-    let numbers = [kind, a, b, c];
-    match gates::list::test(own, 0, &numbers) {
-        Tested::Accepted {
-            gates: _,
-            conditional: _,
-        } => true,
-        Tested::PartOfAGate => false,
-        Tested::TooFewGates => false,
-        Tested::TooManyGates => false,
-        Tested::BadGate(_) => false,
+    if own <= a as usize {
+        return false;
     }
+    if own <= b as usize {
+        return false;
+    }
+    (c as usize) < own
 }
 
 // The first gate that is not good, of a text whose lines are all gates.
 pub(crate) fn first_bad(inputs: usize, text: &[u8]) -> Place
+    requires { ⌜ 0 < inputs ⌝ }
     requires { ⌜ inputs < 4294967296 ⌝ }
     requires { ⌜ firstOther 0 (linesOf (now text)) ≡ Nowhere ⌝ }
     ensures { λ r. ⌜ r ≡ firstBad inputs 0 (gatesIn (linesOf (now (text .entry)))) ⌝ }
@@ -96,7 +93,7 @@ pub(crate) fn first_bad(inputs: usize, text: &[u8]) -> Place
         else {
             return Place::Nowhere;
         };
-        if !is_good(inputs + i, kind, a, b, c) {
+        if !are_below(inputs + i, a, b, c) {
             return Place::At(i);
         }
         at = next;

@@ -3,7 +3,9 @@
 use mathlib.Core.Path.{_≡_, _∙_, refl, sym, ap}
 use mathlib.Core.Bool.{true}
 use Prim.Native.Nat.{ℕ, _*_, _<_, _≤_}
+use native.Mathlib.Nat.{mul-pos, le-trans}
 use native.Mathlib.Omega.{arith}
+use lib.Dec.{lit≤}
 use lib.ListN.{length}
 use lib.Seq.{length-sets}
 use borrow.Author.Tests.{not-true, not-false}
@@ -54,6 +56,13 @@ inputs-few c =
     let s = c .before .before .before .before .before .before .before .before .before .before .before .before .args .shape in
     omega (arith, c .ballot-bytes .ensures, bytes-are s, bytes-bound s (within s (limits (c .before .before .before .before .before .before .before .before))))
 
+inputs-some : (c : tie.After-ballot-bytes) → 0 < c .ballot-bytes .result
+inputs-some c =
+    let s = c .before .before .before .before .before .before .before .before .before .before .before .before .args .shape in
+    let w = within s (limits (c .before .before .before .before .before .before .before .before)) in
+    let q = mul-pos (mul-pos (w .n-least) (w .k-least)) (le-trans (lit≤ tt) (w .d-least)) in
+    omega (arith, c .ballot-bytes .ensures, bytes-are s)
+
 tested : (c : tie.After-first-bad) → firstBad (ballotBytes (c .before .before .before .before .before .before .before .before .before .before .before .before .before .args .shape)) 0 (gatesIn (linesOf (c .before .before .before .before .before .before .before .before .before .before .before .before .before .args .text .now))) ≡ c .first-bad .result
 tested c = sym (c .first-bad .ensures ∙ ap (λ (n : ℕ). firstBad n 0 (gatesIn (linesOf (c .before .before .before .before .before .before .before .before .before .before .before .before .before .args .text .now)))) (c .before .ballot-bytes .ensures))
 
@@ -98,7 +107,7 @@ ballot-bytes-requires : tie.Need-ballot-bytes-requires
 ballot-bytes-requires c κs = true-T (withinLimits (c .before .before .before .before .before .before .before .before .before .before .before .args .shape)) (limits (c .before .before .before .before .before .before .before))
 
 first-bad-requires : tie.Need-first-bad-requires
-first-bad-requires c κs = (inputs-few c, gates-all (c .before))
+first-bad-requires c κs = (inputs-some c, (inputs-few c, gates-all (c .before)))
 
 enum-known-g : tie.Need-enum-known-g
 enum-known-g c = search needs

@@ -1,14 +1,14 @@
 -- `text::scan::first_bad` meets its contract.
 -- Assumes nothing.
 use mathlib.Core.Path.{_≡_, _∙_, refl, sym, ap}
-use Prim.Native.Nat.{ℕ, suc, _-_, _≤_}
+use Prim.Native.Nat.{ℕ, _+_, _-_, _≤_}
 use native.Mathlib.Numerals.{add-one}
 use lib.ListN.{length, drop}
 use borrow.Author.Tests.{not-true, not-false}
 use Rattle.gates.specs.Test.{firstBad}
 use Rattle.gates.specs.declared.place.Place.the-variants.{Nowhere}
 use Rattle.text.specs.Text.{linesOf, firstOther, gatesIn}
-use Rattle.text.proofs.Scanning.{next-within, next-later, later-other, later-good, here-bad, here-other, bad-end, not-both, nowhere-any}
+use Rattle.text.proofs.Scanning.{next-within, next-later, later-other, good-here, later-good, here-bad, here-other, bad-end, not-both, nowhere-any}
 use native.Mathlib.Omega.{arith}
 use borrow.Author.Needs.{needs}
 use Rattle.text.proofs.scan.first_bad.Statement.{statement}
@@ -22,7 +22,7 @@ abbrev μ-loop : tie.MeasureT-loop
 μ-loop inputs text at₀ i₀ at i = length text - at
 
 loop-holds : tie.Need-loop-holds Inv-loop μ-loop
-loop-holds c = (omega arith, omega arith, c .before .pre .1, refl)
+loop-holds c = (omega arith, omega arith, c .before .pre .1 .1, refl)
 
 gate-at-requires : tie.Need-gate-at-requires Inv-loop μ-loop
 gate-at-requires c κs = search needs
@@ -40,18 +40,18 @@ returns c =
     let r = c .before .before .gate-at in
     not-both (firstOther 0 (linesOf (drop (l .at) text))) 0 (here-other text (l .at) (r .result) (r .ensures .0) (r .ensures .1) (c .enum-told .given .1) (c .before .before .before .loop-test .taken) 0) (l .inv .2)
 
-add-is-good : tie.Need-add-is-good Inv-loop μ-loop
-add-is-good c = omega arith
+add-are-below : tie.Need-add-are-below Inv-loop μ-loop
+add-are-below c = omega arith
 
-is-good-requires : tie.Need-is-good-requires Inv-loop μ-loop
-is-good-requires c κs = search needs
+are-below-requires : tie.Need-are-below-requires Inv-loop μ-loop
+are-below-requires c κs = search needs
 
 returns-2 : tie.Need-returns-2 Inv-loop μ-loop
 returns-2 c =
     let l = c .before .before .before .before .before .before .before .loop in
     let a = c .before .before .before .before .before .before .before .before .before .args in
     let r = c .before .before .before .before .before .gate-at in
-    sym (here-bad (a .text .now) (l .at) (r .result) (r .ensures .0) (r .ensures .1) _ _ _ _ _ (c .before .before .before .kind .given .1) (a .inputs) (l .i) (sym (not-true (c .before .is-good .result) (c .if1 .taken)) ∙ c .before .is-good .ensures)) ∙ l .inv .3
+    sym (here-bad (a .text .now) (l .at) (r .result) (r .ensures .0) (r .ensures .1) _ _ _ _ _ (c .before .before .before .kind .given .1) (a .inputs) (l .i) (sym (not-true (c .before .are-below .result) (c .if1 .taken)) ∙ c .before .are-below .ensures ∙ sym (good-here (a .text .now) (l .at) (r .result) (r .ensures .0) (r .ensures .1) _ _ _ _ _ (c .before .before .before .kind .given .1) (a .inputs + l .i) (omega (arith, c .before .before .before .before .before .before .before .before .before .pre .0))))) ∙ l .inv .3
 
 add-i : tie.Need-add-i Inv-loop μ-loop
 add-i c = omega arith
@@ -71,7 +71,7 @@ loop-again c =
     let g = c .before .before .before .kind .given in
     let next = g .0 .1 .1 .1 .1 .0 in
     let later = next-later text (l .at) (r .result) (r .ensures .0) (r .ensures .1) _ _ _ _ next (g .1) in
-    let good = sym (not-false (c .before .is-good .result) (c .if1 .left)) ∙ c .before .is-good .ensures in (
+    let good = sym (not-false (c .before .are-below .result) (c .if1 .left)) ∙ c .before .are-below .ensures ∙ sym (good-here text (l .at) (r .result) (r .ensures .0) (r .ensures .1) _ _ _ _ next (g .1) (a .inputs + l .i) (omega (arith, c .before .before .before .before .before .before .before .before .before .pre .0))) in (
       next-within text (l .at) (r .result) (r .ensures .0) (r .ensures .1) _ _ _ _ next (g .1),
       omega arith,
       nowhere-any (linesOf (drop next text)) 1 0 (sym (later-other text (l .at) (r .result) (r .ensures .0) (r .ensures .1) _ _ _ _ next (g .1) 0) ∙ l .inv .2),
@@ -95,8 +95,8 @@ first-bad-spec =
     enum-known-kind
     enum-told
     returns
-    add-is-good
-    is-good-requires
+    add-are-below
+    are-below-requires
     returns-2
     add-i
     loop-less
