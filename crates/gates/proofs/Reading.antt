@@ -8,10 +8,10 @@ use native.Mathlib.Omega.{arith}
 use lib.Dec.{T, ltb, eqb→eq}
 use lib.ListN.{length, getD}
 use borrow.Author.Tests.{lt-ltb, eq-eqb}
-use Rattle.gates.specs.Kind.{operandsOf}
-use Rattle.gates.specs.Gate.{Gate, gatesOf, numbersOf}
-use Rattle.gates.specs.Step.{gateAt}
-use Rattle.gates.specs.Test.{goodOperand, goodGate, firstBad}
+use Rattle.gates.specs.Open.Kind.{operandsOf}
+use Rattle.gates.specs.Open.Gate.{Gate, gatesOf, numbersOf}
+use Rattle.gates.specs.Open.Step.{gateAt}
+use Rattle.gates.specs.Open.Test.{goodOperand, goodGate, firstBad}
 use Rattle.gates.specs.declared.place.Place.the-variants.{At, Nowhere}
 use Rattle.gates.proofs.Goodness.{and-left, and-right}
 
