@@ -1,6 +1,7 @@
 // One gate as a line: out of a text, or into one.
 use crate::decimal;
 use crate::decimal::Found;
+use gates::kind;
 ghost use mathlib.Core.Path.{_≡_};
 ghost use Prim.Native.Nat.{_+_, _≤_};
 ghost use lib.ListN.{length, drop};
@@ -58,7 +59,8 @@ pub(crate) fn gate_at(text: &[u8], at: usize) -> Line
     if 7 < kind {
         return Line::Other;
     }
-    let count = gates::kind::operands(kind);
+    let counts = kind::OPERANDS;
+    let count = kind::operands(&counts, kind);
     let Found::Value {
         value: a,
         next: a_end,

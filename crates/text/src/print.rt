@@ -1,5 +1,6 @@
 // One gate as a line, put into a text.
 use crate::decimal;
+use gates::kind;
 ghost use mathlib.Core.Path.{_≡_};
 ghost use Prim.Native.Nat.{_+_, _≤_};
 ghost use lib.ListN.{length};
@@ -22,7 +23,8 @@ pub(crate) fn line_length(kind: u32, a: u32, b: u32, c: u32) -> usize
     ensures { λ r. ⌜ r ≡ length (lineOf (record { kind = kind; a = a; b = b; c = c })) ⌝ }
     ensures { λ r. ⌜ r ≤ 44 ⌝ }
 {
-    let count = gates::kind::operands(kind);
+    let counts = kind::OPERANDS;
+    let count = kind::operands(&counts, kind);
     let kind_length = decimal::count(kind);
     let a_length = operand_length(0 < count, a);
     let b_length = operand_length(1 < count, b);
@@ -49,7 +51,8 @@ pub(crate) fn put_line(kind: u32, a: u32, b: u32, c: u32, at: usize, output: &mu
     ensures { λ r. ⌜ r ≡ at + length (lineOf (record { kind = kind; a = a; b = b; c = c })) ⌝ }
     ensures { λ _. ⌜ now (output .exit) ≡ sets (now (output .entry)) at (lineOf (record { kind = kind; a = a; b = b; c = c })) ⌝ }
 {
-    let count = gates::kind::operands(kind);
+    let counts = kind::OPERANDS;
+    let count = kind::operands(&counts, kind);
     let kind_end = decimal::put(kind, at, output);
     let a_end = put_operand(0 < count, a, kind_end, output);
     let b_end = put_operand(1 < count, b, a_end, output);

@@ -33,7 +33,7 @@ record Short (c : tie.After-operand-length3) : Type 0 where
 
 short : (c : tie.After-operand-length3) → Short c
 short c =
-    let s = c .before .before .before .before .before .args in
+    let s = c .before .before .before .before .before .before .args in
     let m = c .before .before .before .before .operands .result in
     record {
       kind = omega (arith, c .before .before .before .count .ensures, decimal-most (s .kind));
@@ -56,7 +56,7 @@ add-result-4 c = omega (arith, short c)
 
 returns : tie.Need-returns
 returns c =
-    let s = c .before .before .before .before .before .args in
+    let s = c .before .before .before .before .before .before .args in
     let m = c .before .before .before .before .operands in
     let long = line-long (m .result) (record { kind = s .kind; a = s .a; b = s .b; c = s .c }) (m .ensures) in
     (omega (arith, c .before .before .before .count .ensures, c .before .before .operand-length .ensures, c .before .operand-length2 .ensures, c .operand-length3 .ensures), omega (arith, short c))
