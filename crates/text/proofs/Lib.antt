@@ -7,3 +7,4 @@ pub mod Scanning
 pub mod Reasons
 pub mod Whole
 pub mod RoundTrip
+pub mod Numbering
