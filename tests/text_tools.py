@@ -63,12 +63,13 @@ def main():
             assert evaluate(circuit, bits) == counted(shape, bits)
     stranger = (2, 2, 1)
     every_kind = array.array("I", [0, 0, 0, 0, 1, 0, 0, 0, 2, 1, 0, 0, 3, 2, 0, 0, 4, 6, 7, 0, 5, 8, 3, 0, 6, 9, 0, 0, 7, 1, 9, 10])
+    gates, conditional = list_tool.call("jugy_test", stranger, every_kind, answers=4)
     for bits in ([a, 1 - a, b, 1 - b] for a in (0, 1) for b in (0, 1)):
-        wires = array.array("B", bytes(12))
-        board = array.array("B", bytes(6))
-        tape = array.array("B", bytes(4))
+        wires = array.array("B", bytes(len(bits) + gates))
+        board = array.array("B", bytes(conditional + stranger[0]))
+        tape = array.array("B", bytes(conditional))
         list_tool.call("jugy_run", stranger, every_kind, array.array("B", bits), tape, wires, board, answers=4)
-        assert evaluate(list_tool.bristol(stranger, every_kind), bits) == list(board[4:])
+        assert evaluate(list_tool.bristol(stranger, every_kind), bits) == list(board[conditional:])
     said = [
         (b"0\n02 1\n", "refused 23 1"),
         (b"2 9\n0\n", "refused 3 0"),
