@@ -19,7 +19,7 @@
  *   7     a b c     b where a is 1, else c    yes
  *
  * Answer: each function writes its answer into the lent array `answer` and returns answer[0] too.
- *   answer[0]  the reason: JUGY_ACCEPTED, or the first reason that applies, in the order in which they stand below
+ *   answer[0]  the reason: JUGY_ACCEPTED, or the first reason that applies, in checking order
  *   answer[1]  the place that belongs to the reason, counted from 0; 0 where none is named and where the call is accepted
  *   answer[2]  and what follows: what the function's comment says; all 0 on a refusal
  * Numbers behind those are not touched. An answer array that is shorter than the function needs gives
@@ -43,7 +43,7 @@
 extern "C" {
 #endif
 
-/* The reasons, in checking order, with what their place counts. */
+/* The reasons, with what their place counts. A call makes those tests that concern it, in the order 1, 2, 23, 3, 24, 4 to 10. */
 #define JUGY_ACCEPTED 0
 #define JUGY_SHAPE 1          /* the shape is outside its limits */
 #define JUGY_TABLE 2          /* the gate table is too short to write in, or no list of k to 1,048,576 whole gates */
@@ -55,6 +55,8 @@ extern "C" {
 #define JUGY_TAPE_BYTE 8      /* a tape byte is above 1; place: the byte */
 #define JUGY_WIRES_LENGTH 9   /* the wire table is not I + G bytes */
 #define JUGY_BOARD_LENGTH 10  /* the board is not C + k bytes */
+#define JUGY_LINE 23          /* a line of text has another form, a kind above 7 or a number above 4,294,967,295; place: the line */
+#define JUGY_OUTPUT 24        /* the lent output is too short */
 
 /* What a function returns where its answer array is too short: none of the reasons. */
 #define JUGY_SHORT_ANSWER 255
@@ -65,6 +67,7 @@ extern "C" {
 #define JUGY_TEST_ANSWER 4
 #define JUGY_RUN_ANSWER 4
 #define JUGY_COUNT_ANSWER 10
+#define JUGY_TEXT_ANSWER 3
 
 /* Measures the shape's own list: answer[2] is G, its gates, answer[3] is C, the conditional ones, answer[4] is I, the
  * ballot bytes. Reason 1. */
@@ -100,6 +103,23 @@ size_t jugy_run(size_t candidates, size_t grades, size_t ballots, const uint32_t
  * from place k on; several may win. Reasons 1, 4, 5 and 6. */
 size_t jugy_count(size_t candidates, size_t grades, size_t ballots, const uint8_t *bytes, size_t bytes_length,
                   size_t *answer, size_t answer_length);
+
+/* Gate lists on paper. One line a gate: the kind and its operands in use, in decimal without leading zeros, one space
+ * between them, a line feed after each line. These two reasons follow the others' order: 1, 2, 23, 3, 24.
+ *   23  a line has another form, a kind above 7 or a number above 4,294,967,295; the place is the first such line, from 0.
+ *       Characters behind the last line feed are a line, and no gate
+ *   24  the output is too short
+ * Reading counts a line as a gate for reasons 2 and 3. */
+
+/* Writes the text of a list, whoever wrote it, for a shape; table_length is the list's own, 4 G: answer[2] is the number of
+ * characters written, at most 44 G. Characters behind them are not touched. Reasons 1, 2, 3, 24. */
+size_t jugy_write_text(size_t candidates, size_t grades, size_t ballots, const uint32_t *table, size_t table_length,
+                       uint8_t *output, size_t output_length, size_t *answer, size_t answer_length);
+
+/* Reads a text as a list for a shape: answer[2] is the count of numbers written, 4 for each line; an operand that is not in
+ * use is 0. Numbers behind them are not touched. Reasons 1, 2, 23, 3, 24. */
+size_t jugy_read_text(size_t candidates, size_t grades, size_t ballots, const uint8_t *text, size_t text_length,
+                      uint32_t *output, size_t output_length, size_t *answer, size_t answer_length);
 
 #ifdef __cplusplus
 }

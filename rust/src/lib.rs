@@ -49,6 +49,28 @@ mod c {
             answer: *mut usize,
             answer_length: usize,
         ) -> usize;
+        pub fn jugy_write_text(
+            k: usize,
+            d: usize,
+            n: usize,
+            table: *const u32,
+            table_length: usize,
+            output: *mut u8,
+            output_length: usize,
+            answer: *mut usize,
+            answer_length: usize,
+        ) -> usize;
+        pub fn jugy_read_text(
+            k: usize,
+            d: usize,
+            n: usize,
+            text: *const u8,
+            text_length: usize,
+            output: *mut u32,
+            output_length: usize,
+            answer: *mut usize,
+            answer_length: usize,
+        ) -> usize;
     }
 }
 
@@ -63,7 +85,7 @@ pub struct Shape {
     pub ballots: usize,
 }
 
-/// Why a call is turned away, in checking order. The numbers are those of docs/REQUIREMENTS.md.
+/// Why a call is turned away. The numbers are those of docs/REQUIREMENTS.md.
 #[derive(Clone, Copy, Debug, PartialEq, Eq)]
 #[repr(usize)]
 pub enum Reason {
@@ -77,10 +99,14 @@ pub enum Reason {
     TapeByte = 8,
     WiresLength = 9,
     BoardLength = 10,
+    /// Since request 2.10, between `Table` and `Gate`.
+    Line = 23,
+    /// Since request 2.10, behind `Gate`.
+    Output = 24,
 }
 
 impl Reason {
-    const ALL: [Reason; 10] = [
+    const ALL: [Reason; 12] = [
         Reason::Shape,
         Reason::Table,
         Reason::Gate,
@@ -91,6 +117,8 @@ impl Reason {
         Reason::TapeByte,
         Reason::WiresLength,
         Reason::BoardLength,
+        Reason::Line,
+        Reason::Output,
     ];
 
     /// The reason of that number, if there is one.
@@ -115,12 +143,14 @@ impl Reason {
             Reason::TapeByte => "neither 0 nor 1 in tape byte",
             Reason::WiresLength => "the wire table has another length than ballots and gates together",
             Reason::BoardLength => "the board has another length than conditional gates and candidates together",
+            Reason::Line => "another form than a gate's, or a number that is too large, in line",
+            Reason::Output => "the lent output is too short",
         }
     }
 
     /// Whether the place of this reason counts something.
     pub fn has_place(self) -> bool {
-        matches!(self, Reason::Gate | Reason::BallotByte | Reason::BallotRow | Reason::TapeByte)
+        matches!(self, Reason::Gate | Reason::BallotByte | Reason::BallotRow | Reason::TapeByte | Reason::Line)
     }
 }
 
@@ -286,4 +316,71 @@ pub fn count(shape: Shape, ballots: &[u8]) -> Result<[u8; 8], Refusal> {
     };
     checked(status, &answer)?;
     Ok(std::array::from_fn(|i| answer[2 + i] as u8))
+}
+
+/// Writes the text of a list, one line a gate, and answers the number of characters written.
+pub fn write_text(shape: Shape, table: &[u32], output: &mut [u8]) -> Result<usize, Refusal> {
+    let mut answer = [0; 3];
+    // SAFETY: a slice's pointer is aligned, not null and valid for its length; `&mut` overlaps nothing else.
+    let status = unsafe {
+        c::jugy_write_text(
+            shape.candidates,
+            shape.grades,
+            shape.ballots,
+            table.as_ptr(),
+            table.len(),
+            output.as_mut_ptr(),
+            output.len(),
+            answer.as_mut_ptr(),
+            answer.len(),
+        )
+    };
+    checked(status, &answer)?;
+    Ok(answer[2])
+}
+
+/// Reads a text as a list for a shape, and answers the count of numbers written, four a line.
+pub fn read_text(shape: Shape, text: &[u8], output: &mut [u32]) -> Result<usize, Refusal> {
+    let mut answer = [0; 3];
+    // SAFETY: a slice's pointer is aligned, not null and valid for its length; `&mut` overlaps nothing else.
+    let status = unsafe {
+        c::jugy_read_text(
+            shape.candidates,
+            shape.grades,
+            shape.ballots,
+            text.as_ptr(),
+            text.len(),
+            output.as_mut_ptr(),
+            output.len(),
+            answer.as_mut_ptr(),
+            answer.len(),
+        )
+    };
+    checked(status, &answer)?;
+    Ok(answer[2])
+}
+
+/// How many characters the text of a list takes. Numbers behind the last whole gate do not count.
+pub fn text_length(table: &[u32]) -> usize {
+    let digits = |number: &u32| number.checked_ilog10().map_or(1, |more| more as usize + 1);
+    let uses = |kind: u32| [0, 0, 1, 1, 2, 2, 2, 3].get(kind as usize).copied().unwrap_or(0);
+    table
+        .chunks_exact(4)
+        .map(|gate| gate[..1 + uses(gate[0])].iter().map(|number| digits(number) + 1).sum::<usize>())
+        .sum()
+}
+
+/// The text of a list.
+pub fn text(shape: Shape, table: &[u32]) -> Result<String, Refusal> {
+    let mut output = vec![0; text_length(table)];
+    let length = write_text(shape, table, &mut output)?;
+    debug_assert!(length == output.len());
+    Ok(output.into_iter().map(char::from).collect())
+}
+
+/// The list of a text.
+pub fn list_of_text(shape: Shape, text: &str) -> Result<Vec<u32>, Refusal> {
+    let mut output = vec![0; 4 * text.lines().count()];
+    read_text(shape, text.as_bytes(), &mut output)?;
+    Ok(output)
 }

@@ -10,11 +10,11 @@ use Rattle.gates.specs.Open.Kind.{operandsOf}
 use Rattle.gates.specs.Open.Gate.{Gate}
 use Rattle.gates.specs.Open.Test.{goodOperand, goodGate}
 
-and-left : (a b : Bool) → T (a && b) → T a
+pub and-left : (a b : Bool) → T (a && b) → T a
 and-left true b t = tt
 and-left false b t = t
 
-and-right : (a b : Bool) → T (a && b) → T b
+pub and-right : (a b : Bool) → T (a && b) → T b
 and-right true b t = t
 and-right false b t = absurd t
 

@@ -6,6 +6,7 @@ pub mod Counting
 pub mod Places
 pub mod Judging
 pub mod Goodness
+pub mod Reading
 pub mod WireLaws
 pub mod Stepping
 pub mod Evaluating

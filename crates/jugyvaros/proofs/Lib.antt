@@ -1,3 +1,4 @@
 pub mod Copying
 pub mod Answering
 pub mod Statuses
+pub mod Lengths

@@ -1,4 +1,4 @@
--- What a returned status tells: 0 is an accepted call, 1 to 10 a reason, 255 an answer array that is too short.
+-- What a returned status tells: 0 is an accepted call, 255 an answer array that is too short, any other number a reason.
 use mathlib.Core.Path.{_≡_}
 use mathlib.Core.Logic.{_↔_}
 use mathlib.Core.Option.{none}
@@ -11,17 +11,22 @@ use Rattle.tally.specs.Measure.{measureSaid}
 use Rattle.tally.specs.Run.{ran}
 use Rattle.tally.specs.Test.{testSaid}
 use Rattle.tally.specs.Write.{writeSaid}
+use Rattle.text.specs.Write.{textSaid}
+use Rattle.text.specs.Read.{readSaid}
 use Rattle.jugyvaros.specs.Numbers.{sizeNumbers, measureNumbers, countNumbers, shortAnswer, status}
+use Rattle.jugyvaros.specs.Paper.{lengthNumbers}
 
--- The status is 255 exactly where the answer array is too short, and any other is at most 10.
-pub record Tells (needed : ℕ) (numbers answer : List ℕ) : Type 0 where
+-- The status is 255 exactly where the answer array is too short, and any other is at most the last number of a reason.
+pub record Tells (last needed : ℕ) (numbers answer : List ℕ) : Type 0 where
   pub short : (status needed numbers answer ≡ shortAnswer) ↔ (length answer < needed)
-  pub reason : needed ≤ length answer → status needed numbers answer ≤ 10
+  pub reason : needed ≤ length answer → status needed numbers answer ≤ last
 
--- It holds of every call, whatever is handed and lent.
+-- It holds of every call, whatever is handed and lent. Document 01's reasons end at 10, those of a text at 24.
 pub record StatusTells : Type 0 where
-  pub measure : (s : Shape) (answer : List ℕ) → Tells 5 (measureNumbers (measureSaid s)) answer
-  pub write : (s : Shape) (table answer : List ℕ) → Tells 4 (sizeNumbers (writeSaid s table)) answer
-  pub test : (s : Shape) (table answer : List ℕ) → Tells 4 (sizeNumbers (testSaid s table)) answer
-  pub run : (s : Shape) (table ballots tape wires board answer : List ℕ) → Tells 4 (sizeNumbers (ran s table ballots tape wires board .answer)) answer
-  pub count : (s : Shape) (ballots answer : List ℕ) → Tells 10 (countNumbers (countReason s ballots) (plainClosing s ballots)) answer
+  pub measure : (s : Shape) (answer : List ℕ) → Tells 10 5 (measureNumbers (measureSaid s)) answer
+  pub write : (s : Shape) (table answer : List ℕ) → Tells 10 4 (sizeNumbers (writeSaid s table)) answer
+  pub test : (s : Shape) (table answer : List ℕ) → Tells 10 4 (sizeNumbers (testSaid s table)) answer
+  pub run : (s : Shape) (table ballots tape wires board answer : List ℕ) → Tells 10 4 (sizeNumbers (ran s table ballots tape wires board .answer)) answer
+  pub count : (s : Shape) (ballots answer : List ℕ) → Tells 10 10 (countNumbers (countReason s ballots) (plainClosing s ballots)) answer
+  pub writeText : (s : Shape) (table output answer : List ℕ) → Tells 24 3 (lengthNumbers (textSaid s table output)) answer
+  pub readText : (s : Shape) (text output answer : List ℕ) → Tells 24 3 (lengthNumbers (readSaid s text output)) answer

@@ -3,6 +3,7 @@
 mod answer;
 pub mod count;
 pub mod measure;
+pub mod paper;
 pub mod run;
 pub mod test;
 pub mod write;

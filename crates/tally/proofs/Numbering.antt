@@ -24,41 +24,41 @@ use Rattle.tally.specs.Test.{testReasons, testSaid}
 use Rattle.tally.specs.Write.{writeReasons, writeSaid}
 
 -- no reason, or one of these numbers
-Fine : List ℕ → Option Reason → Type 0
+unfoldable pub Fine : List ℕ → Option Reason → Type 0
 Fine ns none = Unit {0}
 Fine ns (some r) = T (hasNumberIn ns r)
 
-All : List ℕ → List (Option Reason) → Type 0
+unfoldable pub All : List ℕ → List (Option Reason) → Type 0
 All ns [] = Unit {0}
 All ns (o ∷ os) = Fine ns o × All ns os
 
-FineSaid : {Values : Type 0} → List ℕ → Said Values → Type 0
+unfoldable pub FineSaid : {Values : Type 0} → List ℕ → Said Values → Type 0
 FineSaid ns (refused r) = T (hasNumberIn ns r)
 FineSaid ns (accepted v) = Unit {0}
 
 module _ (ns : List ℕ) where
-  first-fine : (os : List (Option Reason)) → All ns os → Fine ns (firstOf os)
+  pub first-fine : (os : List (Option Reason)) → All ns os → Fine ns (firstOf os)
   unfolding All Fine firstOf
   first-fine [] a = tt
   first-fine (none ∷ os) a = first-fine os (a .1)
   first-fine (some r ∷ os) a = a .0
 
-  both : (os qs : List (Option Reason)) → All ns os → All ns qs → All ns (os ++ qs)
+  pub both : (os qs : List (Option Reason)) → All ns os → All ns qs → All ns (os ++ qs)
   unfolding All
   both [] qs a b = b
   both (o ∷ os) qs a b = (a .0, both os qs (a .1) b)
 
-  unless-fine : (t : Bool) (n : ℕ) → T (hasNumberIn ns (reasonAt n 0)) → Fine ns (unless t n)
+  pub unless-fine : (t : Bool) (n : ℕ) → T (hasNumberIn ns (reasonAt n 0)) → Fine ns (unless t n)
   unfolding Fine unless
   unless-fine true n h = tt
   unless-fine false n h = h
 
-  found-fine : (n : ℕ) (p : Place) → ((i : ℕ) → T (hasNumberIn ns (reasonAt n i))) → Fine ns (foundAt n p)
+  pub found-fine : (n : ℕ) (p : Place) → ((i : ℕ) → T (hasNumberIn ns (reasonAt n i))) → Fine ns (foundAt n p)
   unfolding Fine foundAt
   found-fine n Nowhere h = tt
   found-fine n (At i) h = h i
 
-  list-fine : (t : Tested) → T (hasNumberIn ns (reasonAt 2 0)) → ((g : ℕ) → T (hasNumberIn ns (reasonAt 3 g))) → Fine ns (listReason t)
+  pub list-fine : (t : Tested) → T (hasNumberIn ns (reasonAt 2 0)) → ((g : ℕ) → T (hasNumberIn ns (reasonAt 3 g))) → Fine ns (listReason t)
   unfolding Fine listReason
   list-fine (Accepted gates conditional) two three = tt
   list-fine PartOfAGate two three = two
@@ -66,12 +66,12 @@ module _ (ns : List ℕ) where
   list-fine TooManyGates two three = two
   list-fine (BadGate g) two three = three g
 
-  said-fine : {Values : Type 0} (o : Option Reason) (values : Values) → Fine ns o → FineSaid ns (said o values)
+  pub said-fine : {Values : Type 0} (o : Option Reason) (values : Values) → Fine ns o → FineSaid ns (said o values)
   unfolding Fine FineSaid said
   said-fine none values f = tt
   said-fine (some r) values f = f
 
-  refused-fine : {Values : Type 0} (answer : Said Values) (r : Reason) → FineSaid ns answer → answer ≡ refused r → T (hasNumberIn ns r)
+  pub refused-fine : {Values : Type 0} (answer : Said Values) (r : Reason) → FineSaid ns answer → answer ≡ refused r → T (hasNumberIn ns r)
   unfolding FineSaid
   refused-fine answer r f e = subst (FineSaid ns) e f
 

@@ -1,0 +1,19 @@
+-- What writing and reading a text answer, by the numbers of the reasons.
+use Prim.Native.Nat.{ℕ}
+use Rattle.jury.specs.Reason.{Reason, reasonAt, reasonOf}
+use Rattle.tally.specs.Answer.{Said, refused, accepted}
+use Rattle.text.specs.declared.answer.TextRefusal.{TextRefusal}
+use Rattle.text.specs.declared.answer.TextRefusal.the-variants.{OfList, Line, Output}
+use Rattle.text.specs.declared.answer.Answer.{Answer}
+use Rattle.text.specs.declared.answer.Answer.the-variants.{Accepted, Refused}
+
+-- The number and place of each case: a line of another form is reason 23 at that line, an output that is too short reason 24.
+unfoldable pub textReasonOf : TextRefusal → Reason
+textReasonOf (OfList r) = reasonOf r
+textReasonOf (Line i) = reasonAt 23 i
+textReasonOf Output = reasonAt 24 0
+
+-- An accepted call answers how many characters or numbers it wrote.
+unfoldable pub lengthSaid : Answer → Said ℕ
+lengthSaid (Accepted length) = accepted length
+lengthSaid (Refused r) = refused (textReasonOf r)

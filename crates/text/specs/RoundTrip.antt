@@ -1,0 +1,28 @@
+-- Writing and reading undo each other, and a refusal leaves the output alone.
+use mathlib.Core.Path.{_≡_}
+use mathlib.Core.List.{List, _++_}
+use Prim.Native.Nat.{ℕ, _≤_}
+use lib.ListN.{length, take, drop}
+use Rattle.jury.specs.declared.shape.Shape.{Shape}
+use Rattle.jury.specs.Reason.{Reason}
+use Rattle.tally.specs.Answer.{refused, accepted}
+use Rattle.text.specs.Write.{textSaid, textWritten}
+use Rattle.text.specs.Read.{readSaid, numbersRead}
+
+-- Given output enough, reading accepts exactly what writing can produce for a shape, and gives back the same numbers.
+pub record RoundTrip : Type 0 where
+  -- whatever writing produced is accepted, and read as the list that was written
+  pub back : (s : Shape) (table output numbers : List ℕ) (n : ℕ) → textSaid s table output ≡ accepted n → length table ≤ length numbers
+      → (readSaid s (take n (textWritten s table output)) numbers ≡ accepted (length table))
+      × (numbersRead s (take n (textWritten s table output)) numbers ≡ table ++ drop (length table) numbers)
+  -- whatever reading accepted is what writing produces from the numbers that were read
+  pub forth : (s : Shape) (text numbers output : List ℕ) (n : ℕ) → readSaid s text numbers ≡ accepted n → length text ≤ length output
+      → (textSaid s (take n (numbersRead s text numbers)) output ≡ accepted (length text))
+      × (textWritten s (take n (numbersRead s text numbers)) output ≡ text ++ drop (length text) output)
+
+-- The memory demand for what these two calls are lent.
+pub record TextMemory : Type 0 where
+  pub write-refused : (s : Shape) (table output : List ℕ) (r : Reason) → textSaid s table output ≡ refused r → textWritten s table output ≡ output
+  pub write-length : (s : Shape) (table output : List ℕ) → length (textWritten s table output) ≡ length output
+  pub read-refused : (s : Shape) (text output : List ℕ) (r : Reason) → readSaid s text output ≡ refused r → numbersRead s text output ≡ output
+  pub read-length : (s : Shape) (text output : List ℕ) → length (numbersRead s text output) ≡ length output

@@ -1,0 +1,43 @@
+-- A list of gates as text, and the lines of a text.
+use mathlib.Core.Bool.{cond}
+use mathlib.Core.Option.{Option, none, some}
+use mathlib.Core.List.{List, [], _∷_, _++_}
+use Prim.Native.Nat.{ℕ, suc}
+use lib.Dec.{eqb}
+use Rattle.gates.specs.Gate.{Gate}
+use Rattle.gates.specs.declared.place.Place.{Place}
+use Rattle.gates.specs.declared.place.Place.the-variants.{At, Nowhere}
+use Rattle.text.specs.Line.{lineFeed, lineOf, gateOf}
+
+-- One line a gate.
+unfoldable pub textOf : List Gate → List ℕ
+textOf [] = []
+textOf (g ∷ gs) = lineOf g ++ textOf gs
+
+-- A character in front of the first line; it is a line by itself where there is none.
+unfoldable pub inFront : ℕ → List (List ℕ) → List (List ℕ)
+inFront c [] = (c ∷ []) ∷ []
+inFront c (line ∷ lines) = (c ∷ line) ∷ lines
+
+-- The lines of a text. A line feed ends its line and belongs to it; what stands behind the last one is a line too.
+unfoldable pub linesOf : List ℕ → List (List ℕ)
+linesOf [] = []
+linesOf (c ∷ cs) = cond (eqb c lineFeed) ((c ∷ []) ∷ linesOf cs) (inFront c (linesOf cs))
+
+-- The first line that is no gate, the first line here being line i.
+unfoldable pub otherAt : Option Gate → ℕ → Place → Place
+otherAt none i later = At i
+otherAt (some g) i later = later
+
+unfoldable pub firstOther : ℕ → List (List ℕ) → Place
+firstOther i [] = Nowhere
+firstOther i (line ∷ lines) = otherAt (gateOf line) i (firstOther (suc i) lines)
+
+-- The gates of those lines that are gates.
+unfoldable pub gateBefore : Option Gate → List Gate → List Gate
+gateBefore none gs = gs
+gateBefore (some g) gs = g ∷ gs
+
+unfoldable pub gatesIn : List (List ℕ) → List Gate
+gatesIn [] = []
+gatesIn (line ∷ lines) = gateBefore (gateOf line) (gatesIn lines)

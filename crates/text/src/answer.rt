@@ -1,0 +1,41 @@
+// What writing and reading a text answer.
+use jury::reason::Refusal;
+ghost use mathlib.Core.Path.{_≡_};
+ghost use Rattle.text.specs.Answer.{textReasonOf};
+
+// Why a text, or a list that is to be written as one, is turned away. The number in `Line` is the line, from 0.
+pub enum TextRefusal {
+    OfList(Refusal),
+    Line(usize),
+    Output,
+}
+
+// How much of the output was written, or the first reason that applies.
+pub enum Answer {
+    Accepted { length: usize },
+    Refused(TextRefusal),
+}
+
+impl TextRefusal {
+    // The number of a reason.
+    pub fn number(self) -> usize
+        ensures { λ r. ⌜ r ≡ (textReasonOf self) .number ⌝ }
+    {
+        match self {
+            TextRefusal::OfList(reason) => reason.number(),
+            TextRefusal::Line(_) => 23,
+            TextRefusal::Output => 24,
+        }
+    }
+
+    // The place of a reason, 0 where none is named.
+    pub fn place(self) -> usize
+        ensures { λ r. ⌜ r ≡ (textReasonOf self) .place ⌝ }
+    {
+        match self {
+            TextRefusal::OfList(reason) => reason.place(),
+            TextRefusal::Line(i) => i,
+            TextRefusal::Output => 0,
+        }
+    }
+}

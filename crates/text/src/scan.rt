@@ -1,0 +1,131 @@
+// A text line by line: one pass for each test, and one that puts the numbers.
+use crate::line;
+use crate::line::Line;
+use gates::place::Place;
+ghost use mathlib.Core.Path.{_≡_};
+ghost use Prim.Native.Nat.{_+_, _*_, _≤_, _<_};
+ghost use lib.ListN.{length};
+ghost use lib.Seq.{sets};
+ghost use Rattle.gates.specs.Gate.{numbersOf};
+ghost use lib.Dec.{ltb};
+ghost use mathlib.Core.Bool.{_&&_};
+ghost use Rattle.gates.specs.Test.{firstBad};
+ghost use Rattle.gates.specs.declared.place.Place.the-variants.{Nowhere};
+ghost use Rattle.text.specs.Text.{linesOf, firstOther, gatesIn};
+
+const LINE_FEED: u8 = 10;
+
+// How many lines a text has: its line feeds, and one more where characters stand behind the last of them.
+pub(crate) fn line_count(text: &[u8]) -> usize
+    ensures { λ r. ⌜ r ≡ length (linesOf (now (text .entry))) ⌝ }
+{
+    let mut lines: usize = 0;
+    let mut i = 0;
+    while i < text.len() {
+        if text[i] == LINE_FEED {
+            lines += 1;
+        }
+        i += 1;
+    }
+    if i == 0 {
+        return 0;
+    }
+    if text[i - 1] == LINE_FEED {
+        lines
+    } else {
+        lines + 1
+    }
+}
+
+// The first line that is no gate.
+pub(crate) fn first_other(text: &[u8]) -> Place
+    ensures { λ r. ⌜ r ≡ firstOther 0 (linesOf (now (text .entry))) ⌝ }
+{
+    let mut at = 0;
+    let mut i = 0;
+    while at < text.len() {
+        let Line::Gate {
+            kind: _,
+            a: _,
+            b: _,
+            c: _,
+            next,
+        } = line::gate_at(text, at)
+        else {
+            return Place::At(i);
+        };
+        at = next;
+        i += 1;
+    }
+    Place::Nowhere
+}
+
+// Whether all operands are below a wire. Those that are not in use are read as 0, which is below every gate's own wire.
+fn are_below(own: usize, a: u32, b: u32, c: u32) -> bool
+    ensures { λ r. ⌜ r ≡ (ltb a own && ltb b own && ltb c own) ⌝ }
+{
+    if own <= a as usize {
+        return false;
+    }
+    if own <= b as usize {
+        return false;
+    }
+    (c as usize) < own
+}
+
+// The first gate that is not good, of a text whose lines are all gates.
+pub(crate) fn first_bad(inputs: usize, text: &[u8]) -> Place
+    requires { ⌜ 0 < inputs ⌝ }
+    requires { ⌜ inputs < 4294967296 ⌝ }
+    requires { ⌜ firstOther 0 (linesOf (now text)) ≡ Nowhere ⌝ }
+    ensures { λ r. ⌜ r ≡ firstBad inputs 0 (gatesIn (linesOf (now (text .entry)))) ⌝ }
+{
+    let mut at = 0;
+    let mut i = 0;
+    while at < text.len() {
+        let Line::Gate {
+            kind,
+            a,
+            b,
+            c,
+            next,
+        } = line::gate_at(text, at)
+        else {
+            return Place::Nowhere;
+        };
+        if !are_below(inputs + i, a, b, c) {
+            return Place::At(i);
+        }
+        at = next;
+        i += 1;
+    }
+    Place::Nowhere
+}
+
+// Puts the numbers of a text whose lines are all gates.
+pub(crate) fn put_gates(text: &[u8], output: &mut [u32])
+    requires { ⌜ firstOther 0 (linesOf (now text)) ≡ Nowhere ⌝ }
+    requires { ⌜ 4 * length (linesOf (now text)) ≤ length (now output) ⌝ }
+    ensures { λ _. ⌜ now (output .exit) ≡ sets (now (output .entry)) 0 (numbersOf (gatesIn (linesOf (now (text .entry))))) ⌝ }
+{
+    let mut at = 0;
+    let mut i = 0;
+    while at < text.len() {
+        let Line::Gate {
+            kind,
+            a,
+            b,
+            c,
+            next,
+        } = line::gate_at(text, at)
+        else {
+            return;
+        };
+        output[i] = kind;
+        output[i + 1] = a;
+        output[i + 2] = b;
+        output[i + 3] = c;
+        at = next;
+        i += 4;
+    }
+}

@@ -1,0 +1,68 @@
+// The entry point that writes a list as text.
+use crate::answer::Answer;
+use crate::answer::TextRefusal;
+use crate::print;
+use jury::shape::Shape;
+ghost use mathlib.Core.Path.{_≡_};
+ghost use Prim.Native.Nat.{_≤_};
+ghost use lib.ListN.{length};
+ghost use lib.Seq.{sets};
+ghost use Rattle.gates.specs.Gate.{gatesOf};
+ghost use Rattle.text.specs.Text.{textOf};
+ghost use Rattle.text.specs.Answer.{lengthSaid};
+ghost use Rattle.text.specs.Write.{textSaid, textWritten};
+
+// How many characters the text of a table's gates takes.
+fn text_length(table: &[u32]) -> usize
+    requires { ⌜ length (gatesOf (now table)) ≤ 1048576 ⌝ }
+    ensures { λ r. ⌜ r ≡ length (textOf (gatesOf (now (table .entry)))) ⌝ }
+{
+    let gates = table.len() / 4;
+    let mut total: usize = 0;
+    let mut g: usize = 0;
+    while g < gates {
+        let at = 4 * g;
+        total += print::line_length(table[at], table[at + 1], table[at + 2], table[at + 3]);
+        g += 1;
+    }
+    total
+}
+
+// Puts the text of a table's gates.
+fn put_text(table: &[u32], output: &mut [u8])
+    requires { ⌜ length (textOf (gatesOf (now table))) ≤ length (now output) ⌝ }
+    ensures { λ _. ⌜ now (output .exit) ≡ sets (now (output .entry)) 0 (textOf (gatesOf (now (table .entry)))) ⌝ }
+{
+    let gates = table.len() / 4;
+    let mut place = 0;
+    let mut g: usize = 0;
+    while g < gates {
+        let at = 4 * g;
+        place = print::put_line(
+            table[at],
+            table[at + 1],
+            table[at + 2],
+            table[at + 3],
+            place,
+            output,
+        );
+        g += 1;
+    }
+}
+
+// Writes the text of a list, whoever wrote the list, for a jury of a shape.
+pub fn write(shape: Shape, table: &[u32], output: &mut [u8]) -> Answer
+    ensures { λ r. ⌜ lengthSaid r ≡ textSaid shape (now (table .entry)) (now (output .entry)) ⌝ }
+    ensures { λ _. ⌜ now (output .exit) ≡ textWritten shape (now (table .entry)) (now (output .entry)) ⌝ }
+{
+    let tested = tally::test::test(shape, table);
+    if let tally::answer::Answer::Refused(reason) = tested {
+        return Answer::Refused(TextRefusal::OfList(reason));
+    }
+    let length = text_length(table);
+    if output.len() < length {
+        return Answer::Refused(TextRefusal::Output);
+    }
+    put_text(table, output);
+    Answer::Accepted { length }
+}
