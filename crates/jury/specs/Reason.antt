@@ -1,4 +1,4 @@
--- The reasons to turn a call away, by their numbers in document 01, and the order of tests.
+-- The reasons to turn a call away, by their numbers in the two documents, and the order of tests.
 use mathlib.Core.Bool.{Bool, true, false}
 use mathlib.Core.Option.{Option, none, some}
 use mathlib.Core.List.{List, [], _∷_}
@@ -8,7 +8,7 @@ use Rattle.gates.specs.declared.place.Place.the-variants.{At, Nowhere}
 use Rattle.gates.specs.declared.list.Tested.{Tested}
 use Rattle.gates.specs.declared.list.Tested.the-variants as tested
 use Rattle.jury.specs.declared.reason.Refusal.{Refusal}
-use Rattle.jury.specs.declared.reason.Refusal.the-variants.{Shape, Table, Gate, BallotsLength, BallotByte, BallotRow, TapeLength, TapeByte, WiresLength, BoardLength}
+use Rattle.jury.specs.declared.reason.Refusal.the-variants.{Shape, Table, Gate, BallotsLength, BallotByte, BallotRow, TapeLength, TapeByte, WiresLength, BoardLength, Urn, Juror, FullUrn}
 use Rattle.jury.specs.declared.shape.Shaped.{Shaped}
 use Rattle.jury.specs.declared.shape.Shaped.the-variants.{Within, Outside}
 use Rattle.jury.specs.declared.reason.Verdict.{Verdict}
@@ -35,6 +35,9 @@ reasonOf TapeLength = reasonAt 7 0
 reasonOf (TapeByte i) = reasonAt 8 i
 reasonOf WiresLength = reasonAt 9 0
 reasonOf BoardLength = reasonAt 10 0
+reasonOf Urn = reasonAt 13 0
+reasonOf Juror = reasonAt 14 0
+reasonOf FullUrn = reasonAt 15 0
 
 -- The reason of a verdict, where it is a refusal.
 unfoldable pub refusedFor : Verdict → Option Reason

@@ -2,7 +2,7 @@
 ghost use mathlib.Core.Path.{_≡_};
 ghost use Rattle.jury.specs.Reason.{reasonOf};
 
-// In document 01's order, 1 to 10. The number in a case is the place.
+// In document 01's order, 1 to 10, then those of the urn, 13 to 15. The number in a case is the place.
 pub enum Refusal {
     Shape,
     Table,
@@ -14,6 +14,9 @@ pub enum Refusal {
     TapeByte(usize),
     WiresLength,
     BoardLength,
+    Urn,
+    Juror,
+    FullUrn,
 }
 
 // The outcome of a call that answers no number of its own.
@@ -38,6 +41,9 @@ impl Refusal {
             Refusal::TapeByte(_) => 8,
             Refusal::WiresLength => 9,
             Refusal::BoardLength => 10,
+            Refusal::Urn => 13,
+            Refusal::Juror => 14,
+            Refusal::FullUrn => 15,
         }
     }
 
@@ -56,6 +62,9 @@ impl Refusal {
             Refusal::TapeLength => 0,
             Refusal::WiresLength => 0,
             Refusal::BoardLength => 0,
+            Refusal::Urn => 0,
+            Refusal::Juror => 0,
+            Refusal::FullUrn => 0,
         }
     }
 }

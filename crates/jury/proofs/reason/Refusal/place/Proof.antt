@@ -37,6 +37,15 @@ enum-told-5 c = search needs
 enum-told-6 : tie.Need-enum-told-6
 enum-told-6 c = search needs
 
+enum-told-7 : tie.Need-enum-told-7
+enum-told-7 c = search needs
+
+enum-told-8 : tie.Need-enum-told-8
+enum-told-8 c = search needs
+
+enum-told-9 : tie.Need-enum-told-9
+enum-told-9 c = search needs
+
 returns : tie.Need-returns
 unfolding reasonOf reasonAt
 returns c = ap (λ (t : Refusal). reasonOf t .place) (sym (c .before .self .given .1))
@@ -77,6 +86,18 @@ returns-10 : tie.Need-returns-10
 unfolding reasonOf reasonAt
 returns-10 c = ap (λ (t : Refusal). reasonOf t .place) (sym (c .enum-told6 .given .1))
 
+returns-11 : tie.Need-returns-11
+unfolding reasonOf reasonAt
+returns-11 c = ap (λ (t : Refusal). reasonOf t .place) (sym (c .enum-told7 .given .1))
+
+returns-12 : tie.Need-returns-12
+unfolding reasonOf reasonAt
+returns-12 c = ap (λ (t : Refusal). reasonOf t .place) (sym (c .enum-told8 .given .1))
+
+returns-13 : tie.Need-returns-13
+unfolding reasonOf reasonAt
+returns-13 c = ap (λ (t : Refusal). reasonOf t .place) (sym (c .enum-told9 .given .1))
+
 pub place-spec : {M : Type 1} → statement M
 place-spec =
     tie.close
@@ -91,6 +112,9 @@ place-spec =
     enum-told-4
     enum-told-5
     enum-told-6
+    enum-told-7
+    enum-told-8
+    enum-told-9
     returns
     returns-2
     returns-3
@@ -100,4 +124,7 @@ place-spec =
     returns-7
     returns-8
     returns-9
-    returns-10)
+    returns-10
+    returns-11
+    returns-12
+    returns-13)
