@@ -9,3 +9,8 @@ pub mod Looking
 pub mod Walking
 pub mod Linked
 pub mod Layouts
+pub mod BytesLaws
+pub mod Finding
+pub mod Putting
+pub mod Judging
+pub mod Held

@@ -3,11 +3,15 @@ use mathlib.Core.Path.{_≡_}
 use mathlib.Core.Bool.{Bool, true, false, cond, not, _&&_}
 use mathlib.Core.List.{List, [], _∷_, map}
 use Prim.Native.Nat.{ℕ, _*_, _≤_}
-use lib.Dec.{T}
+use lib.Dec.{T, eqb}
 use lib.ListN.{length, getD, set, replicate}
 use Rattle.jury.specs.Shape.{withinLimits}
 use Rattle.urn.specs.Slots.{Slot, slotBytes, slotAt}
 use Rattle.urn.specs.Chains.{chain, ends}
+use Rattle.urn.specs.declared.sound.Soundness.{Soundness}
+use Rattle.urn.specs.declared.sound.Soundness.the-variants.{Sound, Unsound}
+use Rattle.urn.specs.declared.find.Link.{Link}
+use Rattle.urn.specs.declared.find.Link.the-variants.{Found, Absent}
 use Rattle.urn.specs.declared.walk.Look.{Look}
 use Rattle.urn.specs.declared.walk.Look.the-variants.{Well, Wrong}
 use Rattle.urn.specs.Sound.{all, juryOfOne, goodBallot, goodJuror, inUrn, emptySlot}
@@ -65,3 +69,13 @@ freeFrom slots most i marks =
 pub record Walked (is : List ℕ) (before after : List Bool) (count : ℕ) : Type 0 where
   pub marked : after ≡ markAll is before
   pub counted : count ≡ length is
+
+-- What the test of an urn answers.
+unfoldable pub soundness : Bool → ℕ → Soundness
+soundness true ballots = Sound ballots
+soundness false ballots = Unsound
+
+-- Where the juror's ballot lies among these slots, and the slot before it in the chain, the first of these following slot `before`.
+unfoldable pub linkOf : List Slot → ℕ → ℕ → List ℕ → Link
+linkOf slots juror before [] = Absent
+linkOf slots juror before (i ∷ is) = cond (eqb (slotAt slots i .juror) juror) (Found before i) (linkOf slots juror i is)

@@ -14,9 +14,9 @@ ghost use Rattle.urn.specs.Inner.{SlotTable, Walked, noMarks, looked, ba
 
 // What a walk along a chain found: whether all is well and, if so, the slots met so far and how many this chain has.
 pub(crate) struct Walk {
-    good: bool,
-    marks: [bool; 256],
-    count: usize,
+    pub(crate) good: bool,
+    pub(crate) marks: [bool; 256],
+    pub(crate) count: usize,
 }
 
 // What one slot of a chain has to say: its juror's number and the next slot's index, where it is as it has to be.

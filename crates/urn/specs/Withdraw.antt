@@ -1,0 +1,46 @@
+-- Withdrawal of a ballot.
+use mathlib.Core.Bool.{cond, _&&_}
+use mathlib.Core.Option.{Option}
+use mathlib.Core.List.{List, [], _∷_}
+use Prim.Native.Nat.{ℕ, _-_, _*_}
+use lib.Dec.{eqb}
+use lib.ListN.{length}
+use Rattle.jury.specs.Reason.{Reason, unless, firstOf}
+use Rattle.tally.specs.Answer.{Said, said}
+use Rattle.urn.specs.declared.facts.Facts.{Facts}
+use Rattle.urn.specs.Slots.{Slot, bytesOf}
+use Rattle.urn.specs.Chains.{Entry, ballotChain, freeChain, layout}
+use Rattle.urn.specs.Sound.{goodJuror, urnSlots}
+use Rattle.urn.specs.Facts.{gradedShape, factsOf, afterwards}
+
+-- The tests in checking order: 1, 13, 14.
+unfoldable pub withdrawReasons : ℕ → ℕ → Facts → ℕ → List (Option Reason)
+withdrawReasons k d facts juror =
+    unless (gradedShape k d) 1
+    ∷ unless (facts .sound) 13
+    ∷ unless (goodJuror juror && facts .present) 14
+    ∷ []
+
+-- The answer: a reason, or the new number of ballots.
+unfoldable pub withdrawSaid : ℕ → ℕ → Facts → ℕ → Said ℕ
+withdrawSaid k d facts juror = said (firstOf (withdrawReasons k d facts juror)) (facts .ballots - 1)
+
+-- The ballots without that of this juror, who has one at most.
+unfoldable pub without : ℕ → List Entry → List Entry
+without juror [] = []
+without juror (e ∷ es) = cond (eqb (e .juror) juror) es (e ∷ without juror es)
+
+-- The slot of this juror's ballot.
+unfoldable pub slotOfJuror : ℕ → List Entry → ℕ
+slotOfJuror juror [] = 0
+slotOfJuror juror (e ∷ es) = cond (eqb (e .juror) juror) (e .slot) (slotOfJuror juror es)
+
+-- The juror's ballot is gone, and its slot is the first free one.
+unfoldable pub withoutBallot : ℕ → List Slot → ℕ → List Slot
+withoutBallot b slots juror =
+    layout (length slots) b (without juror (ballotChain slots)) (slotOfJuror juror (ballotChain slots) ∷ freeChain slots)
+
+-- The urn after a withdrawal.
+unfoldable pub withdrawn : ℕ → ℕ → List ℕ → ℕ → List ℕ
+withdrawn k d urn juror =
+    afterwards (firstOf (withdrawReasons k d (factsOf k d urn juror) juror)) (bytesOf (withoutBallot (k * d) (urnSlots k d urn) juror)) urn

@@ -1,0 +1,114 @@
+// The entry point that admits a ballot, and its preview.
+use crate::answer::Answer;
+use crate::facts;
+use crate::facts::Facts;
+use crate::put;
+use crate::walk::wide;
+use jury::reason::Refusal;
+use jury::reason::Verdict;
+use jury::shape::Shape;
+ghost use mathlib.Core.Path.{_≡_};
+ghost use mathlib.Core.Bool.{true, false, _&&_};
+ghost use Prim.Native.Nat.{_*_, _≤_};
+ghost use lib.Dec.{T};
+ghost use lib.ListN.{length};
+ghost use Rattle.urn.specs.Slots.{bytesOf};
+ghost use Rattle.urn.specs.Chains.{freeChain};
+ghost use Rattle.urn.specs.Sound.{goodJuror, urnSlots, sound};
+ghost use Rattle.urn.specs.Facts.{gradedShape, isEmpty, factsOf, countedBy};
+ghost use Rattle.urn.specs.Admit.{admitSaid, withBallot, admitted};
+
+// The most that a juror's number can be: it is kept in a byte.
+pub const MOST_JURORS: usize = 255;
+
+// Whether the numbers of candidates and grades are those of a jury that grades.
+pub(crate) fn is_graded(k: usize, d: usize) -> bool
+    ensures { λ r. ⌜ r ≡ gradedShape k d ⌝ }
+{
+    let shape = Shape {
+        candidates: k,
+        grades: d,
+        ballots: 1,
+    };
+    Shape::LEAST_GRADES <= d && shape.is_within_limits()
+}
+
+// Whether a number is one of a juror.
+pub(crate) fn is_juror(juror: usize) -> bool
+    ensures { λ r. ⌜ r ≡ goodJuror juror ⌝ }
+{
+    1 <= juror && juror <= MOST_JURORS
+}
+
+// The answer to an admission, by what is asked of the urn alone.
+fn decide(k: usize, d: usize, facts: Facts, juror: usize, ballot: &[u8]) -> Answer
+    requires { ⌜ T (gradedShape k d) ⌝ }
+    requires { ⌜ facts .ballots ≤ 256 ⌝ }
+    ensures { λ r. ⌜ countedBy r ≡ admitSaid k d facts juror (now (ballot .entry)) ⌝ }
+{
+    if !facts.sound {
+        return Answer::Refused(Refusal::Urn);
+    }
+    if !is_juror(juror) {
+        return Answer::Refused(Refusal::Juror);
+    }
+    if facts.present {
+        return Answer::Refused(Refusal::Juror);
+    }
+    let shape = Shape {
+        candidates: k,
+        grades: d,
+        ballots: 1,
+    };
+    if let Verdict::Refused(reason) = jury::ballots::test(shape, ballot) {
+        return Answer::Refused(reason);
+    }
+    if facts.full {
+        return Answer::Refused(Refusal::FullUrn);
+    }
+    Answer::Accepted {
+        ballots: facts.ballots + 1,
+    }
+}
+
+// What an admission would answer. The urn is lent for reading alone.
+pub fn preview(k: usize, d: usize, urn: &[u8], juror: usize, ballot: &[u8]) -> Answer
+    ensures { λ r. ⌜ countedBy r ≡ admitSaid k d (factsOf k d (now (urn .entry)) juror) juror (now (ballot .entry)) ⌝ }
+{
+    if !is_graded(k, d) {
+        return Answer::Refused(Refusal::Shape);
+    }
+    let facts = facts::facts_of(k, d, urn, juror);
+    decide(k, d, facts, juror, ballot)
+}
+
+// Puts a ballot in the first free slot, and that slot first in the ballot chain.
+fn put_ballot(k: usize, d: usize, urn: &mut [u8], juror: usize, ballot: &[u8])
+    requires { ⌜ sound k d (now urn) ≡ true ⌝ }
+    requires { ⌜ isEmpty (freeChain (urnSlots k d (now urn))) ≡ false ⌝ }
+    requires { ⌜ goodJuror juror ≡ true ⌝ }
+    requires { ⌜ length (now ballot) ≡ k * d ⌝ }
+    requires { ⌜ T (gradedShape k d) ⌝ }
+    ensures { λ _. ⌜ now (urn .exit) ≡ bytesOf (withBallot (k * d) (urnSlots k d (now (urn .entry))) juror (now (ballot .entry))) ⌝ }
+{
+    let size = 2 + k * d;
+    let first = urn[0];
+    let slot = urn[1];
+    let at = wide(slot) * size;
+    let next = urn[at];
+    put::put_slot(urn, at, first, juror as u8, ballot);
+    urn[0] = slot;
+    urn[1] = next;
+}
+
+// Admits the ballot of a juror.
+pub fn admit(k: usize, d: usize, urn: &mut [u8], juror: usize, ballot: &[u8]) -> Answer
+    ensures { λ r. ⌜ countedBy r ≡ admitSaid k d (factsOf k d (now (urn .entry)) juror) juror (now (ballot .entry)) ⌝ }
+    ensures { λ _. ⌜ now (urn .exit) ≡ admitted k d (now (urn .entry)) juror (now (ballot .entry)) ⌝ }
+{
+    let answer = preview(k, d, urn, juror, ballot);
+    if let Answer::Accepted { ballots: _ } = answer {
+        put_ballot(k, d, urn, juror, ballot);
+    }
+    answer
+}

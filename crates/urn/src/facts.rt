@@ -1,0 +1,50 @@
+// What is asked of an urn before a ballot goes in or out.
+use crate::find;
+use crate::find::Link;
+use crate::sound;
+use crate::sound::Soundness;
+ghost use mathlib.Core.Path.{_≡_};
+ghost use lib.Dec.{T};
+ghost use Rattle.jury.specs.Shape.{withinLimits};
+ghost use Rattle.urn.specs.Sound.{juryOfOne};
+ghost use Rattle.urn.specs.Facts.{factsOf};
+
+// Of a sound urn the number of ballots, whether a juror's is among them, and whether no slot is free. Of any other
+// nothing but that.
+pub struct Facts {
+    pub sound: bool,
+    pub ballots: usize,
+    pub present: bool,
+    pub full: bool,
+}
+
+pub(crate) fn facts_of(k: usize, d: usize, urn: &[u8], juror: usize) -> Facts
+    requires { ⌜ T (withinLimits (juryOfOne k d)) ⌝ }
+    ensures { λ r. ⌜ r ≡ factsOf k d (now (urn .entry)) juror ⌝ }
+{
+    let Soundness::Sound { ballots } = sound::test(k, d, urn) else {
+        return Facts {
+            sound: false,
+            ballots: 0,
+            present: false,
+            full: false,
+        };
+    };
+    let bytes = k * d;
+    let slots = urn.len() / (2 + bytes);
+    let full = urn[1] == 0;
+    match find::find(urn, bytes, slots, juror) {
+        Link::Found { before: _, slot: _ } => Facts {
+            sound: true,
+            ballots,
+            present: true,
+            full,
+        },
+        Link::Absent => Facts {
+            sound: true,
+            ballots,
+            present: false,
+            full,
+        },
+    }
+}
