@@ -48,7 +48,7 @@ pub slots-sized : (b n : ℕ) (urn : List ℕ) → length urn ≡ n * slotBytes 
 unfolding slotsOf slotOf
 slots-sized b zero urn e = none
 slots-sized b (suc n) urn e =
-    more (omega (arith, length-drop 2 (take (slotBytes b) urn), length-take (slotBytes b) urn, size-is b, suc-mul n (slotBytes b)))
+    more {s = slotOf (take (slotBytes b) urn)} (omega (arith, length-drop 2 (take (slotBytes b) urn), length-take (slotBytes b) urn, size-is b, suc-mul n (slotBytes b)))
     (slots-sized b n (drop (slotBytes b) urn) (omega (arith, length-drop (slotBytes b) urn, suc-mul n (slotBytes b))))
 
 -- bytes to slots and back

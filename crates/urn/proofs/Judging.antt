@@ -1,19 +1,26 @@
 -- The test of an urn's slots by its bytes.
 -- Assumes nothing.
 use mathlib.Core.Path.{_≡_, _∙_, refl, sym, ap}
-use mathlib.Core.Bool.{Bool, true, false}
+use mathlib.Core.Logic.{⊎-elim}
+use mathlib.Core.Bool.{Bool, true, false, cond}
 use mathlib.Core.List.{List, map}
 use Prim.Native.Nat.{ℕ, _+_, _*_, _-_, _≤_, _<_}
-use native.Mathlib.Nat.{zero-mul}
+use native.Mathlib.Nat.{zero-mul, mul-le-mul}
 use native.Mathlib.Omega.{arith}
+use lib.Dec.{T}
 use lib.ListN.{length, getD, take, drop, length-map}
+use Rattle.jury.specs.Shape.{withinLimits}
+use Rattle.jury.proofs.Flags.{never-true}
+use Rattle.jury.proofs.Limits.{Within, within-T}
 use Rattle.urn.specs.Slots.{Slot, slotBytes, slotsOf, slotAt}
 use Rattle.urn.specs.Chains.{chain, entryAt, ballotSlots, ballotChain, freeChain}
-use Rattle.urn.specs.Sound.{allZero, soundSlots}
+use Rattle.urn.specs.Sound.{juryOfOne, allZero, slotCount, urnLength, soundSlots}
 use Rattle.urn.specs.declared.sound.Soundness.{Soundness}
 use Rattle.urn.specs.declared.sound.Soundness.the-variants.{Sound, Unsound}
 use Rattle.urn.specs.Inner.{SlotTable, noMarks, markAll, ballotsFrom, freeFrom, soundness}
 use Rattle.urn.proofs.SlotLaws.{slots-length, next-is, juror-is, ballot-is}
+use Rattle.urn.proofs.Marks.{true-or-false}
+use Rattle.urn.proofs.BytesLaws.{table-is, count-least, count-most}
 use Rattle.urn.proofs.SoundLaws.{Parts, Found, sound-parts, parts-sound, parts-found, found-parts}
 
 pub clash : (t : Bool) → t ≡ true → t ≡ false → ⊥
@@ -96,3 +103,38 @@ module _ (k d n : ℕ) (urn : List ℕ) (t : SlotTable (k * d) n urn) where
           ∙ f .free;
         count = omega (arith, ap length (slots-by-bytes (k * d) n urn t), ap length (free-by-bytes (k * d) n urn t), slots-length (k * d) n urn, f .count);
       }
+
+-- what the number of slots tells of the length
+module _ (t : Bool) (count r : ℕ) (is : r ≡ cond t count 0) where
+  pub counted-false : r ≡ 0 → (t ≡ true → 2 ≤ count) → t ≡ false
+  counted-false e f = never-true t (λ h. let q = is ∙ ap (λ (u : Bool). cond u count 0) h in let l = f h in omega arith)
+
+  pub counted-true : (r ≡ 0 → ⊥) → t ≡ true
+  counted-true n = ⊎-elim (λ h. h) (λ h. absurd (n (is ∙ ap (λ (u : Bool). cond u count 0) h))) (true-or-false t)
+
+  pub counted-is : (r ≡ 0 → ⊥) → r ≡ count
+  counted-is n = is ∙ ap (λ (u : Bool). cond u count 0) (counted-true n)
+
+pub few-bytes : (k d : ℕ) → T (withinLimits (juryOfOne k d)) → k * d ≤ 56
+unfolding juryOfOne
+few-bytes k d h = let w = within-T (juryOfOne k d) h in let l = mul-le-mul {n₁ = k} {m₁ = d} {n₂ = 8} {m₂ = 7} (w .k-most) (w .d-most) in omega arith
+
+-- an urn of such a length is a table of slots
+pub table : (b : ℕ) (urn : List ℕ) (n : ℕ) → b ≤ 56 → urnLength b (length urn) ≡ true → n ≡ slotCount b (length urn) → SlotTable b n urn
+table b urn n f e q =
+    record {
+      size = table-is b (length urn) e ∙ ap (λ (m : ℕ). m * slotBytes b) (sym q);
+      least = omega (arith, count-least b (length urn) e);
+      most = omega (arith, count-most b (length urn) e);
+      few = f;
+    }
+
+pub soundness-sound : (t : Bool) (m c : ℕ) → soundness t m ≡ Sound c → (t ≡ true) × (c ≡ m)
+unfolding soundness
+soundness-sound true m c e = (refl, cc)
+soundness-sound false m c e = let z : _≡_ {A = ℕ} 0 1 = cc in absurd (omega arith)
+
+pub soundness-unsound : (t : Bool) (m : ℕ) → soundness t m ≡ Unsound → t ≡ false
+unfolding soundness
+soundness-unsound true m e = let z : _≡_ {A = ℕ} 0 1 = cc in absurd (omega arith)
+soundness-unsound false m e = refl

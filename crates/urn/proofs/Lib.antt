@@ -14,3 +14,5 @@ pub mod Finding
 pub mod Putting
 pub mod Judging
 pub mod Held
+pub mod FactLaws
+pub mod Deciding

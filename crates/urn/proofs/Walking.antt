@@ -23,6 +23,12 @@ chain-step zero i slots h p = absurd (omega arith)
 chain-step (suc most) zero slots h p = absurd (omega arith)
 chain-step (suc most) (suc i) slots h p = ap (λ (m : ℕ). suc i ∷ chain m (slotAt slots (suc i) .next) slots) {x = most} {y = suc most - 1} (omega arith)
 
+pub chain-most : (most i : ℕ) (slots : List Slot) → length (chain most i slots) ≤ most
+unfolding chain
+chain-most zero i slots = omega arith
+chain-most (suc most) zero slots = omega arith
+chain-most (suc most) (suc i) slots = let l = chain-most most (slotAt slots (suc i) .next) slots in omega arith
+
 pub ends-step : (most i : ℕ) (slots : List Slot) → 0 < most → 0 < i → ends most i slots ≡ ends (most - 1) (slotAt slots i .next) slots
 unfolding ends
 ends-step zero i slots h p = absurd (omega arith)

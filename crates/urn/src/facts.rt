@@ -4,6 +4,7 @@ use crate::find::Link;
 use crate::sound;
 use crate::sound::Soundness;
 ghost use mathlib.Core.Path.{_≡_};
+ghost use Prim.Native.Nat.{_≤_};
 ghost use lib.Dec.{T};
 ghost use Rattle.jury.specs.Shape.{withinLimits};
 ghost use Rattle.urn.specs.Sound.{juryOfOne};
@@ -21,6 +22,7 @@ pub struct Facts {
 pub(crate) fn facts_of(k: usize, d: usize, urn: &[u8], juror: usize) -> Facts
     requires { ⌜ T (withinLimits (juryOfOne k d)) ⌝ }
     ensures { λ r. ⌜ r ≡ factsOf k d (now (urn .entry)) juror ⌝ }
+    ensures { λ r. ⌜ r .ballots ≤ 256 ⌝ }
 {
     let Soundness::Sound { ballots } = sound::test(k, d, urn) else {
         return Facts {

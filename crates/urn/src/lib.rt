@@ -6,4 +6,3 @@ mod find;
 mod put;
 mod sound;
 mod walk;
-pub mod withdraw;

@@ -1,6 +1,7 @@
 -- `urn::put::put_slot` meets its contract: two stores and a copy behind them.
 -- Assumes nothing.
-use mathlib.Core.Path.{_≡_, sym}
+use mathlib.Core.Path.{_≡_, _∙_, sym}
+use borrow.Rule.Slice.PartMut.{same-len-mid}
 use Prim.Native.Nat.{_+_, _-_}
 use lib.ListN.{length, length-set, set, take, drop, length-take, length-drop}
 use Rattle.urn.proofs.Putting.{put-done, stored-length}
@@ -48,7 +49,10 @@ copy-requires c κs =
 
 same-length : tie.Need-same-length
 same-length c =
-    ?
+    let a = c .before .before .before .before .before .before .args in
+    let u = set (set (a .urn .now) (a .at) (a .next)) (a .at + 1) (a .juror) in
+    same-len-mid (a .at + 2) (length u - (a .at + 2)) u (c .before .before .copy .last .1 .0) (c .before .before .copy .kept .1 .0)
+    ∙ stored-length (a .urn .now) (a .ballot .now) (c .before .before .copy .last .1 .0) (a .at) (a .next) (a .juror) (c .before .before .before .before .before .before .pre)
 
 returns : tie.Need-returns
 returns c =

@@ -1,0 +1,107 @@
+-- The facts of a sound urn, by its bytes.
+-- Assumes nothing.
+use mathlib.Core.Path.{_≡_, _∙_, refl, sym, ap}
+use mathlib.Core.Logic.{⊎-elim}
+use mathlib.Core.Bool.{Bool, true, false, cond, _&&_, _||_}
+use mathlib.Core.List.{List, [], _∷_, _++_, map}
+use Prim.Native.Nat.{ℕ, zero, suc, _+_, _*_, _-_, _≤_, _<_}
+use native.Mathlib.Omega.{arith}
+use lib.Dec.{T, eqb, eqb·suc-zero}
+use lib.ListN.{length, getD}
+use Rattle.jury.specs.Shape.{withinLimits}
+use Rattle.jury.proofs.Flags.{and-first, and-second, or-first, or-second}
+use Rattle.urn.specs.Slots.{Slot, slotBytes, slotsOf, slotAt}
+use Rattle.urn.specs.Chains.{chain, ballotSlots, ballotChain, freeChain}
+use Rattle.urn.specs.Sound.{all, member, juryOfOne, inUrn, slotCount, urnLength, urnSlots, soundSlots, sound}
+use Rattle.urn.specs.Facts.{isEmpty, jurorsOf, factsOf}
+use Rattle.urn.specs.declared.facts.Facts.{Facts}
+use Rattle.urn.specs.declared.find.Link.the-variants.{Found, Absent}
+use Rattle.urn.specs.Inner.{SlotTable, jurorsAt, linkOf}
+use Rattle.urn.proofs.Lists.{all-append, eqb-sym}
+use Rattle.urn.proofs.Marks.{true-or-false}
+use Rattle.urn.proofs.SlotLaws.{slots-length}
+use Rattle.urn.proofs.SoundLaws.{Parts, sound-parts, parts-found, jurors-of-entries}
+use Rattle.urn.proofs.Judging.{table, few-bytes, slots-by-bytes, free-by-bytes, count-by-bytes}
+
+pub link-found : (S : List Slot) (j b : ℕ) (is : List ℕ) (p s : ℕ) → linkOf S j b is ≡ Found p s → member j (jurorsAt S is) ≡ true
+unfolding linkOf jurorsAt member
+link-found S j b [] p s e = let z : _≡_ {A = ℕ} 0 1 = cc in absurd (omega arith)
+link-found S j b (i ∷ is) p s e =
+    ⊎-elim (λ h. or-first (eqb j (slotAt S i .juror)) (member j (jurorsAt S is)) (eqb-sym j (slotAt S i .juror) ∙ h))
+    (λ h. or-second (eqb j (slotAt S i .juror)) (member j (jurorsAt S is)) (link-found S j i is p s (ap (λ (t : Bool). cond t (Found b i) (linkOf S j i is)) (sym h) ∙ e)))
+    (true-or-false (eqb (slotAt S i .juror) j))
+
+pub link-absent : (S : List Slot) (j b : ℕ) (is : List ℕ) → linkOf S j b is ≡ Absent → member j (jurorsAt S is) ≡ false
+unfolding linkOf jurorsAt member
+link-absent S j b [] e = refl
+link-absent S j b (i ∷ is) e =
+    ⊎-elim (λ h. let q = ap (λ (t : Bool). cond t (Found b i) (linkOf S j i is)) (sym h) ∙ e in let z : _≡_ {A = ℕ} 0 1 = cc in absurd (omega arith))
+    (λ h. ap (λ (t : Bool). t || member j (jurorsAt S is)) (eqb-sym j (slotAt S i .juror) ∙ h) ∙ link-absent S j i is (ap (λ (t : Bool). cond t (Found b i) (linkOf S j i is)) (sym h) ∙ e))
+    (true-or-false (eqb (slotAt S i .juror) j))
+
+empty-chain : (n i : ℕ) (S : List Slot) → 0 < n → isEmpty (chain n i S) ≡ eqb i 0
+unfolding chain isEmpty
+empty-chain zero i S h = absurd (omega arith)
+empty-chain (suc n) zero S h = refl
+empty-chain (suc n) (suc i) S h = sym (eqb·suc-zero i)
+
+-- a sound urn has the length of one, and sound slots
+module _ (k d : ℕ) (urn : List ℕ) (w : T (withinLimits (juryOfOne k d))) (e : sound k d urn ≡ true) where
+  pub good-length-of : urnLength (k * d) (length urn) ≡ true
+  unfolding sound
+  good-length-of = and-first (urnLength (k * d) (length urn)) (soundSlots k d (urnSlots k d urn)) e
+
+  pub good-slots : soundSlots k d (urnSlots k d urn) ≡ true
+  unfolding sound
+  good-slots = and-second (urnLength (k * d) (length urn)) (soundSlots k d (urnSlots k d urn)) e
+
+  pub its-table : SlotTable (k * d) (slotCount (k * d) (length urn)) urn
+  its-table = table (k * d) urn (slotCount (k * d) (length urn)) (few-bytes k d w) good-length-of refl
+
+  pub its-parts : Parts k d (urnSlots k d urn)
+  its-parts = sound-parts k d (urnSlots k d urn) good-slots
+
+  pub its-length : length (urnSlots k d urn) ≡ slotCount (k * d) (length urn)
+  unfolding urnSlots
+  its-length = slots-length (k * d) (slotCount (k * d) (length urn)) urn
+
+  pub can-find : all (inUrn (slotCount (k * d) (length urn))) (chain (slotCount (k * d) (length urn)) (getD urn 0 0) (slotsOf (k * d) (slotCount (k * d) (length urn)) urn)) ≡ true
+  unfolding urnSlots
+  can-find =
+      let n = slotCount (k * d) (length urn) in
+      let S = slotsOf (k * d) n urn in
+      ap (all (inUrn n)) (sym (slots-by-bytes (k * d) n urn its-table))
+      ∙ ap (λ (m : ℕ). all (inUrn m) (ballotSlots S)) (sym its-length)
+      ∙ and-first (all (inUrn (length S)) (ballotSlots S)) (all (inUrn (length S)) (freeChain S)) (sym (all-append (inUrn (length S)) (ballotSlots S) (freeChain S)) ∙ its-parts .inside)
+
+  pub jurors-are : jurorsOf (ballotChain (urnSlots k d urn)) ≡ jurorsAt (slotsOf (k * d) (slotCount (k * d) (length urn)) urn) (chain (slotCount (k * d) (length urn)) (getD urn 0 0) (slotsOf (k * d) (slotCount (k * d) (length urn)) urn))
+  unfolding jurorsOf ballotChain urnSlots
+  jurors-are =
+      let n = slotCount (k * d) (length urn) in
+      let S = slotsOf (k * d) n urn in
+      jurors-of-entries S (ballotSlots S) ∙ ap (jurorsAt S) (slots-by-bytes (k * d) n urn its-table)
+
+  pub full-is : isEmpty (freeChain (urnSlots k d urn)) ≡ eqb (getD urn 1 0) 0
+  unfolding urnSlots
+  full-is =
+      let n = slotCount (k * d) (length urn) in
+      ap isEmpty (free-by-bytes (k * d) n urn its-table) ∙ empty-chain n (getD urn 1 0) (slotsOf (k * d) n urn) (omega (arith, its-table .least))
+
+  pub few-ballots : length (ballotChain (urnSlots k d urn)) ≤ 256
+  unfolding urnSlots
+  few-ballots =
+      let n = slotCount (k * d) (length urn) in
+      let S = slotsOf (k * d) n urn in
+      let f = parts-found k d S (omega (arith, its-length, its-table .least)) (omega (arith, its-length, its-table .most)) its-parts in
+      omega (arith, count-by-bytes (k * d) n urn its-table, ap length (slots-by-bytes (k * d) n urn its-table), f .count, its-length, its-table .most)
+
+  pub facts-are : (j : ℕ) → factsOf k d urn j ≡ record { sound = true; ballots = length (ballotChain (urnSlots k d urn)); present = member j (jurorsOf (ballotChain (urnSlots k d urn))); full = isEmpty (freeChain (urnSlots k d urn)) }
+  unfolding factsOf
+  facts-are j = rw e
+
+pub no-facts : (k d : ℕ) (urn : List ℕ) (j : ℕ) → sound k d urn ≡ false → factsOf k d urn j ≡ record { sound = false; ballots = 0; present = false; full = false }
+unfolding factsOf
+no-facts k d urn j e = rw e
+
+pub same-facts : (m n : ℕ) (p q f g : Bool) → m ≡ n → p ≡ q → f ≡ g → _≡_ {A = Facts} (record { sound = true; ballots = m; present = p; full = f }) (record { sound = true; ballots = n; present = q; full = g })
+same-facts m n p q f g h i j = cc
