@@ -138,6 +138,9 @@ juror-present t p h i = rw (h, i)
 pub juror-absent : (t p : Bool) → t ≡ true → p ≡ false → (t && not p) ≡ true
 juror-absent t p h i = rw (h, i)
 
+pub juror-gone : (t p : Bool) → t ≡ true → p ≡ false → (t && p) ≡ false
+juror-gone t p h i = rw (h, i)
+
 pub juror-bad : (t u : Bool) → t ≡ false → (t && u) ≡ false
 juror-bad t u h = rw h
 

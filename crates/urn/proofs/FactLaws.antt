@@ -2,12 +2,13 @@
 -- Assumes nothing.
 use mathlib.Core.Path.{_≡_, _∙_, refl, sym, ap}
 use mathlib.Core.Logic.{⊎-elim}
-use mathlib.Core.Bool.{Bool, true, false, cond, _&&_, _||_}
+use mathlib.Core.Bool.{Bool, true, false, cond, not, _&&_, _||_}
 use mathlib.Core.List.{List, [], _∷_, _++_, map}
 use Prim.Native.Nat.{ℕ, zero, suc, _+_, _*_, _-_, _≤_, _<_}
 use native.Mathlib.Omega.{arith}
 use lib.Dec.{T, eqb, eqb·suc-zero}
 use lib.ListN.{length, getD}
+use borrow.Author.Tests.{not-true}
 use Rattle.jury.specs.Shape.{withinLimits}
 use Rattle.jury.proofs.Flags.{and-first, and-second, or-first, or-second}
 use Rattle.urn.specs.Slots.{Slot, slotBytes, slotsOf, slotAt}
@@ -105,3 +106,16 @@ no-facts k d urn j e = rw e
 
 pub same-facts : (m n : ℕ) (p q f g : Bool) → m ≡ n → p ≡ q → f ≡ g → _≡_ {A = Facts} (record { sound = true; ballots = m; present = p; full = f }) (record { sound = true; ballots = n; present = q; full = g })
 same-facts m n p q f g h i j = cc
+
+-- what the facts tell of the urn
+pub facts-sound : (k d : ℕ) (urn : List ℕ) (j : ℕ) → factsOf k d urn j .sound ≡ true → sound k d urn ≡ true
+facts-sound k d urn j h =
+    ⊎-elim (λ e. e) (λ e. let q = sym h ∙ ap (λ (f : Facts). f .sound) (no-facts k d urn j e) in let z : _≡_ {A = ℕ} 0 1 = cc in absurd (omega arith)) (true-or-false (sound k d urn))
+
+pub facts-free : (k d : ℕ) (urn : List ℕ) (j : ℕ) → sound k d urn ≡ true → not (factsOf k d urn j .full) ≡ true → isEmpty (freeChain (urnSlots k d urn)) ≡ false
+unfolding factsOf
+facts-free k d urn j e h = sym (ap (λ (t : Bool). cond {A = Facts} t (record { sound = true; ballots = length (ballotChain (urnSlots k d urn)); present = member j (jurorsOf (ballotChain (urnSlots k d urn))); full = isEmpty (freeChain (urnSlots k d urn)) }) (record { sound = false; ballots = 0; present = false; full = false }) .full) e) ∙ not-true (factsOf k d urn j .full) h
+
+pub facts-present : (k d : ℕ) (urn : List ℕ) (j : ℕ) → sound k d urn ≡ true → factsOf k d urn j .present ≡ true → member j (jurorsOf (ballotChain (urnSlots k d urn))) ≡ true
+unfolding factsOf
+facts-present k d urn j e h = sym (ap (λ (t : Bool). cond {A = Facts} t (record { sound = true; ballots = length (ballotChain (urnSlots k d urn)); present = member j (jurorsOf (ballotChain (urnSlots k d urn))); full = isEmpty (freeChain (urnSlots k d urn)) }) (record { sound = false; ballots = 0; present = false; full = false }) .present) e) ∙ h

@@ -16,3 +16,6 @@ pub mod Judging
 pub mod Held
 pub mod FactLaws
 pub mod Deciding
+pub mod Admitting
+pub mod Withdrawing
+pub mod Taking

@@ -2,6 +2,8 @@
 use crate::answer::Answer;
 use crate::facts;
 use crate::facts::Facts;
+use crate::put;
+use crate::walk::wide;
 use jury::reason::Refusal;
 use jury::reason::Verdict;
 use jury::shape::Shape;
@@ -78,4 +80,35 @@ pub fn preview(k: usize, d: usize, urn: &[u8], juror: usize, ballot: &[u8]) -> A
     }
     let facts = facts::facts_of(k, d, urn, juror);
     decide(k, d, facts, juror, ballot)
+}
+
+// Puts a ballot in the first free slot, and that slot first in the ballot chain.
+fn put_ballot(k: usize, d: usize, urn: &mut [u8], juror: usize, ballot: &[u8])
+    requires { ⌜ sound k d (now urn) ≡ true ⌝ }
+    requires { ⌜ isEmpty (freeChain (urnSlots k d (now urn))) ≡ false ⌝ }
+    requires { ⌜ goodJuror juror ≡ true ⌝ }
+    requires { ⌜ length (now ballot) ≡ k * d ⌝ }
+    requires { ⌜ T (gradedShape k d) ⌝ }
+    ensures { λ _. ⌜ now (urn .exit) ≡ bytesOf (withBallot (k * d) (urnSlots k d (now (urn .entry))) juror (now (ballot .entry))) ⌝ }
+{
+    let size = 2 + k * d;
+    let first = urn[0];
+    let slot = urn[1];
+    let at = wide(slot) * size;
+    let next = urn[at];
+    put::put_slot(urn, at, first, juror as u8, ballot);
+    urn[0] = slot;
+    urn[1] = next;
+}
+
+// Admits the ballot of a juror.
+pub fn admit(k: usize, d: usize, urn: &mut [u8], juror: usize, ballot: &[u8]) -> Answer
+    ensures { λ r. ⌜ countedBy r ≡ admitSaid k d (factsOf k d (now (urn .entry)) juror) juror (now (ballot .entry)) ⌝ }
+    ensures { λ _. ⌜ now (urn .exit) ≡ admitted k d (now (urn .entry)) juror (now (ballot .entry)) ⌝ }
+{
+    let answer = preview(k, d, urn, juror, ballot);
+    if let Answer::Accepted { ballots: _ } = answer {
+        put_ballot(k, d, urn, juror, ballot);
+    }
+    answer
 }

@@ -6,3 +6,4 @@ mod find;
 mod put;
 mod sound;
 mod walk;
+pub mod withdraw;

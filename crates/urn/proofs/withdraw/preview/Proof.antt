@@ -1,0 +1,45 @@
+-- `urn::withdraw::preview` meets its contract: reason 1, or the answer by the facts of the urn.
+-- Assumes nothing.
+use mathlib.Core.Path.{_≡_, _∙_, refl, sym, ap}
+use Prim.Native.Nat.{_≤_}
+use borrow.Author.Tests.{not-true, not-false}
+use Rattle.jury.specs.Reason.{reasonOf}
+use Rattle.jury.proofs.Flags.{true-T}
+use Rattle.urn.specs.declared.facts.Facts.{Facts}
+use Rattle.urn.specs.Facts.{gradedShape, factsOf, countedBy}
+use Rattle.urn.specs.Withdraw.{withdrawSaid}
+use Rattle.urn.proofs.Deciding.{withdraw-first, withdraw-1, said-refused, graded-within}
+use native.Mathlib.Omega.{arith}
+use borrow.Author.Needs.{needs}
+use Rattle.urn.proofs.withdraw.preview.Statement.{statement}
+use Rattle.urn.proofs.withdraw.preview.Tie as tie
+
+is-graded-requires : tie.Need-is-graded-requires
+is-graded-requires c κs =
+    tt
+
+returns : tie.Need-returns
+unfolding withdrawSaid countedBy reasonOf
+returns c =
+    let a = c .before .before .before .args in
+    said-refused _ _ _ (withdraw-first (a .k) (a .d) (factsOf (a .k) (a .d) (a .urn .now) (a .juror)) (a .juror) ∙ withdraw-1 _ _ _ (sym (c .before .is-graded .ensures) ∙ not-true _ (c .if1 .taken)))
+
+facts-of-requires : tie.Need-facts-of-requires
+facts-of-requires c κs =
+    let a = c .before .before .before .args in
+    graded-within (a .k) (a .d) (true-T _ (sym (c .before .is-graded .ensures) ∙ not-false _ (c .if1 .left)))
+
+decide-requires : tie.Need-decide-requires
+decide-requires c κs =
+    let e = c .before in
+    true-T _ (sym (e .before .is-graded .ensures) ∙ not-false _ (e .if1 .left))
+
+returns-2 : tie.Need-returns-2
+returns-2 c =
+    let f = c .before in
+    let a = f .before .before .before .before .args in
+    c .decide .ensures ∙ ap (λ (x : Facts). withdrawSaid (a .k) (a .d) x (a .juror)) (f .facts-of .ensures .0)
+
+pub preview-spec : {M : Type 1} → statement M
+preview-spec =
+    tie.close (tie.spec is-graded-requires returns facts-of-requires decide-requires returns-2)

@@ -1,0 +1,74 @@
+-- `urn::withdraw::withdraw` meets its contract: the preview decides, and only an accepted withdrawal takes the ballot out.
+-- Assumes nothing.
+use mathlib.Core.Path.{_≡_, _∙_, refl, sym, ap}
+use mathlib.Core.Bool.{Bool, true, false}
+use mathlib.Core.Option.{none}
+use mathlib.Core.List.{List}
+use Rattle.jury.specs.Reason.{reasonOf, firstOf}
+use Rattle.jury.proofs.Flags.{and-second, true-T}
+use Rattle.urn.specs.Sound.{goodJuror}
+use Rattle.urn.specs.Facts.{factsOf, countedBy, afterwards}
+use Rattle.urn.specs.Withdraw.{withdrawReasons, withdrawSaid, withdrawn}
+use Rattle.urn.proofs.FactLaws.{facts-sound, facts-present}
+use Rattle.urn.proofs.Deciding.{Withdrawable, withdrawable, accepted-none, refused-kept, none-new}
+use native.Mathlib.Omega.{arith}
+use borrow.Author.Needs.{needs}
+use Rattle.urn.proofs.withdraw.withdraw.Statement.{statement}
+use Rattle.urn.proofs.withdraw.withdraw.Tie as tie
+
+-- an accepted answer has no reason against it
+no-reason : (c : tie.After-enum-told) →
+    let a = c .before .before .before .before .before .args in
+    firstOf (withdrawReasons (a .k) (a .d) (factsOf (a .k) (a .d) (a .urn .now) (a .juror)) (a .juror)) ≡ none
+unfolding withdrawSaid countedBy
+no-reason c = accepted-none _ _ _ (sym (c .before .before .preview .ensures) ∙ ap countedBy (c .enum-told .given .1))
+
+preview-requires : tie.Need-preview-requires
+preview-requires c κs = search needs
+
+enum-told : tie.Need-enum-told
+enum-told c = search needs
+
+take-ballot-requires : tie.Need-take-ballot-requires
+take-ballot-requires c κs =
+    let t = c .before in
+    let s = t .before .before .before .before .before in
+    let a = s .args in
+    let f = factsOf (a .k) (a .d) (a .urn .now) (a .juror) in
+    let p = withdrawable (a .k) (a .d) f (a .juror) (no-reason t) in
+    let e = facts-sound (a .k) (a .d) (a .urn .now) (a .juror) (p .isSound) in
+    (e, (facts-present (a .k) (a .d) (a .urn .now) (a .juror) e (and-second (goodJuror (a .juror)) (f .present) (p .juror)), true-T _ (p .graded)))
+
+enum-told-2 : tie.Need-enum-told-2
+enum-told-2 c = search needs
+
+same-length : tie.Need-same-length
+same-length c =
+    c .before .before .take-ballot .kept .1 .1 .0
+
+returns : tie.Need-returns
+unfolding withdrawn
+returns c =
+    let t = c .before .before .before .before in
+    (t .before .before .preview .ensures, c .before .before .take-ballot .ensures ∙ sym (none-new _ _ _ (no-reason t)))
+
+same-length-2 : tie.Need-same-length-2
+same-length-2 c = search needs
+
+returns-2 : tie.Need-returns-2
+unfolding withdrawn withdrawSaid countedBy
+returns-2 c =
+    (c .before .before .preview .ensures, sym (refused-kept _ _ _ _ _ (sym (c .before .before .preview .ensures) ∙ ap countedBy (c .enum-told2 .given .1))))
+
+pub withdraw-spec : {M : Type 1} → statement M
+withdraw-spec =
+    tie.close
+    (tie.spec
+    preview-requires
+    enum-told
+    take-ballot-requires
+    enum-told-2
+    same-length
+    returns
+    same-length-2
+    returns-2)
