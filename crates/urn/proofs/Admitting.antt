@@ -74,7 +74,7 @@ module _ (k d : ℕ) (urn : List ℕ) (w : T (withinLimits (juryOfOne k d))) (e 
       ap (inUrn (length (urnSlots k d urn))) free-named
       ∙ all-first (inUrn (length (urnSlots k d urn))) (firstFree (freeChain (urnSlots k d urn))) (drop 1 (freeChain (urnSlots k d urn)))
       (ap (all (inUrn (length (urnSlots k d urn)))) (sym (not-empty (freeChain (urnSlots k d urn)) ne))
-          ∙ and-second (all (inUrn (length (urnSlots k d urn))) (ballotSlots (urnSlots k d urn))) (all (inUrn (length (urnSlots k d urn))) (freeChain (urnSlots k d urn))) (sym (all-append (inUrn (length (urnSlots k d urn))) (ballotSlots (urnSlots k d urn)) (freeChain (urnSlots k d urn))) ∙ its-parts k d urn w e .inside))
+      ∙ and-second (all (inUrn (length (urnSlots k d urn))) (ballotSlots (urnSlots k d urn))) (all (inUrn (length (urnSlots k d urn))) (freeChain (urnSlots k d urn))) (sym (all-append (inUrn (length (urnSlots k d urn))) (ballotSlots (urnSlots k d urn)) (freeChain (urnSlots k d urn))) ∙ its-parts k d urn w e .inside))
 
   pub free-below : getD urn 1 0 < slotCount (k * d) (length urn)
   free-below = omega (arith, below (length (urnSlots k d urn)) (getD urn 1 0) free-in, its-length k d urn w e)
@@ -119,9 +119,9 @@ module _ (k d : ℕ) (urn : List ℕ) (w : T (withinLimits (juryOfOne k d))) (e 
       let l₃ : length u₃ ≡ m * (2 + k * d) = length-set (set last 0 i) 1 (getD urn at 0) ∙ length-set last 0 i ∙ l₁ in
       let keep : slotAt (slotsOf (k * d) m last) 0 ≡ slotAt R 0 = ap (λ (ss : List Slot). slotAt ss 0) s₁ ∙ at-other R i 0 new (λ z. omega (arith, positive (length (slotsOf (k * d) m urn)) i free-in)) in
       let s₃ : slotsOf (k * d) m u₃ ≡ set (set R i (record { next = firstEntry (ballotChain R); juror = j; ballot = x })) 0 (record { next = i; juror = slotAt R i .next; ballot = slotAt R 0 .ballot }) =
-            head-set (k * d) m last i (getD urn at 0) l₁ (omega (arith, t .least))
-            ∙ ap (λ (s : Slot). set (slotsOf (k * d) m last) 0 (record { next = i; juror = getD urn at 0; ballot = s .ballot })) keep
-            ∙ ap (λ (p : ℕ). set (slotsOf (k * d) m last) 0 (record { next = i; juror = p; ballot = slotAt R 0 .ballot })) (sym (next-is (k * d) m urn i free-below))
-            ∙ ap (λ (ss : List Slot). set ss 0 (record { next = i; juror = slotAt R i .next; ballot = slotAt R 0 .ballot })) s₁
-            ∙ ap (λ (p : ℕ). set (set R i (record { next = p; juror = j; ballot = x })) 0 (record { next = i; juror = slotAt R i .next; ballot = slotAt R 0 .ballot })) first-named in
+      head-set (k * d) m last i (getD urn at 0) l₁ (omega (arith, t .least))
+      ∙ ap (λ (s : Slot). set (slotsOf (k * d) m last) 0 (record { next = i; juror = getD urn at 0; ballot = s .ballot })) keep
+      ∙ ap (λ (p : ℕ). set (slotsOf (k * d) m last) 0 (record { next = i; juror = p; ballot = slotAt R 0 .ballot })) (sym (next-is (k * d) m urn i free-below))
+      ∙ ap (λ (ss : List Slot). set ss 0 (record { next = i; juror = slotAt R i .next; ballot = slotAt R 0 .ballot })) s₁
+      ∙ ap (λ (p : ℕ). set (set R i (record { next = p; juror = j; ballot = x })) 0 (record { next = i; juror = slotAt R i .next; ballot = slotAt R 0 .ballot })) first-named in
       sym (bytes-back (k * d) m u₃ l₃) ∙ ap bytesOf (s₃ ∙ laid j x)

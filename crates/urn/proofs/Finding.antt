@@ -62,9 +62,9 @@ module _ (slots : List Slot) (n first juror before count slot : ℕ) (on : OnFin
       (record {
         within = omega arith;
         rest =
-          ap (λ (t : Bool). cond t (Found before slot) (linkOf slots juror slot rest)) (sym (ne-eqb (slotAt slots slot .juror) juror f))
-          ∙ ap (linkOf slots juror before) (sym (step l p))
-          ∙ on .rest;
+            ap (λ (t : Bool). cond t (Found before slot) (linkOf slots juror slot rest)) (sym (ne-eqb (slotAt slots slot .juror) juror f))
+            ∙ ap (linkOf slots juror before) (sym (step l p))
+            ∙ on .rest;
         inside = all-rest (inUrn n) slot rest (ap (all (inUrn n)) (sym (step l p)) ∙ on .inside);
       })
 

@@ -82,10 +82,10 @@ module _ (k d n : ℕ) (urn : List ℕ) (t : SlotTable (k * d) n urn) where
         head = ap allZero (head-ballot (k * d) n urn t) ∙ f .head;
         ballots = ap (λ (m : ℕ). ballotsFrom k d S m (slotAt S 0 .next) noMarks noMarks) (slots-length (k * d) n urn) ∙ ap (λ (i : ℕ). ballotsFrom k d S n i noMarks noMarks) (head-next (k * d) n urn t) ∙ f .ballots;
         free =
-          ap (λ (m : ℕ). freeFrom S m (slotAt S 0 .juror) (markAll (ballotSlots S) noMarks)) (slots-length (k * d) n urn)
-          ∙ ap (λ (i : ℕ). freeFrom S n i (markAll (ballotSlots S) noMarks)) (head-juror (k * d) n urn t)
-          ∙ ap (λ (is : List ℕ). freeFrom S n (getD urn 1 0) (markAll is noMarks)) (slots-by-bytes (k * d) n urn t)
-          ∙ f .free;
+            ap (λ (m : ℕ). freeFrom S m (slotAt S 0 .juror) (markAll (ballotSlots S) noMarks)) (slots-length (k * d) n urn)
+            ∙ ap (λ (i : ℕ). freeFrom S n i (markAll (ballotSlots S) noMarks)) (head-juror (k * d) n urn t)
+            ∙ ap (λ (is : List ℕ). freeFrom S n (getD urn 1 0) (markAll is noMarks)) (slots-by-bytes (k * d) n urn t)
+            ∙ f .free;
         count = omega (arith, ap length (slots-by-bytes (k * d) n urn t), ap length (free-by-bytes (k * d) n urn t), slots-length (k * d) n urn, f .count);
       }))
 
@@ -97,10 +97,10 @@ module _ (k d n : ℕ) (urn : List ℕ) (t : SlotTable (k * d) n urn) where
         head = ap allZero (sym (head-ballot (k * d) n urn t)) ∙ f .head;
         ballots = sym (ap (λ (m : ℕ). ballotsFrom k d S m (slotAt S 0 .next) noMarks noMarks) (slots-length (k * d) n urn) ∙ ap (λ (i : ℕ). ballotsFrom k d S n i noMarks noMarks) (head-next (k * d) n urn t)) ∙ f .ballots;
         free =
-          sym (ap (λ (m : ℕ). freeFrom S m (slotAt S 0 .juror) (markAll (ballotSlots S) noMarks)) (slots-length (k * d) n urn)
-          ∙ ap (λ (i : ℕ). freeFrom S n i (markAll (ballotSlots S) noMarks)) (head-juror (k * d) n urn t)
-          ∙ ap (λ (is : List ℕ). freeFrom S n (getD urn 1 0) (markAll is noMarks)) (slots-by-bytes (k * d) n urn t))
-          ∙ f .free;
+            sym (ap (λ (m : ℕ). freeFrom S m (slotAt S 0 .juror) (markAll (ballotSlots S) noMarks)) (slots-length (k * d) n urn)
+            ∙ ap (λ (i : ℕ). freeFrom S n i (markAll (ballotSlots S) noMarks)) (head-juror (k * d) n urn t)
+            ∙ ap (λ (is : List ℕ). freeFrom S n (getD urn 1 0) (markAll is noMarks)) (slots-by-bytes (k * d) n urn t))
+            ∙ f .free;
         count = omega (arith, ap length (slots-by-bytes (k * d) n urn t), ap length (free-by-bytes (k * d) n urn t), slots-length (k * d) n urn, f .count);
       }
 

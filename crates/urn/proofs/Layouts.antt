@@ -165,6 +165,14 @@ layout-sound k d n b es is h e =
     let L = layout n b es is in
     let q = layout-length n b es is in
     let few₂ : length es + length is ≤ n - 1 = few n b es is f in
-    rw (q, layout-head n b es is f, read-ballots n b es is f, read-free n b es is f, e,
+    rw (
+      q,
+      layout-head n b es is f,
+      read-ballots n b es is f,
+      read-free n b es is f,
+      e,
       linked-ends n L es n (in-ballots n b es is f) (omega arith) (layout-linked n b es is f),
-      free-ends n b L is n (in-free n b es is f) (omega arith) (layout-free n b es is f), zeros-zero b, free-empty b L is (layout-free n b es is f))
+      free-ends n b L is n (in-free n b es is f) (omega arith) (layout-free n b es is f),
+      zeros-zero b,
+      free-empty b L is (layout-free n b es is f),
+    )

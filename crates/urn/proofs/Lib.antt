@@ -19,3 +19,4 @@ pub mod Deciding
 pub mod Admitting
 pub mod Withdrawing
 pub mod Taking
+pub mod UrnTheorems

@@ -134,7 +134,7 @@ chain-free b zero i slots e f = none
 chain-free b (suc most) zero slots e f = none
 chain-free b (suc most) (suc i) slots e f =
     more (f (suc i) (or-first (eqb (suc i) (suc i)) (member (suc i) (chain most (slotAt slots (suc i) .next) slots)) (eq-eqb (suc i) (suc i) refl))
-        ∙ ap (freeSlot b) (sym (free-first most (slotAt slots (suc i) .next) slots e)))
+    ∙ ap (freeSlot b) (sym (free-first most (slotAt slots (suc i) .next) slots e)))
     (chain-free b most (slotAt slots (suc i) .next) slots e (λ j h. f j (or-second (eqb j (suc i)) (member j (chain most (slotAt slots (suc i) .next) slots)) h)))
 
 -- two urns that hold the same chain agree on its slots

@@ -64,9 +64,9 @@ met-not-fresh (y ∷ is) m x h e g =
     ⊎-elim
     (λ k. ap (λ (t : Bool). not t && fresh is (set m y true)) (ap (λ (j : ℕ). getD m j false) (sym (eqb-true x y k)) ∙ g))
     (λ k. ap (λ (t : Bool). not (getD m y false) && t)
-            (met-not-fresh is (set m y true) x (wider is m y (all-rest (λ z. ltb z (length m)) y is h)) k
-            (set-mark m y x (ltb-true y (length m) (all-first (λ z. ltb z (length m)) y is h)) ∙ or-second (eqb x y) (getD m x false) g))
-        ∙ and-false (not (getD m y false)))
+    (met-not-fresh is (set m y true) x (wider is m y (all-rest (λ z. ltb z (length m)) y is h)) k
+    (set-mark m y x (ltb-true y (length m) (all-first (λ z. ltb z (length m)) y is h)) ∙ or-second (eqb x y) (getD m x false) g))
+    ∙ and-false (not (getD m y false)))
     (or-either (eqb x y) (member x is) e)
 
 -- numbers that are fresh are not marked, and none is there twice
@@ -76,11 +76,11 @@ fresh-is [] m h f = refl
 fresh-is (x ∷ is) m h f =
     ⊎-elim
     (λ k. ap (λ (t : Bool). not t && fresh is (set m x true)) (f x (or-first (eqb x x) (member x is) (eq-eqb x x refl)))
-        ∙ met-not-fresh is (set m x true) x r k (getD-set-same m x true false l)
-        ∙ sym (ap (λ (t : Bool). not t && distinct is) k))
+    ∙ met-not-fresh is (set m x true) x r k (getD-set-same m x true false l)
+    ∙ sym (ap (λ (t : Bool). not t && distinct is) k))
     (λ k. ap (λ (t : Bool). not t && fresh is (set m x true)) (f x (or-first (eqb x x) (member x is) (eq-eqb x x refl)))
-        ∙ fresh-is is (set m x true) r (λ i e. set-mark m x i l ∙ ap (λ (t : Bool). t || getD m i false) (ne-eqb i x (λ q. let z : _≡_ {A = Bool} true false = sym (ap (λ (j : ℕ). member j is) (sym q) ∙ e) ∙ k in let w : _≡_ {A = ℕ} 0 1 = cc in omega arith)) ∙ f i (or-second (eqb i x) (member i is) e))
-        ∙ sym (ap (λ (t : Bool). not t && distinct is) k))
+    ∙ fresh-is is (set m x true) r (λ i e. set-mark m x i l ∙ ap (λ (t : Bool). t || getD m i false) (ne-eqb i x (λ q. let z : _≡_ {A = Bool} true false = sym (ap (λ (j : ℕ). member j is) (sym q) ∙ e) ∙ k in let w : _≡_ {A = ℕ} 0 1 = cc in omega arith)) ∙ f i (or-second (eqb i x) (member i is) e))
+    ∙ sym (ap (λ (t : Bool). not t && distinct is) k))
     (true-or-false (member x is))
   where
     l : x < length m

@@ -46,14 +46,17 @@ pub record Parts (k d : ℕ) (slots : List Slot) : Type 0 where
 chains-by-slots : (k d : ℕ) (slots : List Slot) →
     goodChains k d (length slots) (ballotChain slots) (freeChain slots)
     ≡ (eachOnce (length slots) (ballotSlots slots ++ freeChain slots)
-      && all (λ i. goodJuror (slotAt slots i .juror)) (ballotSlots slots)
-      && distinct (jurorsAt slots (ballotSlots slots))
-      && all (λ i. goodBallot k d (slotAt slots i .ballot)) (ballotSlots slots))
+    && all (λ i. goodJuror (slotAt slots i .juror)) (ballotSlots slots)
+    && distinct (jurorsAt slots (ballotSlots slots))
+    && all (λ i. goodBallot k d (slotAt slots i .ballot)) (ballotSlots slots))
 unfolding goodChains ballotChain entryAt
 chains-by-slots k d slots =
-    rw (slots-of-entries slots (ballotSlots slots), jurors-of-entries slots (ballotSlots slots),
+    rw (
+      slots-of-entries slots (ballotSlots slots),
+      jurors-of-entries slots (ballotSlots slots),
       all-map (λ (e : Entry). goodJuror (e .juror)) (entryAt slots) (ballotSlots slots),
-      all-map (λ (e : Entry). goodBallot k d (e .ballot)) (entryAt slots) (ballotSlots slots))
+      all-map (λ (e : Entry). goodBallot k d (e .ballot)) (entryAt slots) (ballotSlots slots),
+    )
 
 pub sound-parts : (k d : ℕ) (slots : List Slot) → soundSlots k d slots ≡ true → Parts k d slots
 unfolding soundSlots eachOnce
@@ -164,12 +167,12 @@ module _ (k d : ℕ) (slots : List Slot) (least : 0 < length slots) (most : leng
       let v₁ = and-first (a′ && b′) c′ (f .free) in
       let free-ys = and-second a′ b′ v₁ in
       let in-xs = all-weaken (λ i. inUrn n i && goodJuror (slotAt slots i .juror) && goodBallot k d (slotAt slots i .ballot)) (inUrn n) xs
-            (λ i q. and-first (inUrn n i) (goodJuror (slotAt slots i .juror)) (and-first (inUrn n i && goodJuror (slotAt slots i .juror)) (goodBallot k d (slotAt slots i .ballot)) q)) good-xs in
+      (λ i q. and-first (inUrn n i) (goodJuror (slotAt slots i .juror)) (and-first (inUrn n i && goodJuror (slotAt slots i .juror)) (goodBallot k d (slotAt slots i .ballot)) q)) good-xs in
       let in-ys = all-weaken (λ i. inUrn n i && emptySlot (slotAt slots i)) (inUrn n) ys (λ i q. and-first (inUrn n i) (emptySlot (slotAt slots i)) q) free-ys in
       let inside = all-append (inUrn n) xs ys ∙ and-both (all (inUrn n) xs) (all (inUrn n) ys) in-xs in-ys in
       let once = sym (fresh-noMarks (xs ++ ys) (below-256 n (xs ++ ys) most inside)) ∙ fresh-append xs ys noMarks ∙ and-both c c′ (and-second (a && b) c w₂) (and-second (a′ && b′) c′ (f .free)) in
       let jurors = all-weaken (λ i. inUrn n i && goodJuror (slotAt slots i .juror) && goodBallot k d (slotAt slots i .ballot)) (λ i. goodJuror (slotAt slots i .juror)) xs
-            (λ i q. and-second (inUrn n i) (goodJuror (slotAt slots i .juror)) (and-first (inUrn n i && goodJuror (slotAt slots i .juror)) (goodBallot k d (slotAt slots i .ballot)) q)) good-xs in
+      (λ i q. and-second (inUrn n i) (goodJuror (slotAt slots i .juror)) (and-first (inUrn n i && goodJuror (slotAt slots i .juror)) (goodBallot k d (slotAt slots i .ballot)) q)) good-xs in
       record {
         ballots-end = and-first a b w₁;
         free-end = and-first a′ b′ v₁;
@@ -179,8 +182,8 @@ module _ (k d : ℕ) (slots : List Slot) (least : 0 < length slots) (most : leng
         jurors = jurors;
         jurors-once = sym (fresh-noMarks (jurorsAt slots xs) (jurors-below slots xs jurors)) ∙ and-second (a && b && c) e (f .ballots);
         ballots =
-          all-weaken (λ i. inUrn n i && goodJuror (slotAt slots i .juror) && goodBallot k d (slotAt slots i .ballot)) (λ i. goodBallot k d (slotAt slots i .ballot)) xs
-          (λ i q. and-second (inUrn n i && goodJuror (slotAt slots i .juror)) (goodBallot k d (slotAt slots i .ballot)) q) good-xs;
+            all-weaken (λ i. inUrn n i && goodJuror (slotAt slots i .juror) && goodBallot k d (slotAt slots i .ballot)) (λ i. goodBallot k d (slotAt slots i .ballot)) xs
+            (λ i q. and-second (inUrn n i && goodJuror (slotAt slots i .juror)) (goodBallot k d (slotAt slots i .ballot)) q) good-xs;
         head = f .head;
         empty = all-weaken (λ i. inUrn n i && emptySlot (slotAt slots i)) (λ i. emptySlot (slotAt slots i)) ys (λ i q. and-second (inUrn n i) (emptySlot (slotAt slots i)) q) free-ys;
       }

@@ -25,7 +25,7 @@ use Rattle.urn.proofs.FactLaws.{its-table, its-parts, its-length}
 use Rattle.urn.proofs.Admitting.{splice-length}
 use Rattle.urn.proofs.Withdrawing.{lastSlot, Split, split, renext, linked-at, withdraw-slots, passed-next, passed-ballot, entry-place, entry-positive, link-place}
 
-pub take-zeros : (b m : ℕ) → b ≤ m → take b (replicate m 0) ≡ replicate b 0
+pub take-zeros : (b m : ℕ) → b ≤ m → take {A = ℕ} b (replicate m 0) ≡ replicate b 0
 take-zeros zero m h = refl
 take-zeros (suc b) zero h = absurd (omega arith)
 take-zeros (suc b) (suc m) h = ap (λ (xs : List ℕ). 0 ∷ xs) (take-zeros b m (omega arith))
@@ -120,9 +120,9 @@ module _ (k d : ℕ) (urn : List ℕ) (w : T (withinLimits (juryOfOne k d))) (e 
       let n₁ : slotAt R₁ 0 .next ≡ firstEntry (cut .front ++ cut .back) = ap (λ (x : Slot). x .next) here ∙ passed-next m b R (cut .front) (cut .entry) (cut .back) (freeChain R) (its-length k d urn w e) fit head chained free in
       let b₁ : slotAt R₁ 0 .ballot ≡ replicate b 0 = ap (λ (x : Slot). x .ballot) here ∙ passed-ballot m b R (cut .front) (cut .entry) (cut .back) (freeChain R) (its-length k d urn w e) fit head chained free in
       let s₃ : slotsOf b m (set last 1 s) ≡ set (set R₁ s F) 0 (record { next = firstEntry (cut .front ++ cut .back); juror = s; ballot = replicate b 0 }) =
-            set-head-juror b m last s l₁ (omega (arith, t .least))
-            ∙ ap (λ (x : Slot). set (slotsOf b m last) 0 (record { next = x .next; juror = s; ballot = x .ballot })) top
-            ∙ ap (λ (x : ℕ). set (slotsOf b m last) 0 (record { next = x; juror = s; ballot = slotAt R₁ 0 .ballot })) n₁
-            ∙ ap (λ (xs : List ℕ). set (slotsOf b m last) 0 (record { next = firstEntry (cut .front ++ cut .back); juror = s; ballot = xs })) b₁
-            ∙ ap (λ (xs : List Slot). set xs 0 (record { next = firstEntry (cut .front ++ cut .back); juror = s; ballot = replicate b 0 })) s₂ in
+      set-head-juror b m last s l₁ (omega (arith, t .least))
+      ∙ ap (λ (x : Slot). set (slotsOf b m last) 0 (record { next = x .next; juror = s; ballot = x .ballot })) top
+      ∙ ap (λ (x : ℕ). set (slotsOf b m last) 0 (record { next = x; juror = s; ballot = slotAt R₁ 0 .ballot })) n₁
+      ∙ ap (λ (xs : List ℕ). set (slotsOf b m last) 0 (record { next = firstEntry (cut .front ++ cut .back); juror = s; ballot = xs })) b₁
+      ∙ ap (λ (xs : List Slot). set xs 0 (record { next = firstEntry (cut .front ++ cut .back); juror = s; ballot = replicate b 0 })) s₂ in
       sym (bytes-back b m (set last 1 s) (length-set last 1 s ∙ l₁)) ∙ ap bytesOf (s₃ ∙ laid)

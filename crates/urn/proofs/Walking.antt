@@ -68,10 +68,10 @@ first-false false x = refl
 module _ (k d : ℕ) (slots : List Slot) (most i : ℕ) (marks jurors : List Bool) (m : 0 < most) (p : 0 < i) where
   ballots-step : ballotsFrom k d slots most i marks jurors
       ≡ (ends (most - 1) (slotAt slots i .next) slots
-        && (ballotAt k d slots i && all (ballotAt k d slots) (chain (most - 1) (slotAt slots i .next) slots))
-        && (not (getD marks i false) && fresh (chain (most - 1) (slotAt slots i .next) slots) (set marks i true))
-        && (not (getD jurors (slotAt slots i .juror) false)
-          && fresh (jurorsAt slots (chain (most - 1) (slotAt slots i .next) slots)) (set jurors (slotAt slots i .juror) true)))
+      && (ballotAt k d slots i && all (ballotAt k d slots) (chain (most - 1) (slotAt slots i .next) slots))
+      && (not (getD marks i false) && fresh (chain (most - 1) (slotAt slots i .next) slots) (set marks i true))
+      && (not (getD jurors (slotAt slots i .juror) false)
+      && fresh (jurorsAt slots (chain (most - 1) (slotAt slots i .next) slots)) (set jurors (slotAt slots i .juror) true)))
   unfolding ballotsFrom jurorsAt all fresh
   ballots-step = rw (chain-step most i slots m p, ends-step most i slots m p)
 
@@ -148,9 +148,9 @@ module _ (k d : ℕ) (slots : List Slot) (n first : ℕ) (marks jurors : List Bo
         marks-size = length-set marks slot true ∙ on .marks-size;
         jurors-size = length-set jurors (slotAt slots slot .juror) true ∙ on .jurors-size;
         rest =
-          ap (λ (m : ℕ). ballotsFrom k d slots m (slotAt slots slot .next) (set marks slot true) (set jurors (slotAt slots slot .juror) true)) {x = n - (count + 1)} {y = n - count - 1} (omega arith)
-          ∙ sym (ballots-well k d slots (n - count) slot marks jurors (omega arith) p a f g)
-          ∙ on .rest;
+            ap (λ (m : ℕ). ballotsFrom k d slots m (slotAt slots slot .next) (set marks slot true) (set jurors (slotAt slots slot .juror) true)) {x = n - (count + 1)} {y = n - count - 1} (omega arith)
+            ∙ sym (ballots-well k d slots (n - count) slot marks jurors (omega arith) p a f g)
+            ∙ on .rest;
         marked = sym s ∙ on .marked;
         counted = omega (arith, on .counted);
       }
@@ -184,8 +184,8 @@ module _ (k d : ℕ) (slots : List Slot) (n first : ℕ) (marks jurors : List Bo
 module _ (slots : List Slot) (most i : ℕ) (marks : List Bool) (m : 0 < most) (p : 0 < i) where
   free-step : freeFrom slots most i marks
       ≡ (ends (most - 1) (slotAt slots i .next) slots
-        && (freeAt slots i && all (freeAt slots) (chain (most - 1) (slotAt slots i .next) slots))
-        && (not (getD marks i false) && fresh (chain (most - 1) (slotAt slots i .next) slots) (set marks i true)))
+      && (freeAt slots i && all (freeAt slots) (chain (most - 1) (slotAt slots i .next) slots))
+      && (not (getD marks i false) && fresh (chain (most - 1) (slotAt slots i .next) slots) (set marks i true)))
   unfolding freeFrom all fresh
   free-step = rw (chain-step most i slots m p, ends-step most i slots m p)
 
@@ -240,9 +240,9 @@ module _ (slots : List Slot) (n first : ℕ) (met marks : List Bool) (count slot
         within = omega arith;
         marks-size = length-set marks slot true ∙ on .marks-size;
         rest =
-          ap (λ (m : ℕ). freeFrom slots m (slotAt slots slot .next) (set marks slot true)) {x = n - (count + 1)} {y = n - count - 1} (omega arith)
-          ∙ sym (free-well slots (n - count) slot marks (omega arith) p a f)
-          ∙ on .rest;
+            ap (λ (m : ℕ). freeFrom slots m (slotAt slots slot .next) (set marks slot true)) {x = n - (count + 1)} {y = n - count - 1} (omega arith)
+            ∙ sym (free-well slots (n - count) slot marks (omega arith) p a f)
+            ∙ on .rest;
         marked = sym s ∙ on .marked;
         counted = omega (arith, on .counted);
       }

@@ -49,29 +49,29 @@ split S j before p s [] none e = let z : _≡_ {A = ℕ} 0 1 = cc in absurd (ome
 split S j before p s (e ∷ es) (more q l) h =
     ⊎-elim
     (λ t. let r = found-parts before (e .slot) p s (ap (λ (u : Bool). cond u (Found before (e .slot)) (linkOf S j (e .slot) (slotsIn es))) (sym t) ∙ h) in
-        let t′ : eqb (e .juror) j ≡ true = ap (λ (x : Slot). eqb (x .juror) j) (sym q) ∙ t in
-        record {
-          front = [];
-          entry = e;
-          back = es;
-          whole = refl;
-          gone = ap (λ (u : Bool). cond u es (e ∷ without j es)) t′;
-          named = ap (λ (u : Bool). cond u (e .slot) (slotOfJuror j es)) t′;
-          slot = r .1;
-          link = r .0;
-        })
+    let t′ : eqb (e .juror) j ≡ true = ap (λ (x : Slot). eqb (x .juror) j) (sym q) ∙ t in
+    record {
+      front = [];
+      entry = e;
+      back = es;
+      whole = refl;
+      gone = ap (λ (u : Bool). cond u es (e ∷ without j es)) t′;
+      named = ap (λ (u : Bool). cond u (e .slot) (slotOfJuror j es)) t′;
+      slot = r .1;
+      link = r .0;
+    })
     (λ t. let w = split S j (e .slot) p s es l (ap (λ (u : Bool). cond u (Found before (e .slot)) (linkOf S j (e .slot) (slotsIn es))) (sym t) ∙ h) in
-        let t′ : eqb (e .juror) j ≡ false = ap (λ (x : Slot). eqb (x .juror) j) (sym q) ∙ t in
-        record {
-          front = e ∷ w .front;
-          entry = w .entry;
-          back = w .back;
-          whole = ap (λ (xs : List Entry). e ∷ xs) (w .whole);
-          gone = ap (λ (u : Bool). cond u es (e ∷ without j es)) t′ ∙ ap (λ (xs : List Entry). e ∷ xs) (w .gone);
-          named = ap (λ (u : Bool). cond u (e .slot) (slotOfJuror j es)) t′ ∙ w .named;
-          slot = w .slot;
-          link = w .link;
-        })
+    let t′ : eqb (e .juror) j ≡ false = ap (λ (x : Slot). eqb (x .juror) j) (sym q) ∙ t in
+    record {
+      front = e ∷ w .front;
+      entry = w .entry;
+      back = w .back;
+      whole = ap (λ (xs : List Entry). e ∷ xs) (w .whole);
+      gone = ap (λ (u : Bool). cond u es (e ∷ without j es)) t′ ∙ ap (λ (xs : List Entry). e ∷ xs) (w .gone);
+      named = ap (λ (u : Bool). cond u (e .slot) (slotOfJuror j es)) t′ ∙ w .named;
+      slot = w .slot;
+      link = w .link;
+    })
     (true-or-false (eqb (slotAt S (e .slot) .juror) j))
 
 slots-append : (xs ys : List Entry) → slotsIn (xs ++ ys) ≡ slotsIn xs ++ slotsIn ys
@@ -123,7 +123,7 @@ unfolding lastSlot entrySlot firstEntry member
 relink S [] e post before (more q l) h m b = linked-set S before (renext (slotAt S before) (firstEntry post)) post m l
 relink S (q ∷ []) e post before (more g (more k l)) h m b =
     more (at-set S (q .slot) (renext (slotAt S (q .slot)) (firstEntry post)) (b (q .slot) (or-first (eqb (q .slot) (q .slot)) (member (q .slot) (slotsIn (e ∷ post))) (eq-eqb (q .slot) (q .slot) refl)))
-        ∙ ap (λ (s : Slot). renext s (firstEntry post)) g)
+    ∙ ap (λ (s : Slot). renext s (firstEntry post)) g)
     (linked-set S (q .slot) (renext (slotAt S (q .slot)) (firstEntry post)) post (apart-rest (q .slot) (e .slot) (slotsIn post) (distinct-first (q .slot) (slotsIn (e ∷ post)) h)) l)
 relink S (q ∷ (r ∷ pre)) e post before (more g l) h m b =
     let p = lastSlot (r .slot) pre in
@@ -219,10 +219,10 @@ module _ (n b : ℕ) (S : List Slot) (pre : List Entry) (e : Entry) (post : List
       (length-set Q 0 top ∙ l₂ ∙ l₁ ∙ size)
       (at-set Q 0 top (omega (arith, fit .least)))
       (linked-set Q 0 top (pre ++ post) (no-zero (slotsIn (pre ++ post)) in-left)
-          (linked-set R (e .slot) (freeSlot b (firstFree is)) (pre ++ post) not-left
-              (relink S pre e post 0 l once (no-zero (slotsIn (pre ++ post)) in-left) (λ x m. let k = below n x (all-member (inUrn n) x (slotsIn (pre ++ (e ∷ post))) in-es m) in omega arith))))
+      (linked-set R (e .slot) (freeSlot b (firstFree is)) (pre ++ post) not-left
+      (relink S pre e post 0 l once (no-zero (slotsIn (pre ++ post)) in-left) (λ x m. let k = below n x (all-member (inUrn n) x (slotsIn (pre ++ (e ∷ post))) in-es m) in omega arith))))
       (more (at-other Q 0 (e .slot) top (λ z. omega (arith, positive n (e .slot) its-place)) ∙ at-set R (e .slot) (freeSlot b (firstFree is)) (omega (arith, below n (e .slot) its-place)))
-          (free-set b Q 0 top is (no-zero is in-is) (free-set b R (e .slot) (freeSlot b (firstFree is)) is not-free (free-set b S (lastSlot 0 pre) (renext (slotAt S (lastSlot 0 pre)) (firstEntry post)) is link-free f))))
+      (free-set b Q 0 top is (no-zero is in-is) (free-set b R (e .slot) (freeSlot b (firstFree is)) is not-free (free-set b S (lastSlot 0 pre) (renext (slotAt S (lastSlot 0 pre)) (firstEntry post)) is link-free f))))
 
   -- slot 0 after the ballot was passed over
   pub passed-next : slotAt (set S (lastSlot 0 pre) (renext (slotAt S (lastSlot 0 pre)) (firstEntry post))) 0 .next ≡ firstEntry (pre ++ post)

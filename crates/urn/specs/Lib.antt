@@ -5,3 +5,4 @@ pub mod Inner
 pub mod Facts
 pub mod Admit
 pub mod Withdraw
+pub mod Theorems

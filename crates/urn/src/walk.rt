@@ -128,24 +128,44 @@ pub(crate) fn walk_ballots(urn: &[u8], k: usize, d: usize, slots: usize) -> Walk
     let mut slot = wide(urn[0]);
     while slot != 0 {
         if count == slots {
-            return Walk { good: false, marks, count };
+            return Walk {
+                good: false,
+                marks,
+                count,
+            };
         }
         let look = look_at_ballot(urn, k, d, slots, slot);
         let Look::Well { juror, next } = look else {
-            return Walk { good: false, marks, count };
+            return Walk {
+                good: false,
+                marks,
+                count,
+            };
         };
         if marks[slot] {
-            return Walk { good: false, marks, count };
+            return Walk {
+                good: false,
+                marks,
+                count,
+            };
         }
         if jurors[juror] {
-            return Walk { good: false, marks, count };
+            return Walk {
+                good: false,
+                marks,
+                count,
+            };
         }
         marks[slot] = true;
         jurors[juror] = true;
         count += 1;
         slot = next;
     }
-    Walk { good: true, marks, count }
+    Walk {
+        good: true,
+        marks,
+        count,
+    }
 }
 
 // Walks along the free chain of an urn in the same way, after the slots that were met before.
@@ -159,18 +179,34 @@ pub(crate) fn walk_free(urn: &[u8], bytes: usize, slots: usize, met: [bool; 256]
     let mut slot = wide(urn[1]);
     while slot != 0 {
         if count == slots {
-            return Walk { good: false, marks, count };
+            return Walk {
+                good: false,
+                marks,
+                count,
+            };
         }
         let look = look_at_free(urn, bytes, slots, slot);
         let Look::Well { juror: _, next } = look else {
-            return Walk { good: false, marks, count };
+            return Walk {
+                good: false,
+                marks,
+                count,
+            };
         };
         if marks[slot] {
-            return Walk { good: false, marks, count };
+            return Walk {
+                good: false,
+                marks,
+                count,
+            };
         }
         marks[slot] = true;
         count += 1;
         slot = next;
     }
-    Walk { good: true, marks, count }
+    Walk {
+        good: true,
+        marks,
+        count,
+    }
 }

@@ -80,12 +80,13 @@ returns-2 c =
     let k = f .before .before in
     let s = k .before .before .before .before .before in
     let a = s .args in
-    let e = sound-told k .0 in
-    (same-facts _ _ _ _ _ _ (sound-told k .1)
-            (sym (ap (member (a .juror)) (jurors-are (a .k) (a .d) (a .urn .now) (s .pre) e) ∙ link-found _ _ _ _ _ _ (sym (f .find .ensures) ∙ c .enum-told2 .given .1)))
-            (sym (full-is (a .k) (a .d) (a .urn .now) (s .pre) e))
-        ∙ sym (facts-are (a .k) (a .d) (a .urn .now) (s .pre) e (a .juror)),
-      omega (arith, sound-told k .1, few-ballots (a .k) (a .d) (a .urn .now) (s .pre) e))
+    let e = sound-told k .0 in (
+      same-facts _ _ _ _ _ _ (sound-told k .1)
+          (sym (ap (member (a .juror)) (jurors-are (a .k) (a .d) (a .urn .now) (s .pre) e) ∙ link-found _ _ _ _ _ _ (sym (f .find .ensures) ∙ c .enum-told2 .given .1)))
+          (sym (full-is (a .k) (a .d) (a .urn .now) (s .pre) e))
+          ∙ sym (facts-are (a .k) (a .d) (a .urn .now) (s .pre) e (a .juror)),
+      omega (arith, sound-told k .1, few-ballots (a .k) (a .d) (a .urn .now) (s .pre) e),
+    )
 
 returns-3 : tie.Need-returns-3
 unfolding slotCount slotBytes
@@ -94,12 +95,13 @@ returns-3 c =
     let k = f .before .before in
     let s = k .before .before .before .before .before in
     let a = s .args in
-    let e = sound-told k .0 in
-    (same-facts _ _ _ _ _ _ (sound-told k .1)
-            (sym (ap (member (a .juror)) (jurors-are (a .k) (a .d) (a .urn .now) (s .pre) e) ∙ link-absent _ _ _ _ (sym (f .find .ensures) ∙ c .enum-told3 .given .1)))
-            (sym (full-is (a .k) (a .d) (a .urn .now) (s .pre) e))
-        ∙ sym (facts-are (a .k) (a .d) (a .urn .now) (s .pre) e (a .juror)),
-      omega (arith, sound-told k .1, few-ballots (a .k) (a .d) (a .urn .now) (s .pre) e))
+    let e = sound-told k .0 in (
+      same-facts _ _ _ _ _ _ (sound-told k .1)
+          (sym (ap (member (a .juror)) (jurors-are (a .k) (a .d) (a .urn .now) (s .pre) e) ∙ link-absent _ _ _ _ (sym (f .find .ensures) ∙ c .enum-told3 .given .1)))
+          (sym (full-is (a .k) (a .d) (a .urn .now) (s .pre) e))
+          ∙ sym (facts-are (a .k) (a .d) (a .urn .now) (s .pre) e (a .juror)),
+      omega (arith, sound-told k .1, few-ballots (a .k) (a .d) (a .urn .now) (s .pre) e),
+    )
 
 pub facts-of-spec : {M : Type 1} → statement M
 facts-of-spec =

@@ -118,12 +118,12 @@ returns-5 c =
     let bw = ballots-walked (e .before .before .before .before) in
     sound-is _ _ _
     (tests-sound (a .k) (a .d) (a .slots) (a .urn .now) (s .pre .1)
-        (record {
-          head = head-told (e .before .before .before .before .before .before .before .before) ∙ not-false _ (e .before .before .before .before .before .before .before .if1 .left);
-          ballots = sym (e .before .before .before .before .before .before .walk-ballots .ensures .0) ∙ not-false _ (e .before .before .before .before .if2 .left);
-          free = free-told (e .before) ∙ not-false _ (e .if3 .left);
-          count = ap (λ (m : ℕ). m + length (chain (a .slots) (getD (a .urn .now) 1 0) (slotsOf (a .k * a .d) (a .slots) (a .urn .now)))) (sym (bw .counted)) ∙ ap (λ (m : ℕ). e .before .before .before .before .before .before .walk-ballots .result .count + m) (sym (free-walked e .counted)) ∙ c .if4 .left;
-        }))
+    (record {
+      head = head-told (e .before .before .before .before .before .before .before .before) ∙ not-false _ (e .before .before .before .before .before .before .before .if1 .left);
+      ballots = sym (e .before .before .before .before .before .before .walk-ballots .ensures .0) ∙ not-false _ (e .before .before .before .before .if2 .left);
+      free = free-told (e .before) ∙ not-false _ (e .if3 .left);
+      count = ap (λ (m : ℕ). m + length (chain (a .slots) (getD (a .urn .now) 1 0) (slotsOf (a .k * a .d) (a .slots) (a .urn .now)))) (sym (bw .counted)) ∙ ap (λ (m : ℕ). e .before .before .before .before .before .before .walk-ballots .result .count + m) (sym (free-walked e .counted)) ∙ c .if4 .left;
+    }))
     (bw .counted ∙ sym (count-by-bytes (a .k * a .d) (a .slots) (a .urn .now) (s .pre .1)))
 
 pub test-slots-spec : {M : Type 1} → statement M

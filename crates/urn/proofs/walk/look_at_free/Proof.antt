@@ -74,7 +74,7 @@ returns-2 c =
     let at = a .slot * (2 + a .bytes) in
     look-wrong _ _
     (free-by-bytes (a .bytes) (a .slots) (a .urn .now) (a .slot) (p .1) (e .if1 .left) (p .0 .size)
-        ∙ ap (λ (t : Bool). t && allZero (take (a .bytes) (drop (at + 2) (a .urn .now)))) (ne-eqb (getD (a .urn .now) (at + 1) 0) 0 (c .if2 .taken)))
+    ∙ ap (λ (t : Bool). t && allZero (take (a .bytes) (drop (at + 2) (a .urn .now)))) (ne-eqb (getD (a .urn .now) (at + 1) 0) 0 (c .if2 .taken)))
 
 sub-is-zero : tie.Need-sub-is-zero
 sub-is-zero c = search needs

@@ -89,10 +89,11 @@ returns-2 : tie.Need-returns-2 Inv-loop μ-loop
 returns-2 c =
     let at = c .before .before .before .before .before in
     let a = at .before .before .before .before .args in
-    let p : 0 < at .loop .slot = omega (arith, c .before .before .before .before .loop-test .taken) in
-    (ballots-fail (a .k) (a .d) _ (a .slots) _ _ _ _ _ (at .loop .inv) p
-        (λ l. ballots-wrong (a .k) (a .d) _ (a .slots - at .loop .count) (at .loop .slot) _ _ (omega arith) p (looked-wrong _ _ (sym (c .before .before .look-at-ballot .ensures) ∙ c .enum-told .given .1))),
-      λ e. not-walked e)
+    let p : 0 < at .loop .slot = omega (arith, c .before .before .before .before .loop-test .taken) in (
+      ballots-fail (a .k) (a .d) _ (a .slots) _ _ _ _ _ (at .loop .inv) p
+          (λ l. ballots-wrong (a .k) (a .d) _ (a .slots - at .loop .count) (at .loop .slot) _ _ (omega arith) p (looked-wrong _ _ (sym (c .before .before .look-at-ballot .ensures) ∙ c .enum-told .given .1))),
+      λ e. not-walked e,
+    )
 
 array-read-if2 : tie.Need-array-read-if2 Inv-loop μ-loop
 array-read-if2 c =
@@ -102,10 +103,11 @@ returns-3 : tie.Need-returns-3 Inv-loop μ-loop
 returns-3 c =
     let at = c .before .before .before .before .before .before .before in
     let a = at .before .before .before .before .args in
-    let p : 0 < at .loop .slot = omega (arith, c .before .before .before .before .before .before .loop-test .taken) in
-    (ballots-fail (a .k) (a .d) _ (a .slots) _ _ _ _ _ (at .loop .inv) p
-        (λ l. ballots-met (a .k) (a .d) _ (a .slots - at .loop .count) (at .loop .slot) _ _ (omega arith) p (c .if2 .taken)),
-      λ e. not-walked e)
+    let p : 0 < at .loop .slot = omega (arith, c .before .before .before .before .before .before .loop-test .taken) in (
+      ballots-fail (a .k) (a .d) _ (a .slots) _ _ _ _ _ (at .loop .inv) p
+          (λ l. ballots-met (a .k) (a .d) _ (a .slots - at .loop .count) (at .loop .slot) _ _ (omega arith) p (c .if2 .taken)),
+      λ e. not-walked e,
+    )
 
 array-read-if3 : tie.Need-array-read-if3 Inv-loop μ-loop
 array-read-if3 c =
@@ -116,10 +118,11 @@ returns-4 c =
     let k = c .before .before in
     let at = k .before .before .before .before .before .before in
     let a = at .before .before .before .before .args in
-    let p : 0 < at .loop .slot = omega (arith, k .before .before .before .before .before .loop-test .taken) in
-    (ballots-fail (a .k) (a .d) _ (a .slots) _ _ _ _ _ (at .loop .inv) p
-        (λ l. ballots-twice (a .k) (a .d) _ (a .slots - at .loop .count) (at .loop .slot) _ _ (omega arith) p (subst (λ (j : ℕ). getD (at .loop .jurors) j false ≡ true) (well k .1) (c .if3 .taken))),
-      λ e. not-walked e)
+    let p : 0 < at .loop .slot = omega (arith, k .before .before .before .before .before .loop-test .taken) in (
+      ballots-fail (a .k) (a .d) _ (a .slots) _ _ _ _ _ (at .loop .inv) p
+          (λ l. ballots-twice (a .k) (a .d) _ (a .slots - at .loop .count) (at .loop .slot) _ _ (omega arith) p (subst (λ (j : ℕ). getD (at .loop .jurors) j false ≡ true) (well k .1) (c .if3 .taken))),
+      λ e. not-walked e,
+    )
 
 array-write-marks : tie.Need-array-write-marks Inv-loop μ-loop
 array-write-marks c =

@@ -85,10 +85,11 @@ returns-2 : tie.Need-returns-2 Inv-loop μ-loop
 returns-2 c =
     let at = c .before .before .before .before .before in
     let a = at .before .before .before .before .args in
-    let p : 0 < at .loop .slot = omega (arith, c .before .before .before .before .loop-test .taken) in
-    (free-fail _ (a .slots) _ _ _ _ _ (at .loop .inv) p
-        (λ l. free-wrong _ (a .slots - at .loop .count) (at .loop .slot) _ (omega arith) p (looked-wrong _ _ (sym (c .before .before .look-at-free .ensures) ∙ c .enum-told .given .1))),
-      λ e. not-walked e)
+    let p : 0 < at .loop .slot = omega (arith, c .before .before .before .before .loop-test .taken) in (
+      free-fail _ (a .slots) _ _ _ _ _ (at .loop .inv) p
+          (λ l. free-wrong _ (a .slots - at .loop .count) (at .loop .slot) _ (omega arith) p (looked-wrong _ _ (sym (c .before .before .look-at-free .ensures) ∙ c .enum-told .given .1))),
+      λ e. not-walked e,
+    )
 
 array-read-if2 : tie.Need-array-read-if2 Inv-loop μ-loop
 array-read-if2 c =
@@ -98,10 +99,11 @@ returns-3 : tie.Need-returns-3 Inv-loop μ-loop
 returns-3 c =
     let at = c .before .before .before .before .before .before .before in
     let a = at .before .before .before .before .args in
-    let p : 0 < at .loop .slot = omega (arith, c .before .before .before .before .before .before .loop-test .taken) in
-    (free-fail _ (a .slots) _ _ _ _ _ (at .loop .inv) p
-        (λ l. free-met _ (a .slots - at .loop .count) (at .loop .slot) _ (omega arith) p (c .if2 .taken)),
-      λ e. not-walked e)
+    let p : 0 < at .loop .slot = omega (arith, c .before .before .before .before .before .before .loop-test .taken) in (
+      free-fail _ (a .slots) _ _ _ _ _ (at .loop .inv) p
+          (λ l. free-met _ (a .slots - at .loop .count) (at .loop .slot) _ (omega arith) p (c .if2 .taken)),
+      λ e. not-walked e,
+    )
 
 array-write-marks : tie.Need-array-write-marks Inv-loop μ-loop
 array-write-marks c =

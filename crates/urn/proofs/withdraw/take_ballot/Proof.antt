@@ -115,35 +115,54 @@ slice-write-urn c =
 
 sub-put-slot : tie.Need-sub-put-slot
 sub-put-slot c =
-    ?
+    omega arith
 
 part-put-slot-start : tie.Need-part-put-slot-start
 part-put-slot-start c =
-    ?
+    search needs
 
 part-put-slot-end : tie.Need-part-put-slot-end
 part-put-slot-end c =
-    ?
+    let q = small (c .before .before .before .before .before .before .before .before .before .before) in
+    q
 
 put-slot-requires : tie.Need-put-slot-requires
 put-slot-requires c κs =
-    ?
+    let t = c .before .before .before .before .before in
+    let a = t .before .before .before .before .before .before .args in
+    omega (arith, at-inside t, length-set (a .urn .now) (t .before .before2 .given .0 .0 * (2 + a .k * a .d)) (getD (a .urn .now) (t .before .before2 .given .0 .1 .0 * (2 + a .k * a .d)) 0), length-take {A = ℕ} (a .k * a .d - 0) (replicate 56 0))
 
 cast-urn : tie.Need-cast-urn
 cast-urn c =
-    ?
+    let t = c .before .before .before .before .before .before .before .before in
+    let s = t .before .before .before .before .before .before in
+    let a = s .args in
+    omega (arith, slot-below (a .k) (a .d) (a .urn .now) (limits s) (s .pre .0) (a .juror) (t .before .before2 .given .0 .0) (t .before .before2 .given .0 .1 .0) (told t), its-table (a .k) (a .d) (a .urn .now) (limits s) (s .pre .0) .most)
 
 slice-write-urn-2 : tie.Need-slice-write-urn-2
 slice-write-urn-2 c =
-    ?
+    let t = c .before .before .before .before .before .before .before .before in
+    let s = t .before .before .before .before .before .before in
+    let a = s .args in
+    let l = long s in
+    let q : length (c .before .before .put-slot .last .0) ≡ length (set (a .urn .now) (t .before .before2 .given .0 .0 * (2 + a .k * a .d)) (getD (a .urn .now) (t .before .before2 .given .0 .1 .0 * (2 + a .k * a .d)) 0)) = c .before .before .put-slot .kept .0 in
+    let r : 1 < length (c .before .before .put-slot .last .0) = omega (arith, length-set (a .urn .now) (t .before .before2 .given .0 .0 * (2 + a .k * a .d)) (getD (a .urn .now) (t .before .before2 .given .0 .1 .0 * (2 + a .k * a .d)) 0)) in
+    r
 
 same-length-2 : tie.Need-same-length-2
 same-length-2 c =
-    ?
+    let t = c .before .before .before .before .before .before .before .before in
+    let a = t .before .before .before .before .before .before .args in
+    length-set (c .before .before .put-slot .last .0) 1 _ ∙ c .before .before .put-slot .kept .0 ∙ length-set (a .urn .now) (t .before .before2 .given .0 .0 * (2 + a .k * a .d)) (getD (a .urn .now) (t .before .before2 .given .0 .1 .0 * (2 + a .k * a .d)) 0)
 
 returns-2 : tie.Need-returns-2
 returns-2 c =
-    ?
+    let t = c .before .before .before .before .before .before .before .before in
+    let s = t .before .before .before .before .before .before in
+    let a = s .args in
+    withdraw-bytes (a .k) (a .d) (a .urn .now) (limits s) (s .pre .0) (a .juror) (t .before .before2 .given .0 .0) (t .before .before2 .given .0 .1 .0) (told t) (take (a .k * a .d - 0) (replicate 56 0)) (c .before .before .put-slot .last .0)
+    (ap (λ (m : ℕ). take {A = ℕ} m (replicate 56 0)) (sub-zero (a .k * a .d)) ∙ take-zeros (a .k * a .d) 56 (small s))
+    (c .before .before .put-slot .ensures)
 
 pub take-ballot-spec : {M : Type 1} → statement M
 take-ballot-spec =

@@ -1,0 +1,249 @@
+-- An urn that admits and withdraws ballots stays sound, and undoing gives it back.
+-- Assumes nothing.
+use mathlib.Core.Path.{_≡_, _∙_, refl, sym, ap, subst}
+use mathlib.Core.Logic.{⊎-elim}
+use mathlib.Core.Bool.{Bool, true, false, cond, not, _&&_, _||_}
+use mathlib.Core.Option.{none}
+use mathlib.Core.List.{List, [], _∷_, _++_, map}
+use Prim.Native.Nat.{ℕ, suc, _+_, _*_, _-_, _≤_, _<_}
+use native.Mathlib.Omega.{arith}
+use lib.Dec.{T, eqb}
+use lib.ListN.{length, drop}
+use borrow.Author.Tests.{eq-eqb, eqb-true, not-true}
+use Rattle.jury.specs.Shape.{withinLimits}
+use Rattle.jury.specs.Reason.{Reason, firstOf}
+use Rattle.jury.proofs.Flags.{and-first, and-second, and-both, true-T, or-first, or-second}
+use Rattle.tally.specs.Answer.{refused, accepted}
+use Rattle.urn.specs.declared.facts.Facts.{Facts}
+use Rattle.urn.specs.Slots.{Slot, slotBytes, slotsOf, bytesOf}
+use Rattle.urn.specs.Chains.{Entry, ballotChain, freeChain, firstFree, layout}
+use Rattle.urn.specs.Sound.{all, member, distinct, juryOfOne, goodJuror, goodBallot, eachOnce, goodChains, slotCount, urnLength, urnSlots, soundSlots, sound}
+use Rattle.urn.specs.Facts.{gradedShape, isEmpty, jurorsOf, factsOf, afterwards}
+use Rattle.urn.specs.Admit.{admitReasons, admitSaid, withBallot, admitted}
+use Rattle.urn.specs.Withdraw.{withdrawReasons, withdrawSaid, without, slotOfJuror, withoutBallot, withdrawn}
+use Rattle.urn.specs.Theorems.{AfterAdmission, AfterWithdrawal, UrnHolds, TellTheSame, PreviewsTell}
+use Rattle.urn.specs.Inner.{SlotTable}
+use Rattle.urn.proofs.Lists.{all-first, all-rest, all-cons, all-move, distinct-first, distinct-rest, distinct-cons, distinct-move, eqb-sym}
+use Rattle.urn.proofs.Marks.{true-or-false}
+use Rattle.urn.proofs.SlotLaws.{slots-length}
+use Rattle.urn.proofs.SoundLaws.{Parts, chains-true}
+use Rattle.urn.proofs.Linked.{slotsIn, Linked}
+use Rattle.urn.proofs.Layouts.{Fit, chains-fit, layout-length, layout-sound, read-ballots, read-free}
+use Rattle.urn.proofs.BytesLaws.{Sized, slots-sized, layout-sized, bytes-length, slots-back, bytes-back, count-is, length-good}
+use Rattle.urn.proofs.Held.{held, fits, fit-admit, sound-layout}
+use Rattle.urn.proofs.Admitting.{not-empty}
+use Rattle.urn.proofs.Withdrawing.{Split, split, fit-withdraw}
+use Rattle.urn.proofs.FactLaws.{its-table, its-parts, its-length, facts-are, facts-sound, facts-free, facts-present, no-facts}
+use Rattle.urn.proofs.Deciding.{Admissible, admissible, Withdrawable, withdrawable, accepted-none, refused-kept, none-new, withdraw-first, withdraw-none, graded-within}
+
+same-facts-of : (f g : Facts) → f .sound ≡ g .sound → f .ballots ≡ g .ballots → f .present ≡ g .present → f .full ≡ g .full → f ≡ g
+same-facts-of f g a b c d =
+    ap (λ (x : Bool). record { sound = x; ballots = f .ballots; present = f .present; full = f .full }) a
+    ∙ ap (λ (x : ℕ). record { sound = g .sound; ballots = x; present = f .present; full = f .full }) b
+    ∙ ap (λ (x : Bool). record { sound = g .sound; ballots = g .ballots; present = x; full = f .full }) c
+    ∙ ap (λ (x : Bool). record { sound = g .sound; ballots = g .ballots; present = g .present; full = x }) d
+
+pub previews-tell : PreviewsTell
+previews-tell =
+    record {
+      admission = λ k d one other j x t. ap (λ (f : Facts). admitSaid k d f j x) (same-facts-of (factsOf k d one j) (factsOf k d other j) (t .soundness) (t .ballots) (t .present) (t .full));
+      withdrawal = λ k d one other j t. ap (λ (f : Facts). withdrawSaid k d f j) (same-facts-of (factsOf k d one j) (factsOf k d other j) (t .soundness) (t .ballots) (t .present) (t .full));
+      unsound = λ k d one other j e f.
+          let q = no-facts k d one j e ∙ sym (no-facts k d other j f) in
+          record { soundness = ap (λ (x : Facts). x .sound) q; ballots = ap (λ (x : Facts). x .ballots) q; present = ap (λ (x : Facts). x .present) q; full = ap (λ (x : Facts). x .full) q };
+    }
+
+-- The parts of chains as they have to be.
+record Good (k d n : ℕ) (es : List Entry) (is : List ℕ) : Type 0 where
+  fit : Fit n es is
+  jurors : all (λ (e : Entry). goodJuror (e .juror)) es ≡ true
+  jurors-once : distinct (jurorsOf es) ≡ true
+  ballots : all (λ (e : Entry). goodBallot k d (e .ballot)) es ≡ true
+
+chains-good : (k d n : ℕ) (es : List Entry) (is : List ℕ) → 2 ≤ n → goodChains k d n es is ≡ true → Good k d n es is
+unfolding goodChains jurorsOf
+chains-good k d n es is h e =
+    let o = eachOnce n (slotsIn es ++ is) in
+    let j = all (λ (x : Entry). goodJuror (x .juror)) es in
+    let u = distinct (map (λ (x : Entry). x .juror) es) in
+    let v = all (λ (x : Entry). goodBallot k d (x .ballot)) es in
+    let e₂ = and-first (o && j && u) v e in
+    let e₁ = and-first (o && j) u e₂ in
+    record { fit = chains-fit k d n es is h e; jurors = and-second o j e₁; jurors-once = and-second (o && j) u e₂; ballots = and-second (o && j && u) v e }
+
+good-chains : (k d n : ℕ) (es : List Entry) (is : List ℕ) → Good k d n es is → goodChains k d n es is ≡ true
+unfolding goodChains eachOnce jurorsOf
+good-chains k d n es is g = rw (g .fit .inside, g .fit .once, g .fit .covered, g .jurors, g .jurors-once, g .ballots)
+
+-- An urn that is written from good chains.
+record Written (k d n : ℕ) (es : List Entry) (is : List ℕ) (u : List ℕ) : Type 0 where
+  isSound : sound k d u ≡ true
+  size : length u ≡ n * slotBytes (k * d)
+  slots : urnSlots k d u ≡ layout n (k * d) es is
+  ballots : ballotChain (urnSlots k d u) ≡ es
+  free : freeChain (urnSlots k d u) ≡ is
+
+written : (k d n : ℕ) (es : List Entry) (is : List ℕ) → 2 ≤ n → n ≤ 256 → Good k d n es is → Written k d n es is (bytesOf (layout n (k * d) es is))
+unfolding sound urnSlots
+written k d n es is l m g =
+    let b = k * d in
+    let L = layout n b es is in
+    let z = layout-sized k d n es is (g .ballots) in
+    let q : length (bytesOf L) ≡ n * slotBytes b = bytes-length b L z ∙ ap (λ (x : ℕ). x * slotBytes b) (layout-length n b es is) in
+    let c : slotCount b (length (bytesOf L)) ≡ n = count-is b n (length (bytesOf L)) q in
+    let s : urnSlots k d (bytesOf L) ≡ L = ap (λ (x : ℕ). slotsOf b x (bytesOf L)) (c ∙ sym (layout-length n b es is)) ∙ slots-back b L z in
+    record {
+      isSound = and-both (urnLength b (length (bytesOf L))) (soundSlots k d (urnSlots k d (bytesOf L))) (length-good b n (length (bytesOf L)) l m q) (ap (soundSlots k d) s ∙ layout-sound k d n b es is l (good-chains k d n es is g));
+      size = q;
+      slots = s;
+      ballots = ap ballotChain s ∙ read-ballots n b es is (g .fit);
+      free = ap freeChain s ∙ read-free n b es is (g .fit);
+    }
+
+module _ (k d : ℕ) (urn : List ℕ) (w : T (withinLimits (juryOfOne k d))) (e : sound k d urn ≡ true) where
+  sized : Sized (k * d) (urnSlots k d urn)
+  unfolding urnSlots
+  sized = slots-sized (k * d) (slotCount (k * d) (length urn)) urn (its-table k d urn w e .size)
+
+  many : 2 ≤ length (urnSlots k d urn)
+  many = omega (arith, its-length k d urn w e, its-table k d urn w e .least)
+
+  not-many : length (urnSlots k d urn) ≤ 256
+  not-many = omega (arith, its-length k d urn w e, its-table k d urn w e .most)
+
+  good : Good k d (length (urnSlots k d urn)) (ballotChain (urnSlots k d urn)) (freeChain (urnSlots k d urn))
+  good = chains-good k d (length (urnSlots k d urn)) (ballotChain (urnSlots k d urn)) (freeChain (urnSlots k d urn)) many (chains-true k d (urnSlots k d urn) (its-parts k d urn w e))
+
+  -- a sound urn is written from its own chains
+  own : bytesOf (layout (length (urnSlots k d urn)) (k * d) (ballotChain (urnSlots k d urn)) (freeChain (urnSlots k d urn))) ≡ urn
+  unfolding urnSlots
+  own = ap bytesOf (sym (sound-layout k d (k * d) (urnSlots k d urn) many (its-parts k d urn w e) sized)) ∙ bytes-back (k * d) (slotCount (k * d) (length urn)) urn (its-table k d urn w e .size)
+
+  long : length urn ≡ length (urnSlots k d urn) * slotBytes (k * d)
+  long = its-table k d urn w e .size ∙ ap (λ (x : ℕ). x * slotBytes (k * d)) (sym (its-length k d urn w e))
+
+-- chains with one ballot more, from the first free slot
+more-good : (k d n : ℕ) (x : Entry) (es : List Entry) (is : List ℕ) → Good k d n es (x .slot ∷ is) → goodJuror (x .juror) ≡ true → member (x .juror) (jurorsOf es) ≡ false → goodBallot k d (x .ballot) ≡ true → Good k d n (x ∷ es) is
+unfolding jurorsOf
+more-good k d n x es is g j m y =
+    record {
+      fit = fit-admit n x es is (g .fit);
+      jurors = all-cons (λ (z : Entry). goodJuror (z .juror)) x es j (g .jurors);
+      jurors-once = distinct-cons (x .juror) (jurorsOf es) m (g .jurors-once);
+      ballots = all-cons (λ (z : Entry). goodBallot k d (z .ballot)) x es y (g .ballots);
+    }
+
+map-append : (xs ys : List Entry) → jurorsOf (xs ++ ys) ≡ jurorsOf xs ++ jurorsOf ys
+unfolding jurorsOf
+map-append [] ys = refl
+map-append (x ∷ xs) ys = ap (λ (zs : List ℕ). x .juror ∷ zs) (map-append xs ys)
+
+less-good : (k d n : ℕ) (pre : List Entry) (x : Entry) (post : List Entry) (is : List ℕ) → Good k d n (pre ++ (x ∷ post)) is → Good k d n (pre ++ post) (x .slot ∷ is)
+unfolding jurorsOf
+less-good k d n pre x post is g =
+    record {
+      fit = fit-withdraw n pre x post is (g .fit);
+      jurors = all-rest (λ (z : Entry). goodJuror (z .juror)) x (pre ++ post) (sym (all-move (λ (z : Entry). goodJuror (z .juror)) pre x post) ∙ g .jurors);
+      jurors-once = ap distinct (map-append pre post) ∙ distinct-rest (x .juror) (jurorsOf pre ++ jurorsOf post) (sym (distinct-move (jurorsOf pre) (x .juror) (jurorsOf post)) ∙ ap distinct (sym (map-append pre (x ∷ post))) ∙ g .jurors-once);
+      ballots = all-rest (λ (z : Entry). goodBallot k d (z .ballot)) x (pre ++ post) (sym (all-move (λ (z : Entry). goodBallot k d (z .ballot)) pre x post) ∙ g .ballots);
+    }
+
+-- the ballots around that of a juror who has one
+juror-split : (j : ℕ) (es : List Entry) → member j (jurorsOf es) ≡ true → (pre : List Entry) × (x : Entry) × (post : List Entry) × (es ≡ pre ++ (x ∷ post)) × (without j es ≡ pre ++ post) × (slotOfJuror j es ≡ x .slot)
+unfolding jurorsOf member without slotOfJuror
+juror-split j [] m = let z : _≡_ {A = ℕ} 0 1 = cc in absurd (omega arith)
+juror-split j (x ∷ es) m =
+    ⊎-elim
+    (λ t. ([], x, es, refl, ap (λ (u : Bool). cond u es (x ∷ without j es)) t, ap (λ (u : Bool). cond u (x .slot) (slotOfJuror j es)) t))
+    (λ t. let r = juror-split j es (ap (λ (u : Bool). u || member j (jurorsOf es)) (sym (eqb-sym j (x .juror) ∙ t)) ∙ m) in
+    (x ∷ r .0, r .1, r .2, ap (λ (xs : List Entry). x ∷ xs) (r .3), ap (λ (u : Bool). cond u es (x ∷ without j es)) t ∙ ap (λ (xs : List Entry). x ∷ xs) (r .4), ap (λ (u : Bool). cond u (x .slot) (slotOfJuror j es)) t ∙ r .5))
+    (true-or-false (eqb (x .juror) j))
+
+juror-absent-is : (k d : ℕ) (urn : List ℕ) (j : ℕ) → sound k d urn ≡ true → not (factsOf k d urn j .present) ≡ true → member j (jurorsOf (ballotChain (urnSlots k d urn))) ≡ false
+unfolding factsOf
+juror-absent-is k d urn j e h = not-true (member j (jurorsOf (ballotChain (urnSlots k d urn)))) (ap (λ (t : Bool). not (cond {A = Facts} t (record { sound = true; ballots = length (ballotChain (urnSlots k d urn)); present = member j (jurorsOf (ballotChain (urnSlots k d urn))); full = isEmpty (freeChain (urnSlots k d urn)) }) (record { sound = false; ballots = 0; present = false; full = false }) .present)) (sym e) ∙ h)
+
+-- withdrawing the ballot that was admitted last
+undo : (k d : ℕ) (urn : List ℕ) → T (withinLimits (juryOfOne k d)) → sound k d urn ≡ true → (j : ℕ) (x u : List ℕ) (is : List ℕ) →
+    Written k d (length (urnSlots k d urn)) (record { slot = firstFree (freeChain (urnSlots k d urn)); juror = j; ballot = x } ∷ ballotChain (urnSlots k d urn)) is u →
+    gradedShape k d ≡ true → goodJuror j ≡ true → freeChain (urnSlots k d urn) ≡ firstFree (freeChain (urnSlots k d urn)) ∷ is → withdrawn k d u j ≡ urn
+unfolding withdrawn withoutBallot without slotOfJuror jurorsOf member
+undo k d urn w e j x u is wr a gj cut =
+    let S = urnSlots k d urn in
+    let es = ballotChain S in
+    let i = firstFree (freeChain S) in
+    let y : Entry = record { slot = i; juror = j; ballot = x } in
+    let f = facts-are k d u w (wr .isSound) j in
+    let inn : member j (jurorsOf (ballotChain (urnSlots k d u))) ≡ true = ap (λ (xs : List Entry). member j (jurorsOf xs)) (wr .ballots) ∙ or-first (eqb j j) (member j (jurorsOf es)) (eq-eqb j j refl) in
+    let o : firstOf (withdrawReasons k d (factsOf k d u j) j) ≡ none = withdraw-first k d (factsOf k d u j) j ∙ withdraw-none (gradedShape k d) (factsOf k d u j .sound) (goodJuror j && factsOf k d u j .present) a (ap (λ (z : Facts). z .sound) f) (and-both (goodJuror j) (factsOf k d u j .present) gj (ap (λ (z : Facts). z .present) f ∙ inn)) in
+    let size : length (urnSlots k d u) ≡ length S = ap length (wr .slots) ∙ layout-length (length S) (k * d) (y ∷ es) is in
+    none-new (firstOf (withdrawReasons k d (factsOf k d u j) j)) (bytesOf (withoutBallot (k * d) (urnSlots k d u) j)) u o
+    ∙ ap (λ (m : ℕ). bytesOf (layout m (k * d) (without j (ballotChain (urnSlots k d u))) (slotOfJuror j (ballotChain (urnSlots k d u)) ∷ freeChain (urnSlots k d u)))) size
+    ∙ ap (λ (xs : List Entry). bytesOf (layout (length S) (k * d) (without j xs) (slotOfJuror j xs ∷ freeChain (urnSlots k d u)))) (wr .ballots)
+    ∙ ap (λ (ks : List ℕ). bytesOf (layout (length S) (k * d) (without j (y ∷ es)) (slotOfJuror j (y ∷ es) ∷ ks))) (wr .free)
+    ∙ ap (λ (t : Bool). bytesOf (layout (length S) (k * d) (cond t es (y ∷ without j es)) (cond t i (slotOfJuror j es) ∷ is))) (eq-eqb j j refl)
+    ∙ ap (λ (ks : List ℕ). bytesOf (layout (length S) (k * d) es ks)) (sym cut)
+    ∙ own k d urn w e
+
+after-admission : (k d : ℕ) (urn : List ℕ) (j : ℕ) (x : List ℕ) (count : ℕ) → admitSaid k d (factsOf k d urn j) j x ≡ accepted count → AfterAdmission k d urn j x
+unfolding admitSaid admitted withBallot withdrawn withoutBallot
+after-admission k d urn j x count h =
+    let f = factsOf k d urn j in
+    let o = accepted-none (firstOf (admitReasons k d f j x)) (f .ballots + 1) count h in
+    let p = admissible k d f j x o in
+    let w = graded-within k d (true-T (gradedShape k d) (p .graded)) in
+    let e = facts-sound k d urn j (p .isSound) in
+    let S = urnSlots k d urn in
+    let n = length S in
+    let es = ballotChain S in
+    let is = freeChain S in
+    let cut = not-empty is (facts-free k d urn j e (p .free)) in
+    let y : Entry = record { slot = firstFree is; juror = j; ballot = x } in
+    let gj = and-first (goodJuror j) (not (f .present)) (p .juror) in
+    let g = more-good k d n y es (drop 1 is) (subst (λ (ks : List ℕ). Good k d n es ks) cut (good k d urn w e)) gj (juror-absent-is k d urn j e (and-second (goodJuror j) (not (f .present)) (p .juror))) (p .ballot) in
+    let u = bytesOf (layout n (k * d) (y ∷ es) (drop 1 is)) in
+    let wr = written k d n (y ∷ es) (drop 1 is) (many k d urn w e) (not-many k d urn w e) g in
+    let new = none-new (firstOf (admitReasons k d f j x)) u urn o in
+    let back : withdrawn k d u j ≡ urn = undo k d urn w e j x u (drop 1 is) wr (p .graded) gj cut in
+    record {
+      stays-sound = ap (sound k d) new ∙ wr .isSound;
+      same-length = ap length new ∙ wr .size ∙ sym (long k d urn w e);
+      ballots = ap (λ (v : List ℕ). ballotChain (urnSlots k d v)) new ∙ wr .ballots;
+      free = ap (λ (v : List ℕ). freeChain (urnSlots k d v)) new ∙ wr .free;
+      undone = ap (λ (v : List ℕ). withdrawn k d v j) new ∙ back;
+    }
+
+after-withdrawal : (k d : ℕ) (urn : List ℕ) (j count : ℕ) → withdrawSaid k d (factsOf k d urn j) j ≡ accepted count → AfterWithdrawal k d urn j
+unfolding withdrawSaid withdrawn withoutBallot
+after-withdrawal k d urn j count h =
+    let f = factsOf k d urn j in
+    let o = accepted-none (firstOf (withdrawReasons k d f j)) (f .ballots - 1) count h in
+    let p = withdrawable k d f j o in
+    let w = graded-within k d (true-T (gradedShape k d) (p .graded)) in
+    let e = facts-sound k d urn j (p .isSound) in
+    let S = urnSlots k d urn in
+    let n = length S in
+    let es = ballotChain S in
+    let is = freeChain S in
+    let r = juror-split j es (facts-present k d urn j e (and-second (goodJuror j) (f .present) (p .juror))) in
+    let g₀ = less-good k d n (r .0) (r .1) (r .2) is (subst (λ (xs : List Entry). Good k d n xs is) (r .3) (good k d urn w e)) in
+    let g = subst (λ (s : ℕ). Good k d n (without j es) (s ∷ is)) (sym (r .5)) (subst (λ (xs : List Entry). Good k d n xs (r .1 .slot ∷ is)) (sym (r .4)) g₀) in
+    let u = bytesOf (layout n (k * d) (without j es) (slotOfJuror j es ∷ is)) in
+    let wr = written k d n (without j es) (slotOfJuror j es ∷ is) (many k d urn w e) (not-many k d urn w e) g in
+    let new = none-new (firstOf (withdrawReasons k d f j)) u urn o in
+    record {
+      stays-sound = ap (sound k d) new ∙ wr .isSound;
+      same-length = ap length new ∙ wr .size ∙ sym (long k d urn w e);
+      ballots = ap (λ (v : List ℕ). ballotChain (urnSlots k d v)) new ∙ wr .ballots;
+      free = ap (λ (v : List ℕ). freeChain (urnSlots k d v)) new ∙ wr .free;
+    }
+
+pub urn-holds : UrnHolds
+unfolding admitSaid admitted withdrawSaid withdrawn
+urn-holds =
+    record {
+      admission = after-admission;
+      withdrawal = after-withdrawal;
+      admit-refused = λ k d urn j x r h. refused-kept (firstOf (admitReasons k d (factsOf k d urn j) j x)) (factsOf k d urn j .ballots + 1) r _ urn h;
+      withdraw-refused = λ k d urn j r h. refused-kept (firstOf (withdrawReasons k d (factsOf k d urn j) j)) (factsOf k d urn j .ballots - 1) r _ urn h;
+    }

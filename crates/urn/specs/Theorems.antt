@@ -1,0 +1,51 @@
+-- What holds of an urn that admits and withdraws ballots, over the definitions that the contracts equate with the program's answers and with the urn afterwards.
+use mathlib.Core.Path.{_≡_}
+use mathlib.Core.Bool.{true, false}
+use mathlib.Core.List.{List, _∷_}
+use Prim.Native.Nat.{ℕ, suc}
+use lib.ListN.{length, drop}
+use Rattle.jury.specs.Reason.{Reason}
+use Rattle.tally.specs.Answer.{refused, accepted}
+use Rattle.urn.specs.declared.facts.Facts.{Facts}
+use Rattle.urn.specs.Chains.{Entry, ballotChain, freeChain, firstFree}
+use Rattle.urn.specs.Sound.{urnSlots, sound}
+use Rattle.urn.specs.Facts.{factsOf}
+use Rattle.urn.specs.Admit.{admitSaid, admitted}
+use Rattle.urn.specs.Withdraw.{withdrawSaid, without, slotOfJuror, withdrawn}
+
+-- An accepted admission leaves a sound urn of the same length. Its ballot chain is the new ballot, in the slot that was the first free one, before all others as they were; its free chain is the old one without its first slot.
+pub record AfterAdmission (k d : ℕ) (urn : List ℕ) (juror : ℕ) (ballot : List ℕ) : Type 0 where
+  pub stays-sound : sound k d (admitted k d urn juror ballot) ≡ true
+  pub same-length : length (admitted k d urn juror ballot) ≡ length urn
+  pub ballots : ballotChain (urnSlots k d (admitted k d urn juror ballot)) ≡ record { slot = firstFree (freeChain (urnSlots k d urn)); juror = juror; ballot = ballot } ∷ ballotChain (urnSlots k d urn)
+  pub free : freeChain (urnSlots k d (admitted k d urn juror ballot)) ≡ drop 1 (freeChain (urnSlots k d urn))
+  -- withdrawing the same juror's ballot then gives the urn back, byte for byte
+  pub undone : withdrawn k d (admitted k d urn juror ballot) juror ≡ urn
+
+-- An accepted withdrawal leaves a sound urn of the same length. Its ballot chain is the old one without the juror's ballot; its free chain is that ballot's slot before the old one, so that the next admission takes this slot.
+pub record AfterWithdrawal (k d : ℕ) (urn : List ℕ) (juror : ℕ) : Type 0 where
+  pub stays-sound : sound k d (withdrawn k d urn juror) ≡ true
+  pub same-length : length (withdrawn k d urn juror) ≡ length urn
+  pub ballots : ballotChain (urnSlots k d (withdrawn k d urn juror)) ≡ without juror (ballotChain (urnSlots k d urn))
+  pub free : freeChain (urnSlots k d (withdrawn k d urn juror)) ≡ slotOfJuror juror (ballotChain (urnSlots k d urn)) ∷ freeChain (urnSlots k d urn)
+
+pub record UrnHolds : Type 0 where
+  pub admission : (k d : ℕ) (urn : List ℕ) (juror : ℕ) (ballot : List ℕ) (count : ℕ) → admitSaid k d (factsOf k d urn juror) juror ballot ≡ accepted count → AfterAdmission k d urn juror ballot
+  pub withdrawal : (k d : ℕ) (urn : List ℕ) (juror count : ℕ) → withdrawSaid k d (factsOf k d urn juror) juror ≡ accepted count → AfterWithdrawal k d urn juror
+  -- a refusal alters nothing
+  pub admit-refused : (k d : ℕ) (urn : List ℕ) (juror : ℕ) (ballot : List ℕ) (r : Reason) → admitSaid k d (factsOf k d urn juror) juror ballot ≡ refused r → admitted k d urn juror ballot ≡ urn
+  pub withdraw-refused : (k d : ℕ) (urn : List ℕ) (juror : ℕ) (r : Reason) → withdrawSaid k d (factsOf k d urn juror) juror ≡ refused r → withdrawn k d urn juror ≡ urn
+
+-- Two urns, of any bytes and any lengths, of which the same is to be told: both are unsound, or both are sound with as many ballots, the same word on this juror and the same on a free slot.
+pub record TellTheSame (k d : ℕ) (one other : List ℕ) (juror : ℕ) : Type 0 where
+  pub soundness : factsOf k d one juror .sound ≡ factsOf k d other juror .sound
+  pub ballots : factsOf k d one juror .ballots ≡ factsOf k d other juror .ballots
+  pub present : factsOf k d one juror .present ≡ factsOf k d other juror .present
+  pub full : factsOf k d one juror .full ≡ factsOf k d other juror .full
+
+-- The previews answer the same for both. Their contracts give them the answers of admission and withdrawal themselves.
+pub record PreviewsTell : Type 0 where
+  pub admission : (k d : ℕ) (one other : List ℕ) (juror : ℕ) (ballot : List ℕ) → TellTheSame k d one other juror → admitSaid k d (factsOf k d one juror) juror ballot ≡ admitSaid k d (factsOf k d other juror) juror ballot
+  pub withdrawal : (k d : ℕ) (one other : List ℕ) (juror : ℕ) → TellTheSame k d one other juror → withdrawSaid k d (factsOf k d one juror) juror ≡ withdrawSaid k d (factsOf k d other juror) juror
+  -- and of an unsound urn nothing but that is told
+  pub unsound : (k d : ℕ) (one other : List ℕ) (juror : ℕ) → sound k d one ≡ false → sound k d other ≡ false → TellTheSame k d one other juror
