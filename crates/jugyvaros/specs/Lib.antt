@@ -1,3 +1,4 @@
 pub mod Numbers
 pub mod Status
 pub mod Paper
+pub mod Urn

@@ -16,7 +16,7 @@ ghost use Rattle.jugyvaros.specs.Numbers.{sizeNumbers, measureNumbers, c
 pub const SHORT_ANSWER: usize = 255;
 
 // The numbers of an answer, at the start of the lent array.
-fn put(numbers: &[usize], answer: &mut [usize])
+pub(crate) fn put(numbers: &[usize], answer: &mut [usize])
     requires { ⌜ length (now numbers) ≤ length (now answer) ⌝ }
     ensures { λ _. ⌜ now (answer .exit) ≡ now (numbers .entry) ++ drop (length (now (numbers .entry))) (now (answer .entry)) ⌝ }
 {

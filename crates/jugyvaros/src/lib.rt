@@ -6,4 +6,5 @@ pub mod measure;
 pub mod paper;
 pub mod run;
 pub mod test;
+pub mod urns;
 pub mod write;
