@@ -1,0 +1,230 @@
+#!/usr/bin/env python3
+"""The exported calls on an urn against a model written apart, over the static library: soundness of every urn of two and
+three slots over small bytes, damaged urns, urns of 256 slots, pairs of faults, and long random sequences of calls.
+Needs gcc and target/staticlib/libjugyvaros.a."""
+import ctypes
+import itertools
+import pathlib
+import random
+import subprocess
+import sys
+
+ROOT = pathlib.Path(__file__).resolve().parent.parent
+SHORT = 255
+
+
+def load():
+    out = ROOT / "target" / "urn"
+    out.mkdir(parents=True, exist_ok=True)
+    library = out / "libjugyvaros.so"
+    archive = ROOT / "target" / "staticlib" / "libjugyvaros.a"
+    subprocess.run(["gcc", "-shared", "-o", library, "-Wl,--whole-archive", archive, "-Wl,--no-whole-archive"], check=True)
+    return ctypes.CDLL(str(library))
+
+
+LIBRARY = load()
+SIZE = ctypes.c_size_t
+
+
+def buffer(data):
+    """An array of exactly these bytes; one byte that no call may read stands for an empty one."""
+    return (ctypes.c_uint8 * max(len(data), 1))(*data)
+
+
+def call(name, k, d, urn, juror, ballot=None):
+    """Reason, place, number of ballots, and the urn afterwards."""
+    lent = buffer(urn)
+    answer = (SIZE * 3)(7, 7, 7)
+    arguments = [SIZE(k), SIZE(d), lent, SIZE(len(urn)), SIZE(juror)]
+    if ballot is not None:
+        arguments += [buffer(ballot), SIZE(len(ballot))]
+    function = getattr(LIBRARY, name)
+    function.restype = SIZE
+    status = function(*arguments, answer, SIZE(3))
+    assert status == answer[0]
+    return tuple(answer), bytes(lent)[: len(urn)]
+
+
+# The model: an urn is taken apart into its chains by sets, and put together again from them.
+
+
+def ballot_fault(k, d, ballot):
+    if len(ballot) != k * d:
+        return (4, 0)
+    for i, x in enumerate(ballot):
+        if x > 1:
+            return (5, i)
+    for row in range(k):
+        if sum(ballot[row * d : row * d + d]) != 1:
+            return (6, row)
+    return None
+
+
+def take_apart(k, d, urn):
+    """The ballots as (slot, juror, ballot) and the free slots, or None where the urn is not sound."""
+    size = 2 + k * d
+    if len(urn) % size or not 2 <= len(urn) // size <= 256:
+        return None
+    slots = [urn[i : i + size] for i in range(0, len(urn), size)]
+    if any(slots[0][2:]):
+        return None
+    seen, chains = set(), []
+    for first in slots[0][:2]:
+        members, slot = [], first
+        while slot:
+            if slot >= len(slots) or slot in seen:
+                return None
+            seen.add(slot)
+            members.append(slot)
+            slot = slots[slot][0]
+        chains.append(members)
+    if len(seen) != len(slots) - 1:
+        return None
+    ballots = [(s, slots[s][1], bytes(slots[s][2:])) for s in chains[0]]
+    jurors = [j for _, j, _ in ballots]
+    if 0 in jurors or len(set(jurors)) != len(jurors):
+        return None
+    if any(ballot_fault(k, d, b) for _, _, b in ballots):
+        return None
+    if any(any(slots[s][1:]) for s in chains[1]):
+        return None
+    return ballots, chains[1]
+
+
+def put_together(k, d, count, ballots, free):
+    size = 2 + k * d
+    urn = bytearray(count * size)
+    urn[0] = ballots[0][0] if ballots else 0
+    urn[1] = free[0] if free else 0
+    for (slot, juror, ballot), behind in zip(ballots, ballots[1:] + [None]):
+        urn[slot * size : slot * size + size] = bytes([behind[0] if behind else 0, juror]) + ballot
+    for slot, behind in zip(free, free[1:] + [0]):
+        urn[slot * size] = behind
+    return bytes(urn)
+
+
+def model(k, d, urn, juror, ballot=None):
+    """Answer and urn of an admission, or of a withdrawal where no ballot is given."""
+    if not (1 <= k <= 8 and 2 <= d <= 7):
+        return (1, 0, 0), urn
+    chains = take_apart(k, d, urn)
+    if chains is None:
+        return (13, 0, 0), urn
+    ballots, free = chains
+    inside = [b for b in ballots if b[1] == juror]
+    if not 1 <= juror <= 255 or bool(inside) == (ballot is not None):
+        return (14, 0, 0), urn
+    count = len(urn) // (2 + k * d)
+    if ballot is None:
+        left = [b for b in ballots if b[1] != juror]
+        return (0, 0, len(left)), put_together(k, d, count, left, [inside[0][0]] + free)
+    fault = ballot_fault(k, d, ballot)
+    if fault:
+        return fault + (0,), urn
+    if not free:
+        return (15, 0, 0), urn
+    return (0, 0, len(ballots) + 1), put_together(k, d, count, [(free[0], juror, bytes(ballot))] + ballots, free[1:])
+
+
+def compare(k, d, urn, juror, ballot):
+    for name, given in (("admit", ballot), ("withdraw", None)):
+        expected = model(k, d, urn, juror, given)
+        found = call("jugy_" + name, k, d, urn, juror, given)
+        assert found == expected, (name, k, d, urn, juror, given, found, expected)
+        seen = call("jugy_preview_" + name, k, d, urn, juror, given)
+        assert seen == (expected[0], urn), ("preview", name, k, d, urn, juror, given, seen, expected)
+    return model(k, d, urn, juror, ballot)
+
+
+def good_ballot(k, d):
+    return b"".join(bytes(int(g == grade) for g in range(d)) for grade in (random.randrange(d) for _ in range(k)))
+
+
+def empty(k, d, slots):
+    return put_together(k, d, slots, [], list(range(1, slots)))
+
+
+def exhaustive():
+    good = 0
+    for slots, values in ((2, 4), (3, 3)):
+        for urn in itertools.product(range(values), repeat=4 * slots):
+            urn = bytes(urn)
+            expected = take_apart(1, 2, urn)
+            answer, _ = call("jugy_preview_withdraw", 1, 2, urn, 0)
+            assert answer[0] == (14 if expected is not None else 13), (urn, answer, expected)
+            if expected is not None:
+                good += 1
+                for juror in (0, 1, 2, 255, 256, 257):
+                    compare(1, 2, urn, juror, b"\1\0")
+    print(f"tests/urn: {good} sound urns among all of two and three slots over small bytes")
+
+
+def sequences(rounds):
+    for _ in range(rounds):
+        k, d = random.choice(((1, 2), (2, 3), (3, 4), (8, 7)))
+        slots = random.choice((2, 3, 5, 17, 256))
+        urn = empty(k, d, slots)
+        for _ in range(60):
+            juror = random.choice((random.randrange(1, 8), random.randrange(0, 300), 2**40 + 1))
+            ballot = good_ballot(k, d)
+            if random.random() < 0.1:
+                ballot = bytes(random.randrange(3) for _ in range(random.choice((0, k * d - 1, k * d, k * d + 1))))
+            if random.random() < 0.6:
+                _, urn = compare(k, d, urn, juror, ballot)
+            else:
+                compare(k, d, urn, juror, ballot)
+                _, urn = model(k, d, urn, juror)
+            broken = bytearray(urn)
+            for _ in range(random.choice((1, 1, 2))):
+                broken[random.randrange(len(broken))] = random.choice((0, 1, 2, slots % 256, random.randrange(256)))
+            compare(k, d, bytes(broken), juror, ballot)
+
+
+def full():
+    urn = empty(1, 2, 256)
+    for juror in range(1, 256):
+        answer, urn = compare(1, 2, urn, juror, b"\0\1")
+        assert answer == (0, 0, juror)
+    for juror in range(0, 258):
+        compare(1, 2, urn, juror, b"\1\0")
+    urn = empty(2, 3, 255)
+    for juror in range(1, 255):
+        _, urn = compare(2, 3, urn, juror, good_ballot(2, 3))
+    assert model(2, 3, urn, 255, good_ballot(2, 3))[0] == (15, 0, 0)
+    compare(2, 3, urn, 255, good_ballot(2, 3))
+    compare(2, 3, urn, 255, b"\1\0\0\1\1\0")
+
+
+def pairs():
+    """Every fault with every other one, in one call."""
+    k, d = 2, 3
+    urn = empty(k, d, 2)
+    _, urn = model(k, d, urn, 9, b"\1\0\0\0\1\0")
+    shapes = [(k, d), (0, d), (9, d), (k, 0), (k, 1), (k, 8), (2**63, 2)]
+    urns = [urn, empty(k, d, 2), urn[:-1], b"", urn[:8], bytes([1]) * 16]
+    jurors = [1, 9, 0, 256, 2**63]
+    ballots = [b"\1\0\0\0\1\0", b"", b"\1\0\0\0\1", b"\2\0\0\0\1\0", b"\1\0\0\0\0\0"]
+    for (a, b), u, j, x in itertools.product(shapes, urns, jurors, ballots):
+        compare(a, b, u, j, x)
+
+
+def short_answers():
+    for length in range(3):
+        lent = buffer(empty(1, 2, 2))
+        answer = (SIZE * 3)(7, 7, 7)
+        LIBRARY.jugy_admit.restype = SIZE
+        status = LIBRARY.jugy_admit(SIZE(1), SIZE(2), lent, SIZE(8), SIZE(1), buffer(b"\1\0"), SIZE(2), answer, SIZE(length))
+        assert status == SHORT and tuple(answer) == (7, 7, 7) and bytes(lent) == empty(1, 2, 2)
+
+
+def main():
+    random.seed(int(sys.argv[1]) if len(sys.argv) > 1 else 1)
+    exhaustive()
+    pairs()
+    full()
+    sequences(150)
+    short_answers()
+    print("tests/urn: ok")
+
+
+main()
