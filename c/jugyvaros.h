@@ -43,7 +43,8 @@
 extern "C" {
 #endif
 
-/* The reasons, with what their place counts. A call makes those tests that concern it, in the order 1, 2, 23, 3, 24, 4 to 10. */
+/* The reasons, with what their place counts. A call makes those tests that concern it, in the order 1, 13, 14, 2, 23, 3, 24, 4 to 6,
+ * 15, 7 to 10. */
 #define JUGY_ACCEPTED 0
 #define JUGY_SHAPE 1          /* the shape is outside its limits */
 #define JUGY_TABLE 2          /* the gate table is too short to write in, or no list of k to 1,048,576 whole gates */
@@ -55,6 +56,9 @@ extern "C" {
 #define JUGY_TAPE_BYTE 8      /* a tape byte is above 1; place: the byte */
 #define JUGY_WIRES_LENGTH 9   /* the wire table is not I + G bytes */
 #define JUGY_BOARD_LENGTH 10  /* the board is not C + k bytes */
+#define JUGY_URN 13           /* the urn is not sound */
+#define JUGY_JUROR 14         /* the juror is 0 or above 255, or in already (admission), or not in (withdrawal) */
+#define JUGY_FULL_URN 15      /* no slot of the urn is free */
 #define JUGY_LINE 23          /* a line of text has another form, a kind above 7 or a number above 4,294,967,295; place: the line */
 #define JUGY_OUTPUT 24        /* the lent output is too short */
 
@@ -68,6 +72,7 @@ extern "C" {
 #define JUGY_RUN_ANSWER 4
 #define JUGY_COUNT_ANSWER 10
 #define JUGY_TEXT_ANSWER 3
+#define JUGY_URN_ANSWER 3
 
 /* Measures the shape's own list: answer[2] is G, its gates, answer[3] is C, the conditional ones, answer[4] is I, the
  * ballot bytes. Reason 1. */
@@ -120,6 +125,30 @@ size_t jugy_write_text(size_t candidates, size_t grades, size_t ballots, const u
  * use is 0. Numbers behind them are not touched. Reasons 1, 2, 23, 3, 24. */
 size_t jugy_read_text(size_t candidates, size_t grades, size_t ballots, const uint8_t *text, size_t text_length,
                       uint32_t *output, size_t output_length, size_t *answer, size_t answer_length);
+
+/* An urn for graded ballots is a table of 2 to 256 slots of 2 + k d bytes, bytes_length in all, that the caller keeps.
+ *   slot 0           first slot of the ballot chain, first slot of the free chain, k d zeros
+ *   a ballot's slot  index of the next slot in the ballot chain (0: it is the last), juror 1 to 255, k d ballot bytes
+ *   a free slot      index of the next free slot (0: it is the last), 1 + k d zeros
+ * An empty urn of s slots: 0, 1, k d zeros; then for each slot i from 1 to s - 1 its next index, i + 1 or 0 for the last,
+ * and 1 + k d zeros. Only k = candidates and d = grades are handed; answer[2] is the number of ballots afterwards. */
+
+/* Admits the ballot of a juror: it goes to the first free slot and becomes the first of the ballot chain. Reasons 1, 13 (the urn
+ * is not sound), 14 (the juror is 0, above 255 or in already), 4, 5, 6 (the ballot as that of a jury of one), 15 (no slot
+ * is free), in this order. */
+size_t jugy_admit(size_t candidates, size_t grades, uint8_t *bytes, size_t bytes_length, size_t juror,
+                  const uint8_t *ballot, size_t ballot_length, size_t *answer, size_t answer_length);
+
+/* Withdraws the ballot of a juror: its slot is zeroed and becomes the first of the free chain. Reasons 1, 13, 14 (the juror is 0,
+ * above 255 or not in). */
+size_t jugy_withdraw(size_t candidates, size_t grades, uint8_t *bytes, size_t bytes_length, size_t juror, size_t *answer,
+                     size_t answer_length);
+
+/* What an admission would answer, and what a withdrawal would, on an urn that is not altered. */
+size_t jugy_preview_admit(size_t candidates, size_t grades, const uint8_t *bytes, size_t bytes_length, size_t juror,
+                          const uint8_t *ballot, size_t ballot_length, size_t *answer, size_t answer_length);
+size_t jugy_preview_withdraw(size_t candidates, size_t grades, const uint8_t *bytes, size_t bytes_length, size_t juror,
+                             size_t *answer, size_t answer_length);
 
 #ifdef __cplusplus
 }

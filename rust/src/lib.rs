@@ -2,6 +2,8 @@
 //!
 //! Each function answers what the entry point of that name answers, or its refusal, in which case nothing lent is altered.
 
+pub mod urn;
+
 mod c {
     extern "C" {
         pub fn jugy_measure(k: usize, d: usize, n: usize, answer: *mut usize, answer_length: usize) -> usize;
@@ -99,6 +101,12 @@ pub enum Reason {
     TapeByte = 8,
     WiresLength = 9,
     BoardLength = 10,
+    /// Behind `Shape`.
+    Urn = 13,
+    /// Behind `Urn`.
+    Juror = 14,
+    /// Behind the ballot's reasons.
+    FullUrn = 15,
     /// Since request 2.10, between `Table` and `Gate`.
     Line = 23,
     /// Since request 2.10, behind `Gate`.
@@ -106,7 +114,7 @@ pub enum Reason {
 }
 
 impl Reason {
-    const ALL: [Reason; 12] = [
+    const ALL: [Reason; 15] = [
         Reason::Shape,
         Reason::Table,
         Reason::Gate,
@@ -117,6 +125,9 @@ impl Reason {
         Reason::TapeByte,
         Reason::WiresLength,
         Reason::BoardLength,
+        Reason::Urn,
+        Reason::Juror,
+        Reason::FullUrn,
         Reason::Line,
         Reason::Output,
     ];
@@ -143,6 +154,9 @@ impl Reason {
             Reason::TapeByte => "neither 0 nor 1 in tape byte",
             Reason::WiresLength => "the wire table has another length than ballots and gates together",
             Reason::BoardLength => "the board has another length than conditional gates and candidates together",
+            Reason::Urn => "the urn is not sound",
+            Reason::Juror => "the juror is 0 or above 255, or in already, or not in",
+            Reason::FullUrn => "no slot of the urn is free",
             Reason::Line => "another form than a gate's, or a number that is too large, in line",
             Reason::Output => "the lent output is too short",
         }

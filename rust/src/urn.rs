@@ -1,0 +1,132 @@
+//! An urn for graded ballots: admission, withdrawal and their previews. `c/jugyvaros.h` draws the bytes of an urn.
+//!
+//! Each call answers the number of ballots in the urn afterwards, or its refusal, in which case the urn is as it was.
+
+use crate::Refusal;
+
+mod c {
+    extern "C" {
+        pub fn jugy_admit(
+            k: usize,
+            d: usize,
+            bytes: *mut u8,
+            bytes_length: usize,
+            juror: usize,
+            ballot: *const u8,
+            ballot_length: usize,
+            answer: *mut usize,
+            answer_length: usize,
+        ) -> usize;
+        pub fn jugy_withdraw(
+            k: usize,
+            d: usize,
+            bytes: *mut u8,
+            bytes_length: usize,
+            juror: usize,
+            answer: *mut usize,
+            answer_length: usize,
+        ) -> usize;
+        pub fn jugy_preview_admit(
+            k: usize,
+            d: usize,
+            bytes: *const u8,
+            bytes_length: usize,
+            juror: usize,
+            ballot: *const u8,
+            ballot_length: usize,
+            answer: *mut usize,
+            answer_length: usize,
+        ) -> usize;
+        pub fn jugy_preview_withdraw(
+            k: usize,
+            d: usize,
+            bytes: *const u8,
+            bytes_length: usize,
+            juror: usize,
+            answer: *mut usize,
+            answer_length: usize,
+        ) -> usize;
+    }
+}
+
+/// Reason, place and number of ballots.
+type Answer = [usize; 3];
+
+fn outcome(answer: Answer) -> Result<usize, Refusal> {
+    match answer {
+        [0, _, ballots] => Ok(ballots),
+        [reason, place, _] => Err(Refusal { reason, place }),
+    }
+}
+
+/// The bytes of an empty urn of so many slots, 2 to 256, for k candidates and d grades.
+pub fn empty(k: usize, d: usize, slots: usize) -> Vec<u8> {
+    assert!((2..=256).contains(&slots), "an urn has 2 to 256 slots");
+    let size = 2 + k * d;
+    let mut urn = vec![0; slots * size];
+    urn[1] = 1;
+    for slot in 1..slots - 1 {
+        urn[slot * size] = slot as u8 + 1;
+    }
+    urn
+}
+
+/// Admits the ballot of a juror.
+pub fn admit(k: usize, d: usize, urn: &mut [u8], juror: usize, ballot: &[u8]) -> Result<usize, Refusal> {
+    let mut answer: Answer = [0; 3];
+    // SAFETY: every pointer comes from a slice and is handed over with its length; what is written is borrowed mutably.
+    unsafe {
+        c::jugy_admit(
+            k,
+            d,
+            urn.as_mut_ptr(),
+            urn.len(),
+            juror,
+            ballot.as_ptr(),
+            ballot.len(),
+            answer.as_mut_ptr(),
+            answer.len(),
+        );
+    }
+    outcome(answer)
+}
+
+/// Withdraws the ballot of a juror.
+pub fn withdraw(k: usize, d: usize, urn: &mut [u8], juror: usize) -> Result<usize, Refusal> {
+    let mut answer: Answer = [0; 3];
+    // SAFETY: as in `admit`.
+    unsafe {
+        c::jugy_withdraw(k, d, urn.as_mut_ptr(), urn.len(), juror, answer.as_mut_ptr(), answer.len());
+    }
+    outcome(answer)
+}
+
+/// What `admit` would answer.
+pub fn preview_admit(k: usize, d: usize, urn: &[u8], juror: usize, ballot: &[u8]) -> Result<usize, Refusal> {
+    let mut answer: Answer = [0; 3];
+    // SAFETY: as in `admit`; the urn is read alone.
+    unsafe {
+        c::jugy_preview_admit(
+            k,
+            d,
+            urn.as_ptr(),
+            urn.len(),
+            juror,
+            ballot.as_ptr(),
+            ballot.len(),
+            answer.as_mut_ptr(),
+            answer.len(),
+        );
+    }
+    outcome(answer)
+}
+
+/// What `withdraw` would answer.
+pub fn preview_withdraw(k: usize, d: usize, urn: &[u8], juror: usize) -> Result<usize, Refusal> {
+    let mut answer: Answer = [0; 3];
+    // SAFETY: as in `admit`; the urn is read alone.
+    unsafe {
+        c::jugy_preview_withdraw(k, d, urn.as_ptr(), urn.len(), juror, answer.as_mut_ptr(), answer.len());
+    }
+    outcome(answer)
+}

@@ -1,0 +1,60 @@
+/* Admission and withdrawal on heap buffers of exactly the lent length, for valgrind: random calls on sound and damaged urns of any
+ * length. What each call answers is compared with its preview, and a refused urn with its copy. */
+#include "../../c/jugyvaros.h"
+#include <stdio.h>
+#include <stdlib.h>
+#include <string.h>
+
+static uint32_t state = 1;
+
+static uint32_t below(uint32_t n) {
+    state = state * 1664525u + 1013904223u;
+    return (state >> 8) % n;
+}
+
+static uint8_t *copy_of(const uint8_t *bytes, size_t length) {
+    uint8_t *copy = malloc(length ? length : 1);
+    memcpy(copy, bytes, length);
+    return copy;
+}
+
+static void one_call(size_t k, size_t d, uint8_t *urn, size_t length) {
+    size_t said[JUGY_URN_ANSWER], seen[JUGY_URN_ANSWER];
+    size_t ballot_length = below(8) ? k * d : below(60), juror = below(12) ? 1 + below(6) : below(300);
+    uint8_t *before = copy_of(urn, length), *ballot = calloc(ballot_length ? ballot_length : 1, 1);
+    for (size_t i = 0; i < ballot_length; i += d ? d : 1)
+        ballot[i] = below(20) ? 1 : 2;
+    if (below(2)) {
+        jugy_preview_admit(k, d, urn, length, juror, ballot, ballot_length, seen, JUGY_URN_ANSWER);
+        jugy_admit(k, d, urn, length, juror, ballot, ballot_length, said, JUGY_URN_ANSWER);
+    } else {
+        jugy_preview_withdraw(k, d, urn, length, juror, seen, JUGY_URN_ANSWER);
+        jugy_withdraw(k, d, urn, length, juror, said, JUGY_URN_ANSWER);
+    }
+    if (memcmp(said, seen, sizeof said) || (said[0] && memcmp(before, urn, length))) {
+        printf("urn_test: a preview differs, or a refusal alters\n");
+        exit(1);
+    }
+    free(before);
+    free(ballot);
+}
+
+int main(int count, char **words) {
+    int rounds = count > 1 ? atoi(words[1]) : 100;
+    for (int r = 0; r < rounds; r++) {
+        size_t k = below(10), d = below(9), size = 2 + k * d, slots = below(5) ? 2 + below(6) : 1 + below(257);
+        size_t length = slots * size + (below(8) ? 0 : below(3));
+        uint8_t *urn = calloc(length ? length : 1, 1);
+        urn[1] = 1;
+        for (size_t i = 1; i + 1 < slots; i++)
+            urn[i * size] = (uint8_t)(i + 1);
+        for (int i = 0; i < 30; i++) {
+            one_call(k, d, urn, length);
+            if (!below(25))
+                urn[below((uint32_t)length)] = (uint8_t)below(256);
+        }
+        free(urn);
+    }
+    printf("urn_test: ok\n");
+    return 0;
+}
