@@ -2,7 +2,7 @@
 //!
 //! Each call answers the number of ballots in the urn afterwards, or its refusal, in which case the urn is as it was.
 
-use crate::Refusal;
+use crate::{Reason, Refusal};
 
 mod c {
     extern "C" {
@@ -55,7 +55,10 @@ type Answer = [usize; 3];
 fn outcome(answer: Answer) -> Result<usize, Refusal> {
     match answer {
         [0, _, ballots] => Ok(ballots),
-        [reason, place, _] => Err(Refusal { reason, place }),
+        [reason, place, _] => Err(Refusal {
+            reason: Reason::of(reason).expect("a reason of the list"),
+            place,
+        }),
     }
 }
 

@@ -1,9 +1,9 @@
 //! The urn through the wrapper: ballots go in and out, and previews alter nothing.
 use jugyvaros::urn::{admit, empty, preview_admit, preview_withdraw, withdraw};
-use jugyvaros::Refusal;
+use jugyvaros::{Reason, Refusal};
 
-const FULL: Refusal = Refusal { reason: 15, place: 0 };
-const JUROR: Refusal = Refusal { reason: 14, place: 0 };
+const FULL: Refusal = Refusal { reason: Reason::FullUrn, place: 0 };
+const JUROR: Refusal = Refusal { reason: Reason::Juror, place: 0 };
 
 #[test]
 fn in_and_out() {
@@ -28,6 +28,6 @@ fn in_and_out() {
 fn damaged() {
     let mut urn = empty(2, 3, 256);
     urn[9] = 1;
-    assert_eq!(admit(2, 3, &mut urn, 1, &[1, 0, 0, 0, 1, 0]), Err(Refusal { reason: 13, place: 0 }));
-    assert_eq!(admit(2, 0, &mut urn, 1, &[]), Err(Refusal { reason: 1, place: 0 }));
+    assert_eq!(admit(2, 3, &mut urn, 1, &[1, 0, 0, 0, 1, 0]), Err(Refusal { reason: Reason::Urn, place: 0 }));
+    assert_eq!(admit(2, 0, &mut urn, 1, &[]), Err(Refusal { reason: Reason::Shape, place: 0 }));
 }
