@@ -27,6 +27,8 @@ EXAMPLES = {
     "clear-winner": "jury 3 5 7\nwinners 1 0 0\n",
     "equal-medians": "jury 2 3 3\nwinners 1 0\n",
     "shared-win": "jury 3 3 3\nwinners 1 1 0\n",
+    "raised-before": "jury 2 3 3\nwinners 1 1\n",
+    "raised-after": "jury 2 3 3\nwinners 1 0\n",
     "even-jury": "jury 2 3 4\nwinners 1 0\n",
     "yes-no": "jury 4 2 5\nwinners 0 0 1 0\n",
 }
