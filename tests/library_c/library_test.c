@@ -353,7 +353,7 @@ static void edges(void) {
     }
     uint8_t bad[18];
     memcpy(bad, ballots, 18);
-    bad[17] = 2, bad[0] = 0; /* a byte 2 in the last ballot and an empty first row */
+    bad[17] = 2, bad[0] = 0; /* 5 before 6: byte 2 in the last ballot, no 1 in row 0 */
     s = call_count(2, 3, 3, bad, 18, 10);
     CHECK(s.reason == 5 && s.place == 17);
     bad[17] = 1;

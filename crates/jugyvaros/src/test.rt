@@ -9,7 +9,7 @@ ghost use mathlib.Core.Path.{_≡_};
 ghost use Rattle.tally.specs.Test.{testSaid};
 ghost use Rattle.jugyvaros.specs.Numbers.{shapeOf, sizeNumbers, status, answered};
 
-// Tests a list, whoever wrote it, for a shape: reason, place, G and C.
+// Tests anyone's list for a shape: reason, place, G and C.
 #[no_mangle]
 pub extern "C" fn jugy_test(
     candidates: usize,

@@ -1,4 +1,4 @@
--- Facts about the grade counts: each is the number of ones in its column, only the ballot bytes are read, and the counts of a candidate add up to n.
+-- Facts about the grade counts: each is the number of ones in its column, only the ballot bytes are read, and a candidate's counts have the sum n.
 -- Assumes nothing.
 use mathlib.Core.Path.{_≡_, _∙_, refl, sym, ap}
 use mathlib.Core.List.{List, []}
@@ -94,7 +94,7 @@ one-addend s xs a c b hc hb =
     row : ℕ
     row = b * s .candidates + c
 
--- the counts of a candidate add up to the ballots counted
+-- a candidate's counts have the sum of the ballots counted
 sum-up-to : (s : Shape) (xs : List ℕ) → AcceptedBallots s xs → (c : ℕ) → c < s .candidates → (b : ℕ) → b ≤ s .ballots → sum (tabulate (s .grades) (countUpTo s xs b c)) ≡ b
 unfolding countUpTo addend
 sum-up-to s xs a c hc zero h = sum-zero (s .grades)

@@ -42,7 +42,7 @@ printedOf s ballots = record { jury = s; winners = judgmentOf (countsOf s ballot
 unfoldable pub rehearsalSaid : List ℕ → List ℕ → Said Printed
 rehearsalSaid input table = said (firstOf (rehearsalReasons input table)) (printedOf (shapeIn input) (ballotsIn input))
 
--- Document 01's number and values for each case of the program's enum: the k closing bytes stand on the board from a place on.
+-- What each case of the program's enum means, as a number with values: the k closing bytes stand on the board from a place on.
 unfoldable pub saidOn : List ℕ → Rehearsed → Said Printed
 saidOn board (Winners s first) = accepted (record { jury = s; winners = take (s .candidates) (drop first board) })
 saidOn board (Refused r) = refused (reasonOf r)

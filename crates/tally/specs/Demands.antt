@@ -44,9 +44,9 @@ pub record Memory : Type 0 where
 unfoldable pub listIn : Shape → Size → List ℕ → List ℕ
 listIn s size table = take (4 * size .gates) (written s table)
 
--- The demand [accuracy], for majority judgment [judgment]: with the list that the core writes for a shape, a candidate's closing byte is 1 if no candidate's sequence comes before its own, and 0 if one does; the plain count gives the same bytes. It holds after an accepted write into a table of any earlier contents, G and C being what the write answered.
+-- The demand [accuracy], for majority judgment [judgment]: with the list that the core writes for a shape, a candidate's closing byte is 1 if no candidate's sequence comes before its own, and 0 if one does; counting plainly yields these bytes too. It holds after an accepted write into a table of any earlier contents, G and C being what the write answered.
 pub record Accuracy (s : Shape) (table : List ℕ) (size : Size) : Type 0 where
-  -- a run of the list is never refused for 2 or 3
+  -- no run of the list is refused for 2 or 3
   pub never-2-or-3 : (ballots tape wires board : List ℕ) (r : Reason) → ran s (listIn s size table) ballots tape wires board .answer ≡ refused r → (r .number ≢ 2) × (r .number ≢ 3)
   -- with accepted ballots, a mask tape and buffers of the right lengths it is accepted, and answers the same G and C
   pub runs : (ballots tape wires board : List ℕ) → AcceptedBallots s ballots → MaskTape (gatesOf (listIn s size table)) tape

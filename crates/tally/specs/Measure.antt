@@ -24,7 +24,7 @@ measuresOf s = record { gates = length (ownList s); conditional = conditionalCou
 unfoldable pub measureSaid : Shape → Said Measures
 measureSaid s = said (firstOf (unless (withinLimits s) 1 ∷ [])) (measuresOf s)
 
--- Document 01's number and values for each case of the program's enum.
+-- What each case of the program's enum means, as a number with values.
 unfoldable pub measuredBy : Measured → Said Measures
 measuredBy (Accepted gates conditional inputs) = accepted (record { gates = gates; conditional = conditional; inputs = inputs })
 measuredBy (Refused r) = refused (reasonOf r)

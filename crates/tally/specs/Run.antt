@@ -35,7 +35,7 @@ pub record Ran : Type 0 where
   pub wires : List ℕ
   pub board : List ℕ
 
--- A refusal alters nothing that is lent. An accepted run leaves the wire table all zero, and on the board the shown bits and the closing bytes of the wires that the ballots have under the list (request 2.13).
+-- A refusal alters nothing that is lent. An accepted run leaves zeros in the wire table, and on the board the shown bits and the closing bytes of the wires that the ballots have under the list (request 2.13).
 unfoldable pub ranAfter : Option Reason → Shape → List Gate → List ℕ → List ℕ → List ℕ → List ℕ → Ran
 ranAfter (some r) s gs ballots tape wires board = record { answer = refused r; wires = wires; board = board }
 ranAfter none s gs ballots tape wires board =
