@@ -76,7 +76,7 @@ class Core:
         assert all(lent.is_as_before() for lent in read), (name, shape)
         assert all(lent.has_its_guards() for lent in (*written, answer)), (name, shape)
         reason, place, *values = answer.items()
-        assert status == reason and reason <= 10, (name, shape, status)
+        assert status == reason and reason <= 12, (name, shape, status)
         if reason:
             assert all(lent.is_as_before() for lent in written) and not any(values), (name, shape)
             return ["refused", reason, place]
