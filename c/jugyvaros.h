@@ -1,4 +1,4 @@
-/* The counting core of tasting-jury units, for C. Link target/staticlib/libjugyvaros.a, which `rt staticlib jugyvaros` makes.
+/* The counting core of tasting-jury units, for C. Link target/staticlib/libjugyvaros.a, which tools/library makes.
  *
  * Shape: candidates (k) 1 to 8, grades (d) 2 to 7, ballots (n) 1 to 255; other numbers are refused with reason 1.
  *

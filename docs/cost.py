@@ -1,6 +1,6 @@
 """Makes the cost sheet, docs/COST.md, and its plot, docs/cost.svg, from the lists that the core writes.
 
-python3 docs/cost.py          builds the library (rt staticlib jugyvaros) and writes both
+python3 docs/cost.py          builds the library (tools/library) and writes both
 python3 docs/cost.py --check  takes the library as it stands, and fails where the two files are not what it makes
 
 Needs gcc and the standard library only.
@@ -144,7 +144,7 @@ def plot(costs):
 def main():
     check = sys.argv[1:] == ["--check"]
     if not check:
-        subprocess.run(["rt", "staticlib", "jugyvaros"], cwd=ROOT, check=True, stdout=subprocess.DEVNULL)
+        subprocess.run([ROOT / "tools/library"], check=True, stdout=subprocess.DEVNULL)
     shapes = SHAPES + RANKED + [(k, d, n) for k, d in CURVES for n in range(1, 256) if (k, d, n) not in SHAPES]
     costs = measure(shapes)
     over = [shape for shape in shapes if costs[shape][0] > bound(*shape)]

@@ -1,6 +1,6 @@
 """The exported functions, for tests in Python: the static library linked into a shared object and called by ctypes.
 
-Needs target/staticlib/libjugyvaros.a, which `rt staticlib jugyvaros` makes, and a C compiler (cc). Whatever is lent has
+Needs target/staticlib/libjugyvaros.a, which tools/library makes, and a C compiler (cc). Whatever is lent has
 guards on both sides, and every call is held to leaving them, and what is lent for reading, as they were.
 """
 
