@@ -7,8 +7,8 @@ use lib.ListN.{length, drop}
 use Rattle.jury.specs.Reason.{Reason}
 use Rattle.tally.specs.Answer.{refused, accepted}
 use Rattle.urn.specs.declared.facts.Facts.{Facts}
-use Rattle.urn.specs.Chains.{Entry, ballotChain, freeChain, firstFree}
-use Rattle.urn.specs.Sound.{urnSlots, sound}
+use Rattle.chains.specs.Chains.{Entry, ballotChain, freeChain, firstFree}
+use Rattle.chains.specs.Sound.{urnSlots, sound}
 use Rattle.urn.specs.Facts.{factsOf}
 use Rattle.urn.specs.Admit.{admitSaid, admitted}
 use Rattle.urn.specs.Withdraw.{withdrawSaid, without, slotOfJuror, withdrawn}
