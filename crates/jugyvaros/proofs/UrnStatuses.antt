@@ -13,7 +13,7 @@ use Rattle.jury.specs.Reason.{Reason, unless, foundAt, firstOf, reasonAt}
 use Rattle.jury.specs.Ballots.{ballotReasons}
 use Rattle.tally.specs.Answer.{Said, refused, accepted, said}
 use Rattle.urn.specs.declared.facts.Facts.{Facts}
-use Rattle.urn.specs.Sound.{juryOfOne}
+use Rattle.chains.specs.Sound.{juryOfOne}
 use Rattle.urn.specs.Admit.{admitReasons, admitSaid}
 use Rattle.urn.specs.Withdraw.{withdrawReasons, withdrawSaid}
 use Rattle.jugyvaros.specs.Urn.{UrnNumbered, UrnStatusTells}

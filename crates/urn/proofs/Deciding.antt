@@ -98,6 +98,10 @@ pub none-new : (o : Option Reason) (new old : List ℕ) → o ≡ none → after
 unfolding afterwards
 none-new o new old e = ap (λ (p : Option Reason). afterwards p new old) e
 
+pub some-old : (o : Option Reason) (r : Reason) (new old : List ℕ) → o ≡ some r → old ≡ afterwards o new old
+unfolding afterwards
+some-old o r new old e = ap (λ (p : Option Reason). afterwards p new old) (sym e)
+
 -- the first reason of an admission, by the first test that fails
 module _ (a b c : Bool) (o : Option Reason) (g : Bool) where
   pub admit-1 : a ≡ false → admitFirst a b c o g ≡ some (reasonAt 1 0)

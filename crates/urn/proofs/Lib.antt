@@ -6,4 +6,6 @@ pub mod AdmitSlots
 pub mod Admitting
 pub mod Withdrawing
 pub mod Taking
+pub mod Emptying
 pub mod UrnTheorems
+pub mod UrnMemory

@@ -1,5 +1,7 @@
 pub mod Facts
 pub mod Admit
 pub mod Withdraw
+pub mod Empty
 pub mod Theorems
+pub mod Memory
 pub mod Examples

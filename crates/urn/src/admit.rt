@@ -22,7 +22,7 @@ ghost use Rattle.urn.specs.Admit.{admitSaid, withBallot, admitted};
 pub const MOST_JURORS: usize = 255;
 
 // Whether the numbers of candidates and grades are those of a jury that grades.
-pub(crate) fn is_graded(k: usize, d: usize) -> bool
+pub fn is_graded(k: usize, d: usize) -> bool
     ensures { λ r. ⌜ r ≡ gradedShape k d ⌝ }
 {
     let shape = Shape {
