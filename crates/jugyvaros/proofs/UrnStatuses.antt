@@ -16,6 +16,7 @@ use Rattle.urn.specs.declared.facts.Facts.{Facts}
 use Rattle.chains.specs.Sound.{juryOfOne}
 use Rattle.urn.specs.Admit.{admitReasons, admitSaid}
 use Rattle.urn.specs.Withdraw.{withdrawReasons, withdrawSaid}
+use Rattle.urn.specs.Empty.{emptyReasons, emptySaid}
 use Rattle.jugyvaros.specs.Urn.{UrnNumbered, UrnStatusTells}
 
 -- no reason, or one of these numbers
@@ -74,14 +75,19 @@ withdraw-fine : (k d : ℕ) (f : Facts) (j : ℕ) → All (withdrawReasons k d f
 unfolding All withdrawReasons
 withdraw-fine k d f j = (unless-fine _ 1 (omega arith) (omega arith), (unless-fine _ 13 (omega arith) (omega arith), (unless-fine _ 14 (omega arith) (omega arith), tt)))
 
+empty-fine : (k d : ℕ) (table : List ℕ) → All (emptyReasons k d table)
+unfolding All emptyReasons
+empty-fine k d table = (unless-fine _ 1 (omega arith) (omega arith), (unless-fine _ 13 (omega arith) (omega arith), tt))
+
 told : (s : Said ℕ) (r : Reason) → s ≡ refused r → FineSaid s → UrnNumbered r
 unfolding FineSaid
 told s r e f = subst FineSaid e f
 
 pub urn-status-tells : UrnStatusTells
-unfolding admitSaid withdrawSaid
+unfolding admitSaid withdrawSaid emptySaid
 urn-status-tells =
     record {
+      empty = λ k d table r e. told (emptySaid k d table) r e (said-fine (firstOf (emptyReasons k d table)) _ (first-fine (emptyReasons k d table) (empty-fine k d table)));
       admit = λ k d f j x r e. told (admitSaid k d f j x) r e (said-fine (firstOf (admitReasons k d f j x)) _ (first-fine (admitReasons k d f j x) (admit-fine k d f j x)));
       withdraw = λ k d f j r e. told (withdrawSaid k d f j) r e (said-fine (firstOf (withdrawReasons k d f j)) _ (first-fine (withdrawReasons k d f j) (withdraw-fine k d f j)));
     }
