@@ -128,8 +128,12 @@ size_t jugy_read_text(size_t candidates, size_t grades, size_t ballots, const ui
  *   slot 0           first slot of the ballot chain, first slot of the free chain, k d zeros
  *   a ballot's slot  index of the next slot in the ballot chain (0: it is the last), juror 1 to 255, k d ballot bytes
  *   a free slot      index of the next free slot (0: it is the last), 1 + k d zeros
- * An empty urn of s slots: 0, 1, k d zeros; then for each slot i from 1 to s - 1 its next index, i + 1 or 0 for the last,
- * and 1 + k d zeros. Only k = candidates and d = grades are handed; answer[2] is the number of ballots afterwards. */
+ * Only k = candidates and d = grades are handed; answer[2] is the number of ballots afterwards. */
+
+/* Makes a table of the length of an urn an empty one, whatever its bytes are: slots 1, 2 and so on are free, in this order.
+ * Reasons 1, 13 (no urn has this length). */
+size_t jugy_empty_urn(size_t candidates, size_t grades, uint8_t *bytes, size_t bytes_length, size_t *answer,
+                      size_t answer_length);
 
 /* Admits the ballot of a juror: it goes to the first free slot and becomes the first of the ballot chain. Reasons 1, 13 (the urn
  * is not sound), 14 (the juror is 0, above 255 or in already), 4, 5, 6 (the ballot as that of a jury of one), 15 (no slot

@@ -1,4 +1,4 @@
-// Admission to an urn, withdrawal from it and their previews, as a C program calls them.
+// Empty urns, admission to an urn, withdrawal from it and their previews, as a C program calls them.
 use answers::array::ONE_ANSWER;
 use answers::array::SHORT_ANSWER;
 use answers::array::put;
@@ -10,6 +10,7 @@ ghost use lib.ListN.{length, drop};
 ghost use Rattle.urn.specs.Facts.{factsOf, countedBy};
 ghost use Rattle.urn.specs.Admit.{admitSaid, admitted};
 ghost use Rattle.urn.specs.Withdraw.{withdrawSaid, withdrawn};
+ghost use Rattle.urn.specs.Empty.{emptySaid, emptied};
 ghost use Rattle.answers.specs.Numbers.{oneAnswer, oneNumber, statusOf, status, answered, altered};
 
 // The answer of a call on an urn, and its status.
@@ -30,6 +31,25 @@ fn put_turnout(said: Answer, answer: &mut [usize]) -> usize
             number
         }
     }
+}
+
+// Makes a table an empty urn: reason, place and the number of ballots, which is 0.
+#[no_mangle]
+pub extern "C" fn jugy_empty_urn(
+    candidates: usize,
+    grades: usize,
+    bytes: &mut [u8],
+    answer: &mut [usize],
+) -> usize
+    ensures { λ r. ⌜ r ≡ status oneAnswer (oneNumber (emptySaid candidates grades (now (bytes .entry)))) (now (answer .entry)) ⌝ }
+    ensures { λ _. ⌜ now (answer .exit) ≡ answered oneAnswer (oneNumber (emptySaid candidates grades (now (bytes .entry)))) (now (answer .entry)) ⌝ }
+    ensures { λ _. ⌜ now (bytes .exit) ≡ altered oneAnswer (now (answer .entry)) (emptied candidates grades (now (bytes .entry))) (now (bytes .entry)) ⌝ }
+{
+    if answer.len() < ONE_ANSWER {
+        return SHORT_ANSWER;
+    }
+    let said = urn::empty::empty(candidates, grades, bytes);
+    put_turnout(said, answer)
 }
 
 // Admits the ballot of a juror: reason, place and the new number of ballots.

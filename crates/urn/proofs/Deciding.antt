@@ -13,7 +13,7 @@ use Rattle.jury.specs.Reason.{Reason, reasonAt, unless, firstOf}
 use Rattle.jury.specs.Ballots.{ballotReasons}
 use Rattle.tally.specs.Answer.{Said, refused, accepted, said}
 use Rattle.urn.specs.declared.facts.Facts.{Facts}
-use Rattle.urn.specs.Sound.{juryOfOne, goodJuror, noReason, goodBallot}
+use Rattle.chains.specs.Sound.{juryOfOne, goodJuror, noReason, goodBallot}
 use Rattle.urn.specs.Facts.{gradedShape, afterwards}
 use Rattle.urn.specs.Admit.{admitReasons, admitSaid}
 use Rattle.urn.specs.Withdraw.{withdrawReasons, withdrawSaid}
@@ -97,6 +97,10 @@ refused-kept (some q) v r new old e = refl
 pub none-new : (o : Option Reason) (new old : List ℕ) → o ≡ none → afterwards o new old ≡ new
 unfolding afterwards
 none-new o new old e = ap (λ (p : Option Reason). afterwards p new old) e
+
+pub some-old : (o : Option Reason) (r : Reason) (new old : List ℕ) → o ≡ some r → old ≡ afterwards o new old
+unfolding afterwards
+some-old o r new old e = ap (λ (p : Option Reason). afterwards p new old) (sym e)
 
 -- the first reason of an admission, by the first test that fails
 module _ (a b c : Bool) (o : Option Reason) (g : Bool) where

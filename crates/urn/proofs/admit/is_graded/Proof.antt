@@ -5,7 +5,7 @@ use lib.Dec.{leb}
 use borrow.Author.Tests.{le-leb, lt-leb}
 use Rattle.jury.specs.Shape.{withinLimits}
 use Rattle.jury.proofs.Flags.{and-taken, and-left}
-use Rattle.urn.specs.Sound.{juryOfOne}
+use Rattle.chains.specs.Sound.{juryOfOne}
 use Rattle.urn.specs.Facts.{gradedShape}
 use native.Mathlib.Omega.{arith}
 use borrow.Author.Needs.{needs}
