@@ -10,7 +10,7 @@ use lib.Dec.{T, leb, eqb}
 use borrow.Author.Tests.{leb-true, le-leb, eqb-true, eq-eqb, ne-eqb}
 use Rattle.jury.specs.declared.shape.Shape.{Shape}
 use Rattle.jury.specs.Shape.{isRanking, gradedLimits, rankedLimits, withinLimits, columns, ballotBytes}
-use Rattle.jury.proofs.Flags.{and-first, and-second, or-either, or-first, or-second, T-true}
+use Rattle.jury.proofs.Flags.{and-first, and-second, or-either, or-first, or-second, T-true, true-T}
 
 -- a tasting with grades
 pub record Within (s : Shape) : Type 0 where
@@ -110,6 +110,9 @@ graded-within s e = or-first (gradedLimits s) (rankedLimits s) e
 pub ranked-within : (s : Shape) → rankedLimits s ≡ true → withinLimits s ≡ true
 unfolding withinLimits
 ranked-within s e = or-second (gradedLimits s) (rankedLimits s) e
+
+pub graded-T : (s : Shape) → T (gradedLimits s) → T (withinLimits s)
+graded-T s h = true-T (withinLimits s) (graded-within s (T-true (gradedLimits s) h))
 
 -- what holds of both kinds
 pub record Bounds (s : Shape) : Type 0 where
