@@ -27,7 +27,7 @@ use Rattle.ranking.proofs.StageLaws.{link-wire}
 use Rattle.ranking.proofs.PathLaws.{links-sized, tables-end, strongest-spelled}
 use Rattle.ranking.proofs.LostLaws.{other-apart, other-low, other-found, lost-zero, lost-one}
 
-row-sized : (beats : ℕ → ℕ → ℕ) (m at i : ℕ) → length (lostRow beats m at i) ≡ suc m
+pub row-sized : (beats : ℕ → ℕ → ℕ) (m at i : ℕ) → length (lostRow beats m at i) ≡ suc m
 unfolding lostRow
 row-sized beats m at i = omega (arith, length-blocks 1 (λ wire s. lostGate beats i wire s ∷ []) (λ wire s. refl) at (suc m))
 
@@ -35,23 +35,23 @@ module _ (m n w : ℕ) where
   abbrev k : ℕ
   k = suc (suc m)
 
-  paths : List Gate
+  unfoldable pub paths : List Gate
   paths = pathTables k n w (suc m)
 
-  contests : List Gate
+  unfoldable pub contests : List Gate
   contests = table (detourFrom k n w (suc m)) (linksSize w) k (linksBlock (pathAt k n w (suc m)) w)
 
-  lost : List Gate
+  unfoldable pub lost : List Gate
   lost = blocks (lostFrom k n w (suc m)) (suc m) (lostRow (beatsAt k n w (suc m)) m) k
 
-  closings : List Gate
+  unfoldable pub closings : List Gate
   closings = blocks (lostFrom k n w (suc m) + k * suc m) 1 (λ wire i. notOf (lostFrom k n w (suc m) + i * suc m + m) ∷ []) k
 
-  contests-length : length contests ≡ k * k * linksSize w
+  pub contests-length : length contests ≡ k * k * linksSize w
   unfolding contests
   contests-length = length-table (linksSize w) k (linksBlock (pathAt k n w (suc m)) w) (links-sized (pathAt k n w (suc m)) w) (detourFrom k n w (suc m))
 
-  lost-length : length lost ≡ k * suc m
+  pub lost-length : length lost ≡ k * suc m
   unfolding lost
   lost-length = length-blocks (suc m) (lostRow (beatsAt k n w (suc m)) m) (row-sized (beatsAt k n w (suc m)) m) (lostFrom k n w (suc m)) k
 

@@ -5,3 +5,4 @@ pub mod PathLaws
 pub mod LostLaws
 pub mod Accuracy
 pub mod Columns
+pub mod GoodLaws

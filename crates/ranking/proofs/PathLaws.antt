@@ -31,7 +31,7 @@ either-length : (t : Bool) (gs hs : List Gate) (m : ℕ) → length gs ≡ m →
 either-length true gs hs m e f = e
 either-length false gs hs m e f = f
 
-votes-sized : (k n w at i j : ℕ) → length (votesBlock k n w at i j) ≡ votesSize n w
+pub votes-sized : (k n w at i j : ℕ) → length (votesBlock k n w at i j) ≡ votesSize n w
 unfolding votesBlock votesSize
 votes-sized k n w at i j =
     either-length (eqb i j) (constants 0 (countSize n 0 w + suc w)) (counter at (i * k + j) (k * k) n 0 w) (countSize n 0 w + suc w) (length-constants 0 (countSize n 0 w + suc w))
@@ -43,7 +43,7 @@ links-sized votes w at i j =
     either-length (ltb j i) (compare at (votes i j) (votes j i) w) (constants 0 (3 + 3 * w)) (3 + 3 * w)
     (length-whole at (votes i j) (votes j i) w) (length-constants 0 (3 + 3 * w))
 
-detour-sized : (paths : ℕ → ℕ → ℕ) (l w at i j : ℕ) → length (detourBlock paths l w at i j) ≡ detourSize w
+pub detour-sized : (paths : ℕ → ℕ → ℕ) (l w at i j : ℕ) → length (detourBlock paths l w at i j) ≡ detourSize w
 unfolding detourBlock detourSize detourPad
 detour-sized paths l w at i j =
     either-length (eqb i l || eqb j l || eqb i j) (constants 0 (2 * w + suc w + 2 * w) ++ copies (paths i j) (suc w))
@@ -52,7 +52,7 @@ detour-sized paths l w at i j =
     (length-append (smaller at (paths i l) (paths l j) w) (larger (at + (2 * w + suc w)) (paths i j) (at + 2 * w) w)
     ∙ omega (arith, length-smaller at (paths i l) (paths l j) w, length-larger (at + (2 * w + suc w)) (paths i j) (at + 2 * w) w))
 
-first-sized : (votes links paths : ℕ → ℕ → ℕ) (w at i j : ℕ) → length (firstBlock votes links paths w at i j) ≡ firstSize w
+pub first-sized : (votes links paths : ℕ → ℕ → ℕ) (w at i j : ℕ) → length (firstBlock votes links paths w at i j) ≡ firstSize w
 unfolding firstBlock firstSize firstPad
 first-sized votes links paths w at i j =
     either-length (eqb i 0 || eqb j 0 || eqb i j) (constants 0 (2 * w + suc w + (2 * w + 1)) ++ masked (links i j) (votes i j) (suc w))
@@ -62,31 +62,31 @@ first-sized votes links paths w at i j =
     ∙ omega (arith, length-smaller at (paths i 0) (paths 0 j) w, length-larger-if (at + (2 * w + suc w)) (links i j) (votes i j) (at + 2 * w) w))
 
 module _ (k n w : ℕ) where
-  votesTable : List Gate
+  unfoldable pub votesTable : List Gate
   votesTable = table (n * k * k) (votesSize n w) k (votesBlock k n w)
 
-  linksTable : List Gate
+  unfoldable pub linksTable : List Gate
   linksTable = table (linksFrom k n w) (linksSize w) k (linksBlock (votesAt k n w) w)
 
-  firstTable : List Gate
+  unfoldable pub firstTable : List Gate
   firstTable = table (firstFrom k n w) (firstSize w) k (firstBlock (votesAt k n w) (linkAt k n w) (pathAt k n w 0) w)
 
-  detourTable : ℕ → List Gate
+  unfoldable pub detourTable : ℕ → List Gate
   detourTable m = table (detourFrom k n w m) (detourSize w) k (detourBlock (pathAt k n w m) (suc m) w)
 
-  votes-length : length votesTable ≡ k * k * votesSize n w
+  pub votes-length : length votesTable ≡ k * k * votesSize n w
   unfolding votesTable
   votes-length = length-table (votesSize n w) k (votesBlock k n w) (votes-sized k n w) (n * k * k)
 
-  links-length : length linksTable ≡ k * k * linksSize w
+  pub links-length : length linksTable ≡ k * k * linksSize w
   unfolding linksTable
   links-length = length-table (linksSize w) k (linksBlock (votesAt k n w) w) (links-sized (votesAt k n w) w) (linksFrom k n w)
 
-  first-length : length firstTable ≡ k * k * firstSize w
+  pub first-length : length firstTable ≡ k * k * firstSize w
   unfolding firstTable
   first-length = length-table (firstSize w) k (firstBlock (votesAt k n w) (linkAt k n w) (pathAt k n w 0) w) (first-sized (votesAt k n w) (linkAt k n w) (pathAt k n w 0) w) (firstFrom k n w)
 
-  detour-length : (m : ℕ) → length (detourTable m) ≡ k * k * detourSize w
+  pub detour-length : (m : ℕ) → length (detourTable m) ≡ k * k * detourSize w
   unfolding detourTable
   detour-length m = length-table (detourSize w) k (detourBlock (pathAt k n w m) (suc m) w) (detour-sized (pathAt k n w m) (suc m) w) (detourFrom k n w m)
 

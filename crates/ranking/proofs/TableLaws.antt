@@ -64,6 +64,11 @@ pub place-behind : (n pad size k i j : ℕ) → place (n + pad) size k i j ≡ p
 unfolding place
 place-behind n pad size k i j = omega arith
 
+-- no block starts before its table
+pub place-from : (n size k i j : ℕ) → n ≤ place n size k i j
+unfolding place
+place-from n size k i j = omega arith
+
 -- a block ends before the next one starts
 pub place-before : (n size k i j i′ j′ : ℕ) → i * k + j < i′ * k + j′ → place n size k i j + size ≤ place n size k i′ j′
 unfolding place
