@@ -6,3 +6,5 @@ pub mod LostLaws
 pub mod Accuracy
 pub mod Columns
 pub mod GoodLaws
+pub mod SizeLaws
+pub mod OwnRankingLaws
