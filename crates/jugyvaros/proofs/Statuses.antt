@@ -83,15 +83,15 @@ status-tells =
       write = λ s table answer. tells 10 (omega arith) 4 _ answer (size-most 10 (writeSaid s table) (λ r e. most 10 _ r (omega arith, (omega arith, tt)) (numbering.write-number s table r e)));
       test = λ s table answer. tells 10 (omega arith) 4 _ answer (size-most 10 (testSaid s table) (λ r e. most 10 _ r (omega arith, (omega arith, (omega arith, tt))) (numbering.test-number s table r e)));
       run = λ s table ballots tape wires board answer.
-          tells 10 (omega arith) 4 _ answer (size-most 10 (ran s table ballots tape wires board .answer) (λ r e. most 10 _ r ten (numbering.run-number s table ballots tape wires board r e)));
+          tells 12 (omega arith) 4 _ answer (size-most 12 (ran s table ballots tape wires board .answer) (λ r e. most 12 _ r all (numbering.run-number s table ballots tape wires board r e)));
       count = λ s ballots answer.
-          tells 10 (omega arith) 10 _ answer (count-most 10 (countReason s ballots) (plainClosing s ballots) (λ r e. most 10 _ r (omega arith, (omega arith, (omega arith, (omega arith, tt)))) (numbering.count-number s ballots r e)));
+          tells 12 (omega arith) 10 _ answer (count-most 12 (countReason s ballots) (plainClosing s ballots) (λ r e. most 12 _ r (omega arith, (omega arith, (omega arith, (omega arith, (omega arith, (omega arith, tt)))))) (numbering.count-number s ballots r e)));
       writeText = λ s table output answer. tells 24 (omega arith) 3 _ answer (length-most 24 (textSaid s table output) (λ r e. most 24 _ r paper (text-number s table output r e)));
       readText = λ s text output answer. tells 24 (omega arith) 3 _ answer (length-most 24 (readSaid s text output) (λ r e. most 24 _ r paper (read-number s text output r e)));
     }
   where
-    ten : Most 10 (1 ∷ 2 ∷ 3 ∷ 4 ∷ 5 ∷ 6 ∷ 7 ∷ 8 ∷ 9 ∷ 10 ∷ [])
-    ten = unfold Most in (omega arith, (omega arith, (omega arith, (omega arith, (omega arith, (omega arith, (omega arith, (omega arith, (omega arith, (omega arith, tt))))))))))
+    all : Most 12 (1 ∷ 2 ∷ 3 ∷ 4 ∷ 5 ∷ 6 ∷ 11 ∷ 12 ∷ 7 ∷ 8 ∷ 9 ∷ 10 ∷ [])
+    all = unfold Most in (omega arith, (omega arith, (omega arith, (omega arith, (omega arith, (omega arith, (omega arith, (omega arith, (omega arith, (omega arith, (omega arith, (omega arith, tt))))))))))))
 
     paper : Most 24 (1 ∷ 2 ∷ 3 ∷ 23 ∷ 24 ∷ [])
     paper = unfold Most in (omega arith, (omega arith, (omega arith, (omega arith, (omega arith, tt)))))

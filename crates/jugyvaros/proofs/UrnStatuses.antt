@@ -1,7 +1,7 @@
 -- The reasons of calls on an urn are numbered 1 to 15.
 -- Assumes nothing.
 use mathlib.Core.Path.{_≡_, subst}
-use mathlib.Core.Bool.{Bool, true, false}
+use mathlib.Core.Bool.{Bool, true, false, cond}
 use mathlib.Core.Option.{Option, none, some}
 use mathlib.Core.List.{List, [], _∷_, _++_}
 use Prim.Native.Nat.{ℕ, _≤_}
@@ -10,7 +10,8 @@ use Rattle.gates.specs.declared.place.Place.{Place}
 use Rattle.gates.specs.declared.place.Place.the-variants.{At, Nowhere}
 use Rattle.jury.specs.declared.shape.Shape.{Shape}
 use Rattle.jury.specs.Reason.{Reason, unless, foundAt, firstOf, reasonAt}
-use Rattle.jury.specs.Ballots.{ballotReasons}
+use Rattle.jury.specs.Shape.{isRanking}
+use Rattle.jury.specs.Ballots.{gradedReasons, rankedReasons, ballotReasons}
 use Rattle.tally.specs.Answer.{Said, refused, accepted, said}
 use Rattle.urn.specs.declared.facts.Facts.{Facts}
 use Rattle.urn.specs.Sound.{juryOfOne}
@@ -57,9 +58,14 @@ unfolding Fine FineSaid said
 said-fine none v f = tt
 said-fine (some r) v f = f
 
+kind-fine : (s : Shape) (xs : List ℕ) (ranking : Bool) → All (cond ranking (rankedReasons s xs) (gradedReasons s xs))
+unfolding All rankedReasons gradedReasons
+kind-fine s xs true = (found-fine 11 _ (omega arith) (omega arith), (found-fine 12 _ (omega arith) (omega arith), tt))
+kind-fine s xs false = (found-fine 6 _ (omega arith) (omega arith), tt)
+
 ballots-fine : (s : Shape) (xs : List ℕ) → All (ballotReasons s xs)
 unfolding All ballotReasons
-ballots-fine s xs = (unless-fine _ 4 (omega arith) (omega arith), (found-fine 5 _ (omega arith) (omega arith), (found-fine 6 _ (omega arith) (omega arith), tt)))
+ballots-fine s xs = (unless-fine _ 4 (omega arith) (omega arith), (found-fine 5 _ (omega arith) (omega arith), kind-fine s xs (isRanking s)))
 
 last-fine : (t : Bool) → All (unless t 15 ∷ [])
 unfolding All

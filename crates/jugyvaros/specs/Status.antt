@@ -21,12 +21,12 @@ pub record Tells (last needed : ℕ) (numbers answer : List ℕ) : Type 0 where
   pub short : (status needed numbers answer ≡ shortAnswer) ↔ (length answer < needed)
   pub reason : needed ≤ length answer → status needed numbers answer ≤ last
 
--- It holds of every call, whatever is handed and lent. Document 01's reasons end at 10, those of a text at 24.
+-- It holds of every call, whatever is handed and lent. Document 01's reasons end at 10, those of ballots that may be rankings at 12, those of a text at 24.
 pub record StatusTells : Type 0 where
   pub measure : (s : Shape) (answer : List ℕ) → Tells 10 5 (measureNumbers (measureSaid s)) answer
   pub write : (s : Shape) (table answer : List ℕ) → Tells 10 4 (sizeNumbers (writeSaid s table)) answer
   pub test : (s : Shape) (table answer : List ℕ) → Tells 10 4 (sizeNumbers (testSaid s table)) answer
-  pub run : (s : Shape) (table ballots tape wires board answer : List ℕ) → Tells 10 4 (sizeNumbers (ran s table ballots tape wires board .answer)) answer
-  pub count : (s : Shape) (ballots answer : List ℕ) → Tells 10 10 (countNumbers (countReason s ballots) (plainClosing s ballots)) answer
+  pub run : (s : Shape) (table ballots tape wires board answer : List ℕ) → Tells 12 4 (sizeNumbers (ran s table ballots tape wires board .answer)) answer
+  pub count : (s : Shape) (ballots answer : List ℕ) → Tells 12 10 (countNumbers (countReason s ballots) (plainClosing s ballots)) answer
   pub writeText : (s : Shape) (table output answer : List ℕ) → Tells 24 3 (lengthNumbers (textSaid s table output)) answer
   pub readText : (s : Shape) (text output answer : List ℕ) → Tells 24 3 (lengthNumbers (readSaid s text output)) answer

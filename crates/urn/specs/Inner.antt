@@ -5,7 +5,7 @@ use mathlib.Core.List.{List, [], _∷_, map}
 use Prim.Native.Nat.{ℕ, _*_, _≤_}
 use lib.Dec.{T, eqb}
 use lib.ListN.{length, getD, set, replicate}
-use Rattle.jury.specs.Shape.{withinLimits}
+use Rattle.jury.specs.Shape.{gradedLimits}
 use Rattle.urn.specs.Slots.{Slot, slotBytes, slotAt}
 use Rattle.urn.specs.Chains.{chain, ends}
 use Rattle.urn.specs.declared.sound.Soundness.{Soundness}
