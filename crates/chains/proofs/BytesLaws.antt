@@ -11,7 +11,7 @@ use lib.Dec.{eqb, leb}
 use lib.ListN.{length, getD, set, take, drop, replicate, length-append, length-take, length-drop, length-set, length-replicate, take-append-drop}
 use lib.Seq.{take-at, drop-at, length-take-le, take-add, drop-drop, take-length}
 use borrow.Author.Tests.{eqb-true, leb-true, eq-eqb, le-leb, eqb-false}
-use Rattle.jury.specs.Shape.{withinLimits, ballotBytes}
+use Rattle.jury.specs.Shape.{gradedLimits, ballotBytes}
 use Rattle.jury.specs.Reason.{Reason, unless, firstOf}
 use Rattle.jury.specs.Ballots.{ballotReasons}
 use Rattle.jury.proofs.Flags.{and-first, and-second, and-both, never-true}
@@ -94,12 +94,8 @@ slots-back b (s ∷ slots) (more e k) =
 
 -- a good ballot has k times d bytes
 pub good-length : (k d : ℕ) (xs : List ℕ) → goodBallot k d xs ≡ true → length xs ≡ k * d
-unfolding goodBallot noReason ballotReasons firstOf unless ballotBytes juryOfOne
-good-length k d xs e = go (eqb (length xs) (1 * k * d)) refl e
-  where
-    go : (t : Bool) → eqb (length xs) (1 * k * d) ≡ t → noReason (firstOf (unless t 4 ∷ drop 1 (ballotReasons (juryOfOne k d) xs))) ≡ true → length xs ≡ k * d
-    go true q f = eqb-true (length xs) (1 * k * d) q ∙ ap (λ (m : ℕ). m * d) (one-mul k)
-    go false q f = let z : _≡_ {A = ℕ} 0 1 = cc in absurd (omega arith)
+unfolding goodBallot
+good-length k d xs e = eqb-true (length xs) (k * d) (and-first (eqb (length xs) (k * d)) (noReason (firstOf (ballotReasons (juryOfOne k d) xs))) e)
 
 -- the slots of good ballots, and free ones, have ballots of one length
 ballots-sized : (k d b : ℕ) (es : List Entry) (slots : List Slot) → k * d ≡ b → all (λ (e : Entry). goodBallot k d (e .ballot)) es ≡ true → Sized b slots → Sized b (withBallots es slots)

@@ -9,7 +9,7 @@ use native.Mathlib.Nat.{zero-mul, mul-le-mul}
 use native.Mathlib.Omega.{arith}
 use lib.Dec.{T}
 use lib.ListN.{length, getD, take, drop, length-map}
-use Rattle.jury.specs.Shape.{withinLimits}
+use Rattle.jury.specs.Shape.{gradedLimits}
 use Rattle.jury.proofs.Flags.{never-true}
 use Rattle.jury.proofs.Limits.{Within, within-T}
 use Rattle.chains.specs.Slots.{Slot, slotBytes, slotsOf, slotAt}
@@ -115,7 +115,7 @@ module _ (t : Bool) (count r : ℕ) (is : r ≡ cond t count 0) where
   pub counted-is : (r ≡ 0 → ⊥) → r ≡ count
   counted-is n = is ∙ ap (λ (u : Bool). cond u count 0) (counted-true n)
 
-pub few-bytes : (k d : ℕ) → T (withinLimits (juryOfOne k d)) → k * d ≤ 56
+pub few-bytes : (k d : ℕ) → T (gradedLimits (juryOfOne k d)) → k * d ≤ 56
 unfolding juryOfOne
 few-bytes k d h = let w = within-T (juryOfOne k d) h in let l = mul-le-mul {n₁ = k} {m₁ = d} {n₂ = 8} {m₂ = 7} (w .k-most) (w .d-most) in omega arith
 

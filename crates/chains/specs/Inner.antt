@@ -5,7 +5,7 @@ use mathlib.Core.List.{List, [], _∷_, map}
 use Prim.Native.Nat.{ℕ, _*_, _≤_}
 use lib.Dec.{T, eqb}
 use lib.ListN.{length, getD, set, replicate}
-use Rattle.jury.specs.Shape.{withinLimits}
+use Rattle.jury.specs.Shape.{gradedLimits}
 use Rattle.chains.specs.Slots.{Slot, slotBytes, slotAt}
 use Rattle.chains.specs.Chains.{chain, ends}
 use Rattle.chains.specs.declared.sound.Soundness.{Soundness}

@@ -34,9 +34,9 @@ unfoldable pub noReason : Option Reason → Bool
 noReason none = true
 noReason (some r) = false
 
--- A good ballot: none of the tests of ballots fails it, as the ballot of a jury of one.
+-- A good ballot: it has a byte for each candidate and grade, and none of the tests of ballots fails it, as the ballot of a jury of one.
 unfoldable pub goodBallot : ℕ → ℕ → List ℕ → Bool
-goodBallot k d ballot = noReason (firstOf (ballotReasons (juryOfOne k d) ballot))
+goodBallot k d ballot = eqb (length ballot) (k * d) && noReason (firstOf (ballotReasons (juryOfOne k d) ballot))
 
 -- A juror's number.
 unfoldable pub goodJuror : ℕ → Bool

@@ -5,7 +5,7 @@ ghost use mathlib.Core.Bool.{cond};
 ghost use Prim.Native.Nat.{_*_, _≤_};
 ghost use lib.Dec.{T};
 ghost use lib.ListN.{length};
-ghost use Rattle.jury.specs.Shape.{withinLimits};
+ghost use Rattle.jury.specs.Shape.{gradedLimits};
 ghost use Rattle.chains.specs.Slots.{slotsOf};
 ghost use Rattle.chains.specs.Chains.{ballotChain};
 ghost use Rattle.chains.specs.Sound.{juryOfOne, slotCount, urnLength, urnSlots, soundSlots, sound};
@@ -43,7 +43,7 @@ pub fn slots_in(bytes: usize, length: usize) -> usize
 // Tests slot 0 and both chains of an urn that has the length of one. The slots of the two chains differ, so that each
 // slot is met where as many are met as there are.
 fn test_slots(k: usize, d: usize, urn: &[u8], slots: usize) -> Soundness
-    requires { ⌜ T (withinLimits (juryOfOne k d)) ⌝ }
+    requires { ⌜ T (gradedLimits (juryOfOne k d)) ⌝ }
     requires { ⌜ SlotTable (k * d) slots (now urn) ⌝ }
     ensures { λ r. ⌜ r ≡ soundness (soundSlots k d (slotsOf (k * d) slots (now (urn .entry)))) (length (ballotChain (slotsOf (k * d) slots (now (urn .entry))))) ⌝ }
 {
@@ -71,7 +71,7 @@ fn test_slots(k: usize, d: usize, urn: &[u8], slots: usize) -> Soundness
 
 // Tests an urn of any length and any bytes.
 pub fn test(k: usize, d: usize, urn: &[u8]) -> Soundness
-    requires { ⌜ T (withinLimits (juryOfOne k d)) ⌝ }
+    requires { ⌜ T (gradedLimits (juryOfOne k d)) ⌝ }
     ensures { λ r. ⌜ r ≡ soundness (sound k d (now (urn .entry))) (length (ballotChain (urnSlots k d (now (urn .entry))))) ⌝ }
 {
     let slots = slots_in(k * d, urn.len());

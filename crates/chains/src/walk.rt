@@ -6,7 +6,7 @@ ghost use mathlib.Core.Bool.{true, false, _&&_};
 ghost use Prim.Native.Nat.{_*_, _<_};
 ghost use lib.Dec.{T};
 ghost use lib.ListN.{getD};
-ghost use Rattle.jury.specs.Shape.{withinLimits};
+ghost use Rattle.jury.specs.Shape.{gradedLimits};
 ghost use Rattle.chains.specs.Slots.{slotsOf, slotAt};
 ghost use Rattle.chains.specs.Chains.{chain};
 ghost use Rattle.chains.specs.Sound.{juryOfOne, goodJuror, goodBallot, allZero};
@@ -48,7 +48,7 @@ pub fn is_zero(bytes: &[u8]) -> bool
 
 // Whether a slot of the ballot chain holds a juror's number and a good ballot. The number of a juror is a byte.
 fn holds_ballot(k: usize, d: usize, juror: u8, ballot: &[u8]) -> bool
-    requires { ⌜ T (withinLimits (juryOfOne k d)) ⌝ }
+    requires { ⌜ T (gradedLimits (juryOfOne k d)) ⌝ }
     ensures { λ r. ⌜ r ≡ (goodJuror juror && goodBallot k d (now (ballot .entry))) ⌝ }
 {
     if juror == 0 {
@@ -67,7 +67,7 @@ fn holds_ballot(k: usize, d: usize, juror: u8, ballot: &[u8]) -> bool
 
 // A slot of the ballot chain.
 fn look_at_ballot(urn: &[u8], k: usize, d: usize, slots: usize, slot: usize) -> Look
-    requires { ⌜ T (withinLimits (juryOfOne k d)) ⌝ }
+    requires { ⌜ T (gradedLimits (juryOfOne k d)) ⌝ }
     requires { ⌜ SlotTable (k * d) slots (now urn) ⌝ }
     requires { ⌜ 0 < slot ⌝ }
     ensures { λ r. ⌜ r ≡ looked (ballotAt k d (slotsOf (k * d) slots (now (urn .entry))) slot) (slotAt (slotsOf (k * d) slots (now (urn .entry))) slot) ⌝ }
@@ -117,7 +117,7 @@ fn look_at_free(urn: &[u8], bytes: usize, slots: usize, slot: usize) -> Look
 
 // Walks along the ballot chain of an urn. A chain that has not ended after as many slots as there are never ends.
 pub fn walk_ballots(urn: &[u8], k: usize, d: usize, slots: usize) -> Walk
-    requires { ⌜ T (withinLimits (juryOfOne k d)) ⌝ }
+    requires { ⌜ T (gradedLimits (juryOfOne k d)) ⌝ }
     requires { ⌜ SlotTable (k * d) slots (now urn) ⌝ }
     ensures { λ r. ⌜ r .good ≡ ballotsFrom k d (slotsOf (k * d) slots (now (urn .entry))) slots (getD (now (urn .entry)) 0 0) noMarks noMarks ⌝ }
     ensures { λ r. ⌜ (r .good ≡ true → Walked (chain slots (getD (now (urn .entry)) 0 0) (slotsOf (k * d) slots (now (urn .entry)))) noMarks (r .marks) (r .count)) ⌝ }

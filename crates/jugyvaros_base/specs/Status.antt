@@ -1,4 +1,4 @@
--- What the status of each call tells, whatever is handed and lent: the reasons of these calls end at 10.
+-- What the status of each call tells, whatever is handed and lent: the reasons of these calls end at 12, those of rankings.
 use mathlib.Core.List.{List}
 use Prim.Native.Nat.{ℕ}
 use Rattle.jury.specs.declared.shape.Shape.{Shape}
@@ -12,7 +12,7 @@ use Rattle.answers.specs.Numbers.{sizeAnswer, measureAnswer, countAnswer, sizeN
 use Rattle.answers.specs.Status.{isAccepted, Tells}
 
 abbrev pub lastReason : ℕ
-lastReason = 10
+lastReason = 12
 
 pub record StatusTells : Type 0 where
   pub measure : (s : Shape) (answer : List ℕ) → Tells lastReason measureAnswer (measureNumbers (measureSaid s)) answer (isAccepted (measureSaid s))

@@ -2,7 +2,8 @@
 ghost use mathlib.Core.Path.{_≡_};
 ghost use Rattle.jury.specs.Reason.{reasonOf};
 
-// In document 01's order, 1 to 10, then those of the urn, 13 to 15. The number in a case is the place.
+// In document 01's order, 1 to 10, those of rankings, 11 and 12, behind 6, then those of the urn, 13 to 15. The number in
+// a case is the place.
 pub enum Refusal {
     Shape,
     Table,
@@ -10,6 +11,8 @@ pub enum Refusal {
     BallotsLength,
     BallotByte(usize),
     BallotRow(usize),
+    BallotClash(usize),
+    BallotGap(usize),
     TapeLength,
     TapeByte(usize),
     WiresLength,
@@ -26,7 +29,7 @@ pub enum Verdict {
 }
 
 impl Refusal {
-    // Document 01's number of a reason.
+    // The documents' number of a reason.
     pub fn number(self) -> usize
         ensures { λ r. ⌜ r ≡ (reasonOf self) .number ⌝ }
     {
@@ -37,6 +40,8 @@ impl Refusal {
             Refusal::BallotsLength => 4,
             Refusal::BallotByte(_) => 5,
             Refusal::BallotRow(_) => 6,
+            Refusal::BallotClash(_) => 11,
+            Refusal::BallotGap(_) => 12,
             Refusal::TapeLength => 7,
             Refusal::TapeByte(_) => 8,
             Refusal::WiresLength => 9,
@@ -55,6 +60,8 @@ impl Refusal {
             Refusal::Gate(g) => g,
             Refusal::BallotByte(i) => i,
             Refusal::BallotRow(r) => r,
+            Refusal::BallotClash(i) => i,
+            Refusal::BallotGap(b) => b,
             Refusal::TapeByte(i) => i,
             Refusal::Shape => 0,
             Refusal::Table => 0,

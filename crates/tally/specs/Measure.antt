@@ -6,8 +6,8 @@ use Rattle.gates.specs.Board.{conditionalCount}
 use Rattle.jury.specs.declared.shape.Shape.{Shape}
 use Rattle.jury.specs.Shape.{withinLimits, ballotBytes}
 use Rattle.jury.specs.Reason.{reasonOf, unless, firstOf}
-use Rattle.circuit.specs.OwnList.{ownList}
 use Rattle.tally.specs.Answer.{Said, refused, accepted, said}
+use Rattle.tally.specs.OwnList.{ownList}
 use Rattle.tally.specs.declared.measure.Measured.{Measured}
 use Rattle.tally.specs.declared.measure.Measured.the-variants.{Accepted, Refused}
 

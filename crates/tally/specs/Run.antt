@@ -24,7 +24,7 @@ lentReasons i k size tape wires board =
     ∷ unless (eqb (length board) (size .conditional + k)) 10
     ∷ []
 
--- All ten reasons in checking order, by the size of the list that is lent.
+-- All reasons of a run in checking order, by the size of the list that is lent.
 unfoldable pub runReasons : Shape → List ℕ → List ℕ → List ℕ → List ℕ → List ℕ → List (Option Reason)
 runReasons s table ballots tape wires board =
     testReasons s table ++ ballotReasons s ballots ++ lentReasons (ballotBytes s) (s .candidates) (sizeOf (gatesOf table)) tape wires board

@@ -10,7 +10,7 @@ use native.Mathlib.Omega.{arith}
 use lib.Dec.{T}
 use lib.ListN.{length, getD, set, take, drop, length-set, length-append, length-take, length-drop}
 use lib.Seq.{set-set}
-use Rattle.jury.specs.Shape.{withinLimits}
+use Rattle.jury.specs.Shape.{gradedLimits}
 use Rattle.jury.proofs.Flags.{and-second}
 use Rattle.chains.specs.Slots.{Slot, slotBytes, slotOf, slotsOf, bytesOf, slotAt}
 use Rattle.chains.specs.Chains.{Entry, ballotSlots, ballotChain, freeChain, firstEntry, firstFree, headSlot, layout}
@@ -53,7 +53,7 @@ pub splice-length : (urn bytes : List ℕ) (at size : ℕ) → at + size ≤ len
 splice-length urn bytes at size h e =
     omega (arith, length-append (take at urn ++ bytes) (drop (at + size) urn), length-append (take at urn) bytes, length-take at urn, length-drop (at + size) urn)
 
-module _ (k d : ℕ) (urn : List ℕ) (w : T (withinLimits (juryOfOne k d))) (e : sound k d urn ≡ true) (ne : isEmpty (freeChain (urnSlots k d urn)) ≡ false) where
+module _ (k d : ℕ) (urn : List ℕ) (w : T (gradedLimits (juryOfOne k d))) (e : sound k d urn ≡ true) (ne : isEmpty (freeChain (urnSlots k d urn)) ≡ false) where
   sized : Sized (k * d) (urnSlots k d urn)
   unfolding urnSlots
   sized = slots-sized (k * d) (slotCount (k * d) (length urn)) urn (its-table k d urn w e .size)

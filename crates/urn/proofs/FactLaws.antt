@@ -9,7 +9,7 @@ use native.Mathlib.Omega.{arith}
 use lib.Dec.{T, eqb, eqb·suc-zero}
 use lib.ListN.{length, getD}
 use borrow.Author.Tests.{not-true}
-use Rattle.jury.specs.Shape.{withinLimits}
+use Rattle.jury.specs.Shape.{gradedLimits}
 use Rattle.jury.proofs.Flags.{and-first, and-second, or-first, or-second}
 use Rattle.chains.specs.Slots.{Slot, slotBytes, slotsOf, slotAt}
 use Rattle.chains.specs.Chains.{chain, ballotSlots, ballotChain, freeChain}
@@ -47,7 +47,7 @@ empty-chain (suc n) zero S h = refl
 empty-chain (suc n) (suc i) S h = sym (eqb·suc-zero i)
 
 -- a sound urn has the length of one, and sound slots
-module _ (k d : ℕ) (urn : List ℕ) (w : T (withinLimits (juryOfOne k d))) (e : sound k d urn ≡ true) where
+module _ (k d : ℕ) (urn : List ℕ) (w : T (gradedLimits (juryOfOne k d))) (e : sound k d urn ≡ true) where
   pub good-length-of : urnLength (k * d) (length urn) ≡ true
   unfolding sound
   good-length-of = and-first (urnLength (k * d) (length urn)) (soundSlots k d (urnSlots k d urn)) e

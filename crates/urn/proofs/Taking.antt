@@ -7,7 +7,7 @@ use Prim.Native.Nat.{ℕ, zero, suc, _+_, _*_, _-_, _≤_, _<_}
 use native.Mathlib.Omega.{arith}
 use lib.Dec.{T}
 use lib.ListN.{length, getD, set, take, drop, replicate, length-set, length-replicate}
-use Rattle.jury.specs.Shape.{withinLimits}
+use Rattle.jury.specs.Shape.{gradedLimits}
 use Rattle.chains.specs.Slots.{Slot, slotBytes, slotOf, slotsOf, bytesOf, slotAt, freeSlot}
 use Rattle.chains.specs.Chains.{Entry, chain, ballotSlots, ballotChain, freeChain, firstEntry, firstFree, entrySlot, headSlot, layout}
 use Rattle.chains.specs.Sound.{juryOfOne, slotCount, urnSlots, sound}
@@ -30,7 +30,7 @@ take-zeros zero m h = refl
 take-zeros (suc b) zero h = absurd (omega arith)
 take-zeros (suc b) (suc m) h = ap (λ (xs : List ℕ). 0 ∷ xs) (take-zeros b m (omega arith))
 
-module _ (k d : ℕ) (urn : List ℕ) (w : T (withinLimits (juryOfOne k d))) (e : sound k d urn ≡ true) (j p s : ℕ)
+module _ (k d : ℕ) (urn : List ℕ) (w : T (gradedLimits (juryOfOne k d))) (e : sound k d urn ≡ true) (j p s : ℕ)
     (found : linkOf (slotsOf (k * d) (slotCount (k * d) (length urn)) urn) j 0 (chain (slotCount (k * d) (length urn)) (getD urn 0 0) (slotsOf (k * d) (slotCount (k * d) (length urn)) urn)) ≡ Found p s) where
   sized : Sized (k * d) (urnSlots k d urn)
   unfolding urnSlots

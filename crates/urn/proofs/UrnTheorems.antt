@@ -10,7 +10,7 @@ use native.Mathlib.Omega.{arith}
 use lib.Dec.{T, eqb}
 use lib.ListN.{length, drop}
 use borrow.Author.Tests.{eq-eqb, eqb-true, not-true}
-use Rattle.jury.specs.Shape.{withinLimits}
+use Rattle.jury.specs.Shape.{gradedLimits}
 use Rattle.jury.specs.Counts.{tabulate}
 use Rattle.jury.specs.Reason.{firstOf}
 use Rattle.jury.proofs.Flags.{and-first, and-second, and-both, true-T, or-first, or-second}
@@ -104,7 +104,7 @@ written k d n es is l m g =
       free = ap freeChain s ∙ read-free n b es is (g .fit);
     }
 
-module _ (k d : ℕ) (urn : List ℕ) (w : T (withinLimits (juryOfOne k d))) (e : sound k d urn ≡ true) where
+module _ (k d : ℕ) (urn : List ℕ) (w : T (gradedLimits (juryOfOne k d))) (e : sound k d urn ≡ true) where
   sized : Sized (k * d) (urnSlots k d urn)
   unfolding urnSlots
   sized = slots-sized (k * d) (slotCount (k * d) (length urn)) urn (its-table k d urn w e .size)
@@ -168,7 +168,7 @@ unfolding factsOf
 juror-absent-is k d urn j e h = not-true (member j (jurorsOf (ballotChain (urnSlots k d urn)))) (ap (λ (t : Bool). not (cond {A = Facts} t (record { sound = true; ballots = length (ballotChain (urnSlots k d urn)); present = member j (jurorsOf (ballotChain (urnSlots k d urn))); full = isEmpty (freeChain (urnSlots k d urn)) }) (record { sound = false; ballots = 0; present = false; full = false }) .present)) (sym e) ∙ h)
 
 -- withdrawing the ballot that was admitted last
-undo : (k d : ℕ) (urn : List ℕ) → T (withinLimits (juryOfOne k d)) → sound k d urn ≡ true → (j : ℕ) (x u : List ℕ) (is : List ℕ) →
+undo : (k d : ℕ) (urn : List ℕ) → T (gradedLimits (juryOfOne k d)) → sound k d urn ≡ true → (j : ℕ) (x u : List ℕ) (is : List ℕ) →
     Written k d (length (urnSlots k d urn)) (record { slot = firstFree (freeChain (urnSlots k d urn)); juror = j; ballot = x } ∷ ballotChain (urnSlots k d urn)) is u →
     gradedShape k d ≡ true → goodJuror j ≡ true → freeChain (urnSlots k d urn) ≡ firstFree (freeChain (urnSlots k d urn)) ∷ is → withdrawn k d u j ≡ urn
 unfolding withdrawn withoutBallot without slotOfJuror jurorsOf member

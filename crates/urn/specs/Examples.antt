@@ -4,9 +4,9 @@ use mathlib.Core.Bool.{true, false}
 use mathlib.Core.List.{List, [], _∷_}
 use Prim.Native.Nat.{ℕ}
 use Rattle.gates.specs.Test.{firstAboveOne}
-use Rattle.jury.specs.Shape.{withinLimits, ballotBytes}
+use Rattle.jury.specs.Shape.{isRanking, gradedLimits, columns, ballotBytes}
 use Rattle.jury.specs.Reason.{unless, foundAt, firstOf}
-use Rattle.jury.specs.Ballots.{ones, rowsOf, firstBadRow, ballotReasons}
+use Rattle.jury.specs.Ballots.{ones, rowsOf, firstBadRow, gradedReasons, ballotReasons}
 use Rattle.jury.specs.Counts.{tabulate}
 use Rattle.tally.specs.Answer.{said, accepted}
 use Rattle.chains.specs.Slots.{slotBytes, slotOf, slotsOf, bytesOfSlot, bytesOf, slotAt, freeSlot}
@@ -37,9 +37,9 @@ unfolding slotBytes bytesOfSlot bytesOf freeSlot firstEntry firstFree withBallot
 emptying = refl
 
 pub admission : admitted 1 2 emptyUrn 9 (0 ∷ 1 ∷ []) ≡ oneBallotIn
-unfolding emptyUrn oneBallotIn slotBytes slotOf slotsOf bytesOfSlot bytesOf slotAt freeSlot chain ends entryAt ballotSlots ballotChain freeChain firstEntry firstFree entrySlot withBallots withFree headSlot layout all member distinct juryOfOne noReason goodBallot goodJuror inUrn eachOnce goodChains allZero emptySlot soundSlots slotCount urnLength urnSlots sound gradedShape isEmpty jurorsOf factsOf afterwards admitReasons withBallot admitted withinLimits ballotBytes unless foundAt firstOf ones rowsOf firstBadRow ballotReasons tabulate firstAboveOne
+unfolding emptyUrn oneBallotIn slotBytes slotOf slotsOf bytesOfSlot bytesOf slotAt freeSlot chain ends entryAt ballotSlots ballotChain freeChain firstEntry firstFree entrySlot withBallots withFree headSlot layout all member distinct juryOfOne noReason goodBallot goodJuror inUrn eachOnce goodChains allZero emptySlot soundSlots slotCount urnLength urnSlots sound gradedShape isEmpty jurorsOf factsOf afterwards admitReasons withBallot admitted isRanking gradedLimits columns ballotBytes unless foundAt firstOf ones rowsOf firstBadRow gradedReasons ballotReasons tabulate firstAboveOne
 admission = refl
 
 pub withdrawal : withdrawn 1 2 oneBallotIn 9 ≡ emptyUrn
-unfolding emptyUrn oneBallotIn slotBytes slotOf slotsOf bytesOfSlot bytesOf slotAt freeSlot chain ends entryAt ballotSlots ballotChain freeChain firstEntry firstFree entrySlot withBallots withFree headSlot layout all member distinct juryOfOne noReason goodBallot goodJuror inUrn eachOnce goodChains allZero emptySlot soundSlots slotCount urnLength urnSlots sound gradedShape isEmpty jurorsOf factsOf afterwards withdrawReasons without slotOfJuror withoutBallot withdrawn withinLimits ballotBytes unless foundAt firstOf ones rowsOf firstBadRow ballotReasons tabulate firstAboveOne
+unfolding emptyUrn oneBallotIn slotBytes slotOf slotsOf bytesOfSlot bytesOf slotAt freeSlot chain ends entryAt ballotSlots ballotChain freeChain firstEntry firstFree entrySlot withBallots withFree headSlot layout all member distinct juryOfOne noReason goodBallot goodJuror inUrn eachOnce goodChains allZero emptySlot soundSlots slotCount urnLength urnSlots sound gradedShape isEmpty jurorsOf factsOf afterwards withdrawReasons without slotOfJuror withoutBallot withdrawn isRanking gradedLimits columns ballotBytes unless foundAt firstOf ones rowsOf firstBadRow gradedReasons ballotReasons tabulate firstAboveOne
 withdrawal = refl

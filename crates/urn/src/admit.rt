@@ -30,7 +30,7 @@ pub fn is_graded(k: usize, d: usize) -> bool
         grades: d,
         ballots: 1,
     };
-    Shape::LEAST_GRADES <= d && shape.is_within_limits()
+    shape.is_within_graded_limits()
 }
 
 // Whether a number is one of a juror.

@@ -6,7 +6,7 @@ use chains::sound::Soundness;
 ghost use mathlib.Core.Path.{_≡_};
 ghost use Prim.Native.Nat.{_≤_};
 ghost use lib.Dec.{T};
-ghost use Rattle.jury.specs.Shape.{withinLimits};
+ghost use Rattle.jury.specs.Shape.{gradedLimits};
 ghost use Rattle.chains.specs.Sound.{juryOfOne};
 ghost use Rattle.urn.specs.Facts.{factsOf};
 
@@ -20,7 +20,7 @@ pub struct Facts {
 }
 
 pub(crate) fn facts_of(k: usize, d: usize, urn: &[u8], juror: usize) -> Facts
-    requires { ⌜ T (withinLimits (juryOfOne k d)) ⌝ }
+    requires { ⌜ T (gradedLimits (juryOfOne k d)) ⌝ }
     ensures { λ r. ⌜ r ≡ factsOf k d (now (urn .entry)) juror ⌝ }
     ensures { λ r. ⌜ r .ballots ≤ 256 ⌝ }
 {

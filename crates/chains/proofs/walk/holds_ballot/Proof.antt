@@ -5,8 +5,9 @@ use mathlib.Core.Bool.{Bool, true, false, _&&_}
 use mathlib.Core.Option.{Option}
 use Rattle.jury.specs.Reason.{Reason, refusedFor, firstOf}
 use Rattle.jury.specs.Ballots.{ballotReasons}
+use Rattle.jury.proofs.Limits.{graded-T}
 use Rattle.chains.specs.Sound.{juryOfOne, noReason, goodBallot, goodJuror}
-use Rattle.chains.proofs.Holding.{no-juror, some-juror}
+use Rattle.chains.proofs.Holding.{no-juror, some-juror, good-graded}
 use native.Mathlib.Omega.{arith}
 use borrow.Author.Needs.{needs}
 use Rattle.chains.proofs.walk.holds_ballot.Statement.{statement}
@@ -20,7 +21,7 @@ returns c =
 test-requires : tie.Need-test-requires
 unfolding juryOfOne
 test-requires c κs =
-    c .before .before .pre
+    graded-T (juryOfOne (c .before .before .args .k) (c .before .before .args .d)) (c .before .before .pre)
 
 enum-told : tie.Need-enum-told
 enum-told c = search needs
@@ -29,20 +30,20 @@ enum-told-2 : tie.Need-enum-told-2
 enum-told-2 c = search needs
 
 returns-2 : tie.Need-returns-2
-unfolding juryOfOne refusedFor noReason goodBallot
+unfolding juryOfOne refusedFor noReason
 returns-2 c =
     let s = c .before .before .before .before .before in
     let a = s .args in
     sym (ap (λ (t : Bool). t && goodBallot (a .k) (a .d) (a .ballot .now)) (some-juror (a .juror) (c .before .before .before .if1 .left) (omega arith))
-    ∙ ap noReason (sym (c .before .before .test .ensures) ∙ ap refusedFor (c .enum-told .given .1)))
+    ∙ good-graded (a .k) (a .d) (a .ballot .now) (s .pre) ∙ ap noReason (sym (c .before .before .test .ensures) ∙ ap refusedFor (c .enum-told .given .1)))
 
 returns-3 : tie.Need-returns-3
-unfolding juryOfOne refusedFor noReason goodBallot
+unfolding juryOfOne refusedFor noReason
 returns-3 c =
     let s = c .before .before .before .before .before in
     let a = s .args in
     sym (ap (λ (t : Bool). t && goodBallot (a .k) (a .d) (a .ballot .now)) (some-juror (a .juror) (c .before .before .before .if1 .left) (omega arith))
-    ∙ ap noReason (sym (c .before .before .test .ensures) ∙ ap refusedFor (c .enum-told2 .given .1)))
+    ∙ good-graded (a .k) (a .d) (a .ballot .now) (s .pre) ∙ ap noReason (sym (c .before .before .test .ensures) ∙ ap refusedFor (c .enum-told2 .given .1)))
 
 pub holds-ballot-spec : {M : Type 1} → statement M
 holds-ballot-spec =

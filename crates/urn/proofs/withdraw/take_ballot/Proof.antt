@@ -7,7 +7,7 @@ use Prim.Native.Nat.{ℕ, _+_, _-_, _*_, _≤_, _<_}
 use native.Mathlib.Nat.{sub-zero}
 use lib.Dec.{T}
 use lib.ListN.{length, getD, set, take, drop, replicate, length-set, length-take}
-use Rattle.jury.specs.Shape.{withinLimits}
+use Rattle.jury.specs.Shape.{gradedLimits}
 use Rattle.chains.specs.Slots.{slotBytes, slotsOf}
 use Rattle.chains.specs.Chains.{chain, ballotChain}
 use Rattle.chains.specs.Sound.{member, juryOfOne, slotCount, urnSlots}
@@ -24,7 +24,7 @@ use borrow.Author.Needs.{needs}
 use Rattle.urn.proofs.withdraw.take_ballot.Statement.{statement}
 use Rattle.urn.proofs.withdraw.take_ballot.Tie as tie
 
-limits : (s : tie.Start) → T (withinLimits (juryOfOne (s .args .k) (s .args .d)))
+limits : (s : tie.Start) → T (gradedLimits (juryOfOne (s .args .k) (s .args .d)))
 limits s = graded-within (s .args .k) (s .args .d) (s .pre .1 .1)
 
 -- the urn is not short
