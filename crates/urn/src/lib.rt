@@ -4,6 +4,6 @@ pub mod answer;
 pub mod facts;
 mod find;
 mod put;
-mod sound;
+pub mod sound;
 mod walk;
 pub mod withdraw;

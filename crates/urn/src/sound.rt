@@ -16,7 +16,7 @@ pub const LEAST_SLOTS: usize = 2;
 pub const MOST_SLOTS: usize = 256;
 
 // Whether an urn is sound, and how many ballots a sound one has.
-pub(crate) enum Soundness {
+pub enum Soundness {
     Sound { ballots: usize },
     Unsound,
 }
@@ -70,7 +70,7 @@ fn test_slots(k: usize, d: usize, urn: &[u8], slots: usize) -> Soundness
 }
 
 // Tests an urn of any length and any bytes.
-pub(crate) fn test(k: usize, d: usize, urn: &[u8]) -> Soundness
+pub fn test(k: usize, d: usize, urn: &[u8]) -> Soundness
     requires { ⌜ T (withinLimits (juryOfOne k d)) ⌝ }
     ensures { λ r. ⌜ r ≡ soundness (sound k d (now (urn .entry))) (length (ballotChain (urnSlots k d (now (urn .entry))))) ⌝ }
 {
