@@ -152,6 +152,18 @@ size_t jugy_preview_admit(size_t candidates, size_t grades, const uint8_t *bytes
 size_t jugy_preview_withdraw(size_t candidates, size_t grades, const uint8_t *bytes, size_t bytes_length, size_t juror,
                              size_t *answer, size_t answer_length);
 
+/* Runs a list on the ballots in an urn, in the order of its ballot chain: answer[2] is G, answer[3] is C. It answers and leaves what
+ * jugy_run does on these ballots one after the other. Reasons 1, 13 (the urn is not sound), 2, 3, 4 (ballots is not the number of
+ * ballots in the urn), 7, 8, 9, 10, in this order; 5 and 6 never, as the ballots of a sound urn are good.
+ *   table  4 G numbers, the list's own length
+ *   bytes  an urn of s slots, 2 to 256: s (2 + k d) bytes, which are read and not altered. It holds the ballots in clear
+ *   tape   C bytes of 0 or 1, as for jugy_run
+ *   wires  I + G bytes, I = n k d, whatever they held; all zero afterwards
+ *   board  C + k bytes, whatever they held; afterwards as after jugy_run */
+size_t jugy_run_urn(size_t candidates, size_t grades, size_t ballots, const uint32_t *table, size_t table_length,
+                    const uint8_t *bytes, size_t bytes_length, const uint8_t *tape, size_t tape_length, uint8_t *wires,
+                    size_t wires_length, uint8_t *board, size_t board_length, size_t *answer, size_t answer_length);
+
 #ifdef __cplusplus
 }
 #endif

@@ -3,9 +3,9 @@
 use mathlib.Core.Path.{_≡_, _∙_, sym, ap}
 use mathlib.Core.List.{List, [], _∷_, _++_, zipWith, append-nil}
 use Prim.Native.Nat.{ℕ, suc, _+_, _-_, _≤_, min}
-use native.Mathlib.Nat.{zero-min, min-zero, suc-min-suc}
+use native.Mathlib.Nat.{add-zero, zero-min, min-zero, suc-min-suc}
 use native.Mathlib.Omega.{arith}
-use lib.ListN.{length, take, drop, length-append, length-drop, drop-of-length-le}
+use lib.ListN.{length, take, drop, drop-of-length-le}
 use lib.Seq.{take-all, take-length, take-at, sets, sets-eq, length-sets}
 use Rattle.gates.specs.Open.Gate.{Gate, gatesOf}
 use Rattle.gates.specs.Open.Wires.{wiresOf, outputsOf}
@@ -31,70 +31,56 @@ pub whole-range : (t : List ℕ) (gates : ℕ) → gates ≡ length (gatesOf t) 
 unfolding rangeOf
 whole-range t gates e = take-all (gates - 0) (gatesOf t) (omega arith)
 
-module _ (inputs t : List ℕ) (gates k : ℕ) (tape ws board : List ℕ) (e : gates ≡ length (gatesOf t)) (w : length ws ≡ length inputs + gates) where
-  -- the wire table once the inputs are copied
-  filled : List ℕ
-  filled = take (length inputs) inputs ++ drop (length inputs) ws
-
-  filled-inputs : take (length inputs + 0) filled ≡ inputs
-  unfolding filled
-  filled-inputs =
-      let p : length (take (length inputs) inputs) ≡ length inputs + 0 = omega (arith, ap length (take-length inputs)) in
-      take-at (take (length inputs) inputs) (drop (length inputs) ws) (length inputs + 0) p ∙ take-length inputs
-
-  filled-long : length filled ≡ length inputs + gates
-  unfolding filled
-  filled-long = omega (arith, length-append (take (length inputs) inputs) (drop (length inputs) ws), ap length (take-length inputs), length-drop (length inputs) ws)
-
-  filled-end : drop (length inputs + gates) filled ≡ []
-  filled-end = drop-of-length-le filled {i = length inputs + gates} (omega (arith, filled-long))
-
-  run-wires : stepWires (length inputs) t 0 gates filled ≡ wiresOf inputs (gatesOf t)
+module _ (i : ℕ) (t : List ℕ) (gates k : ℕ) (tape ws board : List ℕ) (e : gates ≡ length (gatesOf t)) (w : length ws ≡ i + gates) where
+  run-wires : stepWires i t 0 gates ws ≡ wiresOf (take i ws) (gatesOf t)
   unfolding stepWires
-  run-wires = rw (filled-inputs, filled-end, whole-range t gates e) (append-nil (wiresOf inputs (gatesOf t)))
+  run-wires =
+      let end : drop (i + gates) ws ≡ [] = drop-of-length-le ws {i = i + gates} (omega arith) in
+      rw (add-zero i, end, whole-range t gates e) (append-nil (wiresOf (take i ws) (gatesOf t)))
 
-  -- the steps one after the other, each from what the one before it left: the wire table with its inputs, the step's wire table, board and count, and the closed board
-  module _ (enough : k ≤ gates) (good : firstBad (length inputs) 0 (gatesOf t) ≡ Nowhere) (lt : length tape ≡ conditionalCount (gatesOf t)) (lb : length board ≡ conditionalCount (gatesOf t) + k)
-      (ws₁ : List ℕ) (e₁ : ws₁ ≡ take (length inputs) inputs ++ drop (length inputs) ws) where
-    is-filled : ws₁ ≡ filled
-    unfolding filled
-    is-filled = e₁
-
+  -- the steps one after the other, each from what the one before it left: the step's wire table, board and count, and the closed board
+  module _ (enough : k ≤ gates) (good : firstBad i 0 (gatesOf t) ≡ Nowhere) (lt : length tape ≡ conditionalCount (gatesOf t)) (lb : length board ≡ conditionalCount (gatesOf t) + k) where
     count-range : conditionalCount (rangeOf t 0 gates) ≡ conditionalCount (gatesOf t)
     count-range = ap conditionalCount (whole-range t gates e)
 
-    pub ready : StepReady (length inputs) t 0 gates tape 0 ws₁ board
+    pub ready : StepReady i t 0 gates tape 0 ws board
     ready =
         record {
           order = omega arith;
           inTable = omega arith;
-          good = ap (firstBad (length inputs) 0) (whole-range t gates e) ∙ good;
-          inWires = omega (arith, ap length is-filled, filled-long);
+          good = ap (firstBad i 0) (whole-range t gates e) ∙ good;
+          inWires = omega arith;
           inTape = omega (arith, count-range);
           inBoard = omega (arith, count-range);
         }
 
-    module _ (shown : ℕ) (ws₂ board₂ : List ℕ) (n : shown ≡ 0 + conditionalCount (rangeOf t 0 gates)) (e₂ : ws₂ ≡ stepWires (length inputs) t 0 gates ws₁)
-        (f₂ : board₂ ≡ stepBoard (length inputs) t 0 gates tape 0 ws₁ board) where
-      pub final-wires : ws₂ ≡ wiresOf inputs (gatesOf t)
-      final-wires = e₂ ∙ ap (stepWires (length inputs) t 0 gates) is-filled ∙ run-wires
+    module _ (shown : ℕ) (ws₂ board₂ : List ℕ) (n : shown ≡ 0 + conditionalCount (rangeOf t 0 gates)) (e₂ : ws₂ ≡ stepWires i t 0 gates ws)
+        (f₂ : board₂ ≡ stepBoard i t 0 gates tape 0 ws board) where
+      pub final-wires : ws₂ ≡ wiresOf (take i ws) (gatesOf t)
+      final-wires = e₂ ∙ run-wires
 
       bits : List ℕ
-      bits = shownBits (wiresOf inputs (gatesOf t)) (gatesOf t) tape
+      bits = shownBits (wiresOf (take i ws) (gatesOf t)) (gatesOf t) tape
 
       stepped-board : board₂ ≡ sets board 0 bits
       unfolding stepBoard bits
-      stepped-board = f₂ ∙ rw (is-filled, run-wires, whole-range t gates e)
+      stepped-board = f₂ ∙ rw (run-wires, whole-range t gates e)
 
       pub can-close : (k ≤ length ws₂) × (length board₂ ≡ shown + k)
-      can-close = (omega (arith, ap length final-wires, length-wires inputs (gatesOf t)), omega (arith, ap length stepped-board, length-sets board 0 bits, count-range))
+      can-close = (omega (arith, ap length final-wires, length-wires (take i ws) (gatesOf t)), omega (arith, ap length stepped-board, length-sets board 0 bits, count-range))
 
-      pub final-board : (board₃ : List ℕ) → board₃ ≡ take shown board₂ ++ outputsOf k ws₂ → board₃ ≡ boardOf (wiresOf inputs (gatesOf t)) (gatesOf t) k tape
+      pub final-board : (board₃ : List ℕ) → board₃ ≡ take shown board₂ ++ outputsOf k ws₂ → board₃ ≡ boardOf (wiresOf (take i ws) (gatesOf t)) (gatesOf t) k tape
       unfolding boardOf bits
       final-board board₃ e₃ =
-          let l : length bits ≡ conditionalCount (gatesOf t) = length-shown (wiresOf inputs (gatesOf t)) (gatesOf t) tape lt in
+          let l : length bits ≡ conditionalCount (gatesOf t) = length-shown (wiresOf (take i ws) (gatesOf t)) (gatesOf t) tape lt in
           let c : length bits ≡ shown = omega (arith, count-range) in
           let f : board₂ ≡ bits ++ drop (0 + length bits) board = stepped-board ∙ sets-eq bits board 0 (omega arith) in
           e₃ ∙ ap (λ (b : List ℕ). take shown b ++ outputsOf k ws₂) f
           ∙ ap (λ (b : List ℕ). b ++ outputsOf k ws₂) (take-at bits (drop (0 + length bits) board) shown c)
           ∙ ap (λ (b : List ℕ). bits ++ outputsOf k b) final-wires
+
+-- inputs that were copied stand at the front of the wire table
+pub copied-front : (inputs ws last : List ℕ) → last ≡ take (length inputs) inputs ++ drop (length inputs) ws → take (length inputs) last ≡ inputs
+copied-front inputs ws last e =
+    let p : length (take (length inputs) inputs) ≡ length inputs = ap length (take-length inputs) in
+    ap (take (length inputs)) e ∙ take-at (take (length inputs) inputs) (drop (length inputs) ws) (length inputs) p ∙ take-length inputs

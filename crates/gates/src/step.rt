@@ -9,7 +9,7 @@ ghost use Rattle.gates.specs.Kind.{conditionalMarks, conditionalOf};
 ghost use Rattle.gates.specs.Gate.{gatesOf};
 ghost use Rattle.gates.specs.Wires.{value, wiresOf, outputsOf};
 ghost use Rattle.gates.specs.Board.{conditionalCount, shownBit, boardOf};
-ghost use Rattle.gates.specs.Step.{StepReady, GateReady, RunReady, rangeOf, stepWires, stepBoard, gateAt};
+ghost use Rattle.gates.specs.Step.{StepReady, GateReady, FinishReady, RunReady, rangeOf, stepWires, stepBoard, gateAt};
 
 // A bit under its mask: their sum modulo 2, which cannot wrap.
 fn masked(a: u8, m: u8) -> u8
@@ -89,8 +89,25 @@ fn close(outputs: usize, wires: &[u8], shown: usize, board: &mut [u8])
     bytes::copy(&wires[first..], &mut board[shown..]);
 }
 
-// Evaluates a whole list: the inputs go to the front of the wire table, then the step works over all gates, then the
+// Evaluates a list whose inputs stand at the front of the wire table already: the step works over all gates, then the
 // outputs go to the end of the board. It is no entry point either.
+pub fn finish(
+    inputs: usize,
+    table: &[u32],
+    outputs: usize,
+    tape: &[u8],
+    wires: &mut [u8],
+    board: &mut [u8],
+)
+    requires { ⌜ FinishReady inputs (now table) outputs (now tape) (now wires) (now board) ⌝ }
+    ensures { λ _. ⌜ now (wires .exit) ≡ wiresOf (take inputs (now (wires .entry))) (gatesOf (now (table .entry))) ⌝ }
+    ensures { λ _. ⌜ now (board .exit) ≡ boardOf (wiresOf (take inputs (now (wires .entry))) (gatesOf (now (table .entry)))) (gatesOf (now (table .entry))) outputs (now (tape .entry)) ⌝ }
+{
+    let shown = step(inputs, table, 0, table.len() / 4, tape, 0, wires, board);
+    close(outputs, wires, shown, board);
+}
+
+// Evaluates a whole list: the inputs go to the front of the wire table, and the rest follows.
 pub fn run(
     inputs: &[u8],
     table: &[u32],
@@ -104,15 +121,5 @@ pub fn run(
     ensures { λ _. ⌜ now (board .exit) ≡ boardOf (wiresOf (now (inputs .entry)) (gatesOf (now (table .entry)))) (gatesOf (now (table .entry))) outputs (now (tape .entry)) ⌝ }
 {
     bytes::copy(inputs, wires);
-    let shown = step(
-        inputs.len(),
-        table,
-        0,
-        table.len() / 4,
-        tape,
-        0,
-        wires,
-        board,
-    );
-    close(outputs, wires, shown, board);
+    finish(inputs.len(), table, outputs, tape, wires, board);
 }

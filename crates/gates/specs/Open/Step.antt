@@ -33,13 +33,17 @@ unfoldable pub stepBoard : ℕ → List ℕ → ℕ → ℕ → List ℕ → ℕ
 stepBoard inputs table from to tape shown ws board =
     sets board shown (shownBits (stepWires inputs table from to ws) (rangeOf table from to) (drop shown tape))
 
--- What the run of a whole list asks of its caller: what the tests of the list, the tape, the wire table and the board establish.
-pub record RunReady (inputs table : List ℕ) (k : ℕ) (tape ws board : List ℕ) : Type 0 where
+-- What the evaluation of a whole list asks of its caller, once so many inputs stand at the front of the wire table: what the tests of the list, the tape, the wire table and the board establish.
+pub record FinishReady (inputs : ℕ) (table : List ℕ) (k : ℕ) (tape ws board : List ℕ) : Type 0 where
   pub enough : k ≤ length (gatesOf table)
-  pub good : firstBad (length inputs) 0 (gatesOf table) ≡ Nowhere
+  pub good : firstBad inputs 0 (gatesOf table) ≡ Nowhere
   pub tapeLength : length tape ≡ conditionalCount (gatesOf table)
-  pub wiresLength : length ws ≡ length inputs + length (gatesOf table)
+  pub wiresLength : length ws ≡ inputs + length (gatesOf table)
   pub boardLength : length board ≡ conditionalCount (gatesOf table) + k
+
+-- What the run of a whole list on these inputs asks: the same.
+abbrev pub RunReady : List ℕ → List ℕ → ℕ → List ℕ → List ℕ → List ℕ → Type 0
+RunReady inputs table k tape ws board = FinishReady (length inputs) table k tape ws board
 
 -- Gate g of a table, by the places of its four numbers.
 unfoldable pub gateAt : List ℕ → ℕ → Gate

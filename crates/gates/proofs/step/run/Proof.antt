@@ -1,33 +1,21 @@
--- `gates::step::run` meets its contract: copying, stepping and closing, one after the other, leave the wires and the board of the whole list.
+-- `gates::step::run` meets its contract: inputs that were copied to the front of the wire table are what the rest starts from.
 -- Assumes nothing.
-use mathlib.Core.Path.{sym}
-use native.Mathlib.Omega.{arith}
+use mathlib.Core.Path.{_∙_, ap}
+use mathlib.Core.List.{List}
+use Prim.Native.Nat.{ℕ}
 use borrow.Author.Needs.{needs}
-use Rattle.gates.proofs.Table.{length-gates}
-use Rattle.gates.proofs.Finishing.{ready, can-close, final-wires, final-board}
+use Rattle.gates.specs.Open.Gate.{gatesOf}
+use Rattle.gates.specs.Open.Wires.{wiresOf}
+use Rattle.gates.specs.Open.Board.{boardOf}
+use Rattle.gates.proofs.Finishing.{copied-front}
 use Rattle.gates.proofs.step.run.Statement.{statement}
 use Rattle.gates.proofs.step.run.Tie as tie
 
 copy-requires : tie.Need-copy-requires
 copy-requires c κs = search needs
 
-step-requires : tie.Need-step-requires
-step-requires c κs =
-    let s = c .before .before .before .before .before .before .before .before .before .before .before in
-    let a = s .args in
-    let p = s .pre in
-    let e = sym (length-gates (a .table .now)) in
-    ready (a .inputs .now) (a .table .now) _ (a .outputs) (a .tape .now) (a .wires .now) (a .board .now) e (omega (arith, e, p .wiresLength)) (omega (arith, e, p .enough)) (p .good) (p .tapeLength) (p .boardLength) _ (c .before .before .before .before .copy .ensures .1)
-
-close-requires : tie.Need-close-requires
-close-requires c κs =
-    let s = c .before .before .before .before .before .before .before .before .before .before .before .before .before .before .before .before .before .before in
-    let a = s .args in
-    let p = s .pre in
-    let e = sym (length-gates (a .table .now)) in
-    let r = c .before .before .before .before .before .before .step in
-    let q = can-close (a .inputs .now) (a .table .now) _ (a .outputs) (a .tape .now) (a .wires .now) (a .board .now) e (omega (arith, e, p .wiresLength)) (omega (arith, e, p .enough)) (p .good) (p .tapeLength) (p .boardLength) _ (c .before .before .before .before .before .before .before .before .before .before .before .copy .ensures .1) (r .result) _ _ (r .ensures .0) (r .ensures .1 .0) (r .ensures .1 .1) in
-    (q .0, q .1)
+finish-requires : tie.Need-finish-requires
+finish-requires c κs = search needs
 
 same-length : tie.Need-same-length
 same-length c = search needs
@@ -37,17 +25,13 @@ same-length-2 c = search needs
 
 returns : tie.Need-returns
 returns c =
-    let s = c .before .before .before .before .before .before .before .before .before .before .before .before .before .before .before .before .before .before .before .before .before in
-    let a = s .args in
-    let p = s .pre in
-    let e = sym (length-gates (a .table .now)) in
-    let r = c .before .before .before .before .before .before .before .before .before .step in
-    let f = c .before .before .before .before .before .before .before .before .before .before .before .before .before .before .copy .ensures .1 in (
-      final-wires (a .inputs .now) (a .table .now) _ (a .outputs) (a .tape .now) (a .wires .now) (a .board .now) e (omega (arith, e, p .wiresLength)) (omega (arith, e, p .enough)) (p .good) (p .tapeLength) (p .boardLength) _ f (r .result) _ _ (r .ensures .0) (r .ensures .1 .0) (r .ensures .1 .1),
-      final-board (a .inputs .now) (a .table .now) _ (a .outputs) (a .tape .now) (a .wires .now) (a .board .now) e (omega (arith, e, p .wiresLength)) (omega (arith, e, p .enough)) (p .good) (p .tapeLength) (p .boardLength) _ f (r .result) _ _ (r .ensures .0) (r .ensures .1 .0) (r .ensures .1 .1) _ (c .before .before .close .ensures),
+    let a = c .before .before .before .before .before .before .before .before .before .before .before .before .before .before .before .before .args in
+    let gs = gatesOf (a .table .now) in
+    let f = copied-front (a .inputs .now) (a .wires .now) _ (c .before .before .before .before .before .before .before .before .before .copy .ensures .1) in
+    let r = c .before .before .before .before .finish .ensures in (
+      r .0 ∙ ap (λ (xs : List ℕ). wiresOf xs gs) f,
+      r .1 ∙ ap (λ (xs : List ℕ). boardOf (wiresOf xs gs) gs (a .outputs) (a .tape .now)) f,
     )
 
 pub run-spec : {M : Type 1} → statement M
-run-spec =
-    tie.close
-    (tie.spec copy-requires step-requires close-requires same-length same-length-2 returns)
+run-spec = tie.close (tie.spec copy-requires finish-requires same-length same-length-2 returns)

@@ -1,0 +1,127 @@
+-- `urn_run::run::run_on_urn` meets its contract: where the tests pass, the ballots go into the wire table, the evaluation fills it and the board, and the wire table is emptied; else nothing is touched.
+-- Assumes nothing.
+use mathlib.Core.Path.{_≡_, _∙_, sym, ap, subst}
+use mathlib.Core.Option.{Option, none, some}
+use mathlib.Core.List.{List}
+use Prim.Native.Nat.{ℕ}
+use lib.ListN.{take, replicate}
+use borrow.Author.Needs.{needs}
+use Rattle.gates.specs.Gate.{gatesOf}
+use Rattle.gates.specs.Wires.{wiresOf}
+use Rattle.gates.specs.Board.{boardOf}
+use Rattle.gates.specs.Step.{FinishReady}
+use Rattle.jury.specs.Shape.{withinLimits}
+use Rattle.jury.specs.Reason.{Reason, reasonOf, firstOf}
+use Rattle.jury.proofs.Flags.{true-T}
+use Rattle.tally.specs.Answer.{Size, said, saidBy, sizeOf}
+use Rattle.tally.specs.Run.{Ran, ranAfter}
+use Rattle.tally.proofs.RunReasons.{said-refused, said-accepted}
+use Rattle.urn_run.specs.Run.{urnRunReasons}
+use Rattle.urn_run.proofs.Reasons.{one-T, whole-within, UrnRunPassed, urn-run-passed, ran-on-urn-by, chain-room, finish-ready, loaded-front, loaded-length}
+use Rattle.urn_run.proofs.run.run_on_urn.Statement.{statement}
+use Rattle.urn_run.proofs.run.run_on_urn.Tie as tie
+
+test-run-requires : tie.Need-test-run-requires
+test-run-requires c κs = search needs
+
+enum-told : tie.Need-enum-told
+enum-told c = search needs
+
+-- where the tests pass, no reason applies
+no-reason : (c : tie.After-enum-told) → let a = c .before .before .before .before .before .before .before .before .before .before .args in
+    firstOf (urnRunReasons (a .shape) (a .table .now) (a .urn .now) (a .tape .now) (a .wires .now) (a .board .now)) ≡ none
+unfolding saidBy
+no-reason c =
+    let a = c .before .before .before .before .before .before .before .before .before .before .args in
+    let o = firstOf (urnRunReasons (a .shape) (a .table .now) (a .urn .now) (a .tape .now) (a .wires .now) (a .board .now)) in
+    said-accepted o (sizeOf (gatesOf (a .table .now))) _ (sym (c .before .before .test-run .ensures) ∙ ap saidBy (c .enum-told .given .1))
+
+passed : (c : tie.After-enum-told) → let a = c .before .before .before .before .before .before .before .before .before .before .args in UrnRunPassed (a .shape) (a .table .now) (a .urn .now) (a .tape .now) (a .wires .now) (a .board .now)
+passed c = let a = c .before .before .before .before .before .before .before .before .before .before .args in urn-run-passed (a .shape) (a .table .now) (a .urn .now) (a .tape .now) (a .wires .now) (a .board .now) (no-reason c)
+
+load-requires : tie.Need-load-requires
+load-requires c κs =
+    let a = c .before .before .before .before .before .before .before .before .before .before .before .args in
+    let p = passed (c .before) in
+    (one-T (a .shape) (p .graded), (p .isSound, chain-room (a .shape) (a .table .now) (a .urn .now) (a .tape .now) (a .wires .now) (a .board .now) p))
+
+ballot-bytes-requires : tie.Need-ballot-bytes-requires
+ballot-bytes-requires c κs =
+    let a = c .before .before .before .before .before .before .before .before .before .before .before .before .before .before .args in
+    true-T (withinLimits (a .shape)) (whole-within (a .shape) (passed (c .before .before .before .before) .graded))
+
+finish-requires : tie.Need-finish-requires
+finish-requires c κs =
+    let a = c .before .before .before .before .before .before .before .before .before .before .before .before .before .before .before .before .before .args in
+    let p = passed (c .before .before .before .before .before .before .before) in
+    let l = c .before .before .before .before .before .load in
+    subst (λ (i : ℕ). FinishReady i (a .table .now) (a .shape .candidates) (a .tape .now) (l .last .1 .1 .1 .0) (a .board .now)) (sym (c .before .before .ballot-bytes .ensures))
+    (finish-ready (a .shape) (a .table .now) (a .urn .now) (a .tape .now) (a .wires .now) (a .board .now) p (l .last .1 .1 .1 .0)
+    (loaded-length (a .shape) (a .table .now) (a .urn .now) (a .tape .now) (a .wires .now) (a .board .now) p (l .last .1 .1 .1 .0) (l .ensures)))
+
+empty-requires : tie.Need-empty-requires
+empty-requires c κs = search needs
+
+enum-told-2 : tie.Need-enum-told-2
+enum-told-2 c = search needs
+
+same-length : tie.Need-same-length
+same-length c = search needs
+
+same-length-2 : tie.Need-same-length-2
+same-length-2 c = search needs
+
+returns : tie.Need-returns
+unfolding said ranAfter
+returns c =
+    let done = c .before .before .before .before .before .before .before .before .finish in
+    let l = c .before .before .before .before .before .before .before .before .before .before .before .before .before .before .load in
+    let told = c .before .before .before .before .before .before .before .before .before .before .before .before .before .before .before .before in
+    let a = c .before .before .before .before .before .before .before .before .before .before .before .before .before .before .before .before .before .before .before .before .before .before .before .before .before .before .args in
+    let p = passed told in
+    let gs = gatesOf (a .table .now) in
+    let e = ran-on-urn-by (a .shape) (a .table .now) (a .urn .now) (a .tape .now) (a .wires .now) (a .board .now) none (no-reason told) in
+    let same = done .kept .1 .1 .1 .1 .0 ∙ loaded-length (a .shape) (a .table .now) (a .urn .now) (a .tape .now) (a .wires .now) (a .board .now) p (l .last .1 .1 .1 .0) (l .ensures) in
+    let front = ap (λ (i : ℕ). take i (l .last .1 .1 .1 .0)) (c .before .before .before .before .before .before .before .before .before .before .before .ballot-bytes .ensures) ∙ loaded-front (a .shape) (a .table .now) (a .urn .now) (a .tape .now) (a .wires .now) (a .board .now) p (l .last .1 .1 .1 .0) (l .ensures) in (
+      told .before .before .test-run .ensures ∙ ap (λ (o : Option Reason). said o (sizeOf gs)) (no-reason told) ∙ sym (ap (λ (r : Ran). r .answer) e),
+      (
+        c .before .before .empty .ensures ∙ ap (λ (n : ℕ). replicate n 0) same ∙ sym (ap (λ (r : Ran). r .wires) e),
+        done .ensures .1 ∙ ap (λ (xs : List ℕ). boardOf (wiresOf xs gs) gs (a .shape .candidates) (a .tape .now)) front ∙ sym (ap (λ (r : Ran). r .board) e),
+      ),
+    )
+
+same-length-3 : tie.Need-same-length-3
+same-length-3 c = search needs
+
+same-length-4 : tie.Need-same-length-4
+same-length-4 c = search needs
+
+returns-2 : tie.Need-returns-2
+unfolding saidBy ranAfter
+returns-2 c =
+    let a = c .before .before .before .before .before .before .before .before .before .before .args in
+    let o = firstOf (urnRunReasons (a .shape) (a .table .now) (a .urn .now) (a .tape .now) (a .wires .now) (a .board .now)) in
+    let r = reasonOf (c .enum-told2 .given .0 .0) in
+    let told = ap saidBy (c .enum-told2 .given .1) in
+    let e = ran-on-urn-by (a .shape) (a .table .now) (a .urn .now) (a .tape .now) (a .wires .now) (a .board .now) (some r) (said-refused o (sizeOf (gatesOf (a .table .now))) r (sym (c .before .before .test-run .ensures) ∙ told)) in (
+      told ∙ sym (ap (λ (q : Ran). q .answer) e),
+      (sym (ap (λ (q : Ran). q .wires) e), sym (ap (λ (q : Ran). q .board) e)),
+    )
+
+pub run-on-urn-spec : {M : Type 1} → statement M
+run-on-urn-spec =
+    tie.close
+    (tie.spec
+    test-run-requires
+    enum-told
+    load-requires
+    ballot-bytes-requires
+    finish-requires
+    empty-requires
+    enum-told-2
+    same-length
+    same-length-2
+    returns
+    same-length-3
+    same-length-4
+    returns-2)

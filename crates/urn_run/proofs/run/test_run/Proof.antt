@@ -1,0 +1,167 @@
+-- `urn_run::run::test_run` meets its contract: the shape and the urn are tested first, then the list, the number of ballots, and what else is lent.
+-- Assumes nothing.
+use mathlib.Core.Path.{_≡_, _∙_, sym, ap}
+use mathlib.Core.Bool.{true, false}
+use mathlib.Core.Option.{Option, none, some}
+use Prim.Native.Nat.{ℕ}
+use borrow.Author.Needs.{needs}
+use borrow.Author.Tests.{not-true, not-false}
+use Rattle.gates.specs.Gate.{gatesOf}
+use Rattle.jury.specs.Shape.{withinLimits}
+use Rattle.jury.specs.Reason.{Reason, reasonAt, reasonOf, refusedFor, firstOf}
+use Rattle.jury.proofs.Flags.{true-T}
+use Rattle.tally.specs.Answer.{Size, refused, said, saidBy, sizeOf}
+use Rattle.tally.specs.Test.{testReasons, testSaid}
+use Rattle.tally.specs.Run.{lentReasons}
+use Rattle.tally.proofs.TestReasons.{TestPassed, test-passed}
+use Rattle.chains.specs.Sound.{sound}
+use Rattle.chains.proofs.Judging.{soundness-sound, soundness-unsound}
+use Rattle.urn_run.specs.Run.{ballotsIn, gradedJury, urnRunReasons}
+use Rattle.urn_run.proofs.Reasons.{one-T, whole-within, by-1, by-13, by-list, by-4, by-lent}
+use Rattle.urn_run.proofs.run.test_run.Statement.{statement}
+use Rattle.urn_run.proofs.run.test_run.Tie as tie
+
+-- the first reason decides of the answer
+refuses : (c : tie.Start) (r : Reason) → let a = c .args in firstOf (urnRunReasons (a .shape) (a .table .now) (a .urn .now) (a .tape .now) (a .wires .now) (a .board .now)) ≡ some r
+    → refused r ≡ said (firstOf (urnRunReasons (a .shape) (a .table .now) (a .urn .now) (a .tape .now) (a .wires .now) (a .board .now))) (sizeOf (gatesOf (a .table .now)))
+unfolding said
+refuses c r e = sym (ap (λ (o : Option Reason). said o (sizeOf (gatesOf (c .args .table .now)))) e)
+
+-- past the test of the shape
+graded : (c : tie.Else1) → gradedJury (c .before .before .before .before .before .before .before .args .shape) ≡ true
+graded c = sym (c .before .is-graded .ensures) ∙ not-false (c .before .is-graded .result) (c .if1 .left)
+
+-- past the test of the urn
+sound-told : (c : tie.After-known-told) → let a = c .before .before .before .before .before .before .before .before .before .before .before .args in (sound (a .shape .candidates) (a .shape .grades) (a .urn .now) ≡ true) × (c .before .ballots .given .0 .0 ≡ ballotsIn (a .shape .candidates) (a .shape .grades) (a .urn .now))
+unfolding ballotsIn
+sound-told c = soundness-sound _ _ _ (sym (c .before .before .before .test .ensures) ∙ c .before .ballots .given .1)
+
+-- past the test of the list
+size : tie.After-known-told2 → Size
+size c = let g = c .before .answer .given in record { gates = g .0 .0; conditional = g .0 .1 .0 }
+
+passed : (c : tie.After-known-told2) → let a = c .before .before .before .before .before .before .before .before .before .before .before .before .before .before .before .args in TestPassed (a .shape) (a .table .now) (size c)
+unfolding saidBy size
+passed c =
+    let a = c .before .before .before .before .before .before .before .before .before .before .before .before .before .before .before .args in
+    test-passed (a .shape) (a .table .now) (size c) (sym (c .before .before .before .test2 .ensures) ∙ ap saidBy (c .before .answer .given .1))
+
+is-graded-requires : tie.Need-is-graded-requires
+is-graded-requires c κs = search needs
+
+returns : tie.Need-returns
+unfolding saidBy reasonOf
+returns c =
+    let start = c .before .before .before .before .before .before .before in
+    let a = start .args in
+    refuses start (reasonAt 1 0)
+    (by-1 (a .shape) (a .table .now) (a .urn .now) (a .tape .now) (a .wires .now) (a .board .now)
+    (sym (c .before .is-graded .ensures) ∙ not-true (c .before .is-graded .result) (c .if1 .taken)))
+
+test-requires : tie.Need-test-requires
+test-requires c κs = one-T (c .before .before .before .before .before .before .before .args .shape) (graded c)
+
+enum-known-ballots : tie.Need-enum-known-ballots
+enum-known-ballots c = search needs
+
+enum-told : tie.Need-enum-told
+enum-told c = search needs
+
+returns-2 : tie.Need-returns-2
+unfolding saidBy reasonOf
+returns-2 c =
+    let start = c .before .before .before .before .before .before .before .before .before .before in
+    let a = start .args in
+    refuses start (reasonAt 13 0)
+    (by-13 (a .shape) (a .table .now) (a .urn .now) (a .tape .now) (a .wires .now) (a .board .now) (graded (c .before .before .before))
+    (soundness-unsound _ _ (sym (c .before .before .test .ensures) ∙ c .enum-told .given .1)))
+
+test-requires-2 : tie.Need-test-requires-2
+test-requires-2 c κs = search needs
+
+enum-known-answer : tie.Need-enum-known-answer
+enum-known-answer c = search needs
+
+enum-told-2 : tie.Need-enum-told-2
+enum-told-2 c = search needs
+
+returns-3 : tie.Need-returns-3
+unfolding saidBy
+returns-3 c =
+    let start = c .before .before .before .before .before .before .before .before .before .before .before .before .before .before in
+    let a = start .args in
+    let r = reasonOf (c .enum-told2 .given .0 .0) in
+    let e = ap saidBy (c .enum-told2 .given .1) in
+    e ∙ refuses start r
+    (by-list (a .shape) (a .table .now) (a .urn .now) (a .tape .now) (a .wires .now) (a .board .now) (graded (c .before .before .before .before .before .before .before)) (sound-told (c .before .before .before) .0) r (sym (c .before .before .test2 .ensures) ∙ e))
+
+returns-4 : tie.Need-returns-4
+unfolding saidBy reasonOf
+returns-4 c =
+    let start = c .before .before .before .before .before .before .before .before .before .before .before .before .before .before .before .before .before in
+    let a = start .args in
+    let told = sound-told (c .before .before .before .before .before .before) in
+    refuses start (reasonAt 4 0)
+    (by-4 (a .shape) (a .table .now) (a .urn .now) (a .tape .now) (a .wires .now) (a .board .now) (graded (c .before .before .before .before .before .before .before .before .before .before)) (told .0) (passed (c .before .before) .reasons)
+    (λ q. c .if2 .taken (told .1 ∙ q)))
+
+ballot-bytes-requires : tie.Need-ballot-bytes-requires
+ballot-bytes-requires c κs = true-T (withinLimits (c .before .before .before .before .before .before .before .before .before .before .before .before .before .before .before .before .before .args .shape)) (passed (c .before .before) .within)
+
+test-lent-requires : tie.Need-test-lent-requires
+test-lent-requires c κs = search needs
+
+enum-known-reason : tie.Need-enum-known-reason
+enum-known-reason c = search needs
+
+enum-told-3 : tie.Need-enum-told-3
+enum-told-3 c = search needs
+
+-- what the tests 7 to 10 answer is what the whole answers
+lent-answer : (c : tie.After-test-lent) → let a = c .before .before .before .before .before .before .before .before .before .before .before .before .before .before .before .before .before .before .before .args in
+    firstOf (urnRunReasons (a .shape) (a .table .now) (a .urn .now) (a .tape .now) (a .wires .now) (a .board .now)) ≡ refusedFor (c .test-lent .result)
+unfolding size
+lent-answer c =
+    let a = c .before .before .before .before .before .before .before .before .before .before .before .before .before .before .before .before .before .before .before .args in
+    let told = sound-told (c .before .before .before .before .before .before .before .before) in
+    let p = passed (c .before .before .before .before) in
+    by-lent (a .shape) (a .table .now) (a .urn .now) (a .tape .now) (a .wires .now) (a .board .now) (graded (c .before .before .before .before .before .before .before .before .before .before .before .before)) (told .0) (p .reasons) (size (c .before .before .before .before)) (refusedFor (c .test-lent .result)) (p .size)
+    (sym (told .1) ∙ c .before .before .if2 .left)
+    (sym (c .test-lent .ensures ∙ ap (λ (i : ℕ). firstOf (lentReasons i (a .shape .candidates) (size (c .before .before .before .before)) (a .tape .now) (a .wires .now) (a .board .now))) (c .before .ballot-bytes .ensures)))
+
+returns-5 : tie.Need-returns-5
+unfolding saidBy refusedFor
+returns-5 c =
+    let r = reasonOf (c .before .reason .given .0 .0) in
+    refuses (c .before .before .before .before .before .before .before .before .before .before .before .before .before .before .before .before .before .before .before .before .before .before) r (lent-answer (c .before .before .before) ∙ ap refusedFor (c .before .reason .given .1))
+
+returns-6 : tie.Need-returns-6
+unfolding testSaid refusedFor
+returns-6 c =
+    let told = c .before .before .before .before .before .before in
+    let a = c .before .before .before .before .before .before .before .before .before .before .before .before .before .before .before .before .before .before .before .before .before .args in
+    let none-applies = lent-answer (c .before .before) ∙ ap refusedFor (c .enum-told3 .given .1) in
+    sym (ap saidBy (told .before .answer .given .1)) ∙ told .before .before .before .test2 .ensures
+    ∙ ap (λ (o : Option Reason). said o (sizeOf (gatesOf (a .table .now)))) (passed told .reasons ∙ sym none-applies)
+
+pub test-run-spec : {M : Type 1} → statement M
+test-run-spec =
+    tie.close
+    (tie.spec
+    is-graded-requires
+    returns
+    test-requires
+    enum-known-ballots
+    enum-told
+    returns-2
+    test-requires-2
+    enum-known-answer
+    enum-told-2
+    returns-3
+    returns-4
+    ballot-bytes-requires
+    test-lent-requires
+    enum-known-reason
+    enum-told-3
+    returns-5
+    returns-6)

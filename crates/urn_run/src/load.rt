@@ -1,0 +1,39 @@
+// The way of the ballots from an urn into the wire table.
+ghost use mathlib.Core.Path.{_≡_};
+ghost use mathlib.Core.Bool.{true};
+ghost use mathlib.Core.List.{_++_};
+ghost use Prim.Native.Nat.{_≤_};
+ghost use lib.Dec.{T};
+ghost use lib.ListN.{length, drop};
+ghost use Rattle.jury.specs.Shape.{withinLimits};
+ghost use Rattle.chains.specs.Sound.{juryOfOne, sound};
+ghost use Rattle.urn_run.specs.Run.{chainBallots};
+
+// A byte as a number that indexes.
+fn wide(byte: u8) -> usize
+    ensures { λ r. ⌜ r ≡ byte ⌝ }
+{
+    byte as usize
+}
+
+// Copies the ballots of a sound urn, slot after slot along its ballot chain, to the front of the wire table.
+pub(crate) fn load(k: usize, d: usize, urn: &[u8], wires: &mut [u8])
+    requires { ⌜ T (withinLimits (juryOfOne k d)) ⌝ }
+    requires { ⌜ sound k d (now urn) ≡ true ⌝ }
+    requires { ⌜ length (chainBallots k d (now urn)) ≤ length (now wires) ⌝ }
+    ensures { λ _. ⌜ now (wires .exit) ≡ chainBallots k d (now (urn .entry)) ++ drop (length (chainBallots k d (now (urn .entry)))) (now (wires .entry)) ⌝ }
+{
+    let bytes = k * d;
+    let size = 2 + bytes;
+    let mut count = 0;
+    let mut slot = wide(urn[0]);
+    while slot != 0 {
+        let at = slot * size;
+        let from = at + 2;
+        let end = at + size;
+        let to = count * bytes;
+        bytes::copy(&urn[from..end], &mut wires[to..]);
+        slot = wide(urn[at]);
+        count += 1;
+    }
+}

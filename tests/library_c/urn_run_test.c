@@ -1,0 +1,132 @@
+/* Runs on an urn over heap buffers of exactly the lent length, for valgrind: urns that were filled, thinned out and now and then damaged,
+ * with tables, tapes, wire tables and boards that fit or are one off. A run on a sound urn is compared with jugy_run on the ballots
+ * of its chain, and a refused call's buffers and every urn with their copies. */
+#include "../../c/jugyvaros.h"
+#include <stdio.h>
+#include <stdlib.h>
+#include <string.h>
+
+static uint32_t state = 1;
+
+static uint32_t below(uint32_t n) {
+    state = state * 1664525u + 1013904223u;
+    return (state >> 8) % n;
+}
+
+/* Mostly the length that fits, now and then one more or one less. */
+static size_t about(size_t length) { return below(12) ? length : below(2) || !length ? length + 1 : length - 1; }
+
+static uint8_t *filled(size_t length, uint8_t byte) {
+    uint8_t *bytes = malloc(length ? length : 1);
+    memset(bytes, byte, length);
+    return bytes;
+}
+
+static uint8_t *copy_of(const uint8_t *bytes, size_t length) {
+    uint8_t *copy = malloc(length ? length : 1);
+    memcpy(copy, bytes, length);
+    return copy;
+}
+
+static void expect(int holds, const char *what) {
+    if (!holds) {
+        printf("urn_run_test: %s\n", what);
+        exit(1);
+    }
+}
+
+static void fill(size_t k, size_t d, uint8_t *urn, size_t length, size_t times) {
+    size_t said[JUGY_URN_ANSWER];
+    uint8_t *ballot = malloc(k * d);
+    for (size_t i = 0; i < times; i++) {
+        memset(ballot, 0, k * d);
+        for (size_t c = 0; c < k; c++)
+            ballot[c * d + below((uint32_t)d)] = 1;
+        jugy_admit(k, d, urn, length, 1 + below(255), ballot, k * d, said, JUGY_URN_ANSWER);
+        if (!below(3))
+            jugy_withdraw(k, d, urn, length, 1 + below(255), said, JUGY_URN_ANSWER);
+    }
+    free(ballot);
+}
+
+/* The ballots of a sound urn, slot after slot along the chain, and their number. */
+static uint8_t *chain_of(size_t k, size_t d, const uint8_t *urn, size_t *count) {
+    uint8_t *bytes = malloc(255 * k * d);
+    *count = 0;
+    for (size_t slot = urn[0]; slot; slot = urn[slot * (2 + k * d)])
+        memcpy(bytes + (*count)++ * k * d, urn + slot * (2 + k * d) + 2, k * d);
+    return bytes;
+}
+
+static int is_sound(size_t k, size_t d, const uint8_t *urn, size_t length) {
+    size_t said[JUGY_URN_ANSWER];
+    return jugy_preview_withdraw(k, d, urn, length, 0, said, JUGY_URN_ANSWER) == JUGY_JUROR;
+}
+
+static void one_call(size_t k, size_t d, size_t n, const uint8_t *urn, size_t length) {
+    size_t said[JUGY_RUN_ANSWER], other[JUGY_RUN_ANSWER], gates = k + below(6), c = 0, count;
+    size_t numbers = about(4 * gates);
+    uint32_t *table = calloc(numbers ? numbers : 1, sizeof *table);
+    for (size_t g = 0; g < gates && 4 * g + 3 < numbers; g++) {
+        uint32_t own = (uint32_t)(n * k * d + g);
+        table[4 * g] = 4 + (uint32_t)below(3);
+        table[4 * g + 1] = below(40) ? below(own) : own;
+        table[4 * g + 2] = below(own);
+        c += table[4 * g] != 6;
+    }
+    size_t tape_length = about(c), wires_length = about(n * k * d + gates), board_length = about(c + k);
+    uint8_t *tape = filled(tape_length, (uint8_t)(below(30) ? below(2) : 2));
+    uint8_t *wires = filled(wires_length, 7), *board = filled(board_length, 7), *before = copy_of(urn, length);
+    jugy_run_urn(k, d, n, table, numbers, urn, length, tape, tape_length, wires, wires_length, board, board_length, said,
+                 JUGY_RUN_ANSWER);
+    expect(!memcmp(before, urn, length), "the urn is altered");
+    if (is_sound(k, d, urn, length)) {
+        uint8_t *chain = chain_of(k, d, urn, &count), *ballots = copy_of(chain, count * k * d);
+        uint8_t *run_wires = filled(wires_length, 7), *run_board = filled(board_length, 7);
+        jugy_run(k, d, n, table, numbers, ballots, count * k * d, tape, tape_length, run_wires, wires_length, run_board,
+                 board_length, other, JUGY_RUN_ANSWER);
+        expect(!memcmp(said, other, sizeof said), "another answer than that of the run on the chain's ballots");
+        expect(!memcmp(wires, run_wires, wires_length) && !memcmp(board, run_board, board_length), "other buffers");
+        free(chain);
+        free(ballots);
+        free(run_wires);
+        free(run_board);
+    } else {
+        expect(said[0] == JUGY_URN, "an unsound urn is not refused as one");
+    }
+    for (size_t i = 0; said[0] && i < wires_length; i++)
+        expect(wires[i] == 7, "a refusal alters the wire table");
+    for (size_t i = 0; said[0] && i < board_length; i++)
+        expect(board[i] == 7, "a refusal alters the board");
+    free(table);
+    free(tape);
+    free(wires);
+    free(board);
+    free(before);
+}
+
+int main(int count, char **words) {
+    int rounds = count > 1 ? atoi(words[1]) : 100;
+    for (int r = 0; r < rounds; r++) {
+        size_t k = 1 + below(8), d = 2 + below(6), size = 2 + k * d, slots = below(9) ? 2 + below(8) : 1 + below(256), many;
+        size_t length = slots * size + (below(8) ? 0 : below(3));
+        uint8_t *urn = calloc(length, 1), *chain;
+        urn[1] = 1;
+        for (size_t i = 1; i + 1 < slots; i++)
+            urn[i * size] = (uint8_t)(i + 1);
+        fill(k, d, urn, length, below(12));
+        if (!below(4))
+            urn[below((uint32_t)length)] = (uint8_t)below(256);
+        many = 1;
+        if (is_sound(k, d, urn, length)) {
+            chain = chain_of(k, d, urn, &many);
+            free(chain);
+        }
+        if (!below(8))
+            many += 1;
+        one_call(k, d, many ? many : 1, urn, length);
+        free(urn);
+    }
+    printf("urn_run_test: ok\n");
+    return 0;
+}

@@ -1,0 +1,213 @@
+#!/usr/bin/env python3
+"""The run on an urn against the program written apart, over the static library: chains in any order of slots, n that is not
+the number of ballots, damaged urns, every fault with every other, full urns, short answer arrays, and random calls.
+Needs a C compiler and target/staticlib/libjugyvaros.a."""
+import ctypes
+import itertools
+import random
+import sys
+
+import document01
+from core import Core, Lent, bytes_of, numbers
+
+SHORT = 255
+OLD = 9                                                      # what buffers hold before a call
+CORE = Core()
+CORE.library.jugy_run_urn.restype = ctypes.c_size_t
+
+
+def run_urn(shape, table, urn, tape, wires, board, answers=4):
+    """Status, answer array, wire table and board after a call. Guards, and what is lent for reading, have to stay."""
+    read = [numbers(table), bytes_of(urn), bytes_of(tape)]
+    written = [bytes_of(wires), bytes_of(board), Lent("L", [OLD] * answers)]
+    arguments = [ctypes.c_size_t(x) for x in shape]
+    for lent in read + written:
+        arguments += lent.arguments()
+    status = CORE.library.jugy_run_urn(*arguments)
+    assert all(lent.is_as_before() for lent in read), shape
+    assert all(lent.has_its_guards() for lent in written), shape
+    return status, written[2].items(), written[0].items(), written[1].items()
+
+
+# The model. An urn is a list of slots; it is sound where the slots of both chains, in order of their numbers, are 1, 2, and so on.
+
+
+def chain_from(slots, first):
+    """The slots of a chain, or None where it does not end."""
+    chain = []
+    while first and len(chain) < len(slots):
+        if first >= len(slots):
+            return None
+        chain.append(first)
+        first = slots[first][0]
+    return None if first else chain
+
+
+def ballots_in(k, d, urn):
+    """The ballots in chain order, or None where the urn is not sound."""
+    size = 2 + k * d
+    if len(urn) % size or not 2 <= len(urn) // size <= 256:
+        return None
+    slots = [urn[at:at + size] for at in range(0, len(urn), size)]
+    held, free = chain_from(slots, slots[0][0]), chain_from(slots, slots[0][1])
+    if held is None or free is None or sorted(held + free) != list(range(1, len(slots))):
+        return None
+    if any(slots[0][2:]) or any(any(slots[i][1:]) for i in free):
+        return None
+    jurors = {slots[i][1] for i in held}
+    if 0 in jurors or len(jurors) != len(held):
+        return None
+    ballots = [slots[i][2:] for i in held]
+    return None if any(document01.ballots_fault(k, d, 1, ballot) for ballot in ballots) else ballots
+
+
+def model(shape, table, urn, tape, wires, board):
+    """The answer, and wire table and board afterwards."""
+    k, d, n = shape
+    fault = None if document01.shape_is_within(*shape) and d >= 2 else (1, 0)
+    ballots = None if fault else ballots_in(k, d, urn)
+    if fault is None and ballots is None:
+        fault = (13, 0)
+    if fault is None:
+        fault = document01.list_fault(n * k * d, k, table)
+    if fault is None and len(ballots) != n:
+        fault = (4, 0)
+    if fault is not None:
+        return ["refused", *fault], wires, board
+    return document01.run_list(k, d, n, table, sum(ballots, []), tape, wires, board)
+
+
+def compare(*call):
+    status, answer, wires, board = run_urn(*call)
+    expected, expected_wires, expected_board = model(*call)
+    found = ["refused", *answer[:2]] if status else ["accepted", *answer[2:]]
+    assert status == answer[0] and (status == 0 or answer[2:] == [0, 0]), (call[0], answer)
+    assert found == expected and wires == expected_wires and board == expected_board, (call[0], call[2], found, expected)
+    return found
+
+
+def ballot(k, d):
+    rows = [[0] * d for _ in range(k)]
+    for row in rows:
+        row[random.randrange(d)] = 1
+    return sum(rows, [])
+
+
+def urn_of(k, d, slots, ballots):
+    """A sound urn whose chains go through the slots in a random order."""
+    size, order = 2 + k * d, random.sample(range(1, slots), slots - 1)
+    jurors = random.sample(range(1, 256), len(ballots))
+    held, free = order[:len(ballots)], order[len(ballots):]
+    urn = [0] * (slots * size)
+    urn[0], urn[1] = (held + [0])[0], (free + [0])[0]
+    for i, slot in enumerate(held):
+        urn[slot * size:slot * size + size] = [(held[i + 1:] + [0])[0], jurors[i]] + ballots[i]
+    for i, slot in enumerate(free):
+        urn[slot * size] = (free[i + 1:] + [0])[0]
+    return urn
+
+
+def random_list(inputs, gates):
+    table = []
+    for own in range(inputs, inputs + gates):
+        kind = random.choice((0, 1, 2, 3, 4, 5, 6, 7, 7, 4))
+        operands = [random.randrange(own) for _ in range(document01.OPERANDS[kind])]
+        table += [kind, *operands, *[0] * (3 - len(operands))]
+    return table
+
+
+def buffers(k, d, n, table):
+    gates = document01.gates_of(table)
+    c = document01.conditional_count(gates)
+    return [random.randrange(2) for _ in range(c)], [OLD] * (n * k * d + len(gates)), [OLD] * (c + k)
+
+
+def orders():
+    """All orders of three ballots' slots: shown bits tell the chain's order from that of the slots."""
+    k, d, n = 1, 3, 3
+    ballots = [[1, 0, 0], [0, 1, 0], [0, 0, 1]]
+    # each input is shown by a gate of its own
+    table = sum(([4, wire, wire, 0] for wire in range(9)), [])
+    boards = set()
+    for held in itertools.permutations((1, 2, 3)):
+        urn = [held[0], 4] + [0] * 3 + [0] * 20
+        for i, slot in enumerate(held):
+            urn[slot * 5:slot * 5 + 5] = [(held[i + 1:] + (0,))[0], slot + 10] + ballots[i]
+        for order in itertools.permutations(ballots):
+            for i, slot in enumerate(held):
+                urn[slot * 5 + 2:slot * 5 + 5] = order[i]
+            status, _, _, board = run_urn((k, d, n), table, urn, [0] * 9, [OLD] * 18, [OLD] * 10)
+            assert status == 0 and board == sum(order, []) + [order[2][2]], (held, order, board)
+            boards.add(tuple(board))
+    assert len(boards) == 6
+
+
+def own_lists():
+    for k, d, n in ((1, 2, 1), (2, 3, 4), (3, 2, 7), (8, 7, 2), (2, 2, 255)):
+        table = CORE.own_list((k, d, n))
+        ballots = [ballot(k, d) for _ in range(n)]
+        urn = urn_of(k, d, min(256, n + 1 + random.randrange(3)), ballots)
+        call = (k, d, n), table, urn, *buffers(k, d, n, table)
+        assert compare(*call)[0] == "accepted"
+        said, _, board = CORE.run((k, d, n), table, sum(ballots, []), *call[3:])
+        status, answer, _, other = run_urn(*call)
+        assert said == ["accepted", *answer[2:]] and other == board
+        for other in (n - 1, n + 1):
+            compare((k, d, other), table, urn, *buffers(k, d, n, table))
+
+
+def faults():
+    """Every fault with every other one, in one call."""
+    k, d, n = 2, 3, 2
+    ballots = [ballot(k, d) for _ in range(3)]
+    good = urn_of(k, d, 4, ballots[:2])
+    table = random_list(n * k * d, 6) + [4, 0, 1, 0]
+    tape, wires, board = buffers(k, d, n, table)
+    shapes = [(k, d, n), (0, d, n), (9, d, n), (k, 0, n), (k, 1, n), (k, 8, n), (k, d, 0), (k, d, 256), (2**63, 2**63, 2**63), (k, d, 1), (k, d, 3)]
+    damaged = good[:1] + [good[0]] + good[2:]
+    urns = [good, damaged, good[:-1], [], urn_of(k, d, 4, ballots), urn_of(k, d, 4, [])]
+    tables = [table, table[:-1], [], table[:4], [8, 0, 0, 0] + table[4:], table[:-4] + [2, n * k * d + 6, 0, 0]]
+    tapes = [tape, tape + [0], tape[:-1] + [2]]
+    cases = itertools.product(shapes, tables, urns, tapes, (wires, wires[:-1], wires + [OLD]), (board, board[:-1]))
+    found = {tuple(compare(*case)[:2]) for case in cases}
+    assert {what for said, what in found if said == "refused"} == {1, 13, 2, 3, 4, 7, 8, 9, 10}, found
+    assert ("accepted", len(table) // 4) in found
+
+
+def random_calls(rounds):
+    kinds = set()
+    for _ in range(rounds):
+        k, d, slots = random.randrange(1, 4), random.randrange(2, 5), random.choice((2, 3, 5, 9))
+        ballots = [ballot(k, d) for _ in range(random.randrange(slots))]
+        urn = urn_of(k, d, slots, ballots)
+        if random.random() < 0.3:
+            urn[random.randrange(len(urn))] = random.choice((0, 1, 2, 3, slots, 255))
+        n = max(1, len(ballots) + random.choice((0,) * 8 + (1, -1)))
+        table = random_list(n * k * d, random.randrange(k, 12))
+        if random.random() < 0.1:
+            table[random.randrange(len(table))] = random.randrange(30)
+        tape, wires, board = buffers(k, d, n, table)
+        if random.random() < 0.1:
+            tape = tape + [0]
+        kinds.add(tuple(compare((k, d, n), table, urn, tape, wires, board)[:2]))
+    assert {what for said, what in kinds if said == "refused"} >= {13, 3, 4, 7}, kinds
+
+
+def short_answers():
+    urn, table = urn_of(1, 2, 2, [[1, 0]]), [4, 0, 1, 0]
+    for length in range(4):
+        found = run_urn((1, 2, 1), table, urn, [0], [OLD] * 3, [OLD] * 2, length)
+        assert found == (SHORT, [OLD] * length, [OLD] * 3, [OLD] * 2), (length, found)
+
+
+def main():
+    random.seed(int(sys.argv[1]) if len(sys.argv) > 1 else 1)
+    orders()
+    own_lists()
+    faults()
+    random_calls(3000)
+    short_answers()
+    print("tests/urn_run: ok")
+
+
+main()
