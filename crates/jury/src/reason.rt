@@ -2,7 +2,7 @@
 ghost use mathlib.Core.Path.{_≡_};
 ghost use Rattle.jury.specs.Reason.{reasonOf};
 
-// In document 01's order, 1 to 10, then those of the urn, 13 to 15. The number in a case is the place.
+// In document 01's order, 1 to 10, then those of the urn, 13 to 15, and of the trustees, 16 to 18. The number in a case is the place.
 pub enum Refusal {
     Shape,
     Table,
@@ -17,6 +17,9 @@ pub enum Refusal {
     Urn,
     Juror,
     FullUrn,
+    Trustees,
+    PartTables,
+    Dealing,
 }
 
 // The outcome of a call that answers no number of its own.
@@ -44,6 +47,9 @@ impl Refusal {
             Refusal::Urn => 13,
             Refusal::Juror => 14,
             Refusal::FullUrn => 15,
+            Refusal::Trustees => 16,
+            Refusal::PartTables => 17,
+            Refusal::Dealing => 18,
         }
     }
 
@@ -65,6 +71,9 @@ impl Refusal {
             Refusal::Urn => 0,
             Refusal::Juror => 0,
             Refusal::FullUrn => 0,
+            Refusal::Trustees => 0,
+            Refusal::PartTables => 0,
+            Refusal::Dealing => 0,
         }
     }
 }
