@@ -2,8 +2,8 @@
 ghost use mathlib.Core.Path.{_≡_};
 ghost use Rattle.jury.specs.Reason.{reasonOf};
 
-// In document 01's order, 1 to 10, those of rankings, 11 and 12, behind 6, then those of the urn, 13 to 15. The number in
-// a case is the place.
+// In checking order 1 to 10, with those of rankings, 11 and 12, behind 6; then those of the urn, 13 to 15, of the trustees, 16 to
+// 18, and of the dispatcher, 19 and 20. The number in a case is the place.
 pub enum Refusal {
     Shape,
     Table,
@@ -20,6 +20,11 @@ pub enum Refusal {
     Urn,
     Juror,
     FullUrn,
+    Trustees,
+    PartTables,
+    Dealing,
+    Juries,
+    GatesPerRound,
 }
 
 // The outcome of a call that answers no number of its own.
@@ -49,6 +54,11 @@ impl Refusal {
             Refusal::Urn => 13,
             Refusal::Juror => 14,
             Refusal::FullUrn => 15,
+            Refusal::Trustees => 16,
+            Refusal::PartTables => 17,
+            Refusal::Dealing => 18,
+            Refusal::Juries => 19,
+            Refusal::GatesPerRound => 20,
         }
     }
 
@@ -72,6 +82,11 @@ impl Refusal {
             Refusal::Urn => 0,
             Refusal::Juror => 0,
             Refusal::FullUrn => 0,
+            Refusal::Trustees => 0,
+            Refusal::PartTables => 0,
+            Refusal::Dealing => 0,
+            Refusal::Juries => 0,
+            Refusal::GatesPerRound => 0,
         }
     }
 }

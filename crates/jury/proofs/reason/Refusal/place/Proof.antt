@@ -52,6 +52,21 @@ enum-told-8 c = search needs
 enum-told-9 : tie.Need-enum-told-9
 enum-told-9 c = search needs
 
+enum-told-10 : tie.Need-enum-told-10
+enum-told-10 c = search needs
+
+enum-told-11 : tie.Need-enum-told-11
+enum-told-11 c = search needs
+
+enum-told-12 : tie.Need-enum-told-12
+enum-told-12 c = search needs
+
+enum-told-13 : tie.Need-enum-told-13
+enum-told-13 c = search needs
+
+enum-told-14 : tie.Need-enum-told-14
+enum-told-14 c = search needs
+
 returns : tie.Need-returns
 unfolding reasonOf reasonAt
 returns c = ap (λ (t : Refusal). reasonOf t .place) (sym (c .before .self .given .1))
@@ -112,6 +127,26 @@ returns-15 : tie.Need-returns-15
 unfolding reasonOf reasonAt
 returns-15 c = ap (λ (t : Refusal). reasonOf t .place) (sym (c .enum-told9 .given .1))
 
+returns-16 : tie.Need-returns-16
+unfolding reasonOf reasonAt
+returns-16 c = ap (λ (t : Refusal). reasonOf t .place) (sym (c .enum-told10 .given .1))
+
+returns-17 : tie.Need-returns-17
+unfolding reasonOf reasonAt
+returns-17 c = ap (λ (t : Refusal). reasonOf t .place) (sym (c .enum-told11 .given .1))
+
+returns-18 : tie.Need-returns-18
+unfolding reasonOf reasonAt
+returns-18 c = ap (λ (t : Refusal). reasonOf t .place) (sym (c .enum-told12 .given .1))
+
+returns-19 : tie.Need-returns-19
+unfolding reasonOf reasonAt
+returns-19 c = ap (λ (t : Refusal). reasonOf t .place) (sym (c .enum-told13 .given .1))
+
+returns-20 : tie.Need-returns-20
+unfolding reasonOf reasonAt
+returns-20 c = ap (λ (t : Refusal). reasonOf t .place) (sym (c .enum-told14 .given .1))
+
 pub place-spec : {M : Type 1} → statement M
 place-spec =
     tie.close
@@ -131,6 +166,11 @@ place-spec =
     enum-told-7
     enum-told-8
     enum-told-9
+    enum-told-10
+    enum-told-11
+    enum-told-12
+    enum-told-13
+    enum-told-14
     returns
     returns-2
     returns-3
@@ -145,4 +185,9 @@ place-spec =
     returns-12
     returns-13
     returns-14
-    returns-15)
+    returns-15
+    returns-16
+    returns-17
+    returns-18
+    returns-19
+    returns-20)
