@@ -11,7 +11,8 @@ use Rattle.gates.specs.Open.Kind.{valueOf}
 use Rattle.gates.specs.Open.Gate.{Gate, gatesOf}
 use Rattle.gates.specs.Open.Wires.{wire, value, wiresOf, outputsOf}
 use Rattle.gates.specs.Open.Board.{conditionalCount, shownBit, shownBits, boardOf}
-use Rattle.gates.specs.Open.Step.{stepWires, stepBoard}
+use Rattle.gates.specs.Open.Step.{rangeOf, stepWires, stepBoard, StepReady}
+use Rattle.gates.proofs.Stepping.{Left}
 use Rattle.gates.proofs.Finishing.{length-shown, whole-range}
 
 -- the value of a gate and what it shows, by the wires' numbers
@@ -26,6 +27,13 @@ shown-is ws g m = refl
 pub outputs-are : (k : ℕ) (ws : List ℕ) → outputsOf k ws ≡ drop (length ws - k) ws
 unfolding outputsOf
 outputs-are k ws = refl
+
+-- before the first gate of a range, all of it is left
+pub left-start : (inputs : ℕ) (t : List ℕ) (from to : ℕ) (tape : List ℕ) (shown : ℕ) (ws board : List ℕ) → StepReady inputs t from to tape shown ws board
+    → Left inputs t to tape (length ws) (length board) (shown + conditionalCount (rangeOf t from to)) (stepWires inputs t from to ws) (stepBoard inputs t from to tape shown ws board) ws board shown from
+unfolding stepBoard
+left-start inputs t from to tape shown ws board r =
+    record { order = r .order; wiresLeft = refl; boardLeft = refl; countLeft = refl; goodLeft = r .good; wiresLength = refl; boardLength = refl }
 
 -- a step over all gates of a list, from a wire table with its inputs in front
 module _ (i : ℕ) (t : List ℕ) (gates : ℕ) (ws : List ℕ) (e : gates ≡ length (gatesOf t)) (w : length ws ≡ i + gates) where
