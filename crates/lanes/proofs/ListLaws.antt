@@ -3,7 +3,6 @@
 use mathlib.Core.Path.{_≡_, _∙_, refl, sym, ap, ap₂}
 use mathlib.Core.List.{List, [], _∷_, _++_, map}
 use Prim.Native.Nat.{ℕ, zero, suc, _^_, _≤_, _<_}
-use native.Mathlib.Nat.{suc-inj}
 use native.Mathlib.Omega.{arith}
 use lib.ListN.{length, getD, take, drop, set, replicate, length-map, List·getD-map}
 use Rattle.lanes.specs.Lane.{laneCount, lane, laneOf, packed, wordsOf}
@@ -61,6 +60,16 @@ lanes-cons j w ws = refl
 pub lanes-nil : (j : ℕ) → laneOf j [] ≡ []
 unfolding laneOf
 lanes-nil j = refl
+
+pub lanes-zeros : (j n : ℕ) → laneOf j (replicate n 0) ≡ replicate n 0
+unfolding laneOf
+lanes-zeros j zero = refl
+lanes-zeros j (suc n) = ap₂ (λ (x : ℕ) (l : List ℕ). x ∷ l) (lane-none j) (lanes-zeros j n)
+
+pub length-words : (n : ℕ) (lists : ℕ → List ℕ) → length (wordsOf n lists) ≡ n
+unfolding wordsOf
+length-words zero lists = refl
+length-words (suc n) lists = ap suc (length-words n (λ j. drop 1 (lists j)))
 
 pub lanes-bits : (j : ℕ) (ws : List ℕ) (i : ℕ) → getD (laneOf j ws) i 0 ≤ 1
 lanes-bits j ws i = rw (lanes-at j ws i) (lane-bit j (getD ws i 0))
