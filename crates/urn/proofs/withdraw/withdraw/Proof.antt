@@ -8,7 +8,7 @@ use Prim.Native.Nat.{ℕ, _*_}
 use lib.Dec.{T}
 use lib.ListN.{length, getD}
 use borrow.Author.Tests.{not-true, not-false}
-use Rattle.jury.specs.Shape.{withinLimits}
+use Rattle.jury.specs.Shape.{gradedLimits}
 use Rattle.jury.specs.Reason.{reasonOf, firstOf}
 use Rattle.jury.proofs.Flags.{and-second, true-T}
 use Rattle.chains.specs.Slots.{bytesOf, slotAt}
@@ -53,7 +53,7 @@ passed e =
     let a = e .before .before .before .before .before .before .before .before .args in
     withdrawable (a .k) (a .d) (factsOf (a .k) (a .d) (a .urn .now) (a .juror)) (a .juror) (no-reason e)
 
-limits : (e : tie.After-enum-told) → T (withinLimits (juryOfOne (e .before .before .before .before .before .before .before .before .args .k) (e .before .before .before .before .before .before .before .before .args .d)))
+limits : (e : tie.After-enum-told) → T (gradedLimits (juryOfOne (e .before .before .before .before .before .before .before .before .args .k) (e .before .before .before .before .before .before .before .before .args .d)))
 limits e =
     let a = e .before .before .before .before .before .before .before .before .args in
     graded-within (a .k) (a .d) (true-T _ (passed e .graded))
