@@ -10,7 +10,7 @@ use lib.Dec.{T, leb, eqb}
 use borrow.Author.Tests.{leb-true, le-leb, eqb-true, eq-eqb, ne-eqb}
 use Rattle.jury.specs.declared.shape.Shape.{Shape}
 use Rattle.jury.specs.Shape.{isRanking, gradedLimits, rankedLimits, withinLimits, columns, ballotBytes}
-use Rattle.jury.proofs.Flags.{and-first, and-second, T-true, true-T}
+use Rattle.jury.proofs.Flags.{and-first, and-second, or-either, or-first, or-second, T-true, true-T}
 
 -- a tasting with grades
 pub record Within (s : Shape) : Type 0 where
@@ -95,7 +95,7 @@ ranked-bytes s e = ap (λ (t : Bool). s .ballots * s .candidates * cond t (s .ca
 -- a shape within the limits is of one of the two kinds
 pub kinds : (s : Shape) → withinLimits s ≡ true → (gradedLimits s ≡ true) ⊎ (rankedLimits s ≡ true)
 unfolding withinLimits
-kinds s e = inl e
+kinds s e = or-either (gradedLimits s) (rankedLimits s) e
 
 pub graded-kind : (s : Shape) → withinLimits s ≡ true → isRanking s ≡ false → gradedLimits s ≡ true
 graded-kind s e f = ⊎-elim (λ g. g) (λ r. absurd (true≢false (sym (ranked s r .ranking) ∙ f))) (kinds s e)
@@ -105,7 +105,11 @@ ranked-kind s e f = ⊎-elim (λ g. absurd (true≢false (sym f ∙ graded-is s 
 
 pub graded-within : (s : Shape) → gradedLimits s ≡ true → withinLimits s ≡ true
 unfolding withinLimits
-graded-within s e = e
+graded-within s e = or-first (gradedLimits s) (rankedLimits s) e
+
+pub ranked-within : (s : Shape) → rankedLimits s ≡ true → withinLimits s ≡ true
+unfolding withinLimits
+ranked-within s e = or-second (gradedLimits s) (rankedLimits s) e
 
 pub graded-T : (s : Shape) → T (gradedLimits s) → T (withinLimits s)
 graded-T s h = true-T (withinLimits s) (graded-within s (T-true (gradedLimits s) h))

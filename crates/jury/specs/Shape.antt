@@ -1,5 +1,5 @@
 -- The shape of a jury, of which there are two kinds, and its limits.
-use mathlib.Core.Bool.{Bool, cond, _&&_}
+use mathlib.Core.Bool.{Bool, cond, _&&_, _||_}
 use Prim.Native.Nat.{ℕ, _*_}
 use lib.Dec.{leb, eqb}
 use Rattle.jury.specs.declared.shape.Shape.{Shape}
@@ -22,9 +22,9 @@ rankedLimits s =
     && isRanking s
     && leb 1 (s .ballots) && leb (s .ballots) 255
 
--- The shapes that are taken: those with grades. (Ranking shapes follow with their own list.)
+-- A shape of either kind.
 unfoldable pub withinLimits : Shape → Bool
-withinLimits s = gradedLimits s
+withinLimits s = gradedLimits s || rankedLimits s
 
 -- The bytes of a row: one for each grade, or one for each candidate where they are ranked.
 unfoldable pub columns : Shape → ℕ

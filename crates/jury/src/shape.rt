@@ -84,7 +84,7 @@ impl Shape {
     pub fn is_within_limits(self) -> bool
         ensures { λ r. ⌜ r ≡ withinLimits self ⌝ }
     {
-        self.is_within_graded_limits()
+        self.is_within_graded_limits() || self.is_within_ranked_limits()
     }
 
     // The bytes of a row: a grade each, or a candidate each where they are ranked.

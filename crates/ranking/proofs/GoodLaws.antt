@@ -74,7 +74,7 @@ link-low start w i j wire h g = go (ltb j i)
     go false = down-below (start j i + 3) (start j i + 2) w wire (omega arith) (omega arith)
 
 -- none of three tests holds
-none-of : (a b c : Bool) → (a || b || c) ≡ false → (a ≡ false) × (b ≡ false) × (c ≡ false)
+pub none-of : (a b c : Bool) → (a || b || c) ≡ false → (a ≡ false) × (b ≡ false) × (c ≡ false)
 none-of true b c e = absurd (true-false e)
   where
     true-false : true ≡ false → ⊥

@@ -33,7 +33,7 @@ unfolding firstOf sheetReasons unless foundAt firstBadRun runsIn firstRuns goodR
 stranger = refl
 
 -- a run of rankings is a good one, one with a single grade is not
-ranked : firstOf (sheetReasons (kindRun 0 ++ kindRun 1)) ≡ some (reasonAt 22 0)
+ranked : firstOf (sheetReasons (kindRun 0 ++ kindRun 1)) ≡ some (reasonAt 22 1)
 unfolding firstOf sheetReasons unless foundAt firstBadRun runsIn firstRuns goodRun isRanking gradedLimits rankedLimits withinLimits runOf numberAt kindRun
 ranked = refl
 

@@ -58,6 +58,21 @@ edges =
     ∷ refused 1 2 2 (1 ∷ 0 ∷ 0 ∷ 0 ∷ []) 6 1
     ∷ refused 2 2 1 (1 ∷ 1 ∷ 0 ∷ 1 ∷ []) 6 0
     ∷ refused 1 2 2 (0 ∷ 0 ∷ 2 ∷ 1 ∷ []) 5 2
+    ∷ refused 9 0 1 [] 1 0
+    ∷ refused 0 0 1 [] 1 0
+    ∷ refused 2 0 0 [] 1 0
+    ∷ refused 2 0 256 [] 1 0
+    ∷ refused 2 0 1 (0 ∷ 1 ∷ 0 ∷ []) 4 0
+    ∷ refused 3 0 1 (0 ∷ 0 ∷ 1 ∷ 0 ∷ 1 ∷ 0 ∷ 1 ∷ 0 ∷ 0 ∷ []) 11 2
+    ∷ refused 2 0 2 (0 ∷ 1 ∷ 0 ∷ 0 ∷ 0 ∷ 0 ∷ 0 ∷ 1 ∷ []) 11 7
+    ∷ refused 3 0 1 (0 ∷ 1 ∷ 0 ∷ 0 ∷ 0 ∷ 0 ∷ 0 ∷ 0 ∷ 0 ∷ []) 12 0
+    ∷ refused 3 0 2 (0 ∷ 1 ∷ 0 ∷ 0 ∷ 0 ∷ 0 ∷ 0 ∷ 0 ∷ 0 ∷ 1 ∷ 0 ∷ 0 ∷ 0 ∷ 0 ∷ 0 ∷ 0 ∷ 0 ∷ 0 ∷ []) 11 9
+    ∷ record {
+      shape = record { candidates = 3; grades = 0; ballots = 1 };
+      ballots = 0 ∷ 1 ∷ 1 ∷ 0 ∷ 0 ∷ 0 ∷ 0 ∷ 0 ∷ 0 ∷ [];
+      reason = none;
+      closing = 1 ∷ 0 ∷ 0 ∷ 0 ∷ 0 ∷ 0 ∷ 0 ∷ 0 ∷ [];
+    }
     ∷ record {
       shape = record { candidates = 2; grades = 3; ballots = 3 };
       ballots = 1 ∷ 0 ∷ 0 ∷ 0 ∷ 1 ∷ 0 ∷ 0 ∷ 1 ∷ 0 ∷ 0 ∷ 1 ∷ 0 ∷ 0 ∷ 1 ∷ 0 ∷ 0 ∷ 0 ∷ 1 ∷ [];

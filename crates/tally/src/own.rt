@@ -15,7 +15,11 @@ pub fn own_list(shape: Shape, table: &mut [u32]) -> Writer
     requires { ⌜ T (withinLimits shape) ⌝ }
     ensures { λ r. ⌜ Wrote (record { gate = 0; wire = ballotBytes shape; conditional = 0 }) (now (table .entry)) (ownList shape) (now (table .exit)) r ⌝ }
 {
-    writer::list::own_list(shape, table)
+    if shape.is_ranking() {
+        ranking_writer::list::ranked_list(shape.candidates as u32, shape.ballots as u32, table)
+    } else {
+        writer::list::own_list(shape, table)
+    }
 }
 
 // G and C of it: what the writer counts while it writes into a table without a place.

@@ -1,40 +1,91 @@
--- `tally::own::own_list` meets its contract: a shape within the limits has grades, and their writer writes its list.
+-- `tally::own::own_list` meets its contract: the writer of the shape's kind writes its list.
 -- Assumes nothing.
-use mathlib.Core.Path.{_≡_, sym, subst}
+use mathlib.Core.Path.{_≡_, _∙_, sym, ap, subst}
 use mathlib.Core.Bool.{true, false}
 use mathlib.Core.List.{List}
+use Prim.Native.Nat.{ℕ}
+use native.Mathlib.Omega.{arith}
 use borrow.Author.Needs.{needs}
-use lib.Dec.{T}
 use Rattle.gates.specs.Gate.{Gate}
 use Rattle.words.specs.Writing.{Wrote}
-use Rattle.jury.specs.declared.shape.Shape.{Shape}
+use Rattle.words.specs.declared.writer.Writer.{Writer}
 use Rattle.jury.specs.Shape.{isRanking, gradedLimits, withinLimits, ballotBytes}
 use Rattle.jury.proofs.Flags.{T-true, true-T}
-use Rattle.jury.proofs.Limits.{within, graded-is}
+use Rattle.jury.proofs.Limits.{Ranked, ranked, ranked-bytes, graded-kind, ranked-kind}
+use Rattle.ranking.specs.OwnRanking.{ownRanking}
 use Rattle.tally.specs.OwnList.{ownList}
-use Rattle.tally.proofs.OwnList.{own-graded}
+use Rattle.tally.proofs.OwnList.{own-graded, own-ranked}
 use Rattle.tally.proofs.own.own_list.Statement.{statement}
 use Rattle.tally.proofs.own.own_list.Tie as tie
 
-limits : (s : Shape) → T (withinLimits s) → gradedLimits s ≡ true
-unfolding withinLimits
-limits s t = T-true (gradedLimits s) t
+is-ranking-requires : tie.Need-is-ranking-requires
+is-ranking-requires c κs = search needs
 
-grading : (s : Shape) → T (withinLimits s) → isRanking s ≡ false
-grading s t = graded-is s (within s (limits s t))
+-- the writer that starts a list of so many inputs
+first : ℕ → Writer
+first inputs = record { gate = 0; wire = inputs; conditional = 0 }
+
+-- the candidates are ranked
+ranking : (c : tie.Then1) → isRanking (c .before .before .before .args .shape) ≡ true
+ranking c = sym (c .before .is-ranking .ensures) ∙ c .if1 .taken
+
+grading : (c : tie.Else1) → isRanking (c .before .before .before .args .shape) ≡ false
+grading c = sym (c .before .is-ranking .ensures) ∙ c .if1 .left
+
+-- so their numbers are few
+ranks : (c : tie.Then1) → Ranked (c .before .before .before .args .shape)
+ranks c =
+    let start = c .before .before .before in
+    let s = start .args .shape in
+    ranked s (ranked-kind s (T-true (withinLimits s) (start .pre)) (ranking c))
+
+cast-ranked-list : tie.Need-cast-ranked-list
+cast-ranked-list c = omega (arith, ranks (c .before) .k-most)
+
+cast-ranked-list-2 : tie.Need-cast-ranked-list-2
+cast-ranked-list-2 c = omega (arith, ranks (c .before .before) .n-most)
+
+ranked-list-requires : tie.Need-ranked-list-requires
+ranked-list-requires c κs = let r = ranks (c .before .before .before) in (r .k-least, r .k-most, r .n-least, r .n-most)
 
 own-list-requires : tie.Need-own-list-requires
-own-list-requires c κs = let start = c .before .before in true-T (gradedLimits (start .args .shape)) (limits (start .args .shape) (start .pre))
+own-list-requires c κs =
+    let start = c .before .before .before .before in
+    let s = start .args .shape in
+    true-T (gradedLimits s) (graded-kind s (T-true (withinLimits s) (start .pre)) (grading (c .before)))
 
 same-length : tie.Need-same-length
 same-length c = search needs
 
 returns : tie.Need-returns
+unfolding first
 returns c =
+    let e = c .before .before .ranked-list in
+    let told = c .before .before .before .before .before .before in
+    let a = told .before .before .before .args in
+    subst (λ (gs : List Gate). Wrote (first (ballotBytes (a .shape))) (a .table .now) gs (e .last .1 .1 .0) (e .result)) (sym (own-ranked (a .shape) (ranking told)))
+    (subst (λ (i : ℕ). Wrote (first i) (a .table .now) (ownRanking (a .shape .candidates) (a .shape .ballots)) (e .last .1 .1 .0) (e .result)) (sym (ranked-bytes (a .shape) (ranking told))) (e .ensures))
+
+same-length-2 : tie.Need-same-length-2
+same-length-2 c = search needs
+
+returns-2 : tie.Need-returns-2
+returns-2 c =
     let e = c .before .before .own-list in
-    let start = c .before .before .before .before .before in
-    let a = start .args in
-    subst (λ (gs : List Gate). Wrote (record { gate = 0; wire = ballotBytes (a .shape); conditional = 0 }) (a .table .now) gs (e .last .1 .0) (e .result)) (sym (own-graded (a .shape) (grading (a .shape) (start .pre)))) (e .ensures)
+    let told = c .before .before .before .before in
+    let a = told .before .before .before .args in
+    subst (λ (gs : List Gate). Wrote (record { gate = 0; wire = ballotBytes (a .shape); conditional = 0 }) (a .table .now) gs (e .last .1 .0) (e .result)) (sym (own-graded (a .shape) (grading told))) (e .ensures)
 
 pub own-list-spec : {M : Type 1} → statement M
-own-list-spec = tie.close (tie.spec own-list-requires same-length returns)
+own-list-spec =
+    tie.close
+    (tie.spec
+    is-ranking-requires
+    cast-ranked-list
+    cast-ranked-list-2
+    ranked-list-requires
+    own-list-requires
+    same-length
+    returns
+    same-length-2
+    returns-2)
