@@ -1,11 +1,11 @@
 // The contest of two keys.
-use crate::median::median;
 use crate::outward::outward;
-use crate::versus::above_at;
-use crate::versus::unequal_at;
-use crate::versus::versus;
 use circuit::plan::Plan;
 use gates::kind;
+use keys::median::median;
+use keys::versus::above_at;
+use keys::versus::unequal_at;
+use keys::versus::versus;
 use words::writer::Writer;
 ghost use mathlib.Core.Path.{_≡_};
 ghost use mathlib.Core.List.{_∷_, []};

@@ -1,16 +1,16 @@
 // Two keys with equal medians, compared. Words have `above` digits above the lowest, and `between` grades stand between
 // the first and the last of a key.
-use crate::nearest::first_of;
-use crate::nearest::last_of;
-use crate::nearest::left_end;
-use crate::nearest::probes;
-use crate::nearest::right_end;
-use crate::versus::above_at;
-use crate::versus::unequal_at;
-use crate::versus::versus;
 use circuit::plan::Plan;
 use counting::adder::add_with_bit;
 use gates::kind;
+use keys::nearest::first_of;
+use keys::nearest::last_of;
+use keys::nearest::left_end;
+use keys::nearest::probes;
+use keys::nearest::right_end;
+use keys::versus::above_at;
+use keys::versus::unequal_at;
+use keys::versus::versus;
 use words::writer::Writer;
 ghost use mathlib.Core.Path.{_≡_};
 ghost use mathlib.Core.List.{_∷_, []};

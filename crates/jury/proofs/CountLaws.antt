@@ -13,7 +13,7 @@ use lib.Seq.{getD-take, getD-drop}
 use borrow.Author.Tests.{lt-ltb, le-ltb, eqb-true, eqb-false}
 use Rattle.jury.specs.declared.shape.Shape.{Shape}
 use Rattle.jury.specs.Counts.{byteOf, countUpTo, countOf, tabulate, countArray}
-use Rattle.jury.specs.Inner.{plusRow, plusBallot}
+use Rattle.jury.specs.Inner.{EightBySeven, plusRow, plusBallot}
 use Rattle.jury.proofs.Cases.{below-or-not}
 use Rattle.jury.proofs.BallotLaws.{row-within}
 use Rattle.jury.proofs.Tabulate.{length-tabulate, getD-tabulate, tabulate-cong}
@@ -90,6 +90,15 @@ module _ (s : Shape) (xs : List ℕ) where
 
       outside : 8 ≤ c → getD (getD (tabulate 8 (rowAfter s xs b)) c []) g 0 ≤ b
       outside l = rw (List·getD-eq-default (tabulate 8 (rowAfter s xs b)) [] {n = c} (omega (arith, length-tabulate 8 (rowAfter s xs b)))) (omega arith)
+
+  -- the array is eight by seven, and can take one ballot more
+  pub array-eight-by-seven : (b : ℕ) → b < 256 → EightBySeven (arrayAfter s xs b)
+  unfolding arrayAfter rowAfter
+  array-eight-by-seven b h = record {
+    rows = length-tabulate 8 (rowAfter s xs b);
+    columns = λ c l. rw (getD-tabulate 8 c (rowAfter s xs b) [] l) (length-tabulate 7 (entryAfter s xs b c));
+    small = λ c g. omega (arith, read-most b c g);
+  }
 
   -- before the first ballot all entries are 0
   pub array-start : arrayAfter s xs 0 ≡ tabulate 8 (λ c. tabulate 7 (λ g. 0))

@@ -1,11 +1,18 @@
 -- Definitions for inner functions and their proofs: no entry point's contract needs them.
+use mathlib.Core.Path.{_≡_}
 use mathlib.Core.Bool.{Bool, cond}
 use mathlib.Core.List.{List, [], _++_, map}
-use Prim.Native.Nat.{ℕ, suc, _+_, _*_}
+use Prim.Native.Nat.{ℕ, suc, _+_, _*_, _<_}
 use lib.Dec.{ltb}
-use lib.ListN.{getD, take, drop}
+use lib.ListN.{length, getD, take, drop}
 use Rattle.jury.specs.Counts.{tabulate}
 use Rattle.jury.specs.Gauge.{beatsAll}
+
+-- The array of counts while it is filled: eight rows of seven counts, to each of which 1 can be added.
+pub record EightBySeven (counts : List (List ℕ)) : Type 0 where
+  pub rows : length counts ≡ 8
+  pub columns : (c : ℕ) → c < 8 → length (getD counts c []) ≡ 7
+  pub small : (c g : ℕ) → getD (getD counts c []) g 0 < 256
 
 -- A row of counts with one row of a ballot added.
 unfoldable pub plusRow : List ℕ → List ℕ → List ℕ

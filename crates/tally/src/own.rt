@@ -29,3 +29,14 @@ pub fn measure(shape: Shape) -> Writer
 {
     own_list(shape, &mut [])
 }
+
+// G alone: of grades without writing each candidate's circuit, since all of them are as long.
+pub fn gates(shape: Shape) -> usize
+    requires { ⌜ T (withinLimits shape) ⌝ }
+    ensures { λ r. ⌜ r ≡ length (ownList shape) ⌝ }
+{
+    if shape.is_ranking() {
+        return measure(shape).gate;
+    }
+    writer::list::gates(shape)
+}

@@ -19,7 +19,7 @@ pub fn write(shape: Shape, table: &mut [u32]) -> Answer
     }
     // The list is measured first, so that a refusal leaves the table as it was. Four numbers a gate, without a product
     // that could wrap.
-    if table.len() / 4 < crate::own::measure(shape).gate {
+    if table.len() / 4 < crate::own::gates(shape) {
         return Answer::Refused(Refusal::Table);
     }
     let end = crate::own::own_list(shape, table);

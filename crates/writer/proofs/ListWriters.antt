@@ -3,13 +3,13 @@
 use mathlib.Core.Path.{_≡_, _∙_, refl, sym, ap, subst}
 use mathlib.Core.Bool.{Bool, true, false, cond}
 use mathlib.Core.Logic.{⊎-elim}
-use mathlib.Core.List.{List, [], _∷_, _++_}
+use mathlib.Core.List.{List, [], _∷_, _++_, append-assoc}
 use Prim.Native.Nat.{ℕ, zero, suc, _+_, _-_, _*_, _/_, _≤_, _<_}
-use native.Mathlib.Nat.{suc-mul, mul-comm, mul-div-cancel}
+use native.Mathlib.Nat.{suc-mul, one-mul, mul-comm, mul-le-mul-right, mul-div-cancel}
 use native.Mathlib.Numerals.{add-one}
 use native.Mathlib.Omega.{arith}
 use lib.Dec.{T, leb, eqb}
-use lib.ListN.{length}
+use lib.ListN.{length, length-append}
 use borrow.Author.Tests.{eq-eqb, ne-eqb, le-leb, lt-leb}
 use Rattle.gates.specs.Gate.{Gate}
 use Rattle.words.specs.Gates.{constant, copyOf, andOf}
@@ -25,10 +25,11 @@ use Rattle.circuit.specs.Plan.{planOf, Planned}
 use Rattle.circuit.specs.Key.{keySpan, candidate, candidateSpan}
 use Rattle.circuit.specs.Contest.{resultAt, contestSpan}
 use Rattle.circuit.specs.Meeting.{bothOf, stillWon, meeting, meetingSpan, wonAt, better}
-use Rattle.circuit.specs.OwnList.{candidates, keyAt, levelsSpan, bestKey, groupWon, otherAt, meetAt, halvesMeet, halvesBetter, levels, levelsAt, circuit, ownList}
+use Rattle.circuit.specs.OwnList.{candidates, keyAt, levelsSpan, bestKey, groupWon, otherAt, meetAt, halvesMeet, halvesBetter, levels, lowLevels, levelsAt, circuit, ownList}
 use Rattle.circuit.proofs.Planning.{planned}
 use Rattle.circuit.proofs.CandidateBlocks.{key-of}
-use Rattle.circuit.proofs.LevelsLaws.{key-before, span-one, span-more, key-one, key-more, won-more, levels-one, levels-more}
+use Rattle.circuit.proofs.LevelsLaws.{candidates-block, key-before, span-one, span-more, key-one, key-more, won-more, levels-one, levels-more}
+use Rattle.circuit.proofs.CircuitLaws.{circuit-block}
 use Rattle.circuit.proofs.OwnListLaws.{own-list-short}
 
 pub own-one : (s : Shape) → s .candidates ≡ 1 → constant 1 ∷ [] ≡ ownList s
@@ -38,6 +39,39 @@ own-one s e = rw (eq-eqb (s .candidates) 1 e)
 pub own-more : (s : Shape) (p : Plan) → p ≡ planOf s → (s .candidates ≡ 1 → ⊥) → circuit p ≡ ownList s
 unfolding ownList
 own-more s p e h = ap circuit e ∙ rw (ne-eqb (s .candidates) 1 h)
+
+-- what stands behind the candidates
+abbrev pub allLevels : Plan → List Gate
+allLevels p =
+    levels p lowLevels (levelsAt p) 0 (p .candidates / 2)
+    ++ levels p lowLevels (otherAt p lowLevels (levelsAt p) (p .candidates)) (p .candidates / 2) (p .candidates - p .candidates / 2)
+    ++ halvesMeet p lowLevels (levelsAt p) 0 (p .candidates)
+
+abbrev pub allLevelsSpan : Plan → ℕ
+allLevelsSpan p =
+    levelsSpan p lowLevels (p .candidates / 2)
+    + (levelsSpan p lowLevels (p .candidates - p .candidates / 2) + meetingSpan p (p .candidates / 2) (p .candidates - p .candidates / 2))
+
+pub circuit-parts : (p : Plan) → candidates p (p .inputs) 0 (p .candidates) ++ allLevels p ≡ circuit p
+unfolding circuit
+circuit-parts p = simp append-assoc
+
+-- and how long both are
+pub circuit-long : (p : Plan) → Planned p → 1 < p .candidates → length (circuit p) ≡ p .candidates * candidateSpan p + allLevelsSpan p
+circuit-long p f h = omega (arith, circuit-block p f h .long)
+
+pub levels-long : (p : Plan) → Planned p → 1 < p .candidates → p .candidates * candidateSpan p + length (allLevels p) ≡ length (circuit p)
+levels-long p f h =
+    omega (
+      arith,
+      ap length (circuit-parts p),
+      length-append (candidates p (p .inputs) 0 (p .candidates)) (allLevels p),
+      candidates-block p f (p .inputs) 0 (p .candidates) (omega arith) (omega arith) .long,
+    )
+
+-- a candidate's circuit is no longer than all of them
+pub one-of-all : (p : Plan) → Planned p → candidateSpan p ≤ p .candidates * candidateSpan p
+one-of-all p f = omega (arith, one-mul (candidateSpan p), mul-le-mul-right {m = 1} {n = p .candidates} (candidateSpan p) (f .k-least))
 
 -- before the first gate of the own list
 pub first-writer : (s : Shape) (p : Plan) (w : Writer) → p ≡ planOf s → w ≡ record { gate = 0; wire = p .inputs; conditional = 0 } → w ≡ record { gate = 0; wire = ballotBytes s; conditional = 0 }

@@ -9,6 +9,7 @@ use jury::shape::Shape;
 use words::writer::Writer;
 ghost use mathlib.Core.Path.{_≡_};
 ghost use mathlib.Core.Bool.{cond};
+ghost use mathlib.Core.List.{_++_};
 ghost use Prim.Native.Nat.{_+_, _-_, _*_, _/_, _≤_, _<_};
 ghost use lib.Dec.{T, leb};
 ghost use lib.ListN.{length};
@@ -19,7 +20,7 @@ ghost use Rattle.jury.specs.Shape.{gradedLimits, ballotBytes};
 ghost use Rattle.circuit.specs.Plan.{Planned};
 ghost use Rattle.circuit.specs.Key.{keySpan, candidateSpan};
 ghost use Rattle.circuit.specs.Meeting.{meeting, meetingSpan};
-ghost use Rattle.circuit.specs.OwnList.{candidates, keyAt, levelsSpan, levels, levelsAt, circuit, ownList};
+ghost use Rattle.circuit.specs.OwnList.{candidates, keyAt, levelsSpan, levels, otherAt, halvesMeet, lowLevels, levelsAt, circuit, ownList};
 
 // The circuits of all candidates.
 fn candidates(w: Writer, table: &mut [u32], p: Plan) -> Writer
@@ -112,16 +113,13 @@ fn halves(
     meeting(w, table, p, x, y, u, v, first, second)
 }
 
-// The best of one to four candidates from candidate c on.
-fn four(w: Writer, table: &mut [u32], p: Plan, span: u32, c: u32, count: u32) -> Writer
+// The best of two to four candidates from candidate c on.
+fn two_to_four(w: Writer, table: &mut [u32], p: Plan, span: u32, c: u32, count: u32) -> Writer
     requires { ⌜ Planned p ⌝ }
     requires { ⌜ Room w (levelsSpan p 2 count) ⌝ }
-    requires { ⌜ (span ≡ candidateSpan p) × (levelsAt p ≤ w .wire) × (0 < count) × (count ≤ 4) × (c + count ≤ p .candidates) ⌝ }
+    requires { ⌜ (span ≡ candidateSpan p) × (levelsAt p ≤ w .wire) × (1 < count) × (count ≤ 4) × (c + count ≤ p .candidates) ⌝ }
     ensures { λ r. ⌜ Wrote w (now (table .entry)) (levels p 2 (w .wire) c count) (now (table .exit)) r ⌝ }
 {
-    if count <= 1 {
-        return w;
-    }
     let first = count / 2;
     let second = count - first;
     let low = pair(w, table, p, span, c, first);
@@ -132,7 +130,34 @@ fn four(w: Writer, table: &mut [u32], p: Plan, span: u32, c: u32, count: u32) ->
     better(met, table, p, met.wire - count - 6, x, y)
 }
 
-// The candidates, and three levels of meetings.
+// The best of one to four candidates from candidate c on.
+fn four(w: Writer, table: &mut [u32], p: Plan, span: u32, c: u32, count: u32) -> Writer
+    requires { ⌜ Planned p ⌝ }
+    requires { ⌜ Room w (levelsSpan p 2 count) ⌝ }
+    requires { ⌜ (span ≡ candidateSpan p) × (levelsAt p ≤ w .wire) × (0 < count) × (count ≤ 4) × (c + count ≤ p .candidates) ⌝ }
+    ensures { λ r. ⌜ Wrote w (now (table .entry)) (levels p 2 (w .wire) c count) (now (table .exit)) r ⌝ }
+{
+    if count <= 1 {
+        return w;
+    }
+    two_to_four(w, table, p, span, c, count)
+}
+
+// Three levels of meetings, behind the circuits of all candidates.
+fn all_levels(all: Writer, table: &mut [u32], p: Plan, span: u32) -> Writer
+    requires { ⌜ Planned p ⌝ }
+    requires { ⌜ Room all (levelsSpan p lowLevels (p .candidates / 2) + (levelsSpan p lowLevels (p .candidates - p .candidates / 2) + meetingSpan p (p .candidates / 2) (p .candidates - p .candidates / 2))) ⌝ }
+    requires { ⌜ (span ≡ candidateSpan p) × (all .wire ≡ levelsAt p) × (1 < p .candidates) ⌝ }
+    ensures { λ r. ⌜ Wrote all (now (table .entry)) (levels p lowLevels (levelsAt p) 0 (p .candidates / 2) ++ levels p lowLevels (otherAt p lowLevels (levelsAt p) (p .candidates)) (p .candidates / 2) (p .candidates - p .candidates / 2) ++ halvesMeet p lowLevels (levelsAt p) 0 (p .candidates)) (now (table .exit)) r ⌝ }
+{
+    let first = p.candidates / 2;
+    let second = p.candidates - first;
+    let low = four(all, table, p, span, 0, first);
+    let high = four(low, table, p, span, first, second);
+    halves(high, table, p, span, 0, first, second, low.wire)
+}
+
+// The candidates, and all levels.
 fn circuit(w: Writer, table: &mut [u32], p: Plan) -> Writer
     requires { ⌜ Planned p ⌝ }
     requires { ⌜ Room w (length (circuit p)) ⌝ }
@@ -141,11 +166,27 @@ fn circuit(w: Writer, table: &mut [u32], p: Plan) -> Writer
 {
     let all = candidates(w, table, p);
     let span = (all.wire - p.inputs) / p.candidates;
-    let first = p.candidates / 2;
-    let second = p.candidates - first;
-    let low = four(all, table, p, span, 0, first);
-    let high = four(low, table, p, span, first, second);
-    halves(high, table, p, span, 0, first, second, low.wire)
+    all_levels(all, table, p, span)
+}
+
+// G of the own list of a shape, by the circuit of one candidate, as all have the same number of gates, and the levels.
+pub fn gates(shape: Shape) -> usize
+    requires { ⌜ T (gradedLimits shape) ⌝ }
+    ensures { λ r. ⌜ r ≡ length (ownList shape) ⌝ }
+{
+    let p = Plan::new(shape);
+    let w = Writer::new(p.inputs);
+    if shape.candidates == 1 {
+        return 1;
+    }
+    let one = candidate(w, &mut [], p, 0);
+    let span = one.wire - p.inputs;
+    let all = Writer {
+        gate: shape.candidates * one.gate,
+        wire: p.inputs + p.candidates * span,
+        conditional: 0,
+    };
+    all_levels(all, &mut [], p, span).gate
 }
 
 // Writes the own list of a shape from the table's first number on, as far as the table goes. The writer says how many

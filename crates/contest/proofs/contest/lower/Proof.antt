@@ -16,7 +16,7 @@ use Rattle.words.specs.Writing.{Room}
 use Rattle.circuit.specs.Outward.{outward, outwardSpan}
 use Rattle.circuit.proofs.BoundLaws.{digits-most}
 use Rattle.circuit.proofs.ContestLaws.{key-some}
-use Rattle.contest.proofs.Steps.{lower-zero, lower-one, lower-more, lower-span-zero, lower-span-one, lower-span-more}
+use Rattle.keys.proofs.Steps.{lower-zero, lower-one, lower-more, lower-span-zero, lower-span-one, lower-span-more}
 use Rattle.contest.proofs.contest.lower.Statement.{statement}
 use Rattle.contest.proofs.contest.lower.Tie as tie
 

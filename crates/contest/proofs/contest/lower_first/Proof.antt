@@ -3,7 +3,7 @@
 use mathlib.Core.Path.{_≡_, _∙_, sym, ap}
 use Prim.Native.Nat.{ℕ, suc, _+_, _-_, _*_, _≤_, _<_}
 use native.Mathlib.Omega.{arith}
-use Rattle.contest.proofs.Steps.{first-zero-at, first-one-at, first-more-at, lower-span-one, lower-span-more}
+use Rattle.keys.proofs.Steps.{first-zero-at, first-one-at, first-more-at, lower-span-one, lower-span-more}
 use Rattle.contest.proofs.contest.lower_first.Statement.{statement}
 use Rattle.contest.proofs.contest.lower_first.Tie as tie
 

@@ -3,7 +3,7 @@
 use mathlib.Core.Path.{_≡_, _∙_, sym, ap}
 use Prim.Native.Nat.{ℕ, suc, _+_, _-_, _*_, _≤_, _<_}
 use native.Mathlib.Omega.{arith}
-use Rattle.contest.proofs.Steps.{unequal-zero-at, unequal-one-at, unequal-more-at, lower-span-one, lower-span-more}
+use Rattle.keys.proofs.Steps.{unequal-zero-at, unequal-one-at, unequal-more-at, lower-span-one, lower-span-more}
 use Rattle.contest.proofs.contest.lower_unequal.Statement.{statement}
 use Rattle.contest.proofs.contest.lower_unequal.Tie as tie
 

@@ -11,7 +11,7 @@ use Rattle.words.proofs.Writing.{room-less}
 use Rattle.circuit.specs.Nearest.{stride, probeSpan, belowAt, fromAt, eitherSpan, lastOf, firstOf}
 use Rattle.circuit.specs.Outward.{downAt, upAt, farAt, nearest}
 use Rattle.circuit.proofs.NearestLaws.{probes-block, last-of-block}
-use Rattle.contest.proofs.Steps.{product-most}
+use Rattle.keys.proofs.Steps.{product-most}
 use Rattle.circuit.proofs.Writers.{Stands, stands, stands-after, room-of, wrote-then}
 use Rattle.contest.proofs.outward.nearest.Statement.{statement}
 use Rattle.contest.proofs.outward.nearest.Tie as tie

@@ -13,7 +13,7 @@ use Rattle.circuit.specs.Versus.{versusSpan, unequalAt, aboveAt}
 use Rattle.circuit.specs.Nearest.{stride, probeSpan, eitherSpan, leftEnd, rightEnd}
 use Rattle.circuit.specs.Outward.{downAt, upAt, nearestEnd, farAt, downLeft, downRight, upLeft, upRight, weigh, weighSpan, leftCarry, rightCarry, settle, settleSpan, settleAt, outward}
 use Rattle.circuit.proofs.OutwardBlocks.{nearest-block, weigh-block, down-left-below, down-right-below, up-left-below, up-right-below}
-use Rattle.contest.proofs.Steps.{product-most}
+use Rattle.keys.proofs.Steps.{product-most}
 use Rattle.circuit.proofs.Writers.{Stands, stands, stands-after, room-of, wrote-then}
 use Rattle.contest.proofs.outward.outward.Statement.{statement}
 use Rattle.contest.proofs.outward.outward.Tie as tie

@@ -21,19 +21,19 @@ abbrev new : ℕ → List (List ℕ) → List ℕ → ℕ → List ℕ
 new d counts ballot c = plusRow (getD counts c []) (take d (drop (c * d) ballot))
 
 abbrev Inv-loop : tie.InvT-loop
-Inv-loop ballot k d counts₀ at₀ c₀ counts at c =
+Inv-loop counts₀ ballot k d at₀ c₀ counts at c =
     (c ≤ k) × (at ≡ c * d) × (counts ≡ tabulate 8 (upTo c (new d counts₀ ballot) (old counts₀)))
 
 abbrev μ-loop : tie.MeasureT-loop
-μ-loop ballot k d counts₀ at₀ c₀ counts at c = k - c
+μ-loop counts₀ ballot k d at₀ c₀ counts at c = k - c
 
 loop-holds : tie.Need-loop-holds Inv-loop μ-loop
 loop-holds c =
     let start = c .before in (
       omega arith,
       omega (arith, zero-mul (start .args .d)),
-      sym (fill-start 8 (new (start .args .d) (start .args .before) (start .args .ballot .now)) (old (start .args .before))
-          ∙ tabulate-getD (start .args .before) 8 [] (start .good .0 .1 .0 .1)),
+      sym (fill-start 8 (new (start .args .d) (start .args .counts .now) (start .args .ballot .now)) (old (start .args .counts .now))
+          ∙ tabulate-getD (start .args .counts .now) 8 [] (start .pre .1 .rows)),
     )
 
 -- the row of a turn lies within the ballot
@@ -50,8 +50,8 @@ add-end c = omega (arith, end-within c)
 mul-add-row : tie.Need-mul-add-row Inv-loop μ-loop
 mul-add-row c = omega arith
 
-array-copy-out-add-row : tie.Need-array-copy-out-add-row Inv-loop μ-loop
-array-copy-out-add-row c = omega arith
+index-1-add-row : tie.Need-index-1-add-row Inv-loop μ-loop
+index-1-add-row c = omega arith
 
 sub-add-row : tie.Need-sub-add-row Inv-loop μ-loop
 sub-add-row c = omega arith
@@ -64,40 +64,24 @@ part-add-row-end c = end-within (c .before)
 
 -- the row that a turn finds
 found : (c : tie.In-loop Inv-loop μ-loop) →
-    getD (c .before .loop .counts) (c .before .loop .c) [] ≡ getD (c .before .before .before .args .before) (c .before .loop .c) []
+    getD (c .before .loop .counts) (c .before .loop .c) [] ≡ getD (c .before .before .before .args .counts .now) (c .before .loop .c) []
 found c =
     let at = c .before in
     let start = at .before .before in
     ap (λ (m : List (List ℕ)). getD m (at .loop .c) []) (at .loop .inv .2)
-    ∙ fill-at 8 (at .loop .c) (new (start .args .d) (start .args .before) (start .args .ballot .now)) (old (start .args .before)) [] (omega arith)
+    ∙ fill-at 8 (at .loop .c) (new (start .args .d) (start .args .counts .now) (start .args .ballot .now)) (old (start .args .counts .now)) [] (omega arith)
 
 add-row-requires : tie.Need-add-row-requires Inv-loop μ-loop
 add-row-requires c κs =
     let turn = c .before .before in
-    let start = turn .before .before .before in (
-      omega (arith, length-take (turn .before .loop .at + start .args .d - turn .before .loop .at) (drop (turn .before .loop .at) (start .args .ballot .now))),
-      λ g. rw (found turn) (start .pre .1 (turn .before .loop .c) g),
+    let start = turn .before .before .before in
+    let columns = start .pre .1 .columns (turn .before .loop .c) (omega arith) in (
+      (
+        rw (found turn) columns,
+        omega (arith, length-take (turn .before .loop .at + start .args .d - turn .before .loop .at) (drop (turn .before .loop .at) (start .args .ballot .now))),
+      ),
+      λ g. rw (found turn) (start .pre .1 .small (turn .before .loop .c) g),
     )
-
--- the row that a turn makes
-made : (c : tie.After-add-row Inv-loop μ-loop) →
-    c .add-row .result ≡ new (c .before .before .before .before .before .before .args .d) (c .before .before .before .before .before .before .args .before) (c .before .before .before .before .before .before .args .ballot .now) (c .before .before .before .before .loop .c)
-made c =
-    let turn = c .before .before .before in
-    let at = turn .before in
-    let start = at .before .before in
-    let ballot = start .args .ballot .now in
-    let d = start .args .d in
-    c .add-row .ensures
-    ∙ ap (λ (r : List ℕ). plusRow r (take (at .loop .at + d - at .loop .at) (drop (at .loop .at) ballot))) (found turn)
-    ∙ ap (λ (n : ℕ). plusRow (getD (start .args .before) (at .loop .c) []) (take n (drop (at .loop .at) ballot))) (add-sub-cancel-left (at .loop .at) d)
-    ∙ ap (λ (n : ℕ). plusRow (getD (start .args .before) (at .loop .c) []) (take d (drop n ballot))) (at .loop .inv .1)
-
-mul-counts : tie.Need-mul-counts Inv-loop μ-loop
-mul-counts c = omega arith
-
-array-set-from-counts : tie.Need-array-set-from-counts Inv-loop μ-loop
-array-set-from-counts c = omega arith
 
 add-c : tie.Need-add-c Inv-loop μ-loop
 add-c c = omega arith
@@ -110,14 +94,19 @@ loop-again c =
     let turn = c .before .before .before in
     let at = turn .before in
     let start = at .before .before in
-    let counts = start .args .before in
+    let counts = start .args .counts .now in
     let ballot = start .args .ballot .now in
     let d = start .args .d in
-    let i = at .loop .c in (
+    let i = at .loop .c in
+    let made =
+    c .add-row .ensures
+    ∙ ap (λ (r : List ℕ). plusRow r (take (at .loop .at + d - at .loop .at) (drop (at .loop .at) ballot))) (found turn)
+    ∙ ap (λ (n : ℕ). plusRow (getD counts i []) (take n (drop (at .loop .at) ballot))) (add-sub-cancel-left (at .loop .at) d)
+    ∙ ap (λ (n : ℕ). plusRow (getD counts i []) (take d (drop n ballot))) (at .loop .inv .1) in (
       omega arith,
       omega (arith, ap (λ (n : ℕ). n * d) (add-one i), suc-mul i d),
-      ap (λ (m : List (List ℕ)). set m i (c .add-row .result)) (at .loop .inv .2)
-          ∙ ap (λ (r : List ℕ). set (tabulate 8 (upTo i (new d counts ballot) (old counts))) i r) (made c)
+      ap (λ (r : List ℕ). set (at .loop .counts) i r) made
+          ∙ ap (λ (m : List (List ℕ)). set m i (new d counts ballot i)) (at .loop .inv .2)
           ∙ fill-step 8 i (new d counts ballot) (old counts) (omega arith)
           ∙ ap (λ (j : ℕ). tabulate 8 (upTo j (new d counts ballot) (old counts))) (sym (add-one i)),
     )
@@ -128,7 +117,7 @@ returns c =
     let at = c .before in
     let start = at .before .before in
     at .loop .inv .2
-    ∙ ap (λ (i : ℕ). tabulate 8 (upTo i (new (start .args .d) (start .args .before) (start .args .ballot .now)) (old (start .args .before)))) {x = at .loop .c} {y = start .args .k} (omega arith)
+    ∙ ap (λ (i : ℕ). tabulate 8 (upTo i (new (start .args .d) (start .args .counts .now) (start .args .ballot .now)) (old (start .args .counts .now)))) {x = at .loop .c} {y = start .args .k} (omega arith)
 
 pub add-ballot-spec : {M : Type 1} → statement M
 add-ballot-spec =
@@ -139,13 +128,11 @@ add-ballot-spec =
     loop-holds
     add-end
     mul-add-row
-    array-copy-out-add-row
+    index-1-add-row
     sub-add-row
     part-add-row-start
     part-add-row-end
     add-row-requires
-    mul-counts
-    array-set-from-counts
     add-c
     loop-less
     loop-again

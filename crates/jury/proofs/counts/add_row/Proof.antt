@@ -19,15 +19,15 @@ abbrev new : List ℕ → List ℕ → ℕ → ℕ
 new counts row g = getD counts g 0 + getD row g 0
 
 abbrev Inv-loop : tie.InvT-loop
-Inv-loop row counts₀ g₀ counts g = (g ≤ length row) × (counts ≡ tabulate 7 (upTo g (new counts₀ row) (old counts₀)))
+Inv-loop counts₀ row g₀ counts g = (g ≤ length row) × (counts ≡ tabulate 7 (upTo g (new counts₀ row) (old counts₀)))
 
 abbrev μ-loop : tie.MeasureT-loop
-μ-loop row counts₀ g₀ counts g = length row - g
+μ-loop counts₀ row g₀ counts g = length row - g
 
 loop-holds : tie.Need-loop-holds Inv-loop μ-loop
 loop-holds c = (
   omega arith,
-  sym (fill-start 7 (new (c .args .before) (c .args .row .now)) (old (c .args .before)) ∙ tabulate-getD (c .args .before) 7 0 (c .good .0 .1 .0 .1)),
+  sym (fill-start 7 (new (c .args .counts .now) (c .args .row .now)) (old (c .args .counts .now)) ∙ tabulate-getD (c .args .counts .now) 7 0 (c .pre .0 .0)),
 )
 
 shared-slice-read-counts : tie.Need-shared-slice-read-counts Inv-loop μ-loop
@@ -39,22 +39,24 @@ cast-counts c = omega (arith, c .shared-slice-known .given (c .before .before .l
 mul-counts : tie.Need-mul-counts Inv-loop μ-loop
 mul-counts c = omega arith
 
-array-read-counts : tie.Need-array-read-counts Inv-loop μ-loop
-array-read-counts c = omega arith
+element-copy-out-counts : tie.Need-element-copy-out-counts Inv-loop μ-loop
+element-copy-out-counts c = omega arith
 
 -- the count that a turn finds
 found : (c : tie.After-shared-slice-known Inv-loop μ-loop) →
-    getD (c .before .before .loop .counts) (c .before .before .loop .g) 0 ≡ getD (c .before .before .before .args .before) (c .before .before .loop .g) 0
+    getD (c .before .before .loop .counts) (c .before .before .loop .g) 0 ≡ getD (c .before .before .before .args .counts .now) (c .before .before .loop .g) 0
 found c =
     let at = c .before .before in
     ap (λ (m : List ℕ). getD m (at .loop .g) 0) (at .loop .inv .1)
-    ∙ fill-at 7 (at .loop .g) (new (at .before .args .before) (at .before .args .row .now)) (old (at .before .args .before)) 0 (omega arith)
+    ∙ fill-at 7 (at .loop .g) (new (at .before .args .counts .now) (at .before .args .row .now)) (old (at .before .args .counts .now)) 0 (omega arith)
 
 add-counts : tie.Need-add-counts Inv-loop μ-loop
-add-counts c = omega (arith, found c, c .shared-slice-known .given (c .before .before .loop .g), c .before .before .before .pre .1 (c .before .before .loop .g))
+add-counts c =
+    let g = c .before .before .before .loop .g in
+    omega (arith, found (c .before), c .before .shared-slice-known .given g, c .before .before .before .before .pre .1 g)
 
-array-write-counts : tie.Need-array-write-counts Inv-loop μ-loop
-array-write-counts c = omega arith
+element-write-counts : tie.Need-element-write-counts Inv-loop μ-loop
+element-write-counts c = omega arith
 
 add-g : tie.Need-add-g Inv-loop μ-loop
 add-g c = omega arith
@@ -64,12 +66,12 @@ loop-less c = omega arith
 
 loop-again : tie.Need-loop-again Inv-loop μ-loop
 loop-again c =
-    let at = c .before .before in
-    let counts = at .before .args .before in
+    let at = c .before .before .before in
+    let counts = at .before .args .counts .now in
     let row = at .before .args .row .now in
     let g = at .loop .g in (
       omega arith,
-      ap (λ (x : ℕ). set (at .loop .counts) g (x + getD row g 0)) (found c)
+      ap (λ (x : ℕ). set (at .loop .counts) g (x + getD row g 0)) (found (c .before))
           ∙ ap (λ (m : List ℕ). set m g (new counts row g)) (at .loop .inv .1)
           ∙ fill-step 7 g (new counts row) (old counts) (omega arith)
           ∙ ap (λ (j : ℕ). tabulate 7 (upTo j (new counts row) (old counts))) (sym (add-one g)),
@@ -79,7 +81,7 @@ returns : tie.Need-returns Inv-loop μ-loop
 unfolding plusRow
 returns c =
     let at = c .before in
-    let counts = at .before .args .before in
+    let counts = at .before .args .counts .now in
     let row = at .before .args .row .now in
     at .loop .inv .1
     ∙ fill-end 7 (at .loop .g) (new counts row) (old counts)
@@ -95,9 +97,9 @@ add-row-spec =
     shared-slice-read-counts
     cast-counts
     mul-counts
-    array-read-counts
+    element-copy-out-counts
     add-counts
-    array-write-counts
+    element-write-counts
     add-g
     loop-less
     loop-again

@@ -13,7 +13,7 @@ use Rattle.jury.specs.Gauge.{sum}
 use Rattle.jury.specs.Inner.{rowsIn, plusBallot}
 use Rattle.jury.proofs.Limits.{within, bytes-are}
 use Rattle.jury.proofs.BallotLaws.{row-within}
-use Rattle.jury.proofs.CountLaws.{arrayAfter, read-most, array-start, array-step, array-end}
+use Rattle.jury.proofs.CountLaws.{arrayAfter, array-eight-by-seven, array-start, array-step, array-end}
 use Rattle.jury.proofs.CountFacts.{array-sum}
 use Rattle.jury.proofs.counts.counts.Statement.{statement}
 use Rattle.jury.proofs.counts.counts.Tie as tie
@@ -62,11 +62,11 @@ part-add-ballot-start : tie.Need-part-add-ballot-start Inv-loop μ-loop
 part-add-ballot-start c = omega arith
 
 part-add-ballot-end : tie.Need-part-add-ballot-end Inv-loop μ-loop
-part-add-ballot-end c = end-within c
+part-add-ballot-end c = end-within (c .before)
 
 add-ballot-requires : tie.Need-add-ballot-requires Inv-loop μ-loop
 add-ballot-requires c κs =
-    let turn = c .before in
+    let turn = c .before .before in
     let at = turn .before in
     let start = at .before .before in
     let s = start .args .shape in
@@ -74,7 +74,7 @@ add-ballot-requires c κs =
     let w = within s (start .pre .within) in
     let size = s .candidates * s .grades in (
       (w .k-most, w .d-most, omega (arith, end-within turn, length-take (at .loop .at + size - at .loop .at) (drop (at .loop .at) xs), length-drop (at .loop .at) xs)),
-      λ i g. rw (at .loop .inv .2) (omega (arith, read-most s xs (at .loop .b) i g, w .n-most)),
+      rw (at .loop .inv .2) (array-eight-by-seven s xs (at .loop .b) (omega (arith, w .n-most))),
     )
 
 add-b : tie.Need-add-b Inv-loop μ-loop
@@ -85,7 +85,7 @@ loop-less c = omega arith
 
 loop-again : tie.Need-loop-again Inv-loop μ-loop
 loop-again c =
-    let turn = c .before .before in
+    let turn = c .before .before .before in
     let at = turn .before in
     let start = at .before .before in
     let s = start .args .shape in

@@ -48,29 +48,29 @@ returns c =
 limits : (c : tie.Else1) → withinLimits (c .before .before .before .args .shape) ≡ true
 limits c = sym (c .before .is-within-limits .ensures) ∙ not-false (c .before .is-within-limits .result) (c .if1 .left)
 
-measure-requires : tie.Need-measure-requires
-measure-requires c κs = true-T (withinLimits (c .before .before .before .args .shape)) (limits c)
+gates-requires : tie.Need-gates-requires
+gates-requires c κs = true-T (withinLimits (c .before .before .before .args .shape)) (limits c)
 
 returns-2 : tie.Need-returns-2
 unfolding saidBy reasonOf
 returns-2 c =
-    let measured = c .before .before in
+    let measured = c .before in
     let within = measured .before in
     let a = within .before .before .before .args in
-    let short = lt-leb (4 * length (ownList (a .shape))) (length (a .table .now)) (omega (arith, c .if2 .taken, measured .measure .ensures .0)) in
+    let short = lt-leb (4 * length (ownList (a .shape))) (length (a .table .now)) (omega (arith, c .if2 .taken, measured .gates .ensures)) in
     let r = write-refused (a .shape) (a .table .now) (reasonAt 2 0) (too-short (a .shape) (a .table .now) (limits within) short) in
     (sym (r .0), (sym (r .1), holds (a .shape)))
 
 -- the table has room
-room : (c : tie.Else2) → let a = c .before .before .before .before .before .before .args in 4 * length (ownList (a .shape)) ≤ length (a .table .now)
+room : (c : tie.Else2) → let a = c .before .before .before .before .before .args in 4 * length (ownList (a .shape)) ≤ length (a .table .now)
 room c =
-    let measured = c .before .before in
+    let measured = c .before in
     let a = measured .before .before .before .before .args in
-    omega (arith, c .if2 .left, measured .measure .ensures .0)
+    omega (arith, c .if2 .left, measured .gates .ensures)
 
 own-list-requires : tie.Need-own-list-requires
 own-list-requires c κs =
-    let within = c .before .before .before .before in
+    let within = c .before .before .before in
     true-T (withinLimits (within .before .before .before .args .shape)) (limits within)
 
 same-length : tie.Need-same-length
@@ -81,7 +81,7 @@ unfolding saidBy
 returns-3 c =
     let done = c .before .before in
     let test = done .before .before in
-    let within = test .before .before .before in
+    let within = test .before .before in
     let a = within .before .before .before .args in
     let h = room test in
     let r = write-accepted (a .shape) (a .table .now) (fits (a .shape) (a .table .now) (limits within) (le-leb (4 * length (ownList (a .shape))) (length (a .table .now)) h)) in
@@ -93,4 +93,4 @@ returns-3 c =
 pub write-spec : {M : Type 1} → statement M
 write-spec =
     tie.close
-    (tie.spec is-within-limits-requires returns measure-requires returns-2 own-list-requires same-length returns-3)
+    (tie.spec is-within-limits-requires returns gates-requires returns-2 own-list-requires same-length returns-3)
