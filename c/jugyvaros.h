@@ -1,22 +1,22 @@
-/* The counting core of tasting-jury units, for C. Link target/staticlib/libjugyvaros.a, which `rt staticlib jugyvaros` makes.
+/* The counting core of tasting-jury units, for C. Link target/staticlib/libjugyvaros.a, which tools/library makes.
  *
  * Shape: candidates (k) 1 to 8, grades (d) 2 to 7, ballots (n) 1 to 255; other numbers are refused with reason 1.
  *
- * Ballots: I = n k d bytes of 0 or 1. A ballot is k rows of d bytes, a row for each candidate in order, the best grade
+ * Ballots: I = n k d bytes of 0 or 1. Each ballot has a row for each candidate in order, each row a byte for each grade, the best
  * first; a row holds one 1. The byte of ballot b, candidate c and grade g is bytes[(b k + c) d + g].
  *
- * Gates: four numbers each, kind, a, b, c; gate g stands at table[4 g] to table[4 g + 3]. Wires 0 to I - 1 are the ballot
- * bytes, gate g makes wire I + g. An operand in use is a wire below the gate's own, an operand not in use is 0.
+ * Gates: four numbers each, kind, a, b, c; gate g stands at table[4 g] to table[4 g + 3]. The ballot bytes are wires
+ * 0 to I - 1; wire I + g is made by gate g. Operands that a kind uses are earlier wires, the others are 0.
  *
  *   kind  operands  value                     conditional
  *   0     none      0                         no
  *   1     none      1                         no
  *   2     a         a                         no
- *   3     a         1 - a                     no
- *   4     a b       a and b                   yes
- *   5     a b       a or b                    yes
- *   6     a b       a and b differ            no
- *   7     a b c     b where a is 1, else c    yes
+ *   3     a         the other bit             no
+ *   4     a b       1 if both are             yes
+ *   5     a b       1 if any is               yes
+ *   6     a b       1 if they differ          no
+ *   7     a b c     b if a is 1, c if a is 0  yes
  *
  * Answer: each function writes its answer into the lent array `answer` and returns answer[0] too.
  *   answer[0]  the reason: JUGY_ACCEPTED, or the first reason that applies, in checking order
@@ -46,20 +46,20 @@ extern "C" {
 /* The reasons, with what their place counts. A call makes those tests that concern it, in the order 1, 13, 14, 2, 23, 3, 24, 4 to 6,
  * 15, 7 to 10. */
 #define JUGY_ACCEPTED 0
-#define JUGY_SHAPE 1          /* the shape is outside its limits */
-#define JUGY_TABLE 2          /* the gate table is too short to write in, or no list of k to 1,048,576 whole gates */
+#define JUGY_SHAPE 1          /* k, d or n is outside its limits */
+#define JUGY_TABLE 2          /* no room in the gate table to write, or no list of k to 1,048,576 whole gates */
 #define JUGY_GATE 3           /* a bad kind or operand; place: the gate */
-#define JUGY_BALLOTS_LENGTH 4 /* the ballots are not I bytes */
-#define JUGY_BALLOT_BYTE 5    /* a ballot byte is above 1; place: the byte */
-#define JUGY_BALLOT_ROW 6     /* a row does not hold exactly one 1; place: the row, b k + c */
-#define JUGY_TAPE_LENGTH 7    /* the tape is not C bytes */
-#define JUGY_TAPE_BYTE 8      /* a tape byte is above 1; place: the byte */
-#define JUGY_WIRES_LENGTH 9   /* the wire table is not I + G bytes */
-#define JUGY_BOARD_LENGTH 10  /* the board is not C + k bytes */
+#define JUGY_BALLOTS_LENGTH 4 /* there are not I ballot bytes */
+#define JUGY_BALLOT_BYTE 5    /* a byte of a ballot is no bit; place: the byte */
+#define JUGY_BALLOT_ROW 6     /* a row with no 1 or several; place: the row, b k + c */
+#define JUGY_TAPE_LENGTH 7    /* the tape's length is not C */
+#define JUGY_TAPE_BYTE 8      /* a byte of the tape is no bit; place: the byte */
+#define JUGY_WIRES_LENGTH 9   /* the wire table's length is not I + G */
+#define JUGY_BOARD_LENGTH 10  /* the board's length is not C + k */
 #define JUGY_URN 13           /* the urn is not sound */
-#define JUGY_JUROR 14         /* the juror is 0 or above 255, or in already (admission), or not in (withdrawal) */
+#define JUGY_JUROR 14         /* none of a juror's numbers, 1 to 255; or in already (admission), or not in (withdrawal) */
 #define JUGY_FULL_URN 15      /* no slot of the urn is free */
-#define JUGY_LINE 23          /* a line of text has another form, a kind above 7 or a number above 4,294,967,295; place: the line */
+#define JUGY_LINE 23          /* a line of text of another form, of a kind that is none, or with a number of 2^32 or more; place: the line */
 #define JUGY_OUTPUT 24        /* the lent output is too short */
 
 /* What a function returns where its answer array is too short: none of the reasons. */
@@ -83,7 +83,7 @@ size_t jugy_measure(size_t candidates, size_t grades, size_t ballots, size_t *an
 size_t jugy_write(size_t candidates, size_t grades, size_t ballots, uint32_t *table, size_t table_length,
                   size_t *answer, size_t answer_length);
 
-/* Tests a list, whoever wrote it, for a shape: answer[2] is G, answer[3] is C. table_length is the list's own, 4 G: what
+/* Tests anyone's list for a shape: answer[2] is G, answer[3] is C. table_length is the list's own, 4 G: what
  * stands behind a list in a longer table would be tested as gates too. Reasons 1 to 3. */
 size_t jugy_test(size_t candidates, size_t grades, size_t ballots, const uint32_t *table, size_t table_length,
                  size_t *answer, size_t answer_length);
@@ -92,13 +92,13 @@ size_t jugy_test(size_t candidates, size_t grades, size_t ballots, const uint32_
  *   table  4 G numbers, the list's own length. A longer table filled up with zeros is another list: constants 0
  *          stand where its closing gates should, so its closing bytes do not say who wins.
  *   bytes  I ballot bytes
- *   tape   C bytes of 0 or 1, one for each conditional gate in order: fresh, secret random bits that are never used again.
+ *   tape   C bits, a byte each, one for each conditional gate in order: fresh, secret random bits that are never used again.
  *          A tape that is used twice, or known, lets the board tell what the wires hold.
  *   wires  I + G bytes, whatever they held. While the function runs they hold the ballots and every wire in clear; afterwards
  *          they are all zero. Ballots, tape and list stay readable where the caller keeps them: whoever has tape and board
  *          can work out the shown wires, so wipe ballots and tape too.
- *   board  C + k bytes, whatever they held. Afterwards board[i], i below C, is the masked wire a of the i-th conditional
- *          gate, and board[C + i], i below k, is candidate i's closing byte: 1 where it wins, by full majority
+ *   board  C + k bytes, whatever they held. Afterwards board[i], i below C, is wire a of conditional gate i, counted from 0 and
+ *          masked by tape[i], and board[C + i], i below k, is candidate i's closing byte: 1 where it wins, by full majority
  *          judgment under the shape's own list, else 0; several may win. This may be published. */
 size_t jugy_run(size_t candidates, size_t grades, size_t ballots, const uint32_t *table, size_t table_length,
                 const uint8_t *bytes, size_t bytes_length, const uint8_t *tape, size_t tape_length, uint8_t *wires,
@@ -109,14 +109,12 @@ size_t jugy_run(size_t candidates, size_t grades, size_t ballots, const uint32_t
 size_t jugy_count(size_t candidates, size_t grades, size_t ballots, const uint8_t *bytes, size_t bytes_length,
                   size_t *answer, size_t answer_length);
 
-/* Gate lists on paper. One line a gate: the kind and its operands in use, in decimal without leading zeros, one space
- * between them, a line feed after each line. These two reasons follow the others' order: 1, 2, 23, 3, 24.
- *   23  a line has another form, a kind above 7 or a number above 4,294,967,295; the place is the first such line, from 0.
- *       Characters behind the last line feed are a line, and no gate
- *   24  the output is too short
+/* Gate lists on paper. A gate is a line: its kind, then the operands that the kind uses, in decimal with no zero in front,
+ * spaces single, each line closed by a line feed. The order of reasons is 1, 2, 23, 3, 24; the place of 23 is the first such
+ * line, from 0. Characters behind the last line feed are a line, and no gate.
  * Reading counts a line as a gate for reasons 2 and 3. */
 
-/* Writes the text of a list, whoever wrote it, for a shape; table_length is the list's own, 4 G: answer[2] is the number of
+/* Writes the text of anyone's list for a shape; table_length is the list's own, 4 G: answer[2] is the number of
  * characters written, at most 44 G. Characters behind them are not touched. Reasons 1, 2, 3, 24. */
 size_t jugy_write_text(size_t candidates, size_t grades, size_t ballots, const uint32_t *table, size_t table_length,
                        uint8_t *output, size_t output_length, size_t *answer, size_t answer_length);
@@ -126,12 +124,16 @@ size_t jugy_write_text(size_t candidates, size_t grades, size_t ballots, const u
 size_t jugy_read_text(size_t candidates, size_t grades, size_t ballots, const uint8_t *text, size_t text_length,
                       uint32_t *output, size_t output_length, size_t *answer, size_t answer_length);
 
-/* An urn for graded ballots is a table of 2 to 256 slots of 2 + k d bytes, bytes_length in all, that the caller keeps.
+/* An urn for graded ballots is a table that the caller keeps: slots of 2 + k d bytes each, at least 2 and at most 256 of them.
  *   slot 0           first slot of the ballot chain, first slot of the free chain, k d zeros
  *   a ballot's slot  index of the next slot in the ballot chain (0: it is the last), juror 1 to 255, k d ballot bytes
  *   a free slot      index of the next free slot (0: it is the last), 1 + k d zeros
- * An empty urn of s slots: 0, 1, k d zeros; then for each slot i from 1 to s - 1 its next index, i + 1 or 0 for the last,
- * and 1 + k d zeros. Only k = candidates and d = grades are handed; answer[2] is the number of ballots afterwards. */
+ * Only k = candidates and d = grades are handed; answer[2] is the number of ballots afterwards. */
+
+/* Makes a table of the length of an urn an empty one, whatever its bytes are: slots 1, 2 and so on are free, in this order.
+ * Reasons 1, 13 (no urn has this length). */
+size_t jugy_empty_urn(size_t candidates, size_t grades, uint8_t *bytes, size_t bytes_length, size_t *answer,
+                      size_t answer_length);
 
 /* Admits the ballot of a juror: it goes to the first free slot and becomes the first of the ballot chain. Reasons 1, 13 (the urn
  * is not sound), 14 (the juror is 0, above 255 or in already), 4, 5, 6 (the ballot as that of a jury of one), 15 (no slot

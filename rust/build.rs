@@ -1,4 +1,4 @@
-//! Links libjugyvaros.a, which `rt staticlib jugyvaros` makes. JUGYVAROS_LIB names another folder that holds it.
+//! Links libjugyvaros.a, which tools/library makes. JUGYVAROS_LIB names another folder that holds it.
 use std::path::PathBuf;
 
 fn main() {

@@ -1,6 +1,6 @@
 """The exported functions, for tests in Python: the static library linked into a shared object and called by ctypes.
 
-Needs target/staticlib/libjugyvaros.a, which `rt staticlib jugyvaros` makes, and a C compiler (cc). Whatever is lent has
+Needs target/staticlib/libjugyvaros.a, which tools/library makes, and a C compiler (cc). Whatever is lent has
 guards on both sides, and every call is held to leaving them, and what is lent for reading, as they were.
 """
 
@@ -76,7 +76,7 @@ class Core:
         assert all(lent.is_as_before() for lent in read), (name, shape)
         assert all(lent.has_its_guards() for lent in (*written, answer)), (name, shape)
         reason, place, *values = answer.items()
-        assert status == reason and reason <= 10, (name, shape, status)
+        assert status == reason and reason <= 12, (name, shape, status)
         if reason:
             assert all(lent.is_as_before() for lent in written) and not any(values), (name, shape)
             return ["refused", reason, place]

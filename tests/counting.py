@@ -105,7 +105,7 @@ def bad_rows():
                 set_row(case, place, bad)
                 yield case
     yield Case(8, 7, 255, grades=[0] * 2039 + [7])           # the last row of the largest jury is empty
-    yield Case(1, 2, 2, ballots=[0, 0, 2, 1])                # a byte 2 in the last ballot and an empty first row
+    yield Case(1, 2, 2, ballots=[0, 0, 2, 1])                # 5 before 6: byte 2 in the last ballot, no 1 in row 0
 
 
 # In an order in which a later fault leaves an earlier one in place as far as it can.

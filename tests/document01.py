@@ -82,21 +82,55 @@ def first_above_one(data):
 
 
 def shape_is_within(k, d, n):
-    """Not reason 1."""
-    return 1 <= k <= 8 and 2 <= d <= 7 and 1 <= n <= 255
+    """Not reason 1. No grades: the jury ranks."""
+    return 1 <= k <= 8 and (d == 0 or 2 <= d <= 7) and 1 <= n <= 255
 
 
-def ballots_fault(k, d, n, ballots):
-    """Reasons 4, 5 and 6 for a shape within its limits: a number and a place, or None."""
-    if len(ballots) != n * k * d:
-        return (4, 0)
-    place = first_above_one(ballots)
-    if place is not None:
-        return (5, place)
+def columns(k, d):
+    """The bytes of a ballot's row: one a grade, or in a ranking one a candidate."""
+    return k if d == 0 else d
+
+
+def ballot_bytes(k, d, n):
+    """I."""
+    return n * k * columns(k, d)
+
+
+def row_fault(k, d, n, ballots):
+    """Reason 6: grades of bits, of which a row has no 1 or several."""
     for row in range(n * k):
         if sum(1 for x in ballots[row * d:row * d + d] if x == 1) != 1:
             return (6, row)
     return None
+
+
+def ranking_fault(k, n, ballots):
+    """Reasons 11 and 12 of rankings of bits: two candidates before each other, or a third one that is neither side."""
+    def before(b, i, j):
+        return ballots[(b * k + i) * k + j] == 1
+
+    for b in range(n):
+        for i in range(k):
+            for j in range(k):
+                if before(b, i, j) and before(b, j, i):
+                    return (11, (b * k + i) * k + j)
+    for b in range(n):
+        for i in range(k):
+            for j in range(k):
+                for third in set(range(k)) - {i, j}:
+                    if before(b, i, j) and not before(b, i, third) and not before(b, third, j):
+                        return (12, b)
+    return None
+
+
+def ballots_fault(k, d, n, ballots):
+    """Reasons 4, 5 and 6, or 11 and 12 of a ranking, for a shape within its limits: a number and a place, or None."""
+    if len(ballots) != ballot_bytes(k, d, n):
+        return (4, 0)
+    place = first_above_one(ballots)
+    if place is not None:
+        return (5, place)
+    return ranking_fault(k, n, ballots) if d == 0 else row_fault(k, d, n, ballots)
 
 
 def grade_counts(k, d, n, ballots):
@@ -134,16 +168,55 @@ def closing_bytes(counts):
     return [1 if found == min(sequences) else 0 for found in sequences]
 
 
+def preferences(k, n, ballots):
+    """In how many rankings i is before j, for each i and j."""
+    return [[sum(ballots[(b * k + i) * k + j] for b in range(n)) for j in range(k)] for i in range(k)]
+
+
+def links(preferred):
+    """The strength of each link: the preferences where they outweigh those of the other direction, else 0."""
+    among = range(len(preferred))
+    return [[preferred[i][j] if preferred[i][j] > preferred[j][i] else 0 for j in among] for i in among]
+
+
+def simple_paths(start, end, others):
+    """All ways from start to end that meet nobody twice, the candidates between them being some of the others."""
+    yield [start, end]
+    for i, first in enumerate(others):
+        for path in simple_paths(first, end, others[:i] + others[i + 1:]):
+            yield [start] + path
+
+
+def strongest_path(strength, i, j):
+    """A path is as strong as its weakest link."""
+    others = [c for c in range(len(strength)) if c not in (i, j)]
+    return max(min(strength[x][y] for x, y in zip(path, path[1:])) for path in simple_paths(i, j, others))
+
+
+def ranked_closing_bytes(preferred):
+    """Schulze's rule: 1 for each candidate against whom nobody has a stronger path than the other way."""
+    strength, among = links(preferred), range(len(preferred))
+    best = {(i, j): strongest_path(strength, i, j) for i in among for j in among if i != j}
+    return [1 if all(best[i, j] >= best[j, i] for j in among if j != i) else 0 for i in among]
+
+
+def winners(k, d, n, ballots):
+    """The closing bytes of accepted ballots, by the rule that their shape has."""
+    if d == 0:
+        return ranked_closing_bytes(preferences(k, n, ballots))
+    return closing_bytes(grade_counts(k, d, n, ballots))
+
+
 def count_plainly(k, d, n, ballots):
     """The entry point "Count plainly": the fault (a number and a place) or None, and eight bytes."""
     fault = ballots_fault(k, d, n, ballots) if shape_is_within(k, d, n) else (1, 0)
-    closing = closing_bytes(grade_counts(k, d, n, ballots)) if fault is None else []
+    closing = winners(k, d, n, ballots) if fault is None else []
     return fault, closing + [0] * (8 - len(closing))
 
 
 def test_fault(k, d, n, table):
     """Reasons 1, 2 and 3: a number and a place, or None."""
-    return list_fault(n * k * d, k, table) if shape_is_within(k, d, n) else (1, 0)
+    return list_fault(ballot_bytes(k, d, n), k, table) if shape_is_within(k, d, n) else (1, 0)
 
 
 def lent_fault(inputs, k, gates, tape, wires, board):
@@ -162,12 +235,12 @@ def lent_fault(inputs, k, gates, tape, wires, board):
 
 
 def run_fault(k, d, n, table, ballots, tape, wires, board):
-    """Reasons 1 to 10: a number and a place, or None."""
+    """Reasons 1 to 12: a number and a place, or None."""
     fault = test_fault(k, d, n, table)
     if fault is None:
         fault = ballots_fault(k, d, n, ballots)
     if fault is None:
-        fault = lent_fault(n * k * d, k, gates_of(table), tape, wires, board)
+        fault = lent_fault(ballot_bytes(k, d, n), k, gates_of(table), tape, wires, board)
     return fault
 
 

@@ -31,7 +31,34 @@ EXAMPLES = {
     "raised-after": "jury 2 3 3\nwinners 1 0\n",
     "even-jury": "jury 2 3 4\nwinners 1 0\n",
     "yes-no": "jury 4 2 5\nwinners 0 0 1 0\n",
+    "ranked-cycle": "jury 3 0 3\nwinners 1 1 1\n",
+    "ranked-margins": "jury 3 0 5\nwinners 0 1 0\n",
 }
+
+
+# Juries as text: the bytes that tools/jury makes of them, or how its complaint begins.
+TEXTS = [
+    ("grades 2\n1 2\n", bytes([2, 2, 1, 1, 0, 0, 1])),
+    ("ranking a b\na > b\n", bytes([2, 0, 1, 0, 1, 0, 0])),
+    ("ranking a b\n b=a # a tie\n", bytes([2, 0, 1, 0, 0, 0, 0])),
+    ("ranking x y z\ny\n", bytes([3, 0, 1, 0, 0, 0, 1, 0, 1, 0, 0, 0])),
+    ("ranking a b\na > c\n", "-: line 2: 'c' is none"),
+    ("ranking a b\na > a\n", "-: line 2: 'a' stands twice"),
+    ("ranking a b\na > > b\n", "-: line 2: '' is none"),
+    ("ranking a a\na\n", "-: line 1: two candidates"),
+    ("ranking\na\n", "-: line 1: 'ranking' is followed"),
+    ("ranking a b c d e f g h i\na\n", "-: line 1: 'ranking' is followed"),
+    ("ranking a\n", "-: line 1: no ballot"),
+    ("ranking a\n" + "a\n" * 256, "-: line 257: there are at most 255"),
+    ("ranks a\na\n", "-: line 1: the first line"),
+    ("grades 2\n1 3\n", "-: line 2: a grade is 1 to 2"),
+]
+
+
+def made_of(text):
+    """What tools/jury makes of a text: bytes, or its complaint."""
+    made = subprocess.run([ROOT / "tools" / "jury", "-"], input=text.encode(), capture_output=True)
+    return made.stdout if made.returncode == 0 else made.stderr.decode()
 
 
 def fits(k, d, n):
@@ -53,7 +80,7 @@ def expected(data):
         fault = doc.ballots_fault(k, d, n, kept[3:])
     if fault:
         return "refused %d %d\n" % tuple(fault)
-    winners = doc.closing_bytes(doc.grade_counts(k, d, n, kept[3:]))
+    winners = doc.winners(k, d, n, kept[3:])
     return "jury %d %d %d\nwinners %s\n" % (k, d, n, " ".join(map(str, winners)))
 
 
@@ -74,6 +101,10 @@ def said_in_pieces(pieces):
 
 
 def jury(rng, k, d, n):
+    """A random jury; without grades it ranks."""
+    if d == 0:
+        rankings = [[rng.randrange(k) for _ in range(k)] for _ in range(n)]
+        return bytes([k, d, n, *(x < y for ranks in rankings for x in ranks for y in ranks)])
     rows = []
     for _ in range(n * k):
         row = [0] * d
@@ -103,19 +134,22 @@ def inputs(rng):
     yield example + b"\0"
     yield bytes(KEPT)
     yield bytes([1, 2, 255]) + bytes(KEPT)
-    for k, d, n in [(0, 2, 1), (9, 2, 1), (1, 1, 1), (1, 8, 1), (1, 2, 0), (8, 7, 255), (5, 6, 100)]:
+    for k, d, n in [(0, 2, 1), (9, 2, 1), (1, 1, 1), (1, 8, 1), (1, 2, 0), (8, 7, 255), (5, 6, 100), (1, 0, 0), (0, 0, 1), (9, 0, 1), (8, 0, 255)]:
         yield bytes([k, d, n])
-        yield bytes([k, d, n]) + b"\2" * (k * d * n)
+        yield bytes([k, d, n]) + b"\2" * doc.ballot_bytes(k, d, n)
     # a list just in the table, and one just too large for it
-    k, d = 3, 5
-    for n in range(1, 256):
-        if n < 255 and fits(k, d, n) and not fits(k, d, n + 1):
-            yield jury(rng, k, d, n)
-            yield jury(rng, k, d, n + 1)
+    for k, d in [(3, 5), (5, 0)]:
+        for n in range(1, 256):
+            if n < 255 and fits(k, d, n) and not fits(k, d, n + 1):
+                yield jury(rng, k, d, n)
+                yield jury(rng, k, d, n + 1)
+    yield jury(rng, 2, 0, 255)
     for _ in range(150):
         yield jury(rng, rng.randint(1, 8), rng.randint(2, 7), rng.choice([1, 2, 3, 4, 5, 8, 15, 20]))
+    for _ in range(60):
+        yield jury(rng, rng.randint(1, 6), 0, rng.choice([1, 2, 3, 4, 5, 8, 15, 20]))
     for _ in range(150):
-        yield damaged(rng, jury(rng, rng.randint(1, 4), rng.randint(2, 4), rng.randint(1, 9)))
+        yield damaged(rng, jury(rng, rng.randint(1, 4), rng.choice([0, 2, 3, 4]), rng.randint(1, 9)))
 
 
 def main():
@@ -131,7 +165,7 @@ def main():
 
     for data in inputs(rng):
         compare(data[:24].hex(" "), said(data), expected(data))
-    for data in [jury(rng, 2, 3, 3), jury(rng, 3, 5, 15), jury(rng, 8, 7, 3)]:
+    for data in [jury(rng, 2, 3, 3), jury(rng, 3, 5, 15), jury(rng, 8, 7, 3), jury(rng, 4, 0, 6)]:
         cut = rng.randrange(len(data))
         for pieces in [[data[:cut], data[cut:]], [data[:1], data[1:2], data[2:4], data[4:]], [data[i : i + 1] for i in range(min(40, len(data)))] + [data[40:]]]:
             compare("in pieces", said_in_pieces(pieces), expected(data))
@@ -139,6 +173,9 @@ def main():
         data = subprocess.run([ROOT / "tools" / "jury", ROOT / "examples" / f"{name}.txt"], stdout=subprocess.PIPE, check=True).stdout
         compare(name, said(data), wanted)
         compare(name, expected(data), wanted)
+    for text, wanted in TEXTS:
+        made = made_of(text)
+        compare(text, made[:len(wanted)] if isinstance(made, str) else made, wanted)
     print(f"rehearsal: {count} inputs, {wrong} wrong")
     sys.exit(1 if wrong else 0)
 

@@ -197,7 +197,7 @@ def ballots():
         for place in (0, n * k // 2, n * k - 1):
             for bad in ([0] * d, [1] * d, [1] + row(d - 1, d - 2)):
                 yield good.but(ballots=whole[:place * d] + bad + whole[place * d + d:])
-    yield Case(1, 2, 2, [(6, 0, 2, 0)], ballots=[0, 0, 2, 1])  # a byte 2 in the last ballot and an empty first row
+    yield Case(1, 2, 2, [(6, 0, 2, 0)], ballots=[0, 0, 2, 1])  # 5 before 6: byte 2 in the last ballot, no 1 in row 0
     largest = jury(8, 7, 255)
     yield largest.but(ballots=any_ballots(8, 7, 256)[:14_281])
     yield largest.but(ballots=largest.ballots[:-1])

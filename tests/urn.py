@@ -1,6 +1,7 @@
 #!/usr/bin/env python3
 """The exported calls on an urn against a model written apart, over the static library: soundness of every urn of two and
-three slots over small bytes, damaged urns, urns of 256 slots, pairs of faults, and long random sequences of calls.
+three slots over small bytes, damaged urns, urns of 256 slots, pairs of faults, long random sequences of calls, tables of
+every length made empty, and previews of different urns that have the same told of them.
 Needs gcc and target/staticlib/libjugyvaros.a."""
 import ctypes
 import itertools
@@ -31,11 +32,13 @@ def buffer(data):
     return (ctypes.c_uint8 * max(len(data), 1))(*data)
 
 
-def call(name, k, d, urn, juror, ballot=None):
+def call(name, k, d, urn, juror=None, ballot=None):
     """Reason, place, number of ballots, and the urn afterwards."""
     lent = buffer(urn)
     answer = (SIZE * 3)(7, 7, 7)
-    arguments = [SIZE(k), SIZE(d), lent, SIZE(len(urn)), SIZE(juror)]
+    arguments = [SIZE(k), SIZE(d), lent, SIZE(len(urn))]
+    if juror is not None:
+        arguments.append(SIZE(juror))
     if ballot is not None:
         arguments += [buffer(ballot), SIZE(len(ballot))]
     function = getattr(LIBRARY, name)
@@ -208,13 +211,67 @@ def pairs():
         compare(a, b, u, j, x)
 
 
+def made_empty():
+    """Every length about an urn's, and every shape about its limits, over bytes that stand there before."""
+    for k, d in itertools.product((0, 1, 2, 8, 9, 2**63), (0, 1, 2, 7, 8, 2**63)):
+        size = 2 + k * d if k * d < 80 else 58
+        for slots, more in itertools.product((0, 1, 2, 3, 255, 256, 257), (-1, 0, 1)):
+            table = bytes(random.randrange(256) for _ in range(max(slots * size + more, 0)))
+            if not (1 <= k <= 8 and 2 <= d <= 7):
+                expected = (1, 0, 0), table
+            elif len(table) % size or not 2 <= len(table) // size <= 256:
+                expected = (13, 0, 0), table
+            else:
+                expected = (0, 0, 0), empty(k, d, len(table) // size)
+            found = call("jugy_empty_urn", k, d, table)
+            assert found == expected, (k, d, len(table), found, expected)
+
+
+def told(rounds):
+    """Two urns of other lengths, slots, jurors, ballots and orders, of which a preview may tell the same and no more."""
+    def facts(k, d, urn, juror):
+        chains = take_apart(k, d, urn)
+        return chains and (len(chains[0]), juror in (j for _, j, _ in chains[0]), bool(chains[1]))
+
+    def some_urn(k, d):
+        count = random.randrange(2, 7)
+        order = random.sample(range(1, count), count - 1)
+        inside = random.randrange(count)
+        jurors = random.sample(range(1, 7), inside)
+        ballots = [(s, j, good_ballot(k, d)) for s, j in zip(order, jurors)]
+        urn = bytearray(put_together(k, d, count, ballots, order[inside:]))
+        if random.random() < 0.2:
+            urn[random.randrange(len(urn))] += 1
+        return bytes(urn)
+
+    k, d, same = 2, 3, 0
+    for _ in range(rounds):
+        one, other, juror = some_urn(k, d), some_urn(k, d), random.randrange(8)
+        ballot = random.choice((good_ballot(k, d), b"\2" * 6, b"\0" * 6, b""))
+        if facts(k, d, one, juror) == facts(k, d, other, juror):
+            same += 1
+            for name, given in (("admit", ballot), ("withdraw", None)):
+                first = call("jugy_preview_" + name, k, d, one, juror, given)[0]
+                assert first == call("jugy_preview_" + name, k, d, other, juror, given)[0], (one, other, juror, given)
+    assert same > rounds // 20
+    print(f"tests/urn: previews agree on {same} pairs of urns that have the same told of them")
+
+
 def short_answers():
-    for length in range(3):
-        lent = buffer(empty(1, 2, 2))
+    """No call alters anything where the answer array is too short."""
+    urn, ballot = empty(1, 2, 3), b"\1\0"
+    _, urn = model(1, 2, urn, 5, ballot)
+    lists = {"empty_urn": (), "admit": (1, ballot), "withdraw": (5,), "preview_admit": (1, ballot), "preview_withdraw": (5,)}
+    for (name, given), length in itertools.product(lists.items(), range(3)):
+        lent = buffer(urn)
         answer = (SIZE * 3)(7, 7, 7)
-        LIBRARY.jugy_admit.restype = SIZE
-        status = LIBRARY.jugy_admit(SIZE(1), SIZE(2), lent, SIZE(8), SIZE(1), buffer(b"\1\0"), SIZE(2), answer, SIZE(length))
-        assert status == SHORT and tuple(answer) == (7, 7, 7) and bytes(lent) == empty(1, 2, 2)
+        arguments = [SIZE(1), SIZE(2), lent, SIZE(len(urn)), *map(SIZE, given[:1])]
+        if len(given) > 1:
+            arguments += [buffer(ballot), SIZE(len(ballot))]
+        function = getattr(LIBRARY, "jugy_" + name)
+        function.restype = SIZE
+        status = function(*arguments, answer, SIZE(length))
+        assert status == SHORT and tuple(answer) == (7, 7, 7) and bytes(lent) == urn, name
 
 
 def main():
@@ -223,6 +280,8 @@ def main():
     pairs()
     full()
     sequences(150)
+    made_empty()
+    told(20000)
     short_answers()
     print("tests/urn: ok")
 

@@ -156,7 +156,7 @@ impl Reason {
             Reason::WiresLength => "the wire table has another length than ballots and gates together",
             Reason::BoardLength => "the board has another length than conditional gates and candidates together",
             Reason::Urn => "the urn is not sound",
-            Reason::Juror => "the juror is 0 or above 255, or in already, or not in",
+            Reason::Juror => "none of a juror's numbers (1 to 255), or in already, or not in",
             Reason::FullUrn => "no slot of the urn is free",
             Reason::Line => "another form than a gate's, or a number that is too large, in line",
             Reason::Output => "the lent output is too short",
@@ -261,7 +261,7 @@ pub fn write(shape: Shape, table: &mut [u32]) -> Result<Size, Refusal> {
     size(status, &answer)
 }
 
-/// Tests a list, whoever wrote it, for a shape.
+/// Tests anyone's list for a shape.
 pub fn test(shape: Shape, table: &[u32]) -> Result<Size, Refusal> {
     let mut answer = [0; 4];
     // SAFETY: as in `write`; the table is only read.

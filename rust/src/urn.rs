@@ -1,4 +1,4 @@
-//! An urn for graded ballots: admission, withdrawal and their previews. `c/jugyvaros.h` draws the bytes of an urn.
+//! An urn for graded ballots: made empty, admission, withdrawal and their previews. `c/jugyvaros.h` draws the bytes of an urn.
 //!
 //! Each call answers the number of ballots in the urn afterwards, or its refusal, in which case the urn is as it was.
 
@@ -6,6 +6,14 @@ use crate::{Reason, Refusal};
 
 mod c {
     extern "C" {
+        pub fn jugy_empty_urn(
+            k: usize,
+            d: usize,
+            bytes: *mut u8,
+            bytes_length: usize,
+            answer: *mut usize,
+            answer_length: usize,
+        ) -> usize;
         pub fn jugy_admit(
             k: usize,
             d: usize,
@@ -62,22 +70,28 @@ fn outcome(answer: Answer) -> Result<usize, Refusal> {
     }
 }
 
-/// The bytes of an empty urn of so many slots, 2 to 256, for k candidates and d grades.
-pub fn empty(k: usize, d: usize, slots: usize) -> Vec<u8> {
-    assert!((2..=256).contains(&slots), "an urn has 2 to 256 slots");
-    let size = 2 + k * d;
-    let mut urn = vec![0; slots * size];
-    urn[1] = 1;
-    for slot in 1..slots - 1 {
-        urn[slot * size] = slot as u8 + 1;
+/// Makes a table an empty urn, whatever its bytes are; all its slots are free, in order.
+pub fn empty(k: usize, d: usize, urn: &mut [u8]) -> Result<usize, Refusal> {
+    let mut answer: Answer = [0; 3];
+    // SAFETY: every pointer comes from a slice and is handed over with its length; what is written is borrowed mutably.
+    unsafe {
+        c::jugy_empty_urn(k, d, urn.as_mut_ptr(), urn.len(), answer.as_mut_ptr(), answer.len());
     }
-    urn
+    outcome(answer)
+}
+
+/// An empty urn of so many slots, 2 to 256, for k candidates and d grades.
+pub fn new(k: usize, d: usize, slots: usize) -> Result<Vec<u8>, Refusal> {
+    // one above each limit is refused as any number above it, so no longer table is needed
+    let mut urn = vec![0; slots.min(257) * (2 + k.min(9) * d.min(8))];
+    empty(k, d, &mut urn)?;
+    Ok(urn)
 }
 
 /// Admits the ballot of a juror.
 pub fn admit(k: usize, d: usize, urn: &mut [u8], juror: usize, ballot: &[u8]) -> Result<usize, Refusal> {
     let mut answer: Answer = [0; 3];
-    // SAFETY: every pointer comes from a slice and is handed over with its length; what is written is borrowed mutably.
+    // SAFETY: as in `empty`.
     unsafe {
         c::jugy_admit(
             k,
@@ -97,7 +111,7 @@ pub fn admit(k: usize, d: usize, urn: &mut [u8], juror: usize, ballot: &[u8]) ->
 /// Withdraws the ballot of a juror.
 pub fn withdraw(k: usize, d: usize, urn: &mut [u8], juror: usize) -> Result<usize, Refusal> {
     let mut answer: Answer = [0; 3];
-    // SAFETY: as in `admit`.
+    // SAFETY: as in `empty`.
     unsafe {
         c::jugy_withdraw(k, d, urn.as_mut_ptr(), urn.len(), juror, answer.as_mut_ptr(), answer.len());
     }
@@ -107,7 +121,7 @@ pub fn withdraw(k: usize, d: usize, urn: &mut [u8], juror: usize) -> Result<usiz
 /// What `admit` would answer.
 pub fn preview_admit(k: usize, d: usize, urn: &[u8], juror: usize, ballot: &[u8]) -> Result<usize, Refusal> {
     let mut answer: Answer = [0; 3];
-    // SAFETY: as in `admit`; the urn is read alone.
+    // SAFETY: as in `empty`; the urn is read alone.
     unsafe {
         c::jugy_preview_admit(
             k,
@@ -127,7 +141,7 @@ pub fn preview_admit(k: usize, d: usize, urn: &[u8], juror: usize, ballot: &[u8]
 /// What `withdraw` would answer.
 pub fn preview_withdraw(k: usize, d: usize, urn: &[u8], juror: usize) -> Result<usize, Refusal> {
     let mut answer: Answer = [0; 3];
-    // SAFETY: as in `admit`; the urn is read alone.
+    // SAFETY: as in `empty`; the urn is read alone.
     unsafe {
         c::jugy_preview_withdraw(k, d, urn.as_ptr(), urn.len(), juror, answer.as_mut_ptr(), answer.len());
     }

@@ -10,7 +10,8 @@
 #include <stdlib.h>
 #include <string.h>
 
-static size_t calls, accepted_calls, reasons[12];
+enum { LAST_REASON = 12 };
+static size_t calls, accepted_calls, short_answers, reasons[LAST_REASON + 1];
 static const char *what = "";
 
 #define CHECK(test)                                                                                                  \
@@ -58,10 +59,10 @@ static void compare(struct said s, const size_t *rest, size_t needed, size_t sta
     if (length < needed) {
         CHECK(status == JUGY_SHORT_ANSWER);
         CHECK(same(answer, before, length * sizeof *answer));
-        reasons[11]++;
+        short_answers++;
         return;
     }
-    CHECK(s.reason <= 10);
+    CHECK(s.reason <= LAST_REASON);
     CHECK(status == s.reason);
     CHECK(answer[0] == s.reason && answer[1] == s.place);
     for (size_t i = 2; i < needed; i++)
@@ -140,7 +141,7 @@ static struct said call_measure(size_t k, size_t d, size_t n, size_t al) {
     size_t *answer = take(al * sizeof *answer), *before = copy(answer, al * sizeof *answer);
     size_t status = jugy_measure(k, d, n, answer, al);
     struct said s = {shape_within(k, d, n) ? 0 : 1, 0, 0, 0, {0}};
-    size_t rest[3] = {0, 0, n * k * d};
+    size_t rest[3] = {0, 0, ballot_bytes(k, d, n)};
     if (s.reason == 0 && al >= 5) {
         s.gates = rest[0] = answer[2];
         s.conditional = rest[1] = answer[3];
@@ -179,7 +180,24 @@ static uint32_t *call_write(size_t k, size_t d, size_t n, size_t length, struct 
 
 /* ---- lists and ballots */
 
+/* Rankings with ties: each juror's ranks differ a little from those that all of them share. */
+static void fill_rankings(uint8_t *b, size_t k, size_t n) {
+    size_t shared[8], ranks[8], spread = 1 + draw(2 * k);
+    for (size_t i = 0; i < k; i++)
+        shared[i] = draw(k);
+    for (size_t ballot = 0; ballot < n; ballot++) {
+        for (size_t i = 0; i < k; i++)
+            ranks[i] = shared[i] + draw(spread);
+        for (size_t i = 0; i < k * k; i++)
+            b[ballot * k * k + i] = ranks[i / k] < ranks[i % k];
+    }
+}
+
 static void fill_ballots(uint8_t *b, size_t k, size_t d, size_t n) {
+    if (d == 0) {
+        fill_rankings(b, k, n);
+        return;
+    }
     /* a few grades only, so that medians meet */
     size_t favourite = draw(d), spread = 1 + draw(d);
     for (size_t row = 0; row < n * k; row++) {
@@ -221,7 +239,7 @@ static size_t near(size_t length) {
 
 /* One run of a list on ballots, with up to two things damaged. */
 static void damaged_run(size_t k, size_t d, size_t n, const uint32_t *list, size_t gates) {
-    size_t inputs = n * k * d, conditional = count_marks(list, gates), length = 4 * gates;
+    size_t inputs = ballot_bytes(k, d, n), conditional = count_marks(list, gates), length = 4 * gates;
     size_t bytes_length = inputs, tape_length = conditional, wires_length = inputs + gates, board_length = conditional + k;
     size_t al = answer_length(4);
     uint32_t *t = malloc((length + 16) * 4);
@@ -243,7 +261,7 @@ static void damaged_run(size_t k, size_t d, size_t n, const uint32_t *list, size
         case 5: length = 4 * draw(k + 1) > 4 * gates ? 4 * gates : 4 * (k - 1 < gates ? k - 1 : gates); break;
         case 6: bytes_length = near(inputs); break;
         case 7: b[draw(inputs)] = (uint8_t)(2 + draw(254)); break;
-        case 8: memset(b + d * draw(n * k), 0, d); break;
+        case 8: memset(b + draw(inputs), 0, 1 + draw(8)); break;
         case 9: b[draw(inputs)] ^= 1; break;
         case 10: tape_length = near(conditional); break;
         case 11: m[draw(conditional + 1)] = (uint8_t)(2 + draw(254)); break;
@@ -274,7 +292,7 @@ static uint32_t *own_list(size_t k, size_t d, size_t n, struct said *measured) {
 }
 
 static void good_run(size_t k, size_t d, size_t n, const uint32_t *list, size_t gates, int own) {
-    size_t inputs = n * k * d, conditional = count_marks(list, gates);
+    size_t inputs = ballot_bytes(k, d, n), conditional = count_marks(list, gates);
     uint8_t *b = malloc(inputs), *m = malloc(conditional), closing[8] = {0};
     CHECK(b && m);
     fill_ballots(b, k, d, n);
@@ -353,7 +371,7 @@ static void edges(void) {
     }
     uint8_t bad[18];
     memcpy(bad, ballots, 18);
-    bad[17] = 2, bad[0] = 0; /* a byte 2 in the last ballot and an empty first row */
+    bad[17] = 2, bad[0] = 0; /* 5 before 6: byte 2 in the last ballot, no 1 in row 0 */
     s = call_count(2, 3, 3, bad, 18, 10);
     CHECK(s.reason == 5 && s.place == 17);
     bad[17] = 1;
@@ -374,6 +392,26 @@ static void edges(void) {
     CHECK(call_run(2, 3, 3, list, 4 * g, ballots, 18, tape, c, 18 + g, c + 1, 4, NULL).reason == 10);
     CHECK(call_run(2, 3, 3, list, 4 * g, ballots, 18, tape, c, 18 + g, c + 3, 4, NULL).reason == 10);
     free(list);
+    /* rankings: 11 at the earlier of two opposite bytes and before any 12, 12 at its ballot */
+    list = own_list(3, 0, 2, &m);
+    CHECK(list != NULL);
+    uint8_t ranked[18] = {0, 1, 1, 0, 0, 0, 0, 0, 0, 0, 0, 1, 0, 0, 1, 0, 0, 0}, none_before[9] = {0};
+    CHECK(call_count(3, 0, 2, ranked, 18, 10).reason == 0);
+    CHECK(call_count(3, 0, 2, ranked, 17, 10).reason == 4);
+    ranked[9 + 6] = 1;
+    s = call_count(3, 0, 2, ranked, 18, 10);
+    CHECK(s.reason == 11 && s.place == 9 + 2);
+    ranked[2] = 0; /* a first ballot for 12 */
+    CHECK(call_count(3, 0, 2, ranked, 18, 10).reason == 11);
+    ranked[9 + 6] = 0;
+    s = call_count(3, 0, 2, ranked, 18, 10);
+    CHECK(s.reason == 12 && s.place == 0);
+    memcpy(ranked + 9, none_before, 9);
+    s = call_run(3, 0, 2, list, 4 * m.gates, ranked, 18, tape, m.conditional, 18 + m.gates, m.conditional + 3, 4, NULL);
+    CHECK(s.reason == 12 && s.place == 0);
+    ranked[2] = 1;
+    CHECK(call_run(3, 0, 2, list, 4 * m.gates, ranked, 18, tape, m.conditional, 18 + m.gates, m.conditional + 3, 4, NULL).reason == 0);
+    free(list);
     /* the smallest shape, and the largest number of gates and one more */
     list = own_list(1, 2, 1, &m);
     good_run(1, 2, 1, list, m.gates, 1);
@@ -390,7 +428,7 @@ static void edges(void) {
 
 static void every_shape(void) {
     for (size_t k = 1; k <= 8; k++)
-        for (size_t d = 2; d <= 7; d++)
+        for (size_t d = 0; d <= 7; d += d == 0 ? 2 : 1)
             for (size_t n = 1; n <= 255; n++) {
                 struct said m;
                 uint32_t *list = own_list(k, d, n, &m);
@@ -406,7 +444,9 @@ static void random_juries(size_t juries) {
     for (size_t i = 0; i < juries; i++) {
         /* mostly small, now and then as large as can be */
         uint64_t way = draw(40);
-        size_t k = 1 + draw(way < 30 ? 4 : 8), d = 2 + draw(way < 30 ? 3 : 6), n = 1 + draw(way < 30 ? 9 : way < 39 ? 40 : 255);
+        size_t k = 1 + draw(way < 30 ? 4 : 8), d = 1 + draw(way < 30 ? 4 : 7), n = 1 + draw(way < 30 ? 9 : way < 39 ? 40 : 255);
+        if (d == 1)
+            d = 0; /* a ranking */
         struct said m;
         uint32_t *list = own_list(k, d, n, &m);
         CHECK(list != NULL);
@@ -418,7 +458,7 @@ static void random_juries(size_t juries) {
         free(list);
         for (int j = 0; j < 4; j++) {
             size_t gates = k + draw(draw(10) ? 60 : 2000);
-            uint32_t *other = stranger(n * k * d, gates);
+            uint32_t *other = stranger(ballot_bytes(k, d, n), gates);
             good_run(k, d, n, other, gates, 0);
             damaged_run(k, d, n, other, gates);
             damaged_run(k, d, n, other, gates);
@@ -441,9 +481,9 @@ int main(int argc, char **argv) {
         printf("library_test: edges, shapes, or random N SEED\n");
         return 2;
     }
-    printf("library_test %s: %zu calls agree, %zu accepted, refused for reasons 1 to 10:", argv[1], calls, accepted_calls);
-    for (int r = 1; r <= 10; r++)
+    printf("library_test %s: %zu calls agree, %zu accepted, refused for reasons 1 to %d:", argv[1], calls, accepted_calls, LAST_REASON);
+    for (int r = 1; r <= LAST_REASON; r++)
         printf(" %zu", reasons[r]);
-    printf(", short answers: %zu\n", reasons[11]);
+    printf(", short answers: %zu\n", short_answers);
     return 0;
 }

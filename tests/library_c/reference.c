@@ -2,7 +2,11 @@
 #include "kinds.h"
 #include <string.h>
 
-int shape_within(size_t k, size_t d, size_t n) { return k >= 1 && k <= 8 && d >= 2 && d <= 7 && n >= 1 && n <= 255; }
+int shape_within(size_t k, size_t d, size_t n) {
+    return k >= 1 && k <= 8 && (d == 0 || (d >= 2 && d <= 7)) && n >= 1 && n <= 255;
+}
+
+size_t ballot_bytes(size_t k, size_t d, size_t n) { return n * k * (d == 0 ? k : d); }
 
 /* The w of the bound: how many binary digits n has. */
 static size_t digits(size_t n) {
@@ -14,6 +18,8 @@ static size_t digits(size_t n) {
 
 size_t gate_bound(size_t k, size_t d, size_t n) {
     size_t w = digits(n);
+    if (d == 0)
+        return 2 * k * k * n * w + k * k * k * (12 * w + 4) + k * k * (20 * w + 20) + 2;
     return 2 * k * d * n * w + k * d * (30 * w + 20) + k * k * (20 * w + 6 * d + 20) + 2 + k * d * (400 * w + 400);
 }
 
@@ -41,20 +47,39 @@ struct said reference_test(size_t k, size_t d, size_t n, const uint32_t *table, 
         return refused(2, 0);
     struct said s = {0, 0, length / 4, 0, {0}};
     for (size_t g = 0; g < length / 4; g++) {
-        if (gate_is_bad(table + 4 * g, n * k * d + g))
+        if (gate_is_bad(table + 4 * g, ballot_bytes(k, d, n) + g))
             return refused(3, g);
         s.conditional += kind_conditional[table[4 * g]];
     }
     return s;
 }
 
-/* Reasons 4 to 6; reason 0 where the ballots are accepted. */
+/* Reasons 11 and 12 of rankings of bits; a ballot says of i and j whether i is before j. */
+static struct said test_rankings(size_t k, size_t n, const uint8_t *ballots) {
+    for (size_t b = 0; b < n; b++)
+        for (size_t i = 0; i < k; i++)
+            for (size_t j = 0; j < k; j++)
+                if (ballots[(b * k + i) * k + j] && ballots[(b * k + j) * k + i])
+                    return refused(11, (b * k + i) * k + j);
+    for (size_t b = 0; b < n; b++)
+        for (size_t i = 0; i < k; i++)
+            for (size_t j = 0; j < k; j++)
+                for (size_t l = 0; l < k; l++)
+                    if (l != i && l != j && ballots[(b * k + i) * k + j] && !ballots[(b * k + i) * k + l] &&
+                        !ballots[(b * k + l) * k + j])
+                        return refused(12, b);
+    return refused(0, 0);
+}
+
+/* Reasons 4 to 6, or 4, 5, 11 and 12 of rankings; reason 0 where the ballots are accepted. */
 static struct said test_ballots(size_t k, size_t d, size_t n, const uint8_t *ballots, size_t length) {
-    if (length != n * k * d)
+    if (length != ballot_bytes(k, d, n))
         return refused(4, 0);
     for (size_t i = 0; i < length; i++)
         if (ballots[i] > 1)
             return refused(5, i);
+    if (d == 0)
+        return test_rankings(k, n, ballots);
     for (size_t row = 0; row < n * k; row++) {
         int ones = 0;
         for (size_t g = 0; g < d; g++)
@@ -150,12 +175,48 @@ static int comes_before(const size_t *a, const size_t *b, size_t n) {
     return 0;
 }
 
+/* The strongest path from i to j over candidates that are not met yet, by trying all of them. */
+static size_t strongest(size_t k, size_t links[8][8], size_t i, size_t j, unsigned met) {
+    size_t best = links[i][j];
+    for (size_t l = 0; l < k; l++) {
+        if (l == j || met >> l & 1)
+            continue;
+        size_t rest = strongest(k, links, l, j, met | 1u << l);
+        size_t path = links[i][l] < rest ? links[i][l] : rest;
+        if (path > best)
+            best = path;
+    }
+    return best;
+}
+
+/* The closing bytes of rankings, by Schulze's rule. */
+static void count_rankings(size_t k, size_t n, const uint8_t *ballots, uint8_t *closing) {
+    size_t preferred[8][8] = {{0}}, links[8][8] = {{0}};
+    for (size_t b = 0; b < n; b++)
+        for (size_t i = 0; i < k; i++)
+            for (size_t j = 0; j < k; j++)
+                preferred[i][j] += ballots[(b * k + i) * k + j];
+    for (size_t i = 0; i < k; i++)
+        for (size_t j = 0; j < k; j++)
+            links[i][j] = preferred[i][j] > preferred[j][i] ? preferred[i][j] : 0;
+    for (size_t i = 0; i < k; i++) {
+        closing[i] = 1;
+        for (size_t j = 0; j < k; j++)
+            if (j != i && strongest(k, links, j, i, 1u << j) > strongest(k, links, i, j, 1u << i))
+                closing[i] = 0;
+    }
+}
+
 struct said reference_count(size_t k, size_t d, size_t n, const uint8_t *ballots, size_t length) {
     if (!shape_within(k, d, n))
         return refused(1, 0);
     struct said s = test_ballots(k, d, n, ballots, length);
     if (s.reason)
         return s;
+    if (d == 0) {
+        count_rankings(k, n, ballots, s.closing);
+        return s;
+    }
     size_t counts[8][7] = {{0}};
     for (size_t i = 0; i < length; i++)
         counts[i / d % k][i % d] += ballots[i];

@@ -13,6 +13,9 @@ struct said {
 
 int shape_within(size_t k, size_t d, size_t n);
 
+/* I. */
+size_t ballot_bytes(size_t k, size_t d, size_t n);
+
 /* The bound that document 01 gives for G. */
 size_t gate_bound(size_t k, size_t d, size_t n);
 

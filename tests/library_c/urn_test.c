@@ -1,4 +1,4 @@
-/* Admission and withdrawal on heap buffers of exactly the lent length, for valgrind: random calls on sound and damaged urns of any
+/* Empty urns, admission and withdrawal on heap buffers of exactly the lent length, for valgrind: random calls on sound and damaged urns of any
  * length. What each call answers is compared with its preview, and a refused urn with its copy. */
 #include "../../c/jugyvaros.h"
 #include <stdio.h>
@@ -44,10 +44,15 @@ int main(int count, char **words) {
     for (int r = 0; r < rounds; r++) {
         size_t k = below(10), d = below(9), size = 2 + k * d, slots = below(5) ? 2 + below(6) : 1 + below(257);
         size_t length = slots * size + (below(8) ? 0 : below(3));
-        uint8_t *urn = calloc(length ? length : 1, 1);
-        urn[1] = 1;
-        for (size_t i = 1; i + 1 < slots; i++)
-            urn[i * size] = (uint8_t)(i + 1);
+        uint8_t *urn = malloc(length ? length : 1);
+        for (size_t i = 0; i < length; i++)
+            urn[i] = (uint8_t)below(256);
+        size_t said[JUGY_URN_ANSWER];
+        size_t status = jugy_empty_urn(k, d, urn, length, said, JUGY_URN_ANSWER);
+        if (status != (k < 1 || k > 8 || d < 2 || d > 7 ? 1 : length % size || slots < 2 || slots > 256 ? 13 : 0)) {
+            printf("urn_test: a table is made empty that should not be, or the other way round\n");
+            exit(1);
+        }
         for (int i = 0; i < 30; i++) {
             one_call(k, d, urn, length);
             if (!below(25))

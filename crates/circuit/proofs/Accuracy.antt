@@ -15,10 +15,10 @@ use Rattle.gates.specs.Wires.{wire, wiresOf, outputsOf}
 use Rattle.gates.proofs.Laws.{AllGood, Holds, wires-hold, wires-bits, wire-bit, output-is, length-outputs}
 use Rattle.gates.proofs.WireLaws.{length-wires}
 use Rattle.jury.specs.declared.shape.Shape.{Shape}
-use Rattle.jury.specs.Shape.{withinLimits, ballotBytes}
+use Rattle.jury.specs.Shape.{gradedLimits, ballotBytes}
 use Rattle.jury.specs.Counts.{countsOf, countOf}
 use Rattle.jury.specs.Gauge.{sum, medianOf}
-use Rattle.jury.specs.Accepted.{AcceptedBallots}
+use Rattle.jury.specs.Accepted.{GradedBallots}
 use Rattle.jury.proofs.Cases.{below-or-not}
 use Rattle.jury.proofs.Limits.{within}
 use Rattle.jury.proofs.Tabulate.{length-tabulate}
@@ -126,7 +126,7 @@ pub record Own (s : Shape) : Type 0 where
 enough-gates : (p : Plan) (f : Planned p) → 1 < p .candidates → p .candidates ≤ length (circuit p)
 enough-gates p f two = omega (arith, circuit-block p f two .long)
 
-pub own : (s : Shape) → withinLimits s ≡ true → Own s
+pub own : (s : Shape) → gradedLimits s ≡ true → Own s
 unfolding planOf
 own s e = ⊎-elim many one (below-or-not 1 (s .candidates))
   where
@@ -151,7 +151,7 @@ closing-from s xs gs enough h =
     (λ i l. output-is k (wiresOf xs gs) i ∙ ap (λ (n : ℕ). wire (wiresOf xs gs) (n - k + i)) (length-wires xs gs) ∙ h i (omega arith))
 
 -- Demand 2, over the definitions: for every shape within its limits and all accepted ballots, the last k wires of the own list are the closing bytes of full majority judgment.
-pub own-list-is-accurate : (s : Shape) (xs : List ℕ) → AcceptedBallots s xs → outputsOf (s .candidates) (wiresOf xs (ownList s)) ≡ judgmentOf (countsOf s xs)
+pub own-list-is-accurate : (s : Shape) (xs : List ℕ) → GradedBallots s xs → outputsOf (s .candidates) (wiresOf xs (ownList s)) ≡ judgmentOf (countsOf s xs)
 unfolding planOf
 own-list-is-accurate s xs a = ⊎-elim many one (below-or-not 1 (s .candidates))
   where

@@ -12,7 +12,7 @@ use Rattle.gates.proofs.Laws.{wires-start}
 use Rattle.jury.specs.declared.shape.Shape.{Shape}
 use Rattle.jury.specs.Counts.{countOf, tabulate}
 use Rattle.jury.specs.Gauge.{sum}
-use Rattle.jury.specs.Accepted.{AcceptedBallots}
+use Rattle.jury.specs.Accepted.{GradedBallots}
 use Rattle.jury.proofs.Sums.{sum-none, sum-first}
 use Rattle.jury.proofs.Tabulate.{tabulate-cong}
 use Rattle.jury.proofs.CountFacts.{column-bytes, byte-within}
@@ -35,7 +35,7 @@ place : (i k c d g : ℕ) → (i * k + c) * d + g ≡ c * d + g + i * (k * d)
 place i k c d g = omega (arith, add-mul (i * k) c d, mul-assoc i k d)
 
 -- for accepted ballots, whatever gates follow them
-pub column : (s : Shape) (xs : List ℕ) (gs : List Gate) → AcceptedBallots s xs → (c g : ℕ) → c < s .candidates → g < s .grades
+pub column : (s : Shape) (xs : List ℕ) (gs : List Gate) → GradedBallots s xs → (c g : ℕ) → c < s .candidates → g < s .grades
     → ones (wire (wiresOf xs gs)) (c * s .grades + g) (s .candidates * s .grades) (s .ballots) ≡ countOf s xs c g
 column s xs gs a c g hc hg =
     ones-table (wire (wiresOf xs gs)) (c * s .grades + g) (s .candidates * s .grades) (s .ballots)

@@ -6,7 +6,7 @@ use Prim.Native.Nat.{ℕ, suc, _+_, _-_, _*_, _/_, _^_, _≤_, _<_}
 use native.Mathlib.Nat.{pow-succ'}
 use native.Mathlib.Omega.{arith}
 use Rattle.jury.specs.declared.shape.Shape.{Shape}
-use Rattle.jury.specs.Shape.{withinLimits}
+use Rattle.jury.specs.Shape.{gradedLimits}
 use Rattle.jury.specs.Width.{widthOf}
 use Rattle.jury.proofs.Limits.{Within, within, bytes-are}
 use Rattle.jury.proofs.WidthLaws.{width-half, below-width, least-width}
@@ -25,7 +25,7 @@ half-most n r h = omega (arith, pow-succ' 2 r)
 pub rest-most : (n r : ℕ) → n < 2 ^ suc r → 1 + n / 2 ≤ 2 ^ r
 rest-most n r h = omega (arith, pow-succ' 2 r)
 
-pub planned : (s : Shape) → withinLimits s ≡ true → Planned (planOf s)
+pub planned : (s : Shape) → gradedLimits s ≡ true → Planned (planOf s)
 unfolding planOf
 planned s e =
     let w = within s e in
@@ -45,5 +45,5 @@ planned s e =
       worst-is = omega (arith, rest-most n r high);
       median-low = least-width (s .grades - 1) (omega (arith, w .d-least));
       median-high = high-width (s .grades - 1) (omega (arith, w .d-least));
-      inputs-is = bytes-are s;
+      inputs-is = bytes-are s w;
     }

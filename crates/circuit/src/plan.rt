@@ -3,7 +3,7 @@ use jury::shape::Shape;
 ghost use mathlib.Core.Path.{_≡_};
 ghost use Prim.Native.Nat.{_^_, _≤_};
 ghost use lib.Dec.{T};
-ghost use Rattle.jury.specs.Shape.{withinLimits};
+ghost use Rattle.jury.specs.Shape.{gradedLimits};
 ghost use Rattle.circuit.specs.Plan.{planOf};
 
 // A sum of grades has `digits` low digits and a top one, and the number of a median grade `places` low digits and a top one; `offset` and `worst` are added to sums, as their definition says.
@@ -35,7 +35,7 @@ fn power(digits: u32) -> u32
 impl Plan {
     // The plan of a shape.
     pub fn new(shape: Shape) -> Plan
-        requires { ⌜ T (withinLimits shape) ⌝ }
+        requires { ⌜ T (gradedLimits shape) ⌝ }
         ensures { λ r. ⌜ r ≡ planOf shape ⌝ }
     {
         let ballots = shape.ballots as u32;

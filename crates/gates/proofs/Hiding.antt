@@ -1,4 +1,4 @@
--- Demand 3: masking twice with the same bits gives the tape back, so the second tape is the first board masked by the second wires.
+-- Demand 3: a mask that is applied twice falls away, so the second tape is the first board masked by the second wires.
 -- Assumes nothing.
 use mathlib.Core.Path.{_≡_, _∙_, refl, sym, ap}
 use mathlib.Core.Bool.{Bool, true, false, cond}

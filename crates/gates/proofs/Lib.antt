@@ -11,6 +11,7 @@ pub mod WireLaws
 pub mod Stepping
 pub mod Evaluating
 pub mod Finishing
+pub mod Whole
 pub mod Laws
 pub mod Hiding
 pub mod Accepting

@@ -15,7 +15,7 @@ ExactlyOne {A} P = (x : A) × P x × ((y : A) → P y → y ≡ x)
 abbrev pub conditionalGate : List Gate → ℕ → Gate
 conditionalGate gs i = getD (conditionals gs) i (record { kind = 0; a = 0; b = 0; c = 0 })
 
--- A finished board of C + k bytes: shown bit i is wire a of the i-th conditional gate under tape byte i, their sum modulo 2, and the k outputs stand behind them.
+-- A finished board of C + k bytes: shown bit i is the sum modulo 2 of tape byte i and of wire a of conditional gate number i, and the k outputs stand behind them.
 pub record Finished (ws : List ℕ) (gs : List Gate) (k : ℕ) (tape board : List ℕ) : Type 0 where
   pub size : length board ≡ conditionalCount gs + k
   pub shown : (i : ℕ) → i < conditionalCount gs → getD board i 0 ≡ (wire ws (conditionalGate gs i .a) + getD tape i 0) % 2

@@ -10,7 +10,7 @@ use lib.Seq.{getD-drop}
 use Rattle.jury.specs.declared.shape.Shape.{Shape}
 use Rattle.jury.specs.Gauge.{sum}
 use Rattle.jury.specs.Counts.{byteOf, countUpTo, countOf, countsOf, tabulate}
-use Rattle.jury.specs.Accepted.{AcceptedBallots}
+use Rattle.jury.specs.Accepted.{GradedBallots}
 use Rattle.jury.proofs.Cases.{below-or-not, same-or-not}
 use Rattle.jury.proofs.BallotLaws.{row-within}
 use Rattle.jury.proofs.Tabulate.{tabulate-cong, take-tabulate, length-tabulate}
@@ -38,7 +38,7 @@ earlier-one d from to f h l m ef eh e t p = ⊎-elim past before (below-or-not f
     before q = omega (arith, sum-grows t from f q, sum-grows (suc from) d f m, sum-last from f)
 
 -- a row of an accepted ballot holds one 1
-one-in-row : (s : Shape) (xs : List ℕ) → AcceptedBallots s xs → (b c : ℕ) → b < s .ballots → c < s .candidates → sum (tabulate (s .grades) (λ g. byteOf s xs b c g)) ≡ 1
+one-in-row : (s : Shape) (xs : List ℕ) → GradedBallots s xs → (b c : ℕ) → b < s .ballots → c < s .candidates → sum (tabulate (s .grades) (λ g. byteOf s xs b c g)) ≡ 1
 unfolding byteOf addend
 one-in-row s xs a b c hb hc =
     ap sum

@@ -9,7 +9,7 @@ use lib.ListN.{take}
 use Rattle.jury.specs.Gauge.{sum}
 use Rattle.judgment.specs.Judgment.{sequenceOf, precedes}
 
--- how many grades of a row are among the t best
+-- the number of a row's grades that are the t best ones
 abbrev pub running : List ℕ → ℕ → ℕ
 running row t = sum (take t row)
 

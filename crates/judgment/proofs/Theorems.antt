@@ -6,7 +6,7 @@ use native.Mathlib.Omega.{arith}
 use Rattle.jury.specs.declared.shape.Shape.{Shape}
 use Rattle.jury.specs.Counts.{countsOf, countArray}
 use Rattle.jury.specs.Inner.{rowsIn}
-use Rattle.jury.specs.Accepted.{AcceptedBallots}
+use Rattle.jury.specs.Accepted.{GradedBallots}
 use Rattle.jury.proofs.Limits.{within}
 use Rattle.jury.proofs.Matrix.{array-rows}
 use Rattle.jury.proofs.CountFacts.{counts-length, counts-sum}
@@ -28,9 +28,9 @@ pub equal-exactly : EqualSequences
 equal-exactly = equal-sequences
 
 -- every candidate of accepted ballots has n grades
-pub each-gets : (s : Shape) (xs : List ℕ) → AcceptedBallots s xs → EachGets (s .ballots) (countsOf s xs)
+pub each-gets : (s : Shape) (xs : List ℕ) → GradedBallots s xs → EachGets (s .ballots) (countsOf s xs)
 each-gets s xs a i l = counts-sum s xs a i (omega (arith, counts-length s xs))
 
 -- as the array in which the program keeps their counts says it
-pub array-gets : (s : Shape) (xs : List ℕ) → AcceptedBallots s xs → EachGets (s .ballots) (rowsIn (s .candidates) (s .grades) (countArray s xs))
+pub array-gets : (s : Shape) (xs : List ℕ) → GradedBallots s xs → EachGets (s .ballots) (rowsIn (s .candidates) (s .grades) (countArray s xs))
 array-gets s xs a = rw (array-rows s xs (within s (a .within))) (each-gets s xs a)

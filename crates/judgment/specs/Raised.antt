@@ -6,13 +6,13 @@ use Prim.Native.Nat.{ℕ, _<_}
 use lib.ListN.{getD}
 use Rattle.jury.specs.declared.shape.Shape.{Shape}
 use Rattle.jury.specs.Counts.{byteOf, countsOf}
-use Rattle.jury.specs.Accepted.{AcceptedBallots}
+use Rattle.jury.specs.Accepted.{GradedBallots}
 use Rattle.judgment.specs.Judgment.{judgmentOf}
 
 -- Two accepted sets of ballots that agree in every row but one, where the second gives the candidate a grade that is better by one or more.
 pub record Raised (s : Shape) (candidate : ℕ) (old new : List ℕ) : Type 0 where
-  pub old-accepted : AcceptedBallots s old
-  pub new-accepted : AcceptedBallots s new
+  pub old-accepted : GradedBallots s old
+  pub new-accepted : GradedBallots s new
   pub a-candidate : candidate < s .candidates
   pub ballot : ℕ
   pub a-ballot : ballot < s .ballots

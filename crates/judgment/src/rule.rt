@@ -4,7 +4,7 @@ ghost use mathlib.Core.Path.{_≡_};
 ghost use Prim.Native.Nat.{_≤_, _<_};
 ghost use lib.Dec.{T};
 ghost use lib.ListN.{length, take, getD};
-ghost use Rattle.jury.specs.Shape.{withinLimits};
+ghost use Rattle.jury.specs.Shape.{gradedLimits};
 ghost use Rattle.jury.specs.Gauge.{sum, eightBytes};
 ghost use Rattle.jury.specs.Inner.{rowsIn};
 ghost use Rattle.judgment.specs.Judgment.{sequenceOf, precedes, judgmentOf};
@@ -19,7 +19,7 @@ pub struct Sums {
 
 // The closing bytes: 1 for each candidate whose sequence comes first, 0 for any other and from place k on.
 pub fn winners(shape: Shape, counts: [[u16; 7]; 8]) -> [u8; 8]
-    requires { ⌜ T (withinLimits shape) ⌝ }
+    requires { ⌜ T (gradedLimits shape) ⌝ }
     requires { ⌜ EachGets (shape .ballots) (rowsIn (shape .candidates) (shape .grades) counts) ⌝ }
     ensures { λ r. ⌜ r ≡ eightBytes (judgmentOf (rowsIn (shape .candidates) (shape .grades) counts)) ⌝ }
 {

@@ -2,8 +2,8 @@
 -- Assumes nothing.
 use mathlib.Core.Path.{_≡_, _∙_, refl, sym, ap}
 use mathlib.Core.Bool.{Bool, true, false, cond}
-use mathlib.Core.Option.{none}
-use mathlib.Core.List.{List}
+use mathlib.Core.Option.{Option, none, some}
+use mathlib.Core.List.{List, [], _∷_}
 use Prim.Native.Nat.{ℕ, zero, suc, _*_, _<_}
 use native.Mathlib.Nat.{zero-mul, suc-mul, add-comm}
 use native.Mathlib.Omega.{arith}
@@ -16,27 +16,42 @@ use Rattle.gates.specs.declared.place.Place.the-variants.{At, Nowhere}
 use Rattle.gates.specs.Test.{firstAboveOne}
 use Rattle.gates.proofs.Hiding.{all-bits, none-above}
 use Rattle.jury.specs.declared.shape.Shape.{Shape}
-use Rattle.jury.specs.Shape.{withinLimits, ballotBytes}
-use Rattle.jury.specs.Reason.{unless, foundAt, firstOf}
-use Rattle.jury.specs.Ballots.{ones, rowsOf, firstBadRow, ballotReasons}
-use Rattle.jury.specs.Accepted.{AcceptedBallots}
-use Rattle.jury.proofs.BallotLaws.{judged, judged-by}
+use Rattle.jury.specs.Shape.{isRanking, gradedLimits, withinLimits, ballotBytes}
+use Rattle.jury.specs.Reason.{Reason, unless, foundAt, firstOf}
+use Rattle.jury.specs.Ballots.{ones, rowsOf, firstBadRow, gradedReasons, rankedReasons, ballotReasons}
+use Rattle.jury.specs.Rankings.{before, firstClash, firstGap}
+use Rattle.jury.specs.WeakOrder.{StrictWeakOrder}
+use Rattle.jury.specs.Accepted.{AcceptedBallots, GradedBallots}
+use Rattle.jury.proofs.Limits.{within, graded-is}
+use Rattle.jury.proofs.BallotLaws.{judged, kindReason, judged-by, graded-reason, ranked-reason}
+use Rattle.jury.proofs.RankingLaws.{passes-orders}
 
 -- no test applies where the answer is none
-size-passed : (size : Bool) (byte row : Place) → judged size byte row ≡ none → size ≡ true
+size-passed : (size : Bool) (byte : Place) (kind : Option Reason) → judged size byte kind ≡ none → size ≡ true
 unfolding judged unless firstOf
-size-passed true byte row e = refl
-size-passed false byte row e = let z : _≡_ {A = ℕ} 0 1 = cc in absurd (omega arith)
+size-passed true byte kind e = refl
+size-passed false byte kind e = let z : _≡_ {A = ℕ} 0 1 = cc in absurd (omega arith)
 
-byte-passed : (byte row : Place) → judged true byte row ≡ none → byte ≡ Nowhere
+byte-passed : (byte : Place) (kind : Option Reason) → judged true byte kind ≡ none → byte ≡ Nowhere
 unfolding judged unless foundAt firstOf
-byte-passed (At i) row e = let z : _≡_ {A = ℕ} 0 1 = cc in absurd (omega arith)
-byte-passed Nowhere row e = refl
+byte-passed (At i) kind e = let z : _≡_ {A = ℕ} 0 1 = cc in absurd (omega arith)
+byte-passed Nowhere kind e = refl
 
-row-passed : (row : Place) → judged true Nowhere row ≡ none → row ≡ Nowhere
+kind-passed : (kind : Option Reason) → judged true Nowhere kind ≡ none → kind ≡ none
 unfolding judged unless foundAt firstOf
+kind-passed (some r) e = let z : _≡_ {A = ℕ} 0 1 = cc in absurd (omega arith)
+kind-passed none e = refl
+
+row-passed : (row : Place) → firstOf (foundAt 6 row ∷ []) ≡ none → row ≡ Nowhere
+unfolding foundAt firstOf
 row-passed (At r) e = let z : _≡_ {A = ℕ} 0 1 = cc in absurd (omega arith)
 row-passed Nowhere e = refl
+
+ranks-passed : (clash gap : Place) → firstOf (foundAt 11 clash ∷ foundAt 12 gap ∷ []) ≡ none → (clash ≡ Nowhere) × (gap ≡ Nowhere)
+unfolding foundAt firstOf
+ranks-passed (At i) gap e = let z : _≡_ {A = ℕ} 0 1 = cc in absurd (omega arith)
+ranks-passed Nowhere (At b) e = let z : _≡_ {A = ℕ} 0 1 = cc in absurd (omega arith)
+ranks-passed Nowhere Nowhere e = (refl, refl)
 
 -- a choice between a search further on that finds nothing and a place
 passed-over : (t : Bool) (i : ℕ) (rest : Place) → cond t rest (At i) ≡ Nowhere → (t ≡ true) × (rest ≡ Nowhere)
@@ -71,7 +86,7 @@ all-rows-back d (suc r) xs n h =
     (λ j l. ap (λ (l : List ℕ). ones (take d l)) (row-next d j xs) ∙ h (suc j) (omega arith))
 
 module _ (s : Shape) (xs : List ℕ) where
-  -- the outcomes of the three tests
+  -- the outcomes of the tests
   size-test : Bool
   size-test = eqb (length xs) (ballotBytes s)
 
@@ -81,34 +96,58 @@ module _ (s : Shape) (xs : List ℕ) where
   row-test : Place
   row-test = firstBadRow 0 (rowsOf (s .grades) (s .ballots * s .candidates) xs)
 
-  outcome : firstOf (ballotReasons s xs) ≡ none → judged size-test byte-test row-test ≡ none
-  unfolding size-test byte-test row-test
-  outcome e = sym (judged-by s xs size-test byte-test row-test refl refl refl) ∙ e
+  outcome : firstOf (ballotReasons s xs) ≡ none → judged size-test byte-test (kindReason s xs) ≡ none
+  unfolding size-test byte-test
+  outcome e = sym (judged-by s xs size-test byte-test (kindReason s xs) refl refl refl) ∙ e
 
   size-of : firstOf (ballotReasons s xs) ≡ none → size-test ≡ true
-  size-of e = size-passed size-test byte-test row-test (outcome e)
+  size-of e = size-passed size-test byte-test (kindReason s xs) (outcome e)
 
   byte-of : firstOf (ballotReasons s xs) ≡ none → byte-test ≡ Nowhere
-  byte-of e = byte-passed byte-test row-test (ap (λ (t : Bool). judged t byte-test row-test) (sym (size-of e)) ∙ outcome e)
+  byte-of e = byte-passed byte-test (kindReason s xs) (ap (λ (t : Bool). judged t byte-test (kindReason s xs)) (sym (size-of e)) ∙ outcome e)
 
-  row-of : firstOf (ballotReasons s xs) ≡ none → row-test ≡ Nowhere
-  row-of e =
-      row-passed row-test
-      (ap (λ (p : Place). judged true p row-test) (sym (byte-of e)) ∙ ap (λ (t : Bool). judged t byte-test row-test) (sym (size-of e)) ∙ outcome e)
+  kind-of : firstOf (ballotReasons s xs) ≡ none → kindReason s xs ≡ none
+  kind-of e =
+      kind-passed (kindReason s xs)
+      (ap (λ (p : Place). judged true p (kindReason s xs)) (sym (byte-of e)) ∙ ap (λ (t : Bool). judged t byte-test (kindReason s xs)) (sym (size-of e)) ∙ outcome e)
+
+  rows-of : firstOf (ballotReasons s xs) ≡ none → isRanking s ≡ false → (r : ℕ) → r < s .ballots * s .candidates → ones (take (s .grades) (drop (r * s .grades) xs)) ≡ 1
+  unfolding gradedReasons row-test
+  rows-of e f = all-rows (s .grades) (s .ballots * s .candidates) xs 0 (row-passed row-test (sym (graded-reason s xs f) ∙ kind-of e))
+
+  orders-of : firstOf (ballotReasons s xs) ≡ none → isRanking s ≡ true → (b : ℕ) → b < s .ballots → StrictWeakOrder (s .candidates) (before (s .candidates) xs b)
+  unfolding rankedReasons
+  orders-of e f =
+      passes-orders (s .candidates) (s .ballots) xs .0
+      (ranks-passed (firstClash (s .candidates) (s .ballots) xs) (firstGap (s .candidates) (s .ballots) xs) (sym (ranked-reason s xs f) ∙ kind-of e))
 
   -- what the tests of a shape and its ballots establish
   pub accepted : withinLimits s ≡ true → firstOf (ballotReasons s xs) ≡ none → AcceptedBallots s xs
-  unfolding size-test byte-test row-test
+  unfolding size-test byte-test
   accepted w e = record {
     within = w;
     size = eqb-true (length xs) (ballotBytes s) (size-of e);
     bits = all-bits 0 xs (byte-of e);
-    rows = all-rows (s .grades) (s .ballots * s .candidates) xs 0 (row-of e);
+    rows = rows-of e;
+    orders = orders-of e;
   }
+
+  no-kind-reason : AcceptedBallots s xs → (t : Bool) → isRanking s ≡ t → kindReason s xs ≡ none
+  unfolding gradedReasons rankedReasons foundAt firstOf
+  no-kind-reason a false e =
+      graded-reason s xs e ∙ ap (λ (p : Place). firstOf (foundAt 6 p ∷ [])) (all-rows-back (s .grades) (s .ballots * s .candidates) xs 0 (a .rows e))
+  no-kind-reason a true e =
+      let p = passes-orders (s .candidates) (s .ballots) xs .1 (a .orders e) in
+      ranked-reason s xs e
+      ∙ ap (λ (q : Place). firstOf (foundAt 11 q ∷ foundAt 12 (firstGap (s .candidates) (s .ballots) xs) ∷ [])) (p .0)
+      ∙ ap (λ (q : Place). firstOf (foundAt 11 Nowhere ∷ foundAt 12 q ∷ [])) (p .1)
 
   -- and back
   pub accepted-back : AcceptedBallots s xs → firstOf (ballotReasons s xs) ≡ none
   unfolding judged unless foundAt firstOf
   accepted-back a =
-      judged-by s xs true Nowhere Nowhere (eq-eqb (length xs) (ballotBytes s) (a .size)) (none-above 0 xs (a .bits))
-      (all-rows-back (s .grades) (s .ballots * s .candidates) xs 0 (a .rows))
+      judged-by s xs true Nowhere none (eq-eqb (length xs) (ballotBytes s) (a .size)) (none-above 0 xs (a .bits)) (no-kind-reason a (isRanking s) refl)
+
+  -- graded ballots among them
+  pub graded : AcceptedBallots s xs → gradedLimits s ≡ true → GradedBallots s xs
+  graded a g = record { within = g; size = a .size; bits = a .bits; rows = a .rows (graded-is s (within s g)) }

@@ -1,8 +1,8 @@
 -- The ballots and their tests, one step at a time.
 -- Assumes nothing.
-use mathlib.Core.Path.{_≡_, _∙_, ap}
-use mathlib.Core.Bool.{Bool, cond}
-use mathlib.Core.Option.{Option}
+use mathlib.Core.Path.{_≡_, _∙_, refl, ap}
+use mathlib.Core.Bool.{Bool, true, false, cond}
+use mathlib.Core.Option.{Option, none, some}
 use mathlib.Core.List.{List, [], _∷_}
 use Prim.Native.Nat.{ℕ, suc, _+_, _*_, _-_, _≤_, _<_}
 use native.Mathlib.Nat.{suc-mul, mul-le-mul-right}
@@ -15,9 +15,9 @@ use Rattle.gates.specs.declared.place.Place.{Place}
 use Rattle.gates.specs.declared.place.Place.the-variants.{At, Nowhere}
 use Rattle.gates.specs.Test.{firstAboveOne}
 use Rattle.jury.specs.declared.shape.Shape.{Shape}
-use Rattle.jury.specs.Shape.{ballotBytes}
+use Rattle.jury.specs.Shape.{isRanking, ballotBytes}
 use Rattle.jury.specs.Reason.{Reason, unless, foundAt, firstOf}
-use Rattle.jury.specs.Ballots.{ones, rowsOf, firstBadRow, ballotReasons}
+use Rattle.jury.specs.Ballots.{ones, rowsOf, firstBadRow, gradedReasons, rankedReasons, ballotReasons}
 
 -- the ones from place i on: byte i first
 ones-step : (xs : List ℕ) (i : ℕ) → i < length xs → ones (drop i xs) ≡ cond (eqb (getD xs i 0) 1) (suc (ones (drop (suc i) xs))) (ones (drop (suc i) xs))
@@ -60,15 +60,44 @@ pub bad-end : (d row rows : ℕ) (xs : List ℕ) → rows ≤ row → firstBadRo
 unfolding firstBadRow rowsOf
 bad-end d row rows xs h = ap (λ (n : ℕ). firstBadRow row (rowsOf d n xs)) {x = rows - row} {y = 0} (omega arith)
 
--- what the three tests of ballots answer, from their outcomes
-unfoldable pub judged : Bool → Place → Place → Option Reason
-judged size byte row = firstOf (unless size 4 ∷ foundAt 5 byte ∷ foundAt 6 row ∷ [])
+-- what the tests of ballots answer, from the outcomes of the first two and those of the kind of the shape
+unfoldable pub judged : Bool → Place → Option Reason → Option Reason
+judged size byte kind = firstOf (unless size 4 ∷ foundAt 5 byte ∷ kind ∷ [])
 
-pub judged-by : (s : Shape) (xs : List ℕ) (size : Bool) (byte row : Place) →
-    eqb (length xs) (ballotBytes s) ≡ size → firstAboveOne 0 xs ≡ byte → firstBadRow 0 (rowsOf (s .grades) (s .ballots * s .candidates) xs) ≡ row →
-    firstOf (ballotReasons s xs) ≡ judged size byte row
-unfolding judged ballotReasons
-judged-by s xs size byte row e₁ e₂ e₃ =
-    ap (λ (t : Bool). judged t (firstAboveOne 0 xs) (firstBadRow 0 (rowsOf (s .grades) (s .ballots * s .candidates) xs))) e₁
-    ∙ ap (λ (p : Place). judged size p (firstBadRow 0 (rowsOf (s .grades) (s .ballots * s .candidates) xs))) e₂
-    ∙ ap (λ (p : Place). judged size byte p) e₃
+unfoldable pub kindReason : Shape → List ℕ → Option Reason
+kindReason s xs = firstOf (cond (isRanking s) (rankedReasons s xs) (gradedReasons s xs))
+
+first-last : (os : List (Option Reason)) → firstOf os ≡ firstOf (firstOf os ∷ [])
+unfolding firstOf
+first-last [] = refl
+first-last (none ∷ os) = first-last os
+first-last (some r ∷ os) = refl
+
+first-both : (o p : Option Reason) (os : List (Option Reason)) → firstOf (o ∷ p ∷ os) ≡ firstOf (o ∷ p ∷ firstOf os ∷ [])
+unfolding firstOf
+first-both none none os = first-last os
+first-both none (some r) os = refl
+first-both (some r) p os = refl
+
+pub judged-by : (s : Shape) (xs : List ℕ) (size : Bool) (byte : Place) (kind : Option Reason) →
+    eqb (length xs) (ballotBytes s) ≡ size → firstAboveOne 0 xs ≡ byte → kindReason s xs ≡ kind →
+    firstOf (ballotReasons s xs) ≡ judged size byte kind
+unfolding judged ballotReasons kindReason
+judged-by s xs size byte kind e₁ e₂ e₃ =
+    first-both (unless (eqb (length xs) (ballotBytes s)) 4) (foundAt 5 (firstAboveOne 0 xs)) (cond (isRanking s) (rankedReasons s xs) (gradedReasons s xs))
+    ∙ ap (λ (t : Bool). judged t (firstAboveOne 0 xs) (kindReason s xs)) e₁
+    ∙ ap (λ (p : Place). judged size p (kindReason s xs)) e₂
+    ∙ ap (λ (o : Option Reason). judged size byte o) e₃
+
+pub graded-reason : (s : Shape) (xs : List ℕ) → isRanking s ≡ false → kindReason s xs ≡ firstOf (gradedReasons s xs)
+unfolding kindReason
+graded-reason s xs e = ap (λ (t : Bool). firstOf (cond t (rankedReasons s xs) (gradedReasons s xs))) e
+
+pub ranked-reason : (s : Shape) (xs : List ℕ) → isRanking s ≡ true → kindReason s xs ≡ firstOf (rankedReasons s xs)
+unfolding kindReason
+ranked-reason s xs e = ap (λ (t : Bool). firstOf (cond t (rankedReasons s xs) (gradedReasons s xs))) e
+
+pub judged-kind : (kind : Option Reason) → judged true Nowhere kind ≡ kind
+unfolding judged unless foundAt firstOf
+judged-kind none = refl
+judged-kind (some r) = refl

@@ -1,4 +1,4 @@
--- Facts about the grade counts: each is the number of ones in its column, only the ballot bytes are read, and the counts of a candidate add up to n.
+-- Facts about the grade counts: each is the number of ones in its column, only the ballot bytes are read, and a candidate's counts have the sum n.
 -- Assumes nothing.
 use mathlib.Core.Path.{_≡_, _∙_, refl, sym, ap}
 use mathlib.Core.List.{List, []}
@@ -6,14 +6,15 @@ use Prim.Native.Nat.{ℕ, zero, suc, _+_, _*_, _≤_, _<_}
 use native.Mathlib.Omega.{arith}
 use lib.ListN.{length, getD, take, drop}
 use lib.Seq.{getD-take, getD-drop}
+use borrow.Author.Tests.{ne-eqb}
 use Rattle.jury.specs.declared.shape.Shape.{Shape}
-use Rattle.jury.specs.Shape.{ballotBytes}
+use Rattle.jury.specs.Shape.{isRanking, ballotBytes}
 use Rattle.jury.specs.Ballots.{ones}
 use Rattle.jury.specs.Counts.{byteOf, countUpTo, countOf, tabulate, countsOf, countArray}
 use Rattle.jury.specs.Gauge.{sum}
 use Rattle.jury.specs.Inner.{rowsIn}
-use Rattle.jury.specs.Accepted.{AcceptedBallots}
-use Rattle.jury.proofs.Limits.{within}
+use Rattle.jury.specs.Accepted.{GradedBallots}
+use Rattle.jury.proofs.Limits.{within, grades-columns}
 use Rattle.jury.proofs.Matrix.{array-rows}
 use Rattle.jury.proofs.BallotLaws.{row-within}
 use Rattle.jury.proofs.Tabulate.{length-tabulate, getD-tabulate, tabulate-cong}
@@ -39,7 +40,7 @@ column-addends s xs zero c g = refl
 column-addends s xs (suc b) c g = omega (arith, column-addends s xs b c g, sum-last b (λ i. addend (byteOf s xs i c g)))
 
 -- so for accepted ballots it is the sum of the bytes in its column
-pub column-sum : (s : Shape) (xs : List ℕ) → AcceptedBallots s xs → (b c g : ℕ) → countUpTo s xs b c g ≡ sum (tabulate b (λ i. byteOf s xs i c g))
+pub column-sum : (s : Shape) (xs : List ℕ) → GradedBallots s xs → (b c g : ℕ) → countUpTo s xs b c g ≡ sum (tabulate b (λ i. byteOf s xs i c g))
 unfolding addend byteOf
 column-sum s xs a b c g =
     column-addends s xs b c g
@@ -48,15 +49,15 @@ column-sum s xs a b c g =
     (λ i h. bit-added (byteOf s xs i c g) (a .bits ((i * s .candidates + c) * s .grades + g))))
 
 -- the bytes of a column, by their places
-pub column-bytes : (s : Shape) (xs : List ℕ) → AcceptedBallots s xs → (c g : ℕ)
+pub column-bytes : (s : Shape) (xs : List ℕ) → GradedBallots s xs → (c g : ℕ)
     → countOf s xs c g ≡ sum (tabulate (s .ballots) (λ i. getD xs ((i * s .candidates + c) * s .grades + g) 0))
 unfolding countOf byteOf
 column-bytes s xs a c g = column-sum s xs a (s .ballots) c g
 
 -- each byte that is counted stands among the ballot bytes
 pub byte-within : (s : Shape) (b c g : ℕ) → b < s .ballots → c < s .candidates → g < s .grades → (b * s .candidates + c) * s .grades + g < ballotBytes s
-unfolding ballotBytes
 byte-within s b c g hb hc hg =
+    let inside = grades-columns s (unfold isRanking in (ne-eqb (s .grades) 0 (λ e. absurd (omega arith)))) in
     let row : b * s .candidates + c < s .ballots * s .candidates = omega (arith, row-within b (s .ballots) (s .candidates) hb) in
     omega (arith, row-within (b * s .candidates + c) (s .ballots * s .candidates) (s .grades) row)
 
@@ -82,7 +83,7 @@ reads-ballots s xs ys e =
         ∙ getD-take (ballotBytes s) ys ((b * s .candidates + c) * s .grades + g) 0 h
 
 -- one row of a ballot adds 1 in all
-one-addend : (s : Shape) (xs : List ℕ) → AcceptedBallots s xs → (c b : ℕ) → c < s .candidates → b < s .ballots → sum (tabulate (s .grades) (λ g. addend (byteOf s xs b c g))) ≡ 1
+one-addend : (s : Shape) (xs : List ℕ) → GradedBallots s xs → (c b : ℕ) → c < s .candidates → b < s .ballots → sum (tabulate (s .grades) (λ g. addend (byteOf s xs b c g))) ≡ 1
 unfolding byteOf
 one-addend s xs a c b hc hb =
     ap sum
@@ -94,17 +95,17 @@ one-addend s xs a c b hc hb =
     row : ℕ
     row = b * s .candidates + c
 
--- the counts of a candidate add up to the ballots counted
-sum-up-to : (s : Shape) (xs : List ℕ) → AcceptedBallots s xs → (c : ℕ) → c < s .candidates → (b : ℕ) → b ≤ s .ballots → sum (tabulate (s .grades) (countUpTo s xs b c)) ≡ b
+-- a candidate's counts have the sum of the ballots counted
+sum-up-to : (s : Shape) (xs : List ℕ) → GradedBallots s xs → (c : ℕ) → c < s .candidates → (b : ℕ) → b ≤ s .ballots → sum (tabulate (s .grades) (countUpTo s xs b c)) ≡ b
 unfolding countUpTo addend
 sum-up-to s xs a c hc zero h = sum-zero (s .grades)
 sum-up-to s xs a c hc (suc b) h =
     sum-add (s .grades) (countUpTo s xs b c) (λ g. addend (byteOf s xs b c g)) ∙ omega (arith, sum-up-to s xs a c hc b (omega arith), one-addend s xs a c b hc (omega arith))
 
-pub counts-sum : (s : Shape) (xs : List ℕ) → AcceptedBallots s xs → (c : ℕ) → c < s .candidates → sum (getD (countsOf s xs) c []) ≡ s .ballots
+pub counts-sum : (s : Shape) (xs : List ℕ) → GradedBallots s xs → (c : ℕ) → c < s .candidates → sum (getD (countsOf s xs) c []) ≡ s .ballots
 unfolding countOf
 counts-sum s xs a c h = ap sum (counts-row s xs c h) ∙ sum-up-to s xs a c h (s .ballots) (omega arith)
 
 -- and so do those in the program's array
-pub array-sum : (s : Shape) (xs : List ℕ) → AcceptedBallots s xs → (c : ℕ) → c < s .candidates → sum (getD (rowsIn (s .candidates) (s .grades) (countArray s xs)) c []) ≡ s .ballots
+pub array-sum : (s : Shape) (xs : List ℕ) → GradedBallots s xs → (c : ℕ) → c < s .candidates → sum (getD (rowsIn (s .candidates) (s .grades) (countArray s xs)) c []) ≡ s .ballots
 array-sum s xs a c h = ap (λ (m : List (List ℕ)). sum (getD m c [])) (array-rows s xs (within s (a .within))) ∙ counts-sum s xs a c h

@@ -1,16 +1,18 @@
--- A shape within its limits, as facts about its numbers.
+-- A shape within its limits, as facts about its numbers: first of each kind, then of both.
 -- Assumes nothing.
-use mathlib.Core.Path.{_≡_, refl}
-use mathlib.Core.Bool.{true, _&&_}
+use mathlib.Core.Path.{_≡_, _∙_, sym, ap, subst}
+use mathlib.Core.Bool.{Bool, true, false, cond, _&&_, true≢false}
+use mathlib.Core.Logic.{_⊎_, inl, inr, ⊎-elim}
 use Prim.Native.Nat.{ℕ, _≤_, _<_, _*_, _^_}
 use native.Mathlib.Nat.{mul-le-mul}
 use native.Mathlib.Omega.{arith}
-use lib.Dec.{T, leb}
-use borrow.Author.Tests.{leb-true, le-leb}
+use lib.Dec.{T, leb, eqb}
+use borrow.Author.Tests.{leb-true, le-leb, eqb-true, eq-eqb, ne-eqb}
 use Rattle.jury.specs.declared.shape.Shape.{Shape}
-use Rattle.jury.specs.Shape.{withinLimits, ballotBytes}
-use Rattle.jury.proofs.Flags.{and-first, and-second, T-true}
+use Rattle.jury.specs.Shape.{isRanking, gradedLimits, rankedLimits, withinLimits, columns, ballotBytes}
+use Rattle.jury.proofs.Flags.{and-first, and-second, T-true, true-T}
 
+-- a tasting with grades
 pub record Within (s : Shape) : Type 0 where
   pub k-least : 1 ≤ s .candidates
   pub k-most : s .candidates ≤ 8
@@ -20,8 +22,8 @@ pub record Within (s : Shape) : Type 0 where
   pub n-most : s .ballots ≤ 255
 
 -- the test within limits says the six facts
-pub within : (s : Shape) → withinLimits s ≡ true → Within s
-unfolding withinLimits
+pub within : (s : Shape) → gradedLimits s ≡ true → Within s
+unfolding gradedLimits
 within s e =
     let e₅ = and-first (leb 1 (s .candidates) && leb (s .candidates) 8 && leb 2 (s .grades) && leb (s .grades) 7 && leb 1 (s .ballots)) (leb (s .ballots) 255) e in
     let e₄ = and-first (leb 1 (s .candidates) && leb (s .candidates) 8 && leb 2 (s .grades) && leb (s .grades) 7) (leb 1 (s .ballots)) e₅ in
@@ -36,12 +38,12 @@ within s e =
       n-most = leb-true (s .ballots) 255 (and-second (leb 1 (s .candidates) && leb (s .candidates) 8 && leb 2 (s .grades) && leb (s .grades) 7 && leb 1 (s .ballots)) (leb (s .ballots) 255) e);
     }
 
-pub within-T : (s : Shape) → T (withinLimits s) → Within s
-within-T s h = within s (T-true (withinLimits s) h)
+pub within-T : (s : Shape) → T (gradedLimits s) → Within s
+within-T s h = within s (T-true (gradedLimits s) h)
 
 -- and back
-pub within-back : (s : Shape) → Within s → withinLimits s ≡ true
-unfolding withinLimits
+pub within-back : (s : Shape) → Within s → gradedLimits s ≡ true
+unfolding gradedLimits
 within-back s w =
     simp (le-leb _ _ (w .k-least), le-leb _ _ (w .k-most), le-leb _ _ (w .d-least), le-leb _ _ (w .d-most), le-leb _ _ (w .n-least), le-leb _ _ (w .n-most))
 
@@ -52,9 +54,95 @@ rows-bound s w = mul-le-mul (w .n-most) (w .k-most)
 pub bytes-bound : (s : Shape) → Within s → s .ballots * s .candidates * s .grades ≤ 14280
 bytes-bound s w = mul-le-mul (rows-bound s w) (w .d-most)
 
-pub bytes-are : (s : Shape) → ballotBytes s ≡ s .ballots * s .candidates * s .grades
+pub graded-is : (s : Shape) → Within s → isRanking s ≡ false
+unfolding isRanking
+graded-is s w = ne-eqb (s .grades) 0 (λ e. let l = w .d-least in absurd (omega arith))
+
+-- the columns are the grades wherever there are any
+pub grades-columns : (s : Shape) → isRanking s ≡ false → ballotBytes s ≡ s .ballots * s .candidates * s .grades
+unfolding ballotBytes columns
+grades-columns s e = ap (λ (t : Bool). s .ballots * s .candidates * cond t (s .candidates) (s .grades)) e
+
+pub bytes-are : (s : Shape) → Within s → ballotBytes s ≡ s .ballots * s .candidates * s .grades
+bytes-are s w = grades-columns s (graded-is s w)
+
+-- a ranked tasting
+pub record Ranked (s : Shape) : Type 0 where
+  pub k-least : 1 ≤ s .candidates
+  pub k-most : s .candidates ≤ 8
+  pub ranking : isRanking s ≡ true
+  pub n-least : 1 ≤ s .ballots
+  pub n-most : s .ballots ≤ 255
+
+pub ranked : (s : Shape) → rankedLimits s ≡ true → Ranked s
+unfolding rankedLimits
+ranked s e =
+    let e₄ = and-first (leb 1 (s .candidates) && leb (s .candidates) 8 && isRanking s && leb 1 (s .ballots)) (leb (s .ballots) 255) e in
+    let e₃ = and-first (leb 1 (s .candidates) && leb (s .candidates) 8 && isRanking s) (leb 1 (s .ballots)) e₄ in
+    let e₂ = and-first (leb 1 (s .candidates) && leb (s .candidates) 8) (isRanking s) e₃ in
+    record {
+      k-least = leb-true 1 (s .candidates) (and-first (leb 1 (s .candidates)) (leb (s .candidates) 8) e₂);
+      k-most = leb-true (s .candidates) 8 (and-second (leb 1 (s .candidates)) (leb (s .candidates) 8) e₂);
+      ranking = and-second (leb 1 (s .candidates) && leb (s .candidates) 8) (isRanking s) e₃;
+      n-least = leb-true 1 (s .ballots) (and-second (leb 1 (s .candidates) && leb (s .candidates) 8 && isRanking s) (leb 1 (s .ballots)) e₄);
+      n-most = leb-true (s .ballots) 255 (and-second (leb 1 (s .candidates) && leb (s .candidates) 8 && isRanking s && leb 1 (s .ballots)) (leb (s .ballots) 255) e);
+    }
+
+pub ranked-bytes : (s : Shape) → isRanking s ≡ true → ballotBytes s ≡ s .ballots * s .candidates * s .candidates
+unfolding ballotBytes columns
+ranked-bytes s e = ap (λ (t : Bool). s .ballots * s .candidates * cond t (s .candidates) (s .grades)) e
+
+-- a shape within the limits is of one of the two kinds
+pub kinds : (s : Shape) → withinLimits s ≡ true → (gradedLimits s ≡ true) ⊎ (rankedLimits s ≡ true)
+unfolding withinLimits
+kinds s e = inl e
+
+pub graded-kind : (s : Shape) → withinLimits s ≡ true → isRanking s ≡ false → gradedLimits s ≡ true
+graded-kind s e f = ⊎-elim (λ g. g) (λ r. absurd (true≢false (sym (ranked s r .ranking) ∙ f))) (kinds s e)
+
+pub ranked-kind : (s : Shape) → withinLimits s ≡ true → isRanking s ≡ true → rankedLimits s ≡ true
+ranked-kind s e f = ⊎-elim (λ g. absurd (true≢false (sym f ∙ graded-is s (within s g)))) (λ r. r) (kinds s e)
+
+pub graded-within : (s : Shape) → gradedLimits s ≡ true → withinLimits s ≡ true
+unfolding withinLimits
+graded-within s e = e
+
+pub graded-T : (s : Shape) → T (gradedLimits s) → T (withinLimits s)
+graded-T s h = true-T (withinLimits s) (graded-within s (T-true (gradedLimits s) h))
+
+-- what holds of both kinds
+pub record Bounds (s : Shape) : Type 0 where
+  pub k-least : 1 ≤ s .candidates
+  pub k-most : s .candidates ≤ 8
+  pub c-most : columns s ≤ 8
+  pub n-least : 1 ≤ s .ballots
+  pub n-most : s .ballots ≤ 255
+
+pub bounds : (s : Shape) → withinLimits s ≡ true → Bounds s
+unfolding columns
+bounds s e = ⊎-elim graded rank (kinds s e)
+  where
+    graded : gradedLimits s ≡ true → Bounds s
+    graded g =
+        let w = within s g in
+        let few : columns s ≤ 8 = subst (λ (t : Bool). cond t (s .candidates) (s .grades) ≤ 8) (sym (graded-is s w)) (omega (arith, w .d-most)) in
+        record { k-least = w .k-least; k-most = w .k-most; c-most = few; n-least = w .n-least; n-most = w .n-most }
+
+    rank : rankedLimits s ≡ true → Bounds s
+    rank r =
+        let w = ranked s r in
+        let few : columns s ≤ 8 = subst (λ (t : Bool). cond t (s .candidates) (s .grades) ≤ 8) (sym (w .ranking)) (w .k-most) in
+        record { k-least = w .k-least; k-most = w .k-most; c-most = few; n-least = w .n-least; n-most = w .n-most }
+
+pub bounds-T : (s : Shape) → T (withinLimits s) → Bounds s
+bounds-T s h = bounds s (T-true (withinLimits s) h)
+
+-- the ballot bytes of either kind are few
+pub inputs-bound : (s : Shape) → Bounds s → ballotBytes s ≤ 16320
 unfolding ballotBytes
-bytes-are s = refl
+inputs-bound s b =
+    let rows : s .ballots * s .candidates ≤ 2040 = mul-le-mul (b .n-most) (b .k-most) in
+    mul-le-mul rows (b .c-most)
 
 -- numbers of a shape multiplied, whichever they are, fit
 pub two-fit : (a b : ℕ) → a ≤ 255 → b ≤ 255 → a * b < 2 ^ 64

@@ -1,4 +1,4 @@
--- The median grade as document 01 states it: the first grade at which twice the running sum, this grade included, is at least the sum of all.
+-- The median grade in words [gauge]: the first one up to which, itself counted, there are half of all grades or more.
 -- Assumes nothing.
 use mathlib.Core.Path.{_≡_, refl}
 use mathlib.Core.Bool.{Bool, true, false, cond}

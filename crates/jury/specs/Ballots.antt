@@ -9,8 +9,9 @@ use Rattle.gates.specs.declared.place.Place.{Place}
 use Rattle.gates.specs.declared.place.Place.the-variants.{At, Nowhere}
 use Rattle.gates.specs.Test.{firstAboveOne}
 use Rattle.jury.specs.declared.shape.Shape.{Shape}
-use Rattle.jury.specs.Shape.{ballotBytes}
+use Rattle.jury.specs.Shape.{isRanking, ballotBytes}
 use Rattle.jury.specs.Reason.{Reason, unless, foundAt}
+use Rattle.jury.specs.Rankings.{firstClash, firstGap}
 
 -- How many of these bytes are 1.
 unfoldable pub ones : List ℕ → ℕ
@@ -27,10 +28,17 @@ unfoldable pub firstBadRow : ℕ → List (List ℕ) → Place
 firstBadRow i [] = Nowhere
 firstBadRow i (row ∷ rows) = cond (eqb (ones row) 1) (firstBadRow (suc i) rows) (At i)
 
--- The tests of the ballots in checking order: 4, 5 over all bytes, then 6.
+-- What graded ballots must say: 6.
+unfoldable pub gradedReasons : Shape → List ℕ → List (Option Reason)
+gradedReasons s xs = foundAt 6 (firstBadRow 0 (rowsOf (s .grades) (s .ballots * s .candidates) xs)) ∷ []
+
+-- What rankings must say: 11 over all ballots, then 12.
+unfoldable pub rankedReasons : Shape → List ℕ → List (Option Reason)
+rankedReasons s xs = foundAt 11 (firstClash (s .candidates) (s .ballots) xs) ∷ foundAt 12 (firstGap (s .candidates) (s .ballots) xs) ∷ []
+
+-- The tests of the ballots in checking order: 4, 5 over all bytes, then those of the kind of the shape.
 unfoldable pub ballotReasons : Shape → List ℕ → List (Option Reason)
 ballotReasons s xs =
     unless (eqb (length xs) (ballotBytes s)) 4
     ∷ foundAt 5 (firstAboveOne 0 xs)
-    ∷ foundAt 6 (firstBadRow 0 (rowsOf (s .grades) (s .ballots * s .candidates) xs))
-    ∷ []
+    ∷ cond (isRanking s) (rankedReasons s xs) (gradedReasons s xs)

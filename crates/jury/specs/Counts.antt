@@ -34,6 +34,6 @@ countsOf s xs = tabulate (s .candidates) (λ c. tabulate (s .grades) (countOf s 
 unfoldable pub countArray : Shape → List ℕ → List (List ℕ)
 countArray s xs = tabulate 8 (λ c. tabulate 7 (λ g. cond (ltb c (s .candidates) && ltb g (s .grades)) (countOf s xs c g) 0))
 
--- For each candidate the grade counts add up to n.
+-- [sum]: whoever the candidate is, its counts have the sum n.
 abbrev pub AddUp : Shape → List (List ℕ) → Type 0
 AddUp s rows = (c : ℕ) → c < s .candidates → sum (getD rows c []) ≡ s .ballots

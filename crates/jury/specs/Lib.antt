@@ -1,8 +1,8 @@
 pub mod Shape
 pub mod Width
 pub mod Reason
-pub mod Ballots
 pub mod Rankings
+pub mod Ballots
 pub mod WeakOrder
 pub mod Counts
 pub mod Gauge

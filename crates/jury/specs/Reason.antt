@@ -8,7 +8,7 @@ use Rattle.gates.specs.declared.place.Place.the-variants.{At, Nowhere}
 use Rattle.gates.specs.declared.list.Tested.{Tested}
 use Rattle.gates.specs.declared.list.Tested.the-variants as tested
 use Rattle.jury.specs.declared.reason.Refusal.{Refusal}
-use Rattle.jury.specs.declared.reason.Refusal.the-variants.{Shape, Table, Gate, BallotsLength, BallotByte, BallotRow, TapeLength, TapeByte, WiresLength, BoardLength, Urn, Juror, FullUrn}
+use Rattle.jury.specs.declared.reason.Refusal.the-variants.{Shape, Table, Gate, BallotsLength, BallotByte, BallotRow, BallotClash, BallotGap, TapeLength, TapeByte, WiresLength, BoardLength, Urn, Juror, FullUrn, Trustees, PartTables, Dealing, Juries, GatesPerRound}
 use Rattle.jury.specs.declared.shape.Shaped.{Shaped}
 use Rattle.jury.specs.declared.shape.Shaped.the-variants.{Within, Outside}
 use Rattle.jury.specs.declared.reason.Verdict.{Verdict}
@@ -23,7 +23,7 @@ pub record Reason : Type 0 where
 unfoldable pub reasonAt : ℕ → ℕ → Reason
 reasonAt number place = record { number = number; place = place }
 
--- Document 01's number and place for each case of the program's enum.
+-- The documents' number and place for each case of the program's enum.
 unfoldable pub reasonOf : Refusal → Reason
 reasonOf Shape = reasonAt 1 0
 reasonOf Table = reasonAt 2 0
@@ -31,6 +31,8 @@ reasonOf (Gate g) = reasonAt 3 g
 reasonOf BallotsLength = reasonAt 4 0
 reasonOf (BallotByte i) = reasonAt 5 i
 reasonOf (BallotRow r) = reasonAt 6 r
+reasonOf (BallotClash i) = reasonAt 11 i
+reasonOf (BallotGap b) = reasonAt 12 b
 reasonOf TapeLength = reasonAt 7 0
 reasonOf (TapeByte i) = reasonAt 8 i
 reasonOf WiresLength = reasonAt 9 0
@@ -38,6 +40,11 @@ reasonOf BoardLength = reasonAt 10 0
 reasonOf Urn = reasonAt 13 0
 reasonOf Juror = reasonAt 14 0
 reasonOf FullUrn = reasonAt 15 0
+reasonOf Trustees = reasonAt 16 0
+reasonOf PartTables = reasonAt 17 0
+reasonOf Dealing = reasonAt 18 0
+reasonOf Juries = reasonAt 19 0
+reasonOf GatesPerRound = reasonAt 20 0
 
 -- The reason of a verdict, where it is a refusal.
 unfoldable pub refusedFor : Verdict → Option Reason

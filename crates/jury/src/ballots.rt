@@ -7,11 +7,11 @@ ghost use mathlib.Core.Path.{_≡_};
 ghost use Prim.Native.Nat.{_*_};
 ghost use lib.Dec.{T};
 ghost use lib.ListN.{length};
-ghost use Rattle.jury.specs.Shape.{withinLimits};
+ghost use Rattle.jury.specs.Shape.{gradedLimits, withinLimits};
 ghost use Rattle.jury.specs.Reason.{refusedFor, firstOf};
-ghost use Rattle.jury.specs.Ballots.{ballotReasons, ones, rowsOf, firstBadRow};
+ghost use Rattle.jury.specs.Ballots.{gradedReasons, rankedReasons, ballotReasons, ones, rowsOf, firstBadRow};
 
-// Reasons 4, 5 and 6, in this order: 5 looks at all bytes before 6 begins.
+// Reasons 4 and 5, then those of the kind of the shape: 5 looks at all bytes before any of them begins.
 pub fn test(shape: Shape, ballots: &[u8]) -> Verdict
     requires { ⌜ T (withinLimits shape) ⌝ }
     ensures { λ r. ⌜ refusedFor r ≡ firstOf (ballotReasons shape (now (ballots .entry))) ⌝ }
@@ -19,14 +19,38 @@ pub fn test(shape: Shape, ballots: &[u8]) -> Verdict
     if ballots.len() != shape.ballot_bytes() {
         return Verdict::Refused(Refusal::BallotsLength);
     }
-    match gates::place::first_above_one(ballots) {
-        Place::At(i) => Verdict::Refused(Refusal::BallotByte(i)),
-        Place::Nowhere => {
-            match first_bad_row(ballots, shape.grades, shape.ballots * shape.candidates) {
-                Place::At(r) => Verdict::Refused(Refusal::BallotRow(r)),
-                Place::Nowhere => Verdict::Accepted,
-            }
-        }
+    if let Place::At(i) = gates::place::first_above_one(ballots) {
+        return Verdict::Refused(Refusal::BallotByte(i));
+    }
+    if shape.is_ranking() {
+        test_rankings(shape, ballots)
+    } else {
+        test_grades(shape, ballots)
+    }
+}
+
+// Reason 6.
+fn test_grades(shape: Shape, ballots: &[u8]) -> Verdict
+    requires { ⌜ T (gradedLimits shape) × (length (now ballots) ≡ shape .ballots * shape .candidates * shape .grades) ⌝ }
+    ensures { λ r. ⌜ refusedFor r ≡ firstOf (gradedReasons shape (now (ballots .entry))) ⌝ }
+{
+    match first_bad_row(ballots, shape.grades, shape.ballots * shape.candidates) {
+        Place::At(r) => Verdict::Refused(Refusal::BallotRow(r)),
+        Place::Nowhere => Verdict::Accepted,
+    }
+}
+
+// Reasons 11 and 12: 11 looks at all ballots before 12 begins.
+fn test_rankings(shape: Shape, ballots: &[u8]) -> Verdict
+    requires { ⌜ length (now ballots) ≡ shape .ballots * shape .candidates * shape .candidates ⌝ }
+    ensures { λ r. ⌜ refusedFor r ≡ firstOf (rankedReasons shape (now (ballots .entry))) ⌝ }
+{
+    if let Place::At(i) = crate::rankings::first_clash(ballots, shape.candidates, shape.ballots) {
+        return Verdict::Refused(Refusal::BallotClash(i));
+    }
+    match crate::rankings::first_gap(ballots, shape.candidates, shape.ballots) {
+        Place::At(b) => Verdict::Refused(Refusal::BallotGap(b)),
+        Place::Nowhere => Verdict::Accepted,
     }
 }
 

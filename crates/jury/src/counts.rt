@@ -5,12 +5,12 @@ ghost use Prim.Native.Nat.{ℕ, _*_, _≤_, _<_};
 ghost use mathlib.Core.List.{[]};
 ghost use lib.ListN.{length, getD};
 ghost use Rattle.jury.specs.Counts.{countArray, AddUp};
-ghost use Rattle.jury.specs.Accepted.{AcceptedBallots};
+ghost use Rattle.jury.specs.Accepted.{GradedBallots};
 ghost use Rattle.jury.specs.Inner.{rowsIn, plusRow, plusBallot};
 
 // How many ballots give each candidate each grade. Entries outside the shape stay 0.
 pub fn counts(shape: Shape, ballots: &[u8]) -> [[u16; 7]; 8]
-    requires { ⌜ AcceptedBallots shape (now ballots) ⌝ }
+    requires { ⌜ GradedBallots shape (now ballots) ⌝ }
     ensures { λ r. ⌜ r ≡ countArray shape (now (ballots .entry)) ⌝ }
     ensures { λ r. ⌜ AddUp shape (rowsIn (shape .candidates) (shape .grades) r) ⌝ }
 {

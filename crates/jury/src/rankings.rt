@@ -97,7 +97,7 @@ fn gap_after(ballots: &[u8], k: usize, b: usize, i: usize) -> bool
     false
 }
 
-// Whether some candidate is neither after i nor before j.
+// Whether some candidate is not after i and not before j.
 fn is_apart(ballots: &[u8], k: usize, b: usize, i: usize, j: usize) -> bool
     requires { ⌜ ((b + 1) * k * k ≤ length (now ballots)) × (i < k) × (j < k) ⌝ }
     ensures { λ r. ⌜ r ≡ spec.apart k (now (ballots .entry)) b i j ⌝ }

@@ -2,7 +2,8 @@
 ghost use mathlib.Core.Path.{_≡_};
 ghost use Rattle.jury.specs.Reason.{reasonOf};
 
-// In document 01's order, 1 to 10, then those of the urn, 13 to 15. The number in a case is the place.
+// In checking order 1 to 10, with those of rankings, 11 and 12, behind 6; then those of the urn, 13 to 15, of the trustees, 16 to
+// 18, and of the dispatcher, 19 and 20. The number in a case is the place.
 pub enum Refusal {
     Shape,
     Table,
@@ -10,6 +11,8 @@ pub enum Refusal {
     BallotsLength,
     BallotByte(usize),
     BallotRow(usize),
+    BallotClash(usize),
+    BallotGap(usize),
     TapeLength,
     TapeByte(usize),
     WiresLength,
@@ -17,6 +20,11 @@ pub enum Refusal {
     Urn,
     Juror,
     FullUrn,
+    Trustees,
+    PartTables,
+    Dealing,
+    Juries,
+    GatesPerRound,
 }
 
 // The outcome of a call that answers no number of its own.
@@ -26,7 +34,7 @@ pub enum Verdict {
 }
 
 impl Refusal {
-    // Document 01's number of a reason.
+    // The documents' number of a reason.
     pub fn number(self) -> usize
         ensures { λ r. ⌜ r ≡ (reasonOf self) .number ⌝ }
     {
@@ -37,6 +45,8 @@ impl Refusal {
             Refusal::BallotsLength => 4,
             Refusal::BallotByte(_) => 5,
             Refusal::BallotRow(_) => 6,
+            Refusal::BallotClash(_) => 11,
+            Refusal::BallotGap(_) => 12,
             Refusal::TapeLength => 7,
             Refusal::TapeByte(_) => 8,
             Refusal::WiresLength => 9,
@@ -44,6 +54,11 @@ impl Refusal {
             Refusal::Urn => 13,
             Refusal::Juror => 14,
             Refusal::FullUrn => 15,
+            Refusal::Trustees => 16,
+            Refusal::PartTables => 17,
+            Refusal::Dealing => 18,
+            Refusal::Juries => 19,
+            Refusal::GatesPerRound => 20,
         }
     }
 
@@ -55,6 +70,8 @@ impl Refusal {
             Refusal::Gate(g) => g,
             Refusal::BallotByte(i) => i,
             Refusal::BallotRow(r) => r,
+            Refusal::BallotClash(i) => i,
+            Refusal::BallotGap(b) => b,
             Refusal::TapeByte(i) => i,
             Refusal::Shape => 0,
             Refusal::Table => 0,
@@ -65,6 +82,11 @@ impl Refusal {
             Refusal::Urn => 0,
             Refusal::Juror => 0,
             Refusal::FullUrn => 0,
+            Refusal::Trustees => 0,
+            Refusal::PartTables => 0,
+            Refusal::Dealing => 0,
+            Refusal::Juries => 0,
+            Refusal::GatesPerRound => 0,
         }
     }
 }

@@ -1,9 +1,11 @@
-// The shape of a jury: its numbers of candidates, grades and ballots, and the limits that belong to it.
+// The shape of a jury: its numbers of candidates, grades and ballots, and the limits that belong to it. Where there are no
+// grades the candidates are ranked.
 ghost use mathlib.Core.Path.{_≡_};
 ghost use mathlib.Core.Bool.{cond};
 ghost use lib.Dec.{T};
 ghost use Rattle.jury.specs.Reason.{shapedFor, unless};
-ghost use Rattle.jury.specs.Shape.{withinLimits, ballotBytes};
+ghost use Rattle.jury.specs.Shape.{isRanking, gradedLimits, rankedLimits, withinLimits, ballotBytes};
+ghost use Rattle.jury.specs.Shape as spec;
 
 // A candidate is a blend. The numbers are wide enough to hold what lies outside the limits.
 pub struct Shape {
@@ -48,9 +50,16 @@ impl Shape {
         }
     }
 
-    // Whether a shape, however it was made, is within the limits.
-    pub fn is_within_limits(self) -> bool
-        ensures { λ r. ⌜ r ≡ withinLimits self ⌝ }
+    // Whether the candidates are ranked.
+    pub fn is_ranking(self) -> bool
+        ensures { λ r. ⌜ r ≡ isRanking self ⌝ }
+    {
+        self.grades == 0
+    }
+
+    // Whether a shape is within the limits of a tasting with grades.
+    pub fn is_within_graded_limits(self) -> bool
+        ensures { λ r. ⌜ r ≡ gradedLimits self ⌝ }
     {
         Shape::LEAST_CANDIDATES <= self.candidates
             && self.candidates <= Shape::MOST_CANDIDATES
@@ -60,11 +69,41 @@ impl Shape {
             && self.ballots <= Shape::MOST_BALLOTS
     }
 
+    // Whether a shape is within the limits of a ranked tasting.
+    pub fn is_within_ranked_limits(self) -> bool
+        ensures { λ r. ⌜ r ≡ rankedLimits self ⌝ }
+    {
+        Shape::LEAST_CANDIDATES <= self.candidates
+            && self.candidates <= Shape::MOST_CANDIDATES
+            && self.grades == 0
+            && Shape::LEAST_BALLOTS <= self.ballots
+            && self.ballots <= Shape::MOST_BALLOTS
+    }
+
+    // Whether a shape, however it was made, is within the limits of one of the two kinds.
+    pub fn is_within_limits(self) -> bool
+        ensures { λ r. ⌜ r ≡ withinLimits self ⌝ }
+    {
+        self.is_within_graded_limits()
+    }
+
+    // The bytes of a row: a grade each, or a candidate each where they are ranked.
+    pub fn columns(self) -> usize
+        ensures { λ r. ⌜ r ≡ spec.columns self ⌝ }
+    {
+        if self.grades == 0 {
+            self.candidates
+        } else {
+            self.grades
+        }
+    }
+
     // I, the number of ballot bytes.
     pub fn ballot_bytes(self) -> usize
         requires { ⌜ T (withinLimits self) ⌝ }
         ensures { λ r. ⌜ r ≡ ballotBytes self ⌝ }
     {
-        self.ballots * self.candidates * self.grades
+        let columns = self.columns();
+        self.ballots * self.candidates * columns
     }
 }

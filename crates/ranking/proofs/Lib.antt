@@ -5,3 +5,6 @@ pub mod PathLaws
 pub mod LostLaws
 pub mod Accuracy
 pub mod Columns
+pub mod GoodLaws
+pub mod SizeLaws
+pub mod OwnRankingLaws

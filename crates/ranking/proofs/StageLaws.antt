@@ -15,18 +15,18 @@ use Rattle.jury.proofs.Flags.{or-first, or-second}
 use Rattle.gates.specs.Gate.{Gate}
 use Rattle.gates.proofs.Laws.{Holds, holds-append}
 use Rattle.words.specs.Word.{ones, number}
-use Rattle.words.specs.Choice.{constants, copies}
+use Rattle.words.specs.Choice.{constants, copies, masked}
 use Rattle.words.specs.Counter.{counter, countSize, Countable}
 use Rattle.words.specs.Comparison.{upEnd, downEnd}
-use Rattle.words.proofs.Laws.{Binary, bit-cases, copies-law, counter-law, length-constants}
+use Rattle.words.proofs.Laws.{Binary, bit-cases, copies-law, masked-one, masked-zero, counter-law, length-constants}
 use Rattle.schulze.specs.Schulze.{link}
 use Rattle.schulze.specs.Closure.{detour}
 use Rattle.schulze.proofs.Winning.{link-won, link-lost}
 use Rattle.schulze.proofs.Paths.{detour-over}
 use Rattle.schulze.proofs.Tables.{detour-stays}
-use Rattle.ranking.specs.Blocks.{masked, compare, smaller, larger, largerIf}
+use Rattle.ranking.specs.Blocks.{compare, smaller, larger, largerIf}
 use Rattle.ranking.specs.Stages.{votesBlock, linksBlock, linkWire, detourPad, detourBlock, firstPad, firstBlock}
-use Rattle.ranking.proofs.BlockLaws.{masked-one, masked-zero, compare-up, compare-down, smaller-law, larger-law, larger-if, larger-if-not, length-smaller}
+use Rattle.ranking.proofs.BlockLaws.{compare-up, compare-down, smaller-law, larger-law, larger-if, larger-if-not, length-smaller}
 
 module _ (W : ℕ → ℕ) (b : Binary W) where
   -- a word behind as many zeros
@@ -129,10 +129,10 @@ module _ (W : ℕ → ℕ) (b : Binary W) where
     unfolding firstBlock firstPad
     first-over at i j hi hj i0 j0 ne to from h =
         let g : Holds W at (smaller at (paths i 0) (paths 0 j) w ++ largerIf (at + (2 * w + suc w)) (links i j) (votes i j) (at + 2 * w) w) =
-        subst (λ (c : Bool). Holds W at (cond c (constants 0 (2 * w + suc w + (2 * w + 2)) ++ masked (links i j) (votes i j) (suc w)) (smaller at (paths i 0) (paths 0 j) w ++ largerIf (at + (2 * w + suc w)) (links i j) (votes i j) (at + 2 * w) w))) (none-equal) h in
+        subst (λ (c : Bool). Holds W at (cond c (constants 0 (2 * w + suc w + (2 * w + 1)) ++ masked (links i j) (votes i j) (suc w)) (smaller at (paths i 0) (paths 0 j) w ++ largerIf (at + (2 * w + suc w)) (links i j) (votes i j) (at + 2 * w) w))) (none-equal) h in
         let p = behind-smaller at (paths i 0) (paths 0 j) w (largerIf (at + (2 * w + suc w)) (links i j) (votes i j) (at + 2 * w) w) g in
         let s = smaller-law W b at (paths i 0) (paths 0 j) w (p .0) in
-        let e : at + (2 * w + suc w) + 2 * w + 2 ≡ at + (2 * w + suc w + (2 * w + 2)) = omega arith in
+        let e : at + (2 * w + suc w) + 2 * w + 1 ≡ at + (2 * w + suc w + (2 * w + 1)) = omega arith in
         sym (ap (λ (m : ℕ). number W m 1 (suc w)) e)
         ∙ ⊎-elim
         (λ (l : v j i < v i j).

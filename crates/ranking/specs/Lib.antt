@@ -3,3 +3,4 @@ pub mod Table
 pub mod Stages
 pub mod Paths
 pub mod RankedList
+pub mod OwnRanking

@@ -21,25 +21,32 @@ detourSize w = detourPad w + suc w
 
 -- Where each table starts.
 unfoldable pub linksFrom : ℕ → ℕ → ℕ → ℕ
-linksFrom k n w = n * k * k + k * (k * votesSize n w)
+linksFrom k n w = n * k * k + k * k * votesSize n w
 
 unfoldable pub firstFrom : ℕ → ℕ → ℕ → ℕ
-firstFrom k n w = linksFrom k n w + k * (k * linksSize w)
+firstFrom k n w = linksFrom k n w + k * k * linksSize w
 
 -- The table of the detour over candidate m + 1.
 unfoldable pub detourFrom : ℕ → ℕ → ℕ → ℕ → ℕ
-detourFrom k n w m = firstFrom k n w + k * (k * firstSize w) + m * (k * (k * detourSize w))
+detourFrom k n w m = firstFrom k n w + k * k * firstSize w + m * (k * k * detourSize w)
 
 -- Where the number of ballots for i against j stands, the wire of their link, and the strength of the path from i to j after the detours over 0 to m.
-unfoldable pub votesAt : ℕ → ℕ → ℕ → ℕ → ℕ → ℕ
-votesAt k n w i j = place (n * k * k) (votesSize n w) k i j + countSize n 0 w
+abbrev pub votesAt : ℕ → ℕ → ℕ → ℕ → ℕ → ℕ
+votesAt k n w = place (n * k * k + countSize n 0 w) (votesSize n w) k
 
-unfoldable pub linkAt : ℕ → ℕ → ℕ → ℕ → ℕ → ℕ
-linkAt k n w i j = linkWire (place (linksFrom k n w) (linksSize w) k) w i j
+abbrev pub linkAt : ℕ → ℕ → ℕ → ℕ → ℕ → ℕ
+linkAt k n w = linkWire (place (linksFrom k n w) (linksSize w) k) w
 
-unfoldable pub pathAt : ℕ → ℕ → ℕ → ℕ → ℕ → ℕ → ℕ
-pathAt k n w zero i j = place (firstFrom k n w) (firstSize w) k i j + firstPad w
-pathAt k n w (suc m) i j = place (detourFrom k n w m) (detourSize w) k i j + detourPad w
+unfoldable pub pathFirst : ℕ → ℕ → ℕ → ℕ → ℕ
+pathFirst k n w zero = firstFrom k n w + firstPad w
+pathFirst k n w (suc m) = detourFrom k n w m + detourPad w
+
+unfoldable pub pathSize : ℕ → ℕ → ℕ
+pathSize w zero = firstSize w
+pathSize w (suc m) = detourSize w
+
+abbrev pub pathAt : ℕ → ℕ → ℕ → ℕ → ℕ → ℕ → ℕ
+pathAt k n w m = place (pathFirst k n w m) (pathSize w m) k
 
 -- The tables up to the detour over candidate m.
 unfoldable pub pathTables : ℕ → ℕ → ℕ → ℕ → List Gate

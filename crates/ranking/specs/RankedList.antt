@@ -10,8 +10,8 @@ use Rattle.ranking.specs.Stages.{linksBlock, linkWire}
 use Rattle.ranking.specs.Paths.{linksSize, detourFrom, pathAt, pathTables}
 
 -- The wire that tells whether i beats j, for k candidates of whom m is the last.
-unfoldable pub beatsAt : ℕ → ℕ → ℕ → ℕ → ℕ → ℕ → ℕ
-beatsAt k n w m i j = linkWire (place (detourFrom k n w m) (linksSize w) k) w i j
+abbrev pub beatsAt : ℕ → ℕ → ℕ → ℕ → ℕ → ℕ → ℕ
+beatsAt k n w m = linkWire (place (detourFrom k n w m) (linksSize w) k) w
 
 -- The candidates but i, in order: number s of them.
 unfoldable pub other : ℕ → ℕ → ℕ
@@ -27,7 +27,7 @@ lostRow beats m at i = blocks at 1 (λ wire s. lostGate beats i wire s ∷ []) (
 
 -- Where the rows of k candidates start.
 unfoldable pub lostFrom : ℕ → ℕ → ℕ → ℕ → ℕ
-lostFrom k n w m = detourFrom k n w m + k * (k * linksSize w)
+lostFrom k n w m = detourFrom k n w m + k * k * linksSize w
 
 -- The list for m + 2 candidates, and for one alone, who wins. The last gate of a row tells whether its candidate is beaten.
 unfoldable pub rankedList : ℕ → ℕ → ℕ → List Gate
@@ -37,5 +37,5 @@ rankedList (suc (suc m)) n w =
     let k = suc (suc m) in
     pathTables k n w (suc m)
     ++ table (detourFrom k n w (suc m)) (linksSize w) k (linksBlock (pathAt k n w (suc m)) w)
-    ++ blocks (lostFrom k n w (suc m)) (suc m * 1) (lostRow (beatsAt k n w (suc m)) m) k
-    ++ blocks (lostFrom k n w (suc m) + k * (suc m * 1)) 1 (λ wire i. notOf (lostFrom k n w (suc m) + i * (suc m * 1) + m * 1) ∷ []) k
+    ++ blocks (lostFrom k n w (suc m)) (suc m) (lostRow (beatsAt k n w (suc m)) m) k
+    ++ blocks (lostFrom k n w (suc m) + k * suc m) 1 (λ wire i. notOf (lostFrom k n w (suc m) + i * suc m + m) ∷ []) k

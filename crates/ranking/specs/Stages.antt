@@ -4,10 +4,10 @@ use mathlib.Core.List.{List, _++_}
 use Prim.Native.Nat.{ℕ, suc, _+_, _*_}
 use lib.Dec.{eqb, ltb}
 use Rattle.gates.specs.Gate.{Gate}
-use Rattle.words.specs.Choice.{constants, copies}
+use Rattle.words.specs.Choice.{constants, copies, masked}
 use Rattle.words.specs.Counter.{counter, countSize}
 use Rattle.words.specs.Comparison.{upEnd, downEnd}
-use Rattle.ranking.specs.Blocks.{masked, compare, smaller, larger, largerIf}
+use Rattle.ranking.specs.Blocks.{compare, smaller, larger, largerIf}
 
 -- How many of n ballots put i before j: the bytes of row i and column j, a ballot of k rows and columns apart.
 unfoldable pub votesBlock : ℕ → ℕ → ℕ → ℕ → ℕ → ℕ → List Gate
@@ -33,7 +33,7 @@ detourBlock paths l w at i j =
 
 -- The gates before the word of a first path.
 unfoldable pub firstPad : ℕ → ℕ
-firstPad w = 2 * w + suc w + (2 * w + 2)
+firstPad w = 2 * w + suc w + (2 * w + 1)
 
 -- Links and detours over candidate 0 in one: to and from 0 the link alone, else the stronger of the link, if there is one, and the way over 0. paths i j is where the words of this table stand.
 unfoldable pub firstBlock : (ℕ → ℕ → ℕ) → (ℕ → ℕ → ℕ) → (ℕ → ℕ → ℕ) → ℕ → ℕ → ℕ → ℕ → List Gate

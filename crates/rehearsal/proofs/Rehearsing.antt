@@ -16,15 +16,13 @@ use Rattle.jury.specs.declared.shape.Shape.{Shape}
 use Rattle.jury.specs.Shape.{withinLimits, ballotBytes}
 use Rattle.jury.specs.Reason.{Reason, reasonOf, reasonAt, firstOf}
 use Rattle.jury.specs.Ballots.{ballotReasons}
-use Rattle.jury.specs.Counts.{countsOf}
-use Rattle.judgment.specs.Judgment.{judgmentOf}
 use Rattle.jury.specs.declared.reason.Refusal.{Refusal}
 use Rattle.jury.specs.declared.reason.Refusal.the-variants as refusal
 use Rattle.jury.proofs.Flags.{T-true, true-T}
-use Rattle.jury.proofs.Limits.{within-T, bytes-bound, bytes-are}
-use Rattle.jury.proofs.CountFacts.{counts-length}
-use Rattle.judgment.proofs.Winners.{judgment-length}
-use Rattle.circuit.specs.OwnList.{ownList}
+use Rattle.jury.proofs.Limits.{bounds-T, inputs-bound}
+use Rattle.tally.specs.Rule.{closingFor}
+use Rattle.tally.specs.OwnList.{ownList}
+use Rattle.tally.proofs.Rules.{closing-length}
 use Rattle.tally.specs.Answer.{Said, refused, accepted, said, Size, sizeOf, saidBy}
 use Rattle.tally.specs.declared.answer.Answer.the-variants as answer
 use Rattle.tally.specs.Run.{ran}
@@ -50,8 +48,8 @@ module _ (s : Shape) (list : List ℕ) (gates conditional : ℕ) (tape wires boa
   fewer : conditional ≤ gates
   fewer = omega (arith, u .gates-are, u .conditional-are, count-most (ownList s))
 
-  pub inputs-most : ballotBytes s ≤ 14280
-  inputs-most = omega (arith, bytes-bound s (within-T s (u .within)), bytes-are s)
+  pub inputs-most : ballotBytes s ≤ 16320
+  inputs-most = inputs-bound s (bounds-T s (u .within))
 
   pub tape-fits : conditional ≤ length tape
   tape-fits = omega (arith, fewer, u .few, u .tapeLength)
@@ -60,10 +58,10 @@ module _ (s : Shape) (list : List ℕ) (gates conditional : ℕ) (tape wires boa
   wires-fit inputs e = omega (arith, inputs-most, u .few, u .wiresLength)
 
   pub board-fits : conditional + s .candidates ≤ length board
-  board-fits = omega (arith, fewer, u .few, u .boardLength, within-T s (u .within) .k-most)
+  board-fits = omega (arith, fewer, u .few, u .boardLength, bounds-T s (u .within) .k-most)
 
   pub board-most : conditional + s .candidates ≤ 4008
-  board-most = omega (arith, fewer, u .few, within-T s (u .within) .k-most)
+  board-most = omega (arith, fewer, u .few, bounds-T s (u .within) .k-most)
 
   module _ (ballots : List ℕ) (inputs : ℕ) (i : inputs ≡ ballotBytes s) where
     -- what the run is lent
@@ -102,15 +100,15 @@ module _ (s : Shape) (list : List ℕ) (gates conditional : ℕ) (tape wires boa
 
     -- the closing bytes on the board, whatever stands behind
     placed : (b rest : List ℕ) → b ≡ ran s list ballots tape′ wires′ board′ .board → firstOf (ballotReasons s ballots) ≡ none
-        → take (s .candidates) (drop (conditionalCount (ownList s)) (b ++ rest)) ≡ judgmentOf (countsOf s ballots)
+        → take (s .candidates) (drop (conditionalCount (ownList s)) (b ++ rest)) ≡ closingFor s ballots
     placed b rest e none-applies =
         let n = conditionalCount (ownList s) in
         let p = own-closing s (T-true (withinLimits s) (u .within)) ballots tape′ wires′ board′ mask wires-long board-long none-applies in
         let f : b ≡ ran s (numbersOf (ownList s)) ballots tape′ wires′ board′ .board = e ∙ ap (λ (l : List ℕ). ran s l ballots tape′ wires′ board′ .board) (u .list-is) in
-        let closing = judgmentOf (countsOf s ballots) in
+        let closing = closingFor s ballots in
         let long : length b ≡ n + s .candidates = ap length f ∙ p .0 in
         ap (take (s .candidates)) (drop-append-le n b rest (omega arith) ∙ ap (λ (l : List ℕ). drop n l ++ rest) f ∙ ap (λ (l : List ℕ). l ++ rest) (p .1))
-        ∙ take-at closing rest (s .candidates) (judgment-length (countsOf s ballots) ∙ counts-length s ballots)
+        ∙ take-at closing rest (s .candidates) (closing-length s ballots)
 
     pub winners-said : (g c : ℕ) (b rest : List ℕ) → saidBy (answer.Accepted g c) ≡ ran s list ballots (take conditional tape) (take (inputs + gates) wires) (take (conditional + s .candidates) board) .answer
         → b ≡ ran s list ballots (take conditional tape) (take (inputs + gates) wires) (take (conditional + s .candidates) board) .board

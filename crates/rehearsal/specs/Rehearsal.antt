@@ -11,9 +11,8 @@ use Rattle.jury.specs.declared.shape.Shape.{Shape}
 use Rattle.jury.specs.Shape.{withinLimits}
 use Rattle.jury.specs.Reason.{Reason, reasonOf, firstOf}
 use Rattle.jury.specs.Ballots.{ballotReasons}
-use Rattle.jury.specs.Counts.{countsOf}
-use Rattle.judgment.specs.Judgment.{judgmentOf}
-use Rattle.circuit.specs.OwnList.{ownList}
+use Rattle.tally.specs.Rule.{closingFor}
+use Rattle.tally.specs.OwnList.{ownList}
 use Rattle.tally.specs.Answer.{Said, refused, accepted, said}
 use Rattle.tally.specs.Write.{writeReasons}
 use Rattle.rehearsal.specs.declared.rehearse.Rehearsed.{Rehearsed}
@@ -35,14 +34,14 @@ pub record Printed : Type 0 where
   pub jury : Shape
   pub winners : List ℕ
 
--- The winners are the closing bytes, and these are majority judgment's.
+-- The winners are the closing bytes, and these are what the rule of the shape's kind gives.
 unfoldable pub printedOf : Shape → List ℕ → Printed
-printedOf s ballots = record { jury = s; winners = judgmentOf (countsOf s ballots) }
+printedOf s ballots = record { jury = s; winners = closingFor s ballots }
 
 unfoldable pub rehearsalSaid : List ℕ → List ℕ → Said Printed
 rehearsalSaid input table = said (firstOf (rehearsalReasons input table)) (printedOf (shapeIn input) (ballotsIn input))
 
--- Document 01's number and values for each case of the program's enum: the k closing bytes stand on the board from a place on.
+-- What each case of the program's enum means, as a number with values: the k closing bytes stand on the board from a place on.
 unfoldable pub saidOn : List ℕ → Rehearsed → Said Printed
 saidOn board (Winners s first) = accepted (record { jury = s; winners = take (s .candidates) (drop first board) })
 saidOn board (Refused r) = refused (reasonOf r)
@@ -57,7 +56,7 @@ pub record Lent (table tape wires board : List ℕ) : Type 0 where
   pub tableLength : length table ≤ 16000
   pub tapeLength : 4000 ≤ length tape
   pub tapeBits : Bits tape
-  pub wiresLength : 18280 ≤ length wires
+  pub wiresLength : 20320 ≤ length wires
   pub boardLength : 4008 ≤ length board
 
 -- What a run of the own list is lent: its numbers, a mask tape and buffers that are long enough.
@@ -69,7 +68,7 @@ pub record Cut (s : Shape) (list : List ℕ) (gates conditional : ℕ) (tape wir
   pub few : gates ≤ 4000
   pub tapeLength : 4000 ≤ length tape
   pub tapeBits : Bits tape
-  pub wiresLength : 18280 ≤ length wires
+  pub wiresLength : 20320 ≤ length wires
   pub boardLength : 4008 ≤ length board
 
 -- What it answers.

@@ -40,12 +40,12 @@ fn tape() -> [u8; 4000]
     [0u8; 4000]
 }
 
-// With the largest jury's 14,280 ballot bytes they make 18,280 wires.
-fn wires() -> [u8; 18280]
-    ensures { λ r. ⌜ 18280 ≡ length r ⌝ }
-    ensures { λ r. ⌜ r ≡ replicate 18280 0 ⌝ }
+// With the 16,320 ballot bytes of eight ranked candidates and 255 ballots they make 20,320 wires.
+fn wires() -> [u8; 20320]
+    ensures { λ r. ⌜ 20320 ≡ length r ⌝ }
+    ensures { λ r. ⌜ r ≡ replicate 20320 0 ⌝ }
 {
-    [0u8; 18280]
+    [0u8; 20320]
 }
 
 fn board() -> [u8; 4008]

@@ -5,13 +5,17 @@ use mathlib.Core.Option.{none, some}
 use mathlib.Core.List.{List, [], _∷_, _++_}
 use Prim.Native.Nat.{ℕ}
 use lib.ListN.{replicate}
-use Rattle.jury.specs.Shape.{withinLimits}
+use Rattle.jury.specs.Shape.{isRanking, gradedLimits, rankedLimits, withinLimits}
 use Rattle.jury.specs.Reason.{reasonAt, unless, foundAt, firstOf}
 use Rattle.season.specs.Season.{numberAt, runOf, firstRuns, runsIn, onesIn, winnersOf, goodRun, firstBadRun, sheetReasons, sumOver, sharedOf, totalsOf}
 
 -- two candidates, three grades, three ballots: G = 0x01020304, C = 27
 run : ℕ → List ℕ
 run mask = 2 ∷ 3 ∷ 3 ∷ mask ∷ 4 ∷ 3 ∷ 2 ∷ 1 ∷ 27 ∷ 0 ∷ 0 ∷ 0 ∷ []
+
+-- two candidates, so many grades, three ballots
+kindRun : ℕ → List ℕ
+kindRun grades = 2 ∷ grades ∷ 3 ∷ 1 ∷ 18 ∷ 0 ∷ 0 ∷ 0 ∷ 5 ∷ 0 ∷ 0 ∷ 0 ∷ []
 
 -- an empty sheet is accepted
 empty : firstOf (sheetReasons []) ≡ none
@@ -25,8 +29,13 @@ short = refl
 
 -- a winner who is no candidate: the second run is the first bad one
 stranger : firstOf (sheetReasons (run 3 ++ run 4 ++ run 4)) ≡ some (reasonAt 22 1)
-unfolding firstOf sheetReasons unless foundAt firstBadRun runsIn firstRuns goodRun withinLimits runOf numberAt run
+unfolding firstOf sheetReasons unless foundAt firstBadRun runsIn firstRuns goodRun isRanking gradedLimits rankedLimits withinLimits runOf numberAt run
 stranger = refl
+
+-- a run of rankings is a good one, one with a single grade is not
+ranked : firstOf (sheetReasons (kindRun 0 ++ kindRun 1)) ≡ some (reasonAt 22 0)
+unfolding firstOf sheetReasons unless foundAt firstBadRun runsIn firstRuns goodRun isRanking gradedLimits rankedLimits withinLimits runOf numberAt kindRun
+ranked = refl
 
 -- two runs, one of them shared, one without a winner
 sums : totalsOf (runsIn (run 3 ++ run 0)) ≡ record { runs = 2; gates = 33818120; conditional = 54; ballots = 6; shared = 1 }

@@ -44,7 +44,7 @@ nth-next g gs i = go (conditionalOf (g .kind))
     go false = let e : 0 + i ≡ i = omega arith in rw e
 
 -- a kind that is not conditional takes nothing from the product
-ignores : (p kind a b c z y : ℕ) → kind < 8 → conditionalOf kind ≡ false → partOfKind p kind a b c z ≡ partOfKind p kind a b c y
+pub ignores : (p kind a b c z y : ℕ) → kind < 8 → conditionalOf kind ≡ false → partOfKind p kind a b c z ≡ partOfKind p kind a b c y
 unfolding partOfKind
 ignores p kind a b c z y h =
     each-kind (λ k. conditionalOf k ≡ false → partOfKind p k a b c z ≡ partOfKind p k a b c y)

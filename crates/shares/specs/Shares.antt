@@ -29,7 +29,7 @@ vOf dealt i = getD dealt (3 * i + 1) 0
 unfoldable pub productOf : List ℕ → ℕ → ℕ
 productOf dealt i = getD dealt (3 * i + 2) 0
 
--- The factors of a conditional gate: a; and b, or the sum of b and c modulo 2 for a choice. A trustee computes its bit of them from its own parts of the wires.
+-- The factors of a conditional gate: a; and b, or for a choice b plus c, modulo 2. A trustee computes its bit of them from its own parts of the wires.
 unfoldable pub firstFactor : List ℕ → Gate → ℕ
 firstFactor ws g = part ws (g .a)
 

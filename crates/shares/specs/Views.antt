@@ -79,7 +79,7 @@ viewOf t q inputs gs k d =
       published = joined t (publishedOf t inputs gs k d);
     }
 
--- Whoever is left out, the others cannot tell two elections of one list with equal last k wires apart: each dealing of the first has exactly one dealing of the second with the same view.
+-- Whoever is left out, the others cannot tell two elections of one list with equal last k wires apart: however the first was dealt, the second can be dealt in one way and no other with the same view.
 abbrev pub ViewsHideInputs : Type 0
 ViewsHideInputs =
     (t q k : ℕ) (gs : List Gate) (xs ys : List ℕ) (d : Dealing)

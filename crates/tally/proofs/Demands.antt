@@ -1,11 +1,11 @@
 -- The three demands hold.
 -- Assumes nothing.
 use mathlib.Core.Path.{_≡_, _∙_, refl, sym, ap, subst}
-use mathlib.Core.Bool.{Bool, true, false}
+use mathlib.Core.Bool.{Bool, true, false, cond}
 use mathlib.Core.Option.{Option, none, some}
 use mathlib.Core.Logic.{_≢_, _↔_}
-use mathlib.Core.List.{List}
-use Prim.Native.Nat.{ℕ, _+_, _≤_, _<_}
+use mathlib.Core.List.{List, [], _∷_}
+use Prim.Native.Nat.{ℕ, _+_, _*_, _≤_, _<_}
 use native.Mathlib.Omega.{arith}
 use lib.Dec.{eqb}
 use lib.ListN.{length, getD, take, length-replicate}
@@ -18,23 +18,21 @@ use Rattle.gates.specs.declared.place.Place.the-variants.{At, Nowhere}
 use Rattle.jury.specs.declared.shape.Shape.{Shape}
 use Rattle.jury.specs.Shape.{ballotBytes}
 use Rattle.jury.specs.Reason.{Reason, reasonAt, unless, foundAt, firstOf}
-use Rattle.jury.specs.Ballots.{rowsOf, firstBadRow, ballotReasons}
+use Rattle.jury.specs.Shape.{isRanking}
+use Rattle.jury.specs.Ballots.{rowsOf, firstBadRow, gradedReasons, rankedReasons, ballotReasons}
+use Rattle.jury.specs.Rankings.{firstClash, firstGap}
 use Rattle.jury.specs.Accepted.{AcceptedBallots}
-use Rattle.jury.specs.Counts.{countsOf}
-use Rattle.judgment.specs.Judgment.{judgmentOf}
-use Rattle.judgment.specs.Winner.{Wins}
-use Rattle.jury.proofs.BallotLaws.{judged, judged-by}
-use Rattle.jury.proofs.CountFacts.{counts-length}
-use Rattle.judgment.proofs.Theorems.{bytes-say, each-gets}
-use Rattle.circuit.specs.OwnList.{ownList}
-use Rattle.circuit.proofs.Accuracy.{own-list-is-accurate}
+use Rattle.jury.proofs.BallotLaws.{judged, kindReason, judged-by}
 use Rattle.tally.specs.Answer.{refused, accepted, said, Size, sizeOf}
+use Rattle.tally.specs.Rule.{closingFor, Wins}
+use Rattle.tally.specs.OwnList.{ownList}
 use Rattle.tally.specs.Count.{plainClosing}
 use Rattle.tally.specs.Test.{testReasons, testSaid}
 use Rattle.tally.specs.Write.{writeReasons, writeSaid, written, OwnListHolds}
 use Rattle.tally.specs.Run.{Ran, lentReasons, runReasons, ranAfter, ran}
 use Rattle.tally.specs.Hiding.{closingBytes}
 use Rattle.tally.specs.Demands.{Memory, listIn, Accuracy, ThreeDemands}
+use Rattle.tally.proofs.Rules.{byte-says}
 use Rattle.tally.proofs.PlainFacts.{plain-first}
 use Rattle.tally.proofs.TestReasons.{never, orElse, TestPassed, test-passed}
 use Rattle.tally.proofs.RunReasons.{lentFound, lent-by, firstOfThree, run-first, said-refused, RunPassed, run-passed, ran-by}
@@ -76,12 +74,28 @@ module _ (s : Shape) (table ballots tape wires board : List ℕ) where
       )
 
 -- reasons past the third have larger numbers
-ballots-number : (size : Bool) (byte row : Place) (r : Reason) → judged size byte row ≡ some r → 4 ≤ r .number
+row-number : (row : Place) (r : Reason) → firstOf (foundAt 6 row ∷ []) ≡ some r → 4 ≤ r .number
+unfolding foundAt firstOf reasonAt
+row-number (At i) r e = let n : 6 ≡ r .number = cc in omega arith
+row-number Nowhere r e = let z : _≡_ {A = ℕ} 0 1 = cc in absurd (omega arith)
+
+ranks-number : (clash gap : Place) (r : Reason) → firstOf (foundAt 11 clash ∷ foundAt 12 gap ∷ []) ≡ some r → 4 ≤ r .number
+unfolding foundAt firstOf reasonAt
+ranks-number (At i) gap r e = let n : 11 ≡ r .number = cc in omega arith
+ranks-number Nowhere (At b) r e = let n : 12 ≡ r .number = cc in omega arith
+ranks-number Nowhere Nowhere r e = let z : _≡_ {A = ℕ} 0 1 = cc in absurd (omega arith)
+
+kind-number : (s : Shape) (xs : List ℕ) (t : Bool) (r : Reason) → firstOf (cond t (rankedReasons s xs) (gradedReasons s xs)) ≡ some r → 4 ≤ r .number
+unfolding rankedReasons gradedReasons
+kind-number s xs true r e = ranks-number (firstClash (s .candidates) (s .ballots) xs) (firstGap (s .candidates) (s .ballots) xs) r e
+kind-number s xs false r e = row-number (firstBadRow 0 (rowsOf (s .grades) (s .ballots * s .candidates) xs)) r e
+
+ballots-number : (size : Bool) (byte : Place) (kind : Option Reason) → ((q : Reason) → kind ≡ some q → 4 ≤ q .number) → (r : Reason) → judged size byte kind ≡ some r → 4 ≤ r .number
 unfolding judged unless foundAt firstOf reasonAt
-ballots-number false byte row r e = let n : 4 ≡ r .number = cc in omega arith
-ballots-number true (At i) row r e = let n : 5 ≡ r .number = cc in omega arith
-ballots-number true Nowhere (At i) r e = let n : 6 ≡ r .number = cc in omega arith
-ballots-number true Nowhere Nowhere r e = let z : _≡_ {A = ℕ} 0 1 = cc in absurd (omega arith)
+ballots-number false byte kind k r e = let n : 4 ≡ r .number = cc in omega arith
+ballots-number true (At i) kind k r e = let n : 5 ≡ r .number = cc in omega arith
+ballots-number true Nowhere none k r e = let z : _≡_ {A = ℕ} 0 1 = cc in absurd (omega arith)
+ballots-number true Nowhere (some q) k r e = k r e
 
 lent-number : (t : Bool) (p : Place) (u v : Bool) (r : Reason) → lentFound t p u v ≡ some r → 4 ≤ r .number
 unfolding lentFound unless foundAt firstOf reasonAt
@@ -120,7 +134,7 @@ module _ (s : Shape) (table : List ℕ) (size : Size) (p : writing.WritePassed s
   number ballots tape wires board r e =
       let lent = lentReasons (ballotBytes s) (s .candidates) (sizeOf (gatesOf list)) tape wires board in
       late (firstOf (testReasons s list)) (firstOf (ballotReasons s ballots)) (firstOf lent) r (test .reasons)
-      (λ q f. ballots-number _ _ _ q (sym (judged-by s ballots _ _ _ refl refl refl) ∙ f))
+      (λ q f. ballots-number _ _ (kindReason s ballots) (λ o g. kind-number s ballots (isRanking s) o (unfold kindReason in g)) q (sym (judged-by s ballots _ _ _ refl refl refl) ∙ f))
       (λ q f. lent-number _ _ _ _ q (sym (lent-by (ballotBytes s) (s .candidates) (sizeOf (gatesOf list)) tape wires board _ _ _ _ refl refl refl refl) ∙ f))
       (sym (run-first s list ballots tape wires board) ∙ ran-refused s list ballots tape wires board r e .0)
 
@@ -141,27 +155,24 @@ module _ (s : Shape) (table : List ℕ) (size : Size) (p : writing.WritePassed s
     passed : RunPassed s list ballots tape wires board
     passed = run-passed s list ballots tape wires board (ran-accepted s list ballots wires board tape answer e .0)
 
-    closing : closingBytes s (ran s list ballots tape wires board .board) ≡ judgmentOf (countsOf s ballots)
+    closing : closingBytes s (ran s list ballots tape wires board .board) ≡ closingFor s ballots
     closing =
         run-closing s list ballots wires board tape passed tape (passed .mask)
         ∙ ap (λ (gs : List Gate). outputsOf (s .candidates) (wiresOf ballots gs)) gates
-        ∙ own-list-is-accurate s ballots (passed .ballotsPassed)
+        ∙ own-list-holds s (p .within) .closing ballots (passed .ballotsPassed)
 
     plain : closingBytes s (ran s list ballots tape wires board .board) ≡ take (s .candidates) (plainClosing s ballots)
     plain = closing ∙ sym (plain-first s ballots (passed .ballotsPassed))
 
     module _ (i : ℕ) (h : i < s .candidates) where
-      byte : getD (closingBytes s (ran s list ballots tape wires board .board)) i 0 ≡ getD (judgmentOf (countsOf s ballots)) i 0
+      byte : getD (closingBytes s (ran s list ballots tape wires board .board)) i 0 ≡ getD (closingFor s ballots) i 0
       byte = ap (λ (bytes : List ℕ). getD bytes i 0) closing
 
-      inside : i < length (countsOf s ballots)
-      inside = omega (arith, counts-length s ballots)
+      winner : (getD (closingBytes s (ran s list ballots tape wires board .board)) i 0 ≡ 1) ↔ Wins s ballots i
+      winner = let iff = byte-says s ballots (passed .ballotsPassed) i h .one in (λ one. iff .0 (sym byte ∙ one), λ wins. byte ∙ iff .1 wins)
 
-      winner : (getD (closingBytes s (ran s list ballots tape wires board .board)) i 0 ≡ 1) ↔ Wins (countsOf s ballots) i
-      winner = let iff = bytes-say (s .ballots) (countsOf s ballots) (each-gets s ballots (passed .ballotsPassed)) i inside .one in (λ one. iff .0 (sym byte ∙ one), λ wins. byte ∙ iff .1 wins)
-
-      loser : (getD (closingBytes s (ran s list ballots tape wires board .board)) i 0 ≡ 0) ↔ (¬ Wins (countsOf s ballots) i)
-      loser = let iff = bytes-say (s .ballots) (countsOf s ballots) (each-gets s ballots (passed .ballotsPassed)) i inside .zero in (λ zero. iff .0 (sym byte ∙ zero), λ loses. byte ∙ iff .1 loses)
+      loser : (getD (closingBytes s (ran s list ballots tape wires board .board)) i 0 ≡ 0) ↔ (¬ Wins s ballots i)
+      loser = let iff = byte-says s ballots (passed .ballotsPassed) i h .zero in (λ zero. iff .0 (sym byte ∙ zero), λ loses. byte ∙ iff .1 loses)
 
 memory : Memory
 memory =

@@ -3,7 +3,7 @@
 use mathlib.Core.Path.{_≡_, refl}
 use mathlib.Core.Bool.{Bool, true, false}
 use mathlib.Core.Option.{Option, none, some}
-use mathlib.Core.List.{List, [], _∷_, map}
+use mathlib.Core.List.{List, [], _∷_, map, flatMap}
 use Prim.Native.Nat.{ℕ, _<_, _≤_, _%_}
 use native.Mathlib.Omega.{arith}
 use lib.Dec.{eqb}
@@ -13,13 +13,17 @@ use Rattle.gates.specs.Test.{firstAboveOne}
 use Rattle.gates.specs.declared.list.Tested.the-variants.{PartOfAGate, TooManyGates}
 use Rattle.gates.proofs.Accepting.{zeros, zeros-length, zeros-free, zeros-good, good-list-accepted, part-of-a-gate, too-many}
 use Rattle.jury.specs.declared.shape.Shape.{Shape}
-use Rattle.jury.specs.Shape.{withinLimits, ballotBytes}
+use Rattle.jury.specs.Shape.{isRanking, gradedLimits, rankedLimits, withinLimits, columns, ballotBytes}
 use Rattle.jury.specs.Reason.{Reason, reasonAt, unless, foundAt, listReason, firstOf}
-use Rattle.jury.specs.Ballots.{ones, rowsOf, firstBadRow, ballotReasons}
+use Rattle.jury.specs.Ballots.{ones, rowsOf, firstBadRow, gradedReasons, rankedReasons, ballotReasons}
+use Rattle.jury.specs.Rankings.{rankPlace, before, orElse, firstOver, someBelow, clashAt, clashInRow, clashInBallot, firstClash, apart, gapAfter, gap, firstGap}
 use Rattle.jury.specs.Counts.{byteOf, countUpTo, countOf, tabulate, countsOf}
 use Rattle.jury.specs.Gauge.{sum, medianFrom, medianOf, eightBytes}
 use Rattle.judgment.specs.Judgment.{strike, strikes, sequenceOf, precedes, nonePrecedes, judgmentOf}
-use Rattle.jury.proofs.Limits.{within}
+use Rattle.jury.proofs.Limits.{bounds}
+use Rattle.schulze.specs.Schulze.{link, weakest, candidates, without, selections, maximum, simplePaths, strongest, every, wins, closingBytes}
+use Rattle.schulze.specs.Votes.{votes}
+use Rattle.tally.specs.Rule.{closingFor}
 use Rattle.tally.specs.Count.{countReason, closingAfter, plainClosing}
 use Rattle.tally.specs.Answer.{refused as turnedAway, accepted}
 use Rattle.tally.specs.Test.{testSaid}
@@ -39,7 +43,7 @@ refused k d n bytes number place = record {
   closing = 0 ∷ 0 ∷ 0 ∷ 0 ∷ 0 ∷ 0 ∷ 0 ∷ 0 ∷ [];
 }
 
--- Each number of a shape one below and one above its limits (1), ballots that are too short and too long (4), a byte 2 (5 at its place), rows without a 1 and with two (6), and a byte 2 behind an empty row (5, which is tested over all bytes first).
+-- Each number of a shape one below and one above its limits (1), ballots that are too short and too long (4), a byte 2 (5 at its place), rows without a 1 and with two (6), and a byte 2 behind an empty row (5, which is tested over all bytes first); of rankings the same numbers (1, 4), the earlier of two opposite bytes before one of the diagonal behind it, a diagonal byte of the second ballot (11), a candidate tied with both of two that are ranked (12), and that in the first ballot with a diagonal byte in the second (11, which looks at all ballots first).
 pub edges : List Edge
 edges =
     refused 0 2 1 [] 1 0
@@ -63,11 +67,11 @@ edges =
     ∷ []
 
 pub edges-reasons : map (λ (e : Edge). countReason (e .shape) (e .ballots)) edges ≡ map (λ (e : Edge). e .reason) edges
-unfolding edges refused countReason withinLimits ballotBytes reasonAt unless foundAt firstOf ones rowsOf firstBadRow ballotReasons firstAboveOne
+unfolding edges refused countReason isRanking gradedLimits rankedLimits withinLimits columns ballotBytes reasonAt unless foundAt firstOf ones rowsOf firstBadRow gradedReasons rankedReasons ballotReasons rankPlace before orElse firstOver someBelow clashAt clashInRow clashInBallot firstClash apart gapAfter gap firstGap firstAboveOne
 edges-reasons = refl
 
 pub edges-closing : map (λ (e : Edge). plainClosing (e .shape) (e .ballots)) edges ≡ map (λ (e : Edge). e .closing) edges
-unfolding edges refused countReason withinLimits ballotBytes reasonAt unless foundAt firstOf ones rowsOf firstBadRow ballotReasons firstAboveOne byteOf countUpTo countOf tabulate countsOf sum medianFrom medianOf strike strikes sequenceOf precedes nonePrecedes judgmentOf eightBytes closingAfter plainClosing
+unfolding edges refused countReason isRanking gradedLimits rankedLimits withinLimits columns ballotBytes reasonAt unless foundAt firstOf ones rowsOf firstBadRow gradedReasons rankedReasons ballotReasons rankPlace before orElse firstOver someBelow clashAt clashInRow clashInBallot firstClash apart gapAfter gap firstGap firstAboveOne byteOf countUpTo countOf tabulate countsOf sum medianFrom medianOf strike strikes sequenceOf precedes nonePrecedes judgmentOf closingFor link weakest candidates without selections maximum simplePaths strongest every wins closingBytes votes flatMap eightBytes closingAfter plainClosing
 edges-closing = refl
 
 -- 1,048,576 gates are not too many.
@@ -83,4 +87,4 @@ one-gate-more s table w long = by (eqb (length table % 4) 0) refl
   where
     by : (whole : Bool) → eqb (length table % 4) 0 ≡ whole → testSaid s table ≡ turnedAway (reasonAt 2 0)
     by false e = list-refused s table w PartOfAGate (reasonAt 2 0) (part-of-a-gate (ballotBytes s) (s .candidates) table e) (unfold listReason in refl)
-    by true e = list-refused s table w TooManyGates (reasonAt 2 0) (too-many (ballotBytes s) (s .candidates) table e (within s w .k-most) long) (unfold listReason in refl)
+    by true e = list-refused s table w TooManyGates (reasonAt 2 0) (too-many (ballotBytes s) (s .candidates) table e (bounds s w .k-most) long) (unfold listReason in refl)

@@ -13,9 +13,9 @@ use Rattle.gates.specs.Test.{tested, firstAboveOne}
 use Rattle.gates.specs.HidingExample.{oneGate, boardUnder}
 use Rattle.gates.specs.HidingExample as gates
 use Rattle.gates.specs.declared.list.Tested.the-variants.{Accepted}
-use Rattle.jury.specs.Shape.{withinLimits, ballotBytes}
+use Rattle.jury.specs.Shape.{isRanking, gradedLimits, rankedLimits, withinLimits, columns, ballotBytes}
 use Rattle.jury.specs.Reason.{unless, foundAt, firstOf}
-use Rattle.jury.specs.Ballots.{ones, rowsOf, firstBadRow, ballotReasons}
+use Rattle.jury.specs.Ballots.{ones, rowsOf, firstBadRow, gradedReasons, rankedReasons, ballotReasons}
 use Rattle.tally.specs.Answer.{accepted, Size, sizeOf}
 use Rattle.tally.specs.Run.{Ran, lentReasons, runReasons, ranAfter, ran}
 use Rattle.tally.specs.Examples.{oneBallot, PairOfRuns}
@@ -26,11 +26,11 @@ one : Size
 one = record { gates = 1; conditional = 1 }
 
 within : withinLimits oneBallot ≡ true
-unfolding oneBallot withinLimits
+unfolding oneBallot isRanking gradedLimits rankedLimits withinLimits
 within = refl
 
 list : tested (ballotBytes oneBallot) (oneBallot .candidates) oneGate ≡ Accepted 1 1
-unfolding oneBallot ballotBytes
+unfolding oneBallot isRanking columns ballotBytes
 list = gates.one-gate-tested
 
 passed : TestPassed oneBallot oneGate one
@@ -49,7 +49,7 @@ module _ (ballots tape wires board : List ℕ) (b : firstOf (ballotReasons oneBa
       ∙ ap (λ (z : List ℕ). record { answer = accepted one; wires = replicate (length wires) 0; board = z }) e
 
 pub pair-of-runs : PairOfRuns
-unfolding oneBallot ballotReasons lentReasons ballotBytes ones rowsOf firstBadRow unless foundAt firstOf firstAboveOne one
+unfolding oneBallot isRanking columns gradedReasons ballotReasons lentReasons ballotBytes ones rowsOf firstBadRow unless foundAt firstOf firstAboveOne one
 pair-of-runs =
     record {
       first-run = outcome (1 ∷ 0 ∷ []) (0 ∷ []) (9 ∷ 9 ∷ 9 ∷ []) (9 ∷ 9 ∷ []) refl refl (1 ∷ 0 ∷ []) gates.first-board;

@@ -1,3 +1,4 @@
+pub mod Rules
 pub mod CountReason
 pub mod PlainFacts
 pub mod Edges

@@ -1,17 +1,19 @@
 -- A better grade costs nobody the win, as run on the gates: the closing bytes are the rule's, and the rule keeps a winner that is graded better.
 -- Assumes nothing.
-use mathlib.Core.Path.{_≡_, _∙_, sym, ap}
+use mathlib.Core.Path.{_≡_, _∙_, refl, sym, ap}
+use mathlib.Core.Bool.{true, false, true≢false}
 use mathlib.Core.Logic.{_≢_}
 use mathlib.Core.List.{List}
 use Prim.Native.Nat.{ℕ, _<_}
-use lib.ListN.{getD}
+use lib.ListN.{getD, take}
 use Rattle.jury.specs.declared.shape.Shape.{Shape}
 use Rattle.jury.specs.Accepted.{AcceptedBallots}
-use Rattle.jury.specs.Counts.{countsOf}
-use Rattle.judgment.specs.Judgment.{judgmentOf}
+use Rattle.jury.specs.Shape.{isRanking}
+use Rattle.jury.proofs.Limits.{within, graded-is}
 use Rattle.judgment.specs.Raised.{Raised, RaisedOften, unchanged, once-more, byteFor}
 use Rattle.judgment.proofs.Raising.{liked-more}
 use Rattle.tally.specs.Answer.{accepted, Size}
+use Rattle.tally.specs.Count.{plainClosing}
 use Rattle.tally.specs.Write.{writeSaid}
 use Rattle.tally.specs.Run.{ran}
 use Rattle.tally.specs.Hiding.{closingBytes}
@@ -19,8 +21,14 @@ use Rattle.tally.specs.Demands.{listIn, Accuracy}
 use Rattle.tally.specs.Monotone.{TwoRuns, byteBefore, byteAfter, MonotoneOnGates}
 use Rattle.tally.proofs.RunReasons.{run-passed}
 use Rattle.tally.proofs.Hiding.{ran-accepted}
+use Rattle.tally.proofs.Rules.{either, closing-graded}
 use Rattle.tally.proofs.PlainFacts.{plain-first}
 use Rattle.tally.proofs.Demands.{three-demands}
+
+-- only grades are raised: ballots of a ranking shape are what they were
+unraised : (s : Shape) (candidate : ℕ) → isRanking s ≡ true → {old new : List ℕ} → RaisedOften s candidate old new → old ≡ new
+unraised s candidate e unchanged = refl
+unraised s candidate e (once-more raises once) = absurd (true≢false (sym e ∙ graded-is s (within s (once .old-accepted .within))))
 
 module _ (s : Shape) (table : List ℕ) (size : Size) (old new : List ℕ) (r : TwoRuns s table size old new) where
   holds : Accuracy s table size
@@ -34,18 +42,39 @@ module _ (s : Shape) (table : List ℕ) (size : Size) (old new : List ℕ) (r : 
   new-accepted = run-passed s (listIn s size table) new (r .tape′) (r .wires′) (r .board′) (ran-accepted s (listIn s size table) new (r .wires′) (r .board′) (r .tape′) (r .answer′) (r .accepts′) .0) .ballotsPassed
 
   -- so closing bytes are those of the rule
-  before-is : (c : ℕ) → byteBefore s table size old new r c ≡ byteFor s old c
-  before-is c = ap (λ (bytes : List ℕ). getD bytes c 0) (holds .plain old (r .tape) (r .wires) (r .board) (r .answer) (r .accepts) ∙ plain-first s old old-accepted)
+  before-plain : (c : ℕ) → byteBefore s table size old new r c ≡ getD (take (s .candidates) (plainClosing s old)) c 0
+  before-plain c = ap (λ (bytes : List ℕ). getD bytes c 0) (holds .plain old (r .tape) (r .wires) (r .board) (r .answer) (r .accepts))
 
-  after-is : (c : ℕ) → byteAfter s table size old new r c ≡ byteFor s new c
-  after-is c = ap (λ (bytes : List ℕ). getD bytes c 0) (holds .plain new (r .tape′) (r .wires′) (r .board′) (r .answer′) (r .accepts′) ∙ plain-first s new new-accepted)
+  after-plain : (c : ℕ) → byteAfter s table size old new r c ≡ getD (take (s .candidates) (plainClosing s new)) c 0
+  after-plain c = ap (λ (bytes : List ℕ). getD bytes c 0) (holds .plain new (r .tape′) (r .wires′) (r .board′) (r .answer′) (r .accepts′))
+
+  -- no grade of a ranking is raised
+  same-ballots : isRanking s ≡ true → (candidate : ℕ) → RaisedOften s candidate old new → (c : ℕ) → byteAfter s table size old new r c ≡ byteBefore s table size old new r c
+  same-ballots e candidate raises c =
+      after-plain c ∙ ap (λ (xs : List ℕ). getD (take (s .candidates) (plainClosing s xs)) c 0) (sym (unraised s candidate e raises)) ∙ sym (before-plain c)
+
+  module _ (e : isRanking s ≡ false) where
+    before-is : (c : ℕ) → byteBefore s table size old new r c ≡ byteFor s old c
+    before-is c = before-plain c ∙ ap (λ (bytes : List ℕ). getD bytes c 0) (plain-first s old old-accepted ∙ closing-graded s old e)
+
+    after-is : (c : ℕ) → byteAfter s table size old new r c ≡ byteFor s new c
+    after-is c = after-plain c ∙ ap (λ (bytes : List ℕ). getD bytes c 0) (plain-first s new new-accepted ∙ closing-graded s new e)
+
+    graded-often : (candidate : ℕ) → RaisedOften s candidate old new → byteBefore s table size old new r candidate ≡ 1 → byteAfter s table size old new r candidate ≡ 1
+    graded-often candidate raises one = after-is candidate ∙ liked-more s candidate old new raises (sym (before-is candidate) ∙ one) .still-wins
+
+    graded-alone : (candidate : ℕ) → RaisedOften s candidate old new → byteBefore s table size old new r candidate ≡ 1
+        → (c : ℕ) → byteBefore s table size old new r c ≡ 0 → c < s .candidates → byteAfter s table size old new r c ≡ 0
+    graded-alone candidate raises one c none h = after-is c ∙ liked-more s candidate old new raises (sym (before-is candidate) ∙ one) .no-new-winner c h (sym (before-is c) ∙ none)
 
   often : (candidate : ℕ) → RaisedOften s candidate old new → byteBefore s table size old new r candidate ≡ 1 → byteAfter s table size old new r candidate ≡ 1
-  often candidate raises one = after-is candidate ∙ liked-more s candidate old new raises (sym (before-is candidate) ∙ one) .still-wins
+  often candidate raises one =
+      either (isRanking s) (λ e. same-ballots e candidate raises candidate ∙ one) (λ e. graded-often e candidate raises one)
 
   alone : (candidate : ℕ) → RaisedOften s candidate old new → byteBefore s table size old new r candidate ≡ 1
       → (c : ℕ) → byteBefore s table size old new r c ≡ 0 → c < s .candidates → byteAfter s table size old new r c ≡ 0
-  alone candidate raises one c none h = after-is c ∙ liked-more s candidate old new raises (sym (before-is candidate) ∙ one) .no-new-winner c h (sym (before-is c) ∙ none)
+  alone candidate raises one c none h =
+      either (isRanking s) (λ e. same-ballots e candidate raises c ∙ none) (λ e. graded-alone e candidate raises one c none h)
 
 pub monotone-on-gates : MonotoneOnGates
 monotone-on-gates =

@@ -1,7 +1,7 @@
 -- The first reason of a list of tests has one of the numbers of these tests.
 -- Assumes nothing.
 use mathlib.Core.Path.{_≡_, subst}
-use mathlib.Core.Bool.{Bool, true, false}
+use mathlib.Core.Bool.{Bool, true, false, cond}
 use mathlib.Core.Option.{Option, none, some}
 use mathlib.Core.List.{List, [], _∷_, _++_}
 use Prim.Native.Nat.{ℕ}
@@ -12,10 +12,10 @@ use Rattle.gates.specs.declared.place.Place.the-variants.{At, Nowhere}
 use Rattle.gates.specs.declared.list.Tested.{Tested}
 use Rattle.gates.specs.declared.list.Tested.the-variants.{Accepted, PartOfAGate, TooFewGates, TooManyGates, BadGate}
 use Rattle.jury.specs.declared.shape.Shape.{Shape}
-use Rattle.jury.specs.Shape.{withinLimits, ballotBytes}
+use Rattle.jury.specs.Shape.{isRanking, withinLimits, ballotBytes}
 use Rattle.jury.specs.Reason.{Reason, reasonAt, unless, foundAt, listReason, firstOf}
-use Rattle.jury.specs.Ballots.{ballotReasons}
-use Rattle.circuit.specs.OwnList.{ownList}
+use Rattle.jury.specs.Ballots.{gradedReasons, rankedReasons, ballotReasons}
+use Rattle.tally.specs.OwnList.{ownList}
 use Rattle.tally.specs.Answer.{Said, refused, accepted, said, hasNumberIn, Size, sizeOf}
 use Rattle.tally.specs.Count.{countReason}
 use Rattle.tally.specs.Measure.{measuresOf, measureSaid}
@@ -75,9 +75,16 @@ module _ (ns : List ℕ) where
   unfolding FineSaid
   refused-fine answer r f e = subst (FineSaid ns) e f
 
+  -- the tests of either kind of ballots
+  pub kind-fine : (s : Shape) (xs : List ℕ) (ranking : Bool) → ((i : ℕ) → T (hasNumberIn ns (reasonAt 6 i))) → ((i : ℕ) → T (hasNumberIn ns (reasonAt 11 i))) → ((b : ℕ) → T (hasNumberIn ns (reasonAt 12 b)))
+      → All ns (cond ranking (rankedReasons s xs) (gradedReasons s xs))
+  unfolding All rankedReasons gradedReasons
+  kind-fine s xs true row clash gap = (found-fine 11 _ clash, (found-fine 12 _ gap, tt))
+  kind-fine s xs false row clash gap = (found-fine 6 _ row, tt)
+
 -- every reason of a run
 all : List ℕ
-all = 1 ∷ 2 ∷ 3 ∷ 4 ∷ 5 ∷ 6 ∷ 7 ∷ 8 ∷ 9 ∷ 10 ∷ []
+all = 1 ∷ 2 ∷ 3 ∷ 4 ∷ 5 ∷ 6 ∷ 11 ∷ 12 ∷ 7 ∷ 8 ∷ 9 ∷ 10 ∷ []
 
 pub measure-number : (s : Shape) (r : Reason) → measureSaid s ≡ refused r → T (hasNumberIn (1 ∷ []) r)
 unfolding measureSaid All hasNumberIn reasonAt
@@ -96,13 +103,13 @@ test-number s table r e =
     let ns : List ℕ = 1 ∷ 2 ∷ 3 ∷ [] in
     refused-fine ns (testSaid s table) r (said-fine ns _ (sizeOf (gatesOf table)) (first-fine ns (testReasons s table) (unless-fine ns _ 1 tt, (list-fine ns _ tt (λ g. tt), tt)))) e
 
-pub count-number : (s : Shape) (ballots : List ℕ) (r : Reason) → countReason s ballots ≡ some r → T (hasNumberIn (1 ∷ 4 ∷ 5 ∷ 6 ∷ []) r)
-unfolding Fine countReason ballotReasons All hasNumberIn reasonAt
+pub count-number : (s : Shape) (ballots : List ℕ) (r : Reason) → countReason s ballots ≡ some r → T (hasNumberIn (1 ∷ 4 ∷ 5 ∷ 6 ∷ 11 ∷ 12 ∷ []) r)
+unfolding Fine countReason ballotReasons gradedReasons rankedReasons All hasNumberIn reasonAt
 count-number s ballots r e =
-    let ns : List ℕ = 1 ∷ 4 ∷ 5 ∷ 6 ∷ [] in
+    let ns : List ℕ = 1 ∷ 4 ∷ 5 ∷ 6 ∷ 11 ∷ 12 ∷ [] in
     subst (Fine ns) e
     (first-fine ns (unless (withinLimits s) 1 ∷ ballotReasons s ballots)
-    (unless-fine ns _ 1 tt, (unless-fine ns _ 4 tt, (found-fine ns 5 _ (λ i. tt), (found-fine ns 6 _ (λ i. tt), tt)))))
+    (unless-fine ns _ 1 tt, (unless-fine ns _ 4 tt, (found-fine ns 5 _ (λ i. tt), kind-fine ns s ballots (isRanking s) (λ i. tt) (λ i. tt) (λ b. tt)))))
 
 test-all : (s : Shape) (table : List ℕ) → All all (testReasons s table)
 unfolding All testReasons hasNumberIn reasonAt all
@@ -110,7 +117,7 @@ test-all s table = (unless-fine all _ 1 tt, (list-fine all _ tt (λ g. tt), tt))
 
 ballots-all : (s : Shape) (xs : List ℕ) → All all (ballotReasons s xs)
 unfolding All ballotReasons hasNumberIn reasonAt all
-ballots-all s xs = (unless-fine all _ 4 tt, (found-fine all 5 _ (λ i. tt), (found-fine all 6 _ (λ i. tt), tt)))
+ballots-all s xs = (unless-fine all _ 4 tt, (found-fine all 5 _ (λ i. tt), kind-fine all s xs (isRanking s) (λ i. tt) (λ i. tt) (λ b. tt)))
 
 lent-all : (i k : ℕ) (size : Size) (tape wires board : List ℕ) → All all (lentReasons i k size tape wires board)
 unfolding All lentReasons hasNumberIn reasonAt all
@@ -129,7 +136,7 @@ ran-fine none s gs ballots tape wires board f = tt
 ran-fine (some r) s gs ballots tape wires board f = f
 
 pub run-number : (s : Shape) (table ballots tape wires board : List ℕ) (r : Reason) → ran s table ballots tape wires board .answer ≡ refused r
-    → T (hasNumberIn (1 ∷ 2 ∷ 3 ∷ 4 ∷ 5 ∷ 6 ∷ 7 ∷ 8 ∷ 9 ∷ 10 ∷ []) r)
+    → T (hasNumberIn (1 ∷ 2 ∷ 3 ∷ 4 ∷ 5 ∷ 6 ∷ 11 ∷ 12 ∷ 7 ∷ 8 ∷ 9 ∷ 10 ∷ []) r)
 unfolding ran all
 run-number s table ballots tape wires board r e =
     refused-fine all (ran s table ballots tape wires board .answer) r

@@ -16,10 +16,8 @@ use Rattle.jury.specs.declared.shape.Shape.{Shape}
 use Rattle.jury.specs.Shape.{withinLimits, ballotBytes}
 use Rattle.jury.specs.Reason.{Reason, firstOf}
 use Rattle.jury.specs.Ballots.{ballotReasons}
-use Rattle.jury.specs.Counts.{countsOf}
-use Rattle.judgment.specs.Judgment.{judgmentOf}
-use Rattle.circuit.specs.OwnList.{ownList}
-use Rattle.circuit.proofs.Accuracy.{own-list-is-accurate}
+use Rattle.tally.specs.Rule.{closingFor}
+use Rattle.tally.specs.OwnList.{ownList}
 use Rattle.tally.specs.Answer.{accepted, said, Size, sizeOf}
 use Rattle.tally.specs.Test.{testReasons}
 use Rattle.tally.specs.Run.{Ran, lentReasons, runReasons, ranAfter, ran}
@@ -81,7 +79,7 @@ module _ (s : Shape) (w : withinLimits s ≡ true) (ballots tape wires board : L
   -- where the ballots pass, the board has its closing bytes behind the shown bits
   pub own-closing : firstOf (ballotReasons s ballots) ≡ none
       → (length (ran s (numbersOf (ownList s)) ballots tape wires board .board) ≡ conditionalCount (ownList s) + s .candidates)
-      × (drop (conditionalCount (ownList s)) (ran s (numbersOf (ownList s)) ballots tape wires board .board) ≡ judgmentOf (countsOf s ballots))
+      × (drop (conditionalCount (ownList s)) (ran s (numbersOf (ownList s)) ballots tape wires board .board) ≡ closingFor s ballots)
   unfolding list
   own-closing e =
       let p = run-passed s list ballots tape wires board (reason ∙ e) in
@@ -89,5 +87,5 @@ module _ (s : Shape) (w : withinLimits s ≡ true) (ballots tape wires board : L
       let b = ran s list ballots tape wires board .board in (
         f .size ∙ ap (λ (gs : List Gate). conditionalCount gs + s .candidates) gates,
         ap (λ (gs : List Gate). drop (conditionalCount gs) b) (sym gates) ∙ f .closing
-            ∙ ap (λ (gs : List Gate). outputsOf (s .candidates) (wiresOf ballots gs)) gates ∙ own-list-is-accurate s ballots (p .ballotsPassed),
+            ∙ ap (λ (gs : List Gate). outputsOf (s .candidates) (wiresOf ballots gs)) gates ∙ own-list-holds s w .closing ballots (p .ballotsPassed),
       )

@@ -1,4 +1,4 @@
--- What a plain count answers: for accepted ballots the closing bytes of their counts, then zeros, and on a refusal zeros alone.
+-- What a plain count answers: for accepted ballots the closing bytes of the rule, then zeros, and on a refusal zeros alone.
 -- Assumes nothing.
 use mathlib.Core.Path.{_≡_, _∙_, sym, ap}
 use mathlib.Core.Logic.{⊎-elim, _↔_}
@@ -10,18 +10,14 @@ use lib.ListN.{length, getD, take, replicate, List·getD-eq-default}
 use lib.Seq.{take-take, take-append-le, take-all}
 use Rattle.jury.specs.declared.shape.Shape.{Shape}
 use Rattle.jury.specs.Reason.{Reason}
-use Rattle.jury.specs.Counts.{countsOf}
 use Rattle.jury.specs.Gauge.{eightBytes}
-use Rattle.judgment.specs.Judgment.{judgmentOf}
+use Rattle.tally.specs.Rule.{closingFor, Wins}
 use Rattle.tally.specs.Count.{countReason, closingAfter, plainClosing}
 use Rattle.jury.specs.Accepted.{AcceptedBallots}
 use Rattle.jury.proofs.Cases.{below-or-not}
-use Rattle.jury.proofs.Limits.{within}
+use Rattle.jury.proofs.Limits.{bounds}
 use Rattle.tally.proofs.CountReason.{count-accepts}
-use Rattle.jury.proofs.CountFacts.{counts-length}
-use Rattle.judgment.specs.Winner.{Wins}
-use Rattle.judgment.proofs.Winners.{judgment-length}
-use Rattle.judgment.proofs.Theorems.{bytes-say, each-gets}
+use Rattle.tally.proofs.Rules.{closing-length, byte-says}
 use Rattle.jury.proofs.Rows.{eight-at, eight-length}
 
 after-length : (r : Option Reason) (bytes : List ℕ) → length (closingAfter r bytes) ≡ 8
@@ -32,29 +28,29 @@ after-length (some r) bytes = eight-length []
 -- there are eight bytes, whatever was handed in
 pub plain-length : (s : Shape) (xs : List ℕ) → length (plainClosing s xs) ≡ 8
 unfolding plainClosing
-plain-length s xs = after-length (countReason s xs) (judgmentOf (countsOf s xs))
+plain-length s xs = after-length (countReason s xs) (closingFor s xs)
 
 -- a refusal has eight zeros
 pub plain-refused : (s : Shape) (xs : List ℕ) (r : Reason) → countReason s xs ≡ some r → plainClosing s xs ≡ replicate 8 0
 unfolding plainClosing closingAfter eightBytes
-plain-refused s xs r e = ap (λ (o : Option Reason). closingAfter o (judgmentOf (countsOf s xs))) e
+plain-refused s xs r e = ap (λ (o : Option Reason). closingAfter o (closingFor s xs)) e
 
 module _ (s : Shape) (xs : List ℕ) (a : AcceptedBallots s xs) where
-  pub plain-accepted : plainClosing s xs ≡ eightBytes (judgmentOf (countsOf s xs))
+  pub plain-accepted : plainClosing s xs ≡ eightBytes (closingFor s xs)
   unfolding plainClosing closingAfter
-  plain-accepted = ap (λ (o : Option Reason). closingAfter o (judgmentOf (countsOf s xs))) (count-accepts s xs .1 a)
+  plain-accepted = ap (λ (o : Option Reason). closingAfter o (closingFor s xs)) (count-accepts s xs .1 a)
 
-  bytes-length : length (judgmentOf (countsOf s xs)) ≡ s .candidates
-  bytes-length = judgment-length (countsOf s xs) ∙ counts-length s xs
+  bytes-length : length (closingFor s xs) ≡ s .candidates
+  bytes-length = closing-length s xs
 
-  -- the first k bytes are the closing bytes of the counts
-  pub plain-first : take (s .candidates) (plainClosing s xs) ≡ judgmentOf (countsOf s xs)
+  -- the first k bytes are the closing bytes of the rule
+  pub plain-first : take (s .candidates) (plainClosing s xs) ≡ closingFor s xs
   unfolding eightBytes
   plain-first =
       ap (take (s .candidates)) plain-accepted
-      ∙ take-take (s .candidates) 8 (judgmentOf (countsOf s xs) ++ replicate 8 0) (within s (a .within) .k-most)
-      ∙ take-append-le (s .candidates) (judgmentOf (countsOf s xs)) (replicate 8 0) (omega (arith, bytes-length))
-      ∙ take-all (s .candidates) (judgmentOf (countsOf s xs)) (omega (arith, bytes-length))
+      ∙ take-take (s .candidates) 8 (closingFor s xs ++ replicate 8 0) (bounds s (a .within) .k-most)
+      ∙ take-append-le (s .candidates) (closingFor s xs) (replicate 8 0) (omega (arith, bytes-length))
+      ∙ take-all (s .candidates) (closingFor s xs) (omega (arith, bytes-length))
 
   -- zeros from place k on
   pub plain-past : (i : ℕ) → s .candidates ≤ i → getD (plainClosing s xs) i 0 ≡ 0
@@ -63,16 +59,16 @@ module _ (s : Shape) (xs : List ℕ) (a : AcceptedBallots s xs) where
       inside : i < 8 → getD (plainClosing s xs) i 0 ≡ 0
       inside l =
           ap (λ (bytes : List ℕ). getD bytes i 0) plain-accepted
-          ∙ eight-at (judgmentOf (countsOf s xs)) i l
-          ∙ List·getD-eq-default (judgmentOf (countsOf s xs)) 0 {n = i} (omega (arith, bytes-length))
+          ∙ eight-at (closingFor s xs) i l
+          ∙ List·getD-eq-default (closingFor s xs) 0 {n = i} (omega (arith, bytes-length))
 
       outside : 8 ≤ i → getD (plainClosing s xs) i 0 ≡ 0
       outside l = List·getD-eq-default (plainClosing s xs) 0 {n = i} (omega (arith, plain-length s xs))
 
   -- byte i is 1 exactly where candidate i wins
-  pub plain-one : (i : ℕ) → i < s .candidates → (getD (plainClosing s xs) i 0 ≡ 1) ↔ Wins (countsOf s xs) i
+  pub plain-one : (i : ℕ) → i < s .candidates → (getD (plainClosing s xs) i 0 ≡ 1) ↔ Wins s xs i
   plain-one i h =
-      let e : getD (plainClosing s xs) i 0 ≡ getD (judgmentOf (countsOf s xs)) i 0 =
-      ap (λ (bytes : List ℕ). getD bytes i 0) plain-accepted ∙ eight-at (judgmentOf (countsOf s xs)) i (omega (arith, within s (a .within) .k-most)) in
-      let iff = bytes-say (s .ballots) (countsOf s xs) (each-gets s xs a) i (omega (arith, counts-length s xs)) .one in
+      let e : getD (plainClosing s xs) i 0 ≡ getD (closingFor s xs) i 0 =
+      ap (λ (bytes : List ℕ). getD bytes i 0) plain-accepted ∙ eight-at (closingFor s xs) i (omega (arith, bounds s (a .within) .k-most)) in
+      let iff = byte-says s xs a i h .one in
       (λ one. iff .0 (sym e ∙ one), λ wins. e ∙ iff .1 wins)

@@ -15,7 +15,7 @@ use Rattle.gates.proofs.Laws.{length-numbers, read-whole}
 use Rattle.jury.specs.declared.shape.Shape.{Shape}
 use Rattle.jury.specs.Shape.{withinLimits}
 use Rattle.jury.specs.Reason.{Reason, reasonAt, unless, firstOf}
-use Rattle.circuit.specs.OwnList.{ownList}
+use Rattle.tally.specs.OwnList.{ownList}
 use Rattle.tally.specs.Answer.{refused, accepted, said, Size, sizeOf}
 use Rattle.tally.specs.Write.{writeReasons, writeSaid, writtenAfter, written}
 use Rattle.tally.specs.Demands.{listIn}

@@ -35,7 +35,7 @@ pub record Size : Type 0 where
 unfoldable pub sizeOf : List Gate → Size
 sizeOf gs = record { gates = length gs; conditional = conditionalCount gs }
 
--- Document 01's number and values for each case of the program's enum.
+-- What each case of the program's enum means, as a number with values.
 unfoldable pub saidBy : Answer → Said Size
 saidBy (Accepted gates conditional) = accepted (record { gates = gates; conditional = conditional })
 saidBy (Refused r) = refused (reasonOf r)

@@ -6,11 +6,10 @@ use Rattle.jury.specs.declared.shape.Shape.{Shape}
 use Rattle.jury.specs.Shape.{withinLimits}
 use Rattle.jury.specs.Reason.{Reason, unless, firstOf}
 use Rattle.jury.specs.Ballots.{ballotReasons}
-use Rattle.jury.specs.Counts.{countsOf}
 use Rattle.jury.specs.Gauge.{eightBytes}
-use Rattle.judgment.specs.Judgment.{judgmentOf}
+use Rattle.tally.specs.Rule.{closingFor}
 
--- The reasons that concern a count, in checking order: 1, 4, 5, 6.
+-- The reasons that concern a count, in checking order: 1, 4, 5, then 6 of grades or 11 and 12 of rankings.
 unfoldable pub countReason : Shape → List ℕ → Option Reason
 countReason s xs = firstOf (unless (withinLimits s) 1 ∷ ballotReasons s xs)
 
@@ -20,4 +19,4 @@ closingAfter none bytes = eightBytes bytes
 closingAfter (some r) bytes = eightBytes []
 
 unfoldable pub plainClosing : Shape → List ℕ → List ℕ
-plainClosing s xs = closingAfter (countReason s xs) (judgmentOf (countsOf s xs))
+plainClosing s xs = closingAfter (countReason s xs) (closingFor s xs)

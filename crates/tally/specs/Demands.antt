@@ -12,9 +12,8 @@ use Rattle.jury.specs.declared.shape.Shape.{Shape}
 use Rattle.jury.specs.Shape.{ballotBytes}
 use Rattle.jury.specs.Reason.{Reason}
 use Rattle.jury.specs.Accepted.{AcceptedBallots}
-use Rattle.jury.specs.Counts.{countsOf}
-use Rattle.judgment.specs.Winner.{Wins}
 use Rattle.tally.specs.Answer.{refused, accepted, hasNumberIn, Size}
+use Rattle.tally.specs.Rule.{Wins}
 use Rattle.tally.specs.Count.{countReason, plainClosing}
 use Rattle.tally.specs.Measure.{measureSaid}
 use Rattle.tally.specs.Test.{testSaid}
@@ -28,8 +27,8 @@ pub record Memory : Type 0 where
   pub write-number : (s : Shape) (table : List ℕ) (r : Reason) → writeSaid s table ≡ refused r → T (hasNumberIn (1 ∷ 2 ∷ []) r)
   pub test-number : (s : Shape) (table : List ℕ) (r : Reason) → testSaid s table ≡ refused r → T (hasNumberIn (1 ∷ 2 ∷ 3 ∷ []) r)
   pub run-number : (s : Shape) (table ballots tape wires board : List ℕ) (r : Reason) → ran s table ballots tape wires board .answer ≡ refused r
-      → T (hasNumberIn (1 ∷ 2 ∷ 3 ∷ 4 ∷ 5 ∷ 6 ∷ 7 ∷ 8 ∷ 9 ∷ 10 ∷ []) r)
-  pub count-number : (s : Shape) (ballots : List ℕ) (r : Reason) → countReason s ballots ≡ some r → T (hasNumberIn (1 ∷ 4 ∷ 5 ∷ 6 ∷ []) r)
+      → T (hasNumberIn (1 ∷ 2 ∷ 3 ∷ 4 ∷ 5 ∷ 6 ∷ 11 ∷ 12 ∷ 7 ∷ 8 ∷ 9 ∷ 10 ∷ []) r)
+  pub count-number : (s : Shape) (ballots : List ℕ) (r : Reason) → countReason s ballots ≡ some r → T (hasNumberIn (1 ∷ 4 ∷ 5 ∷ 6 ∷ 11 ∷ 12 ∷ []) r)
   pub write-refused : (s : Shape) (table : List ℕ) (r : Reason) → writeSaid s table ≡ refused r → written s table ≡ table
   pub write-length : (s : Shape) (table : List ℕ) → length (written s table) ≡ length table
   pub run-refused : (s : Shape) (table ballots tape wires board : List ℕ) (r : Reason) → ran s table ballots tape wires board .answer ≡ refused r
@@ -44,9 +43,9 @@ pub record Memory : Type 0 where
 unfoldable pub listIn : Shape → Size → List ℕ → List ℕ
 listIn s size table = take (4 * size .gates) (written s table)
 
--- The demand [accuracy], for majority judgment [judgment]: with the list that the core writes for a shape, a candidate's closing byte is 1 if no candidate's sequence comes before its own, and 0 if one does; the plain count gives the same bytes. It holds after an accepted write into a table of any earlier contents, G and C being what the write answered.
+-- The demand [accuracy], for majority judgment [judgment] and, of rankings, for Schulze's rule (request 2.2): with the list that the core writes for a shape, a candidate's closing byte is 1 if it wins by the rule of the shape's kind, and 0 if it does not; counting plainly yields these bytes too. It holds after an accepted write into a table of any earlier contents, G and C being what the write answered.
 pub record Accuracy (s : Shape) (table : List ℕ) (size : Size) : Type 0 where
-  -- a run of the list is never refused for 2 or 3
+  -- no run of the list is refused for 2 or 3
   pub never-2-or-3 : (ballots tape wires board : List ℕ) (r : Reason) → ran s (listIn s size table) ballots tape wires board .answer ≡ refused r → (r .number ≢ 2) × (r .number ≢ 3)
   -- with accepted ballots, a mask tape and buffers of the right lengths it is accepted, and answers the same G and C
   pub runs : (ballots tape wires board : List ℕ) → AcceptedBallots s ballots → MaskTape (gatesOf (listIn s size table)) tape
@@ -55,9 +54,9 @@ pub record Accuracy (s : Shape) (table : List ℕ) (size : Size) : Type 0 where
   pub plain : (ballots tape wires board : List ℕ) (answer : Size) → ran s (listIn s size table) ballots tape wires board .answer ≡ accepted answer
       → closingBytes s (ran s (listIn s size table) ballots tape wires board .board) ≡ take (s .candidates) (plainClosing s ballots)
   pub winners : (ballots tape wires board : List ℕ) (answer : Size) → ran s (listIn s size table) ballots tape wires board .answer ≡ accepted answer
-      → (i : ℕ) → i < s .candidates → (getD (closingBytes s (ran s (listIn s size table) ballots tape wires board .board)) i 0 ≡ 1) ↔ Wins (countsOf s ballots) i
+      → (i : ℕ) → i < s .candidates → (getD (closingBytes s (ran s (listIn s size table) ballots tape wires board .board)) i 0 ≡ 1) ↔ Wins s ballots i
   pub losers : (ballots tape wires board : List ℕ) (answer : Size) → ran s (listIn s size table) ballots tape wires board .answer ≡ accepted answer
-      → (i : ℕ) → i < s .candidates → (getD (closingBytes s (ran s (listIn s size table) ballots tape wires board .board)) i 0 ≡ 0) ↔ (¬ Wins (countsOf s ballots) i)
+      → (i : ℕ) → i < s .candidates → (getD (closingBytes s (ran s (listIn s size table) ballots tape wires board .board)) i 0 ≡ 0) ↔ (¬ Wins s ballots i)
 
 pub record ThreeDemands : Type 0 where
   pub memory : Memory

@@ -1,4 +1,6 @@
 pub mod Answer
+pub mod Rule
+pub mod OwnList
 pub mod Count
 pub mod Measure
 pub mod Test

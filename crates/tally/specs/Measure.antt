@@ -6,8 +6,8 @@ use Rattle.gates.specs.Board.{conditionalCount}
 use Rattle.jury.specs.declared.shape.Shape.{Shape}
 use Rattle.jury.specs.Shape.{withinLimits, ballotBytes}
 use Rattle.jury.specs.Reason.{reasonOf, unless, firstOf}
-use Rattle.circuit.specs.OwnList.{ownList}
 use Rattle.tally.specs.Answer.{Said, refused, accepted, said}
+use Rattle.tally.specs.OwnList.{ownList}
 use Rattle.tally.specs.declared.measure.Measured.{Measured}
 use Rattle.tally.specs.declared.measure.Measured.the-variants.{Accepted, Refused}
 
@@ -24,7 +24,7 @@ measuresOf s = record { gates = length (ownList s); conditional = conditionalCou
 unfoldable pub measureSaid : Shape → Said Measures
 measureSaid s = said (firstOf (unless (withinLimits s) 1 ∷ [])) (measuresOf s)
 
--- Document 01's number and values for each case of the program's enum.
+-- What each case of the program's enum means, as a number with values.
 unfoldable pub measuredBy : Measured → Said Measures
 measuredBy (Accepted gates conditional inputs) = accepted (record { gates = gates; conditional = conditional; inputs = inputs })
 measuredBy (Refused r) = refused (reasonOf r)

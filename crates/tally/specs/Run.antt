@@ -24,7 +24,7 @@ lentReasons i k size tape wires board =
     ∷ unless (eqb (length board) (size .conditional + k)) 10
     ∷ []
 
--- All ten reasons in checking order, by the size of the list that is lent.
+-- All reasons of a run in checking order, by the size of the list that is lent.
 unfoldable pub runReasons : Shape → List ℕ → List ℕ → List ℕ → List ℕ → List ℕ → List (Option Reason)
 runReasons s table ballots tape wires board =
     testReasons s table ++ ballotReasons s ballots ++ lentReasons (ballotBytes s) (s .candidates) (sizeOf (gatesOf table)) tape wires board
@@ -35,7 +35,7 @@ pub record Ran : Type 0 where
   pub wires : List ℕ
   pub board : List ℕ
 
--- A refusal alters nothing that is lent. An accepted run leaves the wire table all zero, and on the board the shown bits and the closing bytes of the wires that the ballots have under the list (request 2.13).
+-- A refusal alters nothing that is lent. An accepted run leaves zeros in the wire table, and on the board the shown bits and the closing bytes of the wires that the ballots have under the list (request 2.13).
 unfoldable pub ranAfter : Option Reason → Shape → List Gate → List ℕ → List ℕ → List ℕ → List ℕ → Ran
 ranAfter (some r) s gs ballots tape wires board = record { answer = refused r; wires = wires; board = board }
 ranAfter none s gs ballots tape wires board =

@@ -11,11 +11,9 @@ use Rattle.jury.specs.declared.shape.Shape.{Shape}
 use Rattle.jury.specs.Shape.{withinLimits}
 use Rattle.jury.specs.Reason.{Reason, unless, firstOf}
 use Rattle.jury.specs.Accepted.{AcceptedBallots}
-use Rattle.jury.specs.Counts.{countsOf}
-use Rattle.judgment.specs.Judgment.{judgmentOf}
-use Rattle.circuit.specs.OwnList.{ownList}
-use Rattle.circuit.specs.Bound.{gateBound}
 use Rattle.tally.specs.Answer.{Said, accepted, said, Size, sizeOf}
+use Rattle.tally.specs.Rule.{closingFor}
+use Rattle.tally.specs.OwnList.{ownList, gateBound}
 use Rattle.tally.specs.Test.{testSaid}
 
 -- The reasons that concern writing, in checking order: 1, and 2 where the table has no room for all gates of the list.
@@ -37,7 +35,7 @@ written s table = writtenAfter (firstOf (writeReasons s table)) (numbersOf (ownL
 pub record OwnListHolds (s : Shape) : Type 0 where
   -- the tester accepts its numbers for that shape, with its own G and C, C being the count of conditional marks in it
   pub passes : testSaid s (numbersOf (ownList s)) ≡ accepted (sizeOf (ownList s))
-  -- G keeps the bound of [bound] and [judgment-bound]
+  -- G keeps the bound of [bound] and [judgment-bound], or that of request 2.2
   pub bounded : length (ownList s) ≤ gateBound s
-  -- its closing bytes are majority judgment's, whatever the accepted ballots
-  pub closing : (ballots : List ℕ) → AcceptedBallots s ballots → outputsOf (s .candidates) (wiresOf ballots (ownList s)) ≡ judgmentOf (countsOf s ballots)
+  -- its closing bytes are those of the rule, whatever the accepted ballots
+  pub closing : (ballots : List ℕ) → AcceptedBallots s ballots → outputsOf (s .candidates) (wiresOf ballots (ownList s)) ≡ closingFor s ballots

@@ -4,6 +4,9 @@ use jury::reason::Verdict;
 use jury::shape::Shape;
 ghost use mathlib.Core.Path.{_≡_};
 ghost use Rattle.jury.specs.Reason.{refusedFor};
+ghost use Rattle.jury.specs.Accepted.{AcceptedBallots};
+ghost use Rattle.jury.specs.Gauge.{eightBytes};
+ghost use Rattle.tally.specs.Rule.{closingFor};
 ghost use Rattle.tally.specs.Count.{countReason, plainClosing};
 
 // The outcome of a count, and the closing bytes: 0 from place k on, and eight zeros on a refusal.
@@ -29,11 +32,24 @@ pub fn count(shape: Shape, ballots: &[u8]) -> Counted
             closing: [0u8; 8],
         },
         Verdict::Accepted => {
-            let counts = jury::counts::counts(shape, ballots);
+            let closing = closing_bytes(shape, ballots);
             Counted {
                 verdict: Verdict::Accepted,
-                closing: judgment::rule::winners(shape, counts),
+                closing,
             }
         }
+    }
+}
+
+// The closing bytes of accepted ballots by the rule of their kind.
+fn closing_bytes(shape: Shape, ballots: &[u8]) -> [u8; 8]
+    requires { ⌜ AcceptedBallots shape (now ballots) ⌝ }
+    ensures { λ r. ⌜ r ≡ eightBytes (closingFor shape (now (ballots .entry))) ⌝ }
+{
+    if shape.is_ranking() {
+        schulze::count::closing_bytes(ballots, shape.candidates, shape.ballots)
+    } else {
+        let counts = jury::counts::counts(shape, ballots);
+        judgment::rule::winners(shape, counts)
     }
 }

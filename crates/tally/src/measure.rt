@@ -21,7 +21,7 @@ pub fn measure(shape: Shape) -> Measured
     if !shape.is_within_limits() {
         return Measured::Refused(Refusal::Shape);
     }
-    let end = writer::list::measure(shape);
+    let end = crate::own::measure(shape);
     Measured::Accepted {
         gates: end.gate,
         conditional: end.conditional,

@@ -7,7 +7,7 @@ ghost use mathlib.Core.Path.{_≡_};
 ghost use Rattle.tally.specs.Answer.{saidBy};
 ghost use Rattle.tally.specs.Test.{testSaid};
 
-// Tests a list, whoever wrote it, for a jury of a shape.
+// Tests anyone's list for a jury of a shape.
 pub fn test(shape: Shape, table: &[u32]) -> Answer
     ensures { λ r. ⌜ saidBy r ≡ testSaid shape (now (table .entry)) ⌝ }
 {

@@ -19,10 +19,10 @@ pub fn write(shape: Shape, table: &mut [u32]) -> Answer
     }
     // The list is measured first, so that a refusal leaves the table as it was. Four numbers a gate, without a product
     // that could wrap.
-    if table.len() / 4 < writer::list::measure(shape).gate {
+    if table.len() / 4 < crate::own::measure(shape).gate {
         return Answer::Refused(Refusal::Table);
     }
-    let end = writer::list::own_list(shape, table);
+    let end = crate::own::own_list(shape, table);
     Answer::Accepted {
         gates: end.gate,
         conditional: end.conditional,

@@ -9,7 +9,7 @@ use Rattle.tally.specs.Answer.{refused, accepted}
 use Rattle.text.specs.Write.{textSaid, textWritten}
 use Rattle.text.specs.Read.{readSaid, numbersRead}
 
--- Given output enough, reading accepts exactly what writing can produce for a shape, and gives back the same numbers.
+-- [text]: with room enough in the output, a text is accepted where it is that of some list of the shape, and only there; its numbers come back.
 pub record RoundTrip : Type 0 where
   -- whatever writing produced is accepted, and read as the list that was written
   pub back : (s : Shape) (table output numbers : List ℕ) (n : ℕ) → textSaid s table output ≡ accepted n → length table ≤ length numbers

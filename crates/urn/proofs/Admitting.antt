@@ -10,23 +10,24 @@ use native.Mathlib.Omega.{arith}
 use lib.Dec.{T}
 use lib.ListN.{length, getD, set, take, drop, length-set, length-append, length-take, length-drop}
 use lib.Seq.{set-set}
-use Rattle.jury.specs.Shape.{withinLimits}
+use Rattle.jury.specs.Shape.{gradedLimits}
 use Rattle.jury.proofs.Flags.{and-second}
-use Rattle.urn.specs.Slots.{Slot, slotBytes, slotOf, slotsOf, bytesOf, slotAt}
-use Rattle.urn.specs.Chains.{Entry, ballotSlots, ballotChain, freeChain, firstEntry, firstFree, headSlot, layout}
-use Rattle.urn.specs.Sound.{all, juryOfOne, inUrn, slotCount, urnSlots, soundSlots, sound}
+use Rattle.chains.specs.Slots.{Slot, slotBytes, slotOf, slotsOf, bytesOf, slotAt}
+use Rattle.chains.specs.Chains.{Entry, ballotSlots, ballotChain, freeChain, firstEntry, firstFree, headSlot, layout}
+use Rattle.chains.specs.Sound.{all, juryOfOne, inUrn, slotCount, urnSlots, soundSlots, sound}
 use Rattle.urn.specs.Facts.{isEmpty}
 use Rattle.urn.specs.Admit.{withBallot}
-use Rattle.urn.specs.Inner.{SlotTable}
-use Rattle.urn.proofs.SlotLaws.{size-is, slots-length, slot-within, next-is}
-use Rattle.urn.proofs.Lists.{all-append, all-first}
-use Rattle.urn.proofs.Linked.{FreeLinked, Linked, at-set, at-other, below, positive}
-use Rattle.urn.proofs.Layouts.{Fit}
-use Rattle.urn.proofs.BytesLaws.{Sized, slots-sized, bytes-back}
+use Rattle.chains.specs.Inner.{SlotTable}
+use Rattle.chains.proofs.SlotLaws.{size-is, slots-length, slot-within, next-is}
+use Rattle.chains.proofs.Lists.{all-append, all-first}
+use Rattle.chains.proofs.Linked.{FreeLinked, Linked, at-set, at-other, below, positive}
+use Rattle.chains.proofs.Layouts.{Fit}
+use Rattle.chains.proofs.BytesLaws.{Sized, slots-sized, bytes-back}
 use Rattle.urn.proofs.Putting.{put-slots, set-next, set-head-juror}
-use Rattle.urn.proofs.Judging.{head-next, head-juror}
-use Rattle.urn.proofs.SoundLaws.{Parts}
-use Rattle.urn.proofs.Held.{held, held-free, head-is, head-first, head-free, fits, admit-slots}
+use Rattle.chains.proofs.Judging.{head-next, head-juror}
+use Rattle.chains.proofs.SoundLaws.{Parts}
+use Rattle.chains.proofs.Held.{held, held-free, head-is, head-first, head-free, fits}
+use Rattle.urn.proofs.AdmitSlots.{admit-slots}
 use Rattle.urn.proofs.FactLaws.{its-table, its-parts, its-length}
 
 -- both bytes of slot 0 stored anew
@@ -52,7 +53,7 @@ pub splice-length : (urn bytes : List ℕ) (at size : ℕ) → at + size ≤ len
 splice-length urn bytes at size h e =
     omega (arith, length-append (take at urn ++ bytes) (drop (at + size) urn), length-append (take at urn) bytes, length-take at urn, length-drop (at + size) urn)
 
-module _ (k d : ℕ) (urn : List ℕ) (w : T (withinLimits (juryOfOne k d))) (e : sound k d urn ≡ true) (ne : isEmpty (freeChain (urnSlots k d urn)) ≡ false) where
+module _ (k d : ℕ) (urn : List ℕ) (w : T (gradedLimits (juryOfOne k d))) (e : sound k d urn ≡ true) (ne : isEmpty (freeChain (urnSlots k d urn)) ≡ false) where
   sized : Sized (k * d) (urnSlots k d urn)
   unfolding urnSlots
   sized = slots-sized (k * d) (slotCount (k * d) (length urn)) urn (its-table k d urn w e .size)

@@ -7,13 +7,14 @@ use mathlib.Core.List.{List, [], _∷_, _++_}
 use Prim.Native.Nat.{ℕ, _+_, _-_, _*_}
 use native.Mathlib.Omega.{arith}
 use lib.Dec.{T, leb}
-use Rattle.jury.specs.Shape.{withinLimits}
+use Rattle.jury.specs.Shape.{gradedLimits}
 use Rattle.jury.proofs.Flags.{and-second, T-true, true-T}
 use Rattle.jury.specs.Reason.{Reason, reasonAt, unless, firstOf}
 use Rattle.jury.specs.Ballots.{ballotReasons}
 use Rattle.tally.specs.Answer.{Said, refused, accepted, said}
 use Rattle.urn.specs.declared.facts.Facts.{Facts}
-use Rattle.urn.specs.Sound.{juryOfOne, goodJuror, noReason, goodBallot}
+use Rattle.chains.specs.Sound.{juryOfOne, goodJuror, noReason, goodBallot}
+use Rattle.chains.proofs.Holding.{good-graded}
 use Rattle.urn.specs.Facts.{gradedShape, afterwards}
 use Rattle.urn.specs.Admit.{admitReasons, admitSaid}
 use Rattle.urn.specs.Withdraw.{withdrawReasons, withdrawSaid}
@@ -55,11 +56,15 @@ passed true true true (some r) g h = let z : _≡_ {A = ℕ} 0 1 = cc in absurd 
 passed true true true none false h = let z : _≡_ {A = ℕ} 0 1 = cc in absurd (omega arith)
 passed true true true none true h = (refl, refl, refl, refl, refl)
 
+-- a graded shape is within the limits
+pub graded-within : (k d : ℕ) → T (gradedShape k d) → T (gradedLimits (juryOfOne k d))
+unfolding gradedShape
+graded-within k d h = h
+
 pub admissible : (k d : ℕ) (f : Facts) (j : ℕ) (x : List ℕ) → firstOf (admitReasons k d f j x) ≡ none → Admissible k d f j x
-unfolding goodBallot
 admissible k d f j x e =
     let p = passed (gradedShape k d) (f .sound) (goodJuror j && not (f .present)) (firstOf (ballotReasons (juryOfOne k d) x)) (not (f .full)) (sym (admit-first k d f j x) ∙ e) in
-    record { graded = p .0; isSound = p .1; juror = p .2; ballot = p .3; free = p .4 }
+    record { graded = p .0; isSound = p .1; juror = p .2; ballot = good-graded k d x (graded-within k d (true-T (gradedShape k d) (p .0))) ∙ p .3; free = p .4 }
 
 pub withdrawFirst : Bool → Bool → Bool → Option Reason
 withdrawFirst graded sound juror = firstOf (unless graded 1 ∷ unless sound 13 ∷ unless juror 14 ∷ [])
@@ -97,6 +102,10 @@ refused-kept (some q) v r new old e = refl
 pub none-new : (o : Option Reason) (new old : List ℕ) → o ≡ none → afterwards o new old ≡ new
 unfolding afterwards
 none-new o new old e = ap (λ (p : Option Reason). afterwards p new old) e
+
+pub some-old : (o : Option Reason) (r : Reason) (new old : List ℕ) → o ≡ some r → old ≡ afterwards o new old
+unfolding afterwards
+some-old o r new old e = ap (λ (p : Option Reason). afterwards p new old) (sym e)
 
 -- the first reason of an admission, by the first test that fails
 module _ (a b c : Bool) (o : Option Reason) (g : Bool) where
@@ -165,8 +174,3 @@ module _ (a b c : Bool) where
 pub withdraw-first : (k d : ℕ) (f : Facts) (j : ℕ) → firstOf (withdrawReasons k d f j) ≡ withdrawFirst (gradedShape k d) (f .sound) (goodJuror j && f .present)
 unfolding withdrawReasons withdrawFirst
 withdraw-first k d f j = refl
-
--- a graded shape is within the limits
-pub graded-within : (k d : ℕ) → T (gradedShape k d) → T (withinLimits (juryOfOne k d))
-unfolding gradedShape
-graded-within k d h = true-T (withinLimits (juryOfOne k d)) (and-second (leb 2 d) (withinLimits (juryOfOne k d)) (T-true (gradedShape k d) h))

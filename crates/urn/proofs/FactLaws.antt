@@ -9,20 +9,20 @@ use native.Mathlib.Omega.{arith}
 use lib.Dec.{T, eqb, eqb·suc-zero}
 use lib.ListN.{length, getD}
 use borrow.Author.Tests.{not-true}
-use Rattle.jury.specs.Shape.{withinLimits}
+use Rattle.jury.specs.Shape.{gradedLimits}
 use Rattle.jury.proofs.Flags.{and-first, and-second, or-first, or-second}
-use Rattle.urn.specs.Slots.{Slot, slotBytes, slotsOf, slotAt}
-use Rattle.urn.specs.Chains.{chain, ballotSlots, ballotChain, freeChain}
-use Rattle.urn.specs.Sound.{all, member, juryOfOne, inUrn, slotCount, urnLength, urnSlots, soundSlots, sound}
+use Rattle.chains.specs.Slots.{Slot, slotBytes, slotsOf, slotAt}
+use Rattle.chains.specs.Chains.{chain, ballotSlots, ballotChain, freeChain}
+use Rattle.chains.specs.Sound.{all, member, juryOfOne, inUrn, slotCount, urnLength, urnSlots, soundSlots, sound}
 use Rattle.urn.specs.Facts.{isEmpty, jurorsOf, factsOf}
 use Rattle.urn.specs.declared.facts.Facts.{Facts}
-use Rattle.urn.specs.declared.find.Link.the-variants.{Found, Absent}
-use Rattle.urn.specs.Inner.{SlotTable, jurorsAt, linkOf}
-use Rattle.urn.proofs.Lists.{all-append, eqb-sym}
-use Rattle.urn.proofs.Marks.{true-or-false}
-use Rattle.urn.proofs.SlotLaws.{slots-length}
-use Rattle.urn.proofs.SoundLaws.{Parts, sound-parts, parts-found, jurors-of-entries}
-use Rattle.urn.proofs.Judging.{table, few-bytes, slots-by-bytes, free-by-bytes, count-by-bytes}
+use Rattle.chains.specs.declared.find.Link.the-variants.{Found, Absent}
+use Rattle.chains.specs.Inner.{SlotTable, jurorsAt, linkOf}
+use Rattle.chains.proofs.Lists.{all-append, eqb-sym}
+use Rattle.chains.proofs.Marks.{true-or-false}
+use Rattle.chains.proofs.SlotLaws.{slots-length}
+use Rattle.chains.proofs.SoundLaws.{Parts, sound-parts, parts-found, jurors-of-entries}
+use Rattle.chains.proofs.Judging.{table, few-bytes, slots-by-bytes, free-by-bytes, count-by-bytes}
 
 pub link-found : (S : List Slot) (j b : ℕ) (is : List ℕ) (p s : ℕ) → linkOf S j b is ≡ Found p s → member j (jurorsAt S is) ≡ true
 unfolding linkOf jurorsAt member
@@ -47,7 +47,7 @@ empty-chain (suc n) zero S h = refl
 empty-chain (suc n) (suc i) S h = sym (eqb·suc-zero i)
 
 -- a sound urn has the length of one, and sound slots
-module _ (k d : ℕ) (urn : List ℕ) (w : T (withinLimits (juryOfOne k d))) (e : sound k d urn ≡ true) where
+module _ (k d : ℕ) (urn : List ℕ) (w : T (gradedLimits (juryOfOne k d))) (e : sound k d urn ≡ true) where
   pub good-length-of : urnLength (k * d) (length urn) ≡ true
   unfolding sound
   good-length-of = and-first (urnLength (k * d) (length urn)) (soundSlots k d (urnSlots k d urn)) e

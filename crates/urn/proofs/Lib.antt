@@ -1,22 +1,11 @@
 -- Laws that the proofs of functions rest on.
-pub mod SlotLaws
-pub mod Zeros
-pub mod Lists
-pub mod Marks
-pub mod SoundLaws
-pub mod Holding
-pub mod Looking
-pub mod Walking
-pub mod Linked
-pub mod Layouts
-pub mod BytesLaws
-pub mod Finding
 pub mod Putting
-pub mod Judging
-pub mod Held
 pub mod FactLaws
 pub mod Deciding
+pub mod AdmitSlots
 pub mod Admitting
 pub mod Withdrawing
 pub mod Taking
+pub mod Emptying
 pub mod UrnTheorems
+pub mod UrnMemory

@@ -7,20 +7,20 @@ use Prim.Native.Nat.{ℕ, zero, suc, _+_, _*_, _-_, _≤_, _<_}
 use native.Mathlib.Omega.{arith}
 use lib.Dec.{T}
 use lib.ListN.{length, getD, set, take, drop, replicate, length-set, length-replicate}
-use Rattle.jury.specs.Shape.{withinLimits}
-use Rattle.urn.specs.Slots.{Slot, slotBytes, slotOf, slotsOf, bytesOf, slotAt, freeSlot}
-use Rattle.urn.specs.Chains.{Entry, chain, ballotSlots, ballotChain, freeChain, firstEntry, firstFree, entrySlot, headSlot, layout}
-use Rattle.urn.specs.Sound.{juryOfOne, slotCount, urnSlots, sound}
+use Rattle.jury.specs.Shape.{gradedLimits}
+use Rattle.chains.specs.Slots.{Slot, slotBytes, slotOf, slotsOf, bytesOf, slotAt, freeSlot}
+use Rattle.chains.specs.Chains.{Entry, chain, ballotSlots, ballotChain, freeChain, firstEntry, firstFree, entrySlot, headSlot, layout}
+use Rattle.chains.specs.Sound.{juryOfOne, slotCount, urnSlots, sound}
 use Rattle.urn.specs.Withdraw.{without, slotOfJuror, withoutBallot}
-use Rattle.urn.specs.declared.find.Link.the-variants.{Found}
-use Rattle.urn.specs.Inner.{SlotTable, linkOf}
-use Rattle.urn.proofs.SlotLaws.{size-is, slots-length, slot-within, next-is}
-use Rattle.urn.proofs.Linked.{slotsIn, Linked, FreeLinked, at-set, at-other}
-use Rattle.urn.proofs.Layouts.{Fit}
-use Rattle.urn.proofs.BytesLaws.{Sized, slots-sized, bytes-back}
+use Rattle.chains.specs.declared.find.Link.the-variants.{Found}
+use Rattle.chains.specs.Inner.{SlotTable, linkOf}
+use Rattle.chains.proofs.SlotLaws.{size-is, slots-length, slot-within, next-is}
+use Rattle.chains.proofs.Linked.{slotsIn, Linked, FreeLinked, at-set, at-other}
+use Rattle.chains.proofs.Layouts.{Fit}
+use Rattle.chains.proofs.BytesLaws.{Sized, slots-sized, bytes-back}
 use Rattle.urn.proofs.Putting.{put-slots, set-next, set-head-juror}
-use Rattle.urn.proofs.Judging.{head-juror, slots-by-bytes}
-use Rattle.urn.proofs.Held.{held, held-free, head-is, head-free, fits, read-slots-are}
+use Rattle.chains.proofs.Judging.{head-juror, slots-by-bytes}
+use Rattle.chains.proofs.Held.{held, held-free, head-is, head-free, fits, read-slots-are}
 use Rattle.urn.proofs.FactLaws.{its-table, its-parts, its-length}
 use Rattle.urn.proofs.Admitting.{splice-length}
 use Rattle.urn.proofs.Withdrawing.{lastSlot, Split, split, renext, linked-at, withdraw-slots, passed-next, passed-ballot, entry-place, entry-positive, link-place}
@@ -30,7 +30,7 @@ take-zeros zero m h = refl
 take-zeros (suc b) zero h = absurd (omega arith)
 take-zeros (suc b) (suc m) h = ap (λ (xs : List ℕ). 0 ∷ xs) (take-zeros b m (omega arith))
 
-module _ (k d : ℕ) (urn : List ℕ) (w : T (withinLimits (juryOfOne k d))) (e : sound k d urn ≡ true) (j p s : ℕ)
+module _ (k d : ℕ) (urn : List ℕ) (w : T (gradedLimits (juryOfOne k d))) (e : sound k d urn ≡ true) (j p s : ℕ)
     (found : linkOf (slotsOf (k * d) (slotCount (k * d) (length urn)) urn) j 0 (chain (slotCount (k * d) (length urn)) (getD urn 0 0) (slotsOf (k * d) (slotCount (k * d) (length urn)) urn)) ≡ Found p s) where
   sized : Sized (k * d) (urnSlots k d urn)
   unfolding urnSlots

@@ -1,4 +1,4 @@
--- An urn that admits and withdraws ballots stays sound, and undoing gives it back.
+-- An urn that is made empty is sound, stays so while ballots go in and out, and undoing gives it back.
 -- Assumes nothing.
 use mathlib.Core.Path.{_≡_, _∙_, refl, sym, ap, subst}
 use mathlib.Core.Logic.{⊎-elim}
@@ -10,31 +10,35 @@ use native.Mathlib.Omega.{arith}
 use lib.Dec.{T, eqb}
 use lib.ListN.{length, drop}
 use borrow.Author.Tests.{eq-eqb, eqb-true, not-true}
-use Rattle.jury.specs.Shape.{withinLimits}
-use Rattle.jury.specs.Reason.{Reason, firstOf}
+use Rattle.jury.specs.Shape.{gradedLimits}
+use Rattle.jury.specs.Counts.{tabulate}
+use Rattle.jury.specs.Reason.{firstOf}
 use Rattle.jury.proofs.Flags.{and-first, and-second, and-both, true-T, or-first, or-second}
-use Rattle.tally.specs.Answer.{refused, accepted}
+use Rattle.tally.specs.Answer.{accepted}
 use Rattle.urn.specs.declared.facts.Facts.{Facts}
-use Rattle.urn.specs.Slots.{Slot, slotBytes, slotsOf, bytesOf}
-use Rattle.urn.specs.Chains.{Entry, ballotChain, freeChain, firstFree, layout}
-use Rattle.urn.specs.Sound.{all, member, distinct, juryOfOne, goodJuror, goodBallot, eachOnce, goodChains, slotCount, urnLength, urnSlots, soundSlots, sound}
+use Rattle.chains.specs.Slots.{Slot, slotBytes, slotsOf, bytesOf}
+use Rattle.chains.specs.Chains.{Entry, ballotChain, freeChain, firstFree, layout}
+use Rattle.chains.specs.Sound.{all, member, distinct, juryOfOne, goodJuror, goodBallot, eachOnce, goodChains, slotCount, urnLength, urnSlots, soundSlots, sound}
 use Rattle.urn.specs.Facts.{gradedShape, isEmpty, jurorsOf, factsOf, afterwards}
 use Rattle.urn.specs.Admit.{admitReasons, admitSaid, withBallot, admitted}
 use Rattle.urn.specs.Withdraw.{withdrawReasons, withdrawSaid, without, slotOfJuror, withoutBallot, withdrawn}
-use Rattle.urn.specs.Theorems.{AfterAdmission, AfterWithdrawal, UrnHolds, TellTheSame, PreviewsTell}
-use Rattle.urn.specs.Inner.{SlotTable}
-use Rattle.urn.proofs.Lists.{all-first, all-rest, all-cons, all-move, distinct-first, distinct-rest, distinct-cons, distinct-move, eqb-sym}
-use Rattle.urn.proofs.Marks.{true-or-false}
-use Rattle.urn.proofs.SlotLaws.{slots-length}
-use Rattle.urn.proofs.SoundLaws.{Parts, chains-true}
-use Rattle.urn.proofs.Linked.{slotsIn, Linked}
-use Rattle.urn.proofs.Layouts.{Fit, chains-fit, layout-length, layout-sound, read-ballots, read-free}
-use Rattle.urn.proofs.BytesLaws.{Sized, slots-sized, layout-sized, bytes-length, slots-back, bytes-back, count-is, length-good}
-use Rattle.urn.proofs.Held.{held, fits, fit-admit, sound-layout}
+use Rattle.urn.specs.Empty.{emptyReasons, emptySaid, allFree, emptied}
+use Rattle.urn.specs.Theorems.{AfterEmptying, AfterAdmission, AfterWithdrawal, UrnHolds, TellTheSame, PreviewsTell}
+use Rattle.chains.specs.Inner.{SlotTable}
+use Rattle.chains.proofs.Lists.{all-first, all-rest, all-cons, all-move, distinct-first, distinct-rest, distinct-cons, distinct-move, eqb-sym}
+use Rattle.chains.proofs.Marks.{true-or-false}
+use Rattle.chains.proofs.SlotLaws.{slots-length}
+use Rattle.chains.proofs.SoundLaws.{Parts, chains-true}
+use Rattle.chains.proofs.Linked.{slotsIn, Linked}
+use Rattle.chains.proofs.Layouts.{Fit, chains-fit, layout-length, layout-sound, read-ballots, read-free}
+use Rattle.chains.proofs.BytesLaws.{Sized, slots-sized, layout-sized, bytes-length, slots-back, bytes-back, count-is, length-good, table-is, count-least, count-most}
+use Rattle.chains.proofs.Held.{held, fits, sound-layout}
+use Rattle.urn.proofs.AdmitSlots.{fit-admit}
 use Rattle.urn.proofs.Admitting.{not-empty}
 use Rattle.urn.proofs.Withdrawing.{Split, split, fit-withdraw}
+use Rattle.urn.proofs.Emptying.{all-fit, empty-accepted}
 use Rattle.urn.proofs.FactLaws.{its-table, its-parts, its-length, facts-are, facts-sound, facts-free, facts-present, no-facts}
-use Rattle.urn.proofs.Deciding.{Admissible, admissible, Withdrawable, withdrawable, accepted-none, refused-kept, none-new, withdraw-first, withdraw-none, graded-within}
+use Rattle.urn.proofs.Deciding.{Admissible, admissible, Withdrawable, withdrawable, accepted-none, none-new, withdraw-first, withdraw-none, graded-within}
 
 same-facts-of : (f g : Facts) → f .sound ≡ g .sound → f .ballots ≡ g .ballots → f .present ≡ g .present → f .full ≡ g .full → f ≡ g
 same-facts-of f g a b c d =
@@ -100,7 +104,7 @@ written k d n es is l m g =
       free = ap freeChain s ∙ read-free n b es is (g .fit);
     }
 
-module _ (k d : ℕ) (urn : List ℕ) (w : T (withinLimits (juryOfOne k d))) (e : sound k d urn ≡ true) where
+module _ (k d : ℕ) (urn : List ℕ) (w : T (gradedLimits (juryOfOne k d))) (e : sound k d urn ≡ true) where
   sized : Sized (k * d) (urnSlots k d urn)
   unfolding urnSlots
   sized = slots-sized (k * d) (slotCount (k * d) (length urn)) urn (its-table k d urn w e .size)
@@ -164,7 +168,7 @@ unfolding factsOf
 juror-absent-is k d urn j e h = not-true (member j (jurorsOf (ballotChain (urnSlots k d urn)))) (ap (λ (t : Bool). not (cond {A = Facts} t (record { sound = true; ballots = length (ballotChain (urnSlots k d urn)); present = member j (jurorsOf (ballotChain (urnSlots k d urn))); full = isEmpty (freeChain (urnSlots k d urn)) }) (record { sound = false; ballots = 0; present = false; full = false }) .present)) (sym e) ∙ h)
 
 -- withdrawing the ballot that was admitted last
-undo : (k d : ℕ) (urn : List ℕ) → T (withinLimits (juryOfOne k d)) → sound k d urn ≡ true → (j : ℕ) (x u : List ℕ) (is : List ℕ) →
+undo : (k d : ℕ) (urn : List ℕ) → T (gradedLimits (juryOfOne k d)) → sound k d urn ≡ true → (j : ℕ) (x u : List ℕ) (is : List ℕ) →
     Written k d (length (urnSlots k d urn)) (record { slot = firstFree (freeChain (urnSlots k d urn)); juror = j; ballot = x } ∷ ballotChain (urnSlots k d urn)) is u →
     gradedShape k d ≡ true → goodJuror j ≡ true → freeChain (urnSlots k d urn) ≡ firstFree (freeChain (urnSlots k d urn)) ∷ is → withdrawn k d u j ≡ urn
 unfolding withdrawn withoutBallot without slotOfJuror jurorsOf member
@@ -213,6 +217,38 @@ after-admission k d urn j x count h =
       undone = ap (λ (v : List ℕ). withdrawn k d v j) new ∙ back;
     }
 
+-- all slots free
+after-emptying : (k d : ℕ) (table : List ℕ) (count : ℕ) → emptySaid k d table ≡ accepted count → AfterEmptying k d table
+unfolding emptySaid emptied allFree jurorsOf all distinct
+after-emptying k d table count h =
+    let b = k * d in
+    let m = length table in
+    let n = slotCount b m in
+    let is = tabulate (n - 1) suc in
+    let o = accepted-none (firstOf (emptyReasons k d table)) 0 count h in
+    let l = empty-accepted k d table o in
+    let g : Good k d n [] is = record { fit = all-fit n (count-least b m l); jurors = refl; jurors-once = refl; ballots = refl } in
+    let u = bytesOf (layout n b [] is) in
+    let wr = written k d n [] is (count-least b m l) (count-most b m l) g in
+    let new = none-new (firstOf (emptyReasons k d table)) u table o in
+    record {
+      made-sound = ap (sound k d) new ∙ wr .isSound;
+      same-length = ap length new ∙ wr .size ∙ sym (table-is b m l);
+      ballots = ap (λ (v : List ℕ). ballotChain (urnSlots k d v)) new ∙ wr .ballots;
+      free = ap (λ (v : List ℕ). freeChain (urnSlots k d v)) new ∙ wr .free;
+    }
+
+-- an admission takes the slot that is free first
+again : (k d : ℕ) (urn : List ℕ) (es : List Entry) (s : ℕ) (is : List ℕ) → ballotChain (urnSlots k d urn) ≡ es → freeChain (urnSlots k d urn) ≡ s ∷ is → (j : ℕ) (x : List ℕ) → AfterAdmission k d urn j x →
+    (ballotChain (urnSlots k d (admitted k d urn j x)) ≡ record { slot = s; juror = j; ballot = x } ∷ es) × (freeChain (urnSlots k d (admitted k d urn j x)) ≡ is)
+unfolding firstFree
+again k d urn es s is e f j x a = (
+  a .ballots
+      ∙ ap (λ (ks : List ℕ). record { slot = firstFree ks; juror = j; ballot = x } ∷ ballotChain (urnSlots k d urn)) f
+      ∙ ap (λ (xs : List Entry). record { slot = s; juror = j; ballot = x } ∷ xs) e,
+  a .free ∙ ap (drop 1) f,
+)
+
 after-withdrawal : (k d : ℕ) (urn : List ℕ) (j count : ℕ) → withdrawSaid k d (factsOf k d urn j) j ≡ accepted count → AfterWithdrawal k d urn j
 unfolding withdrawSaid withdrawn withoutBallot
 after-withdrawal k d urn j count h =
@@ -236,14 +272,10 @@ after-withdrawal k d urn j count h =
       same-length = ap length new ∙ wr .size ∙ sym (long k d urn w e);
       ballots = ap (λ (v : List ℕ). ballotChain (urnSlots k d v)) new ∙ wr .ballots;
       free = ap (λ (v : List ℕ). freeChain (urnSlots k d v)) new ∙ wr .free;
+      taken-again = λ next ballot more a.
+          again k d (withdrawn k d urn j) (without j es) (slotOfJuror j es) is (ap (λ (v : List ℕ). ballotChain (urnSlots k d v)) new ∙ wr .ballots) (ap (λ (v : List ℕ). freeChain (urnSlots k d v)) new ∙ wr .free) next ballot
+          (after-admission k d (withdrawn k d urn j) next ballot more a);
     }
 
 pub urn-holds : UrnHolds
-unfolding admitSaid admitted withdrawSaid withdrawn
-urn-holds =
-    record {
-      admission = after-admission;
-      withdrawal = after-withdrawal;
-      admit-refused = λ k d urn j x r h. refused-kept (firstOf (admitReasons k d (factsOf k d urn j) j x)) (factsOf k d urn j .ballots + 1) r _ urn h;
-      withdraw-refused = λ k d urn j r h. refused-kept (firstOf (withdrawReasons k d (factsOf k d urn j) j)) (factsOf k d urn j .ballots - 1) r _ urn h;
-    }
+urn-holds = record { emptying = after-emptying; admission = after-admission; withdrawal = after-withdrawal }

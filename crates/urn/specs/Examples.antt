@@ -1,18 +1,19 @@
--- Two slots, one candidate, two grades: a slot is four bytes. Juror 9 is admitted to an empty urn and withdrawn again, over the definitions.
+-- One candidate, two grades: a slot is four bytes. A table of three slots is made an empty urn; juror 9 is admitted to an empty urn of two slots and withdrawn again, over the definitions.
 use mathlib.Core.Path.{_≡_, refl}
 use mathlib.Core.Bool.{true, false}
 use mathlib.Core.List.{List, [], _∷_}
 use Prim.Native.Nat.{ℕ}
 use Rattle.gates.specs.Test.{firstAboveOne}
-use Rattle.jury.specs.Shape.{withinLimits, ballotBytes}
+use Rattle.jury.specs.Shape.{isRanking, gradedLimits, columns, ballotBytes}
 use Rattle.jury.specs.Reason.{unless, foundAt, firstOf}
-use Rattle.jury.specs.Ballots.{ones, rowsOf, firstBadRow, ballotReasons}
+use Rattle.jury.specs.Ballots.{ones, rowsOf, firstBadRow, gradedReasons, ballotReasons}
 use Rattle.jury.specs.Counts.{tabulate}
 use Rattle.tally.specs.Answer.{said, accepted}
-use Rattle.urn.specs.Slots.{slotBytes, slotOf, slotsOf, bytesOfSlot, bytesOf, slotAt, freeSlot}
-use Rattle.urn.specs.Chains.{chain, ends, entryAt, ballotSlots, ballotChain, freeChain, firstEntry, firstFree, entrySlot, withBallots, withFree, headSlot, layout}
-use Rattle.urn.specs.Sound.{all, member, distinct, juryOfOne, noReason, goodBallot, goodJuror, inUrn, eachOnce, goodChains, allZero, emptySlot, soundSlots, slotCount, urnLength, urnSlots, sound}
+use Rattle.chains.specs.Slots.{slotBytes, slotOf, slotsOf, bytesOfSlot, bytesOf, slotAt, freeSlot}
+use Rattle.chains.specs.Chains.{chain, ends, entryAt, ballotSlots, ballotChain, freeChain, firstEntry, firstFree, entrySlot, withBallots, withFree, headSlot, layout}
+use Rattle.chains.specs.Sound.{all, member, distinct, juryOfOne, noReason, goodBallot, goodJuror, inUrn, eachOnce, goodChains, allZero, emptySlot, soundSlots, slotCount, urnLength, urnSlots, sound}
 use Rattle.urn.specs.Facts.{gradedShape, isEmpty, jurorsOf, factsOf, afterwards}
+use Rattle.urn.specs.Empty.{emptyReasons, allFree, emptied}
 use Rattle.urn.specs.Admit.{admitReasons, admitSaid, withBallot, admitted}
 use Rattle.urn.specs.Withdraw.{withdrawReasons, without, slotOfJuror, withoutBallot, withdrawn}
 
@@ -31,10 +32,14 @@ pub loop-unsound : sound 1 2 (0 ∷ 1 ∷ 0 ∷ 0 ∷ 1 ∷ 0 ∷ 0 ∷ 0 ∷ []
 unfolding slotBytes slotOf slotsOf slotAt chain ends entryAt ballotSlots ballotChain freeChain all member distinct goodJuror inUrn eachOnce goodChains allZero emptySlot soundSlots slotCount urnLength urnSlots sound tabulate
 loop-unsound = refl
 
+pub emptying : emptied 1 2 (9 ∷ 9 ∷ 9 ∷ 9 ∷ 9 ∷ 9 ∷ 9 ∷ 9 ∷ 9 ∷ 9 ∷ 9 ∷ 9 ∷ []) ≡ 0 ∷ 1 ∷ 0 ∷ 0 ∷ 2 ∷ 0 ∷ 0 ∷ 0 ∷ 0 ∷ 0 ∷ 0 ∷ 0 ∷ []
+unfolding slotBytes bytesOfSlot bytesOf freeSlot firstEntry firstFree withBallots withFree headSlot layout juryOfOne slotCount urnLength gradedShape afterwards emptyReasons allFree emptied withinLimits unless firstOf tabulate
+emptying = refl
+
 pub admission : admitted 1 2 emptyUrn 9 (0 ∷ 1 ∷ []) ≡ oneBallotIn
-unfolding emptyUrn oneBallotIn slotBytes slotOf slotsOf bytesOfSlot bytesOf slotAt freeSlot chain ends entryAt ballotSlots ballotChain freeChain firstEntry firstFree entrySlot withBallots withFree headSlot layout all member distinct juryOfOne noReason goodBallot goodJuror inUrn eachOnce goodChains allZero emptySlot soundSlots slotCount urnLength urnSlots sound gradedShape isEmpty jurorsOf factsOf afterwards admitReasons withBallot admitted withinLimits ballotBytes unless foundAt firstOf ones rowsOf firstBadRow ballotReasons tabulate firstAboveOne
+unfolding emptyUrn oneBallotIn slotBytes slotOf slotsOf bytesOfSlot bytesOf slotAt freeSlot chain ends entryAt ballotSlots ballotChain freeChain firstEntry firstFree entrySlot withBallots withFree headSlot layout all member distinct juryOfOne noReason goodBallot goodJuror inUrn eachOnce goodChains allZero emptySlot soundSlots slotCount urnLength urnSlots sound gradedShape isEmpty jurorsOf factsOf afterwards admitReasons withBallot admitted isRanking gradedLimits columns ballotBytes unless foundAt firstOf ones rowsOf firstBadRow gradedReasons ballotReasons tabulate firstAboveOne
 admission = refl
 
 pub withdrawal : withdrawn 1 2 oneBallotIn 9 ≡ emptyUrn
-unfolding emptyUrn oneBallotIn slotBytes slotOf slotsOf bytesOfSlot bytesOf slotAt freeSlot chain ends entryAt ballotSlots ballotChain freeChain firstEntry firstFree entrySlot withBallots withFree headSlot layout all member distinct juryOfOne noReason goodBallot goodJuror inUrn eachOnce goodChains allZero emptySlot soundSlots slotCount urnLength urnSlots sound gradedShape isEmpty jurorsOf factsOf afterwards withdrawReasons without slotOfJuror withoutBallot withdrawn withinLimits ballotBytes unless foundAt firstOf ones rowsOf firstBadRow ballotReasons tabulate firstAboveOne
+unfolding emptyUrn oneBallotIn slotBytes slotOf slotsOf bytesOfSlot bytesOf slotAt freeSlot chain ends entryAt ballotSlots ballotChain freeChain firstEntry firstFree entrySlot withBallots withFree headSlot layout all member distinct juryOfOne noReason goodBallot goodJuror inUrn eachOnce goodChains allZero emptySlot soundSlots slotCount urnLength urnSlots sound gradedShape isEmpty jurorsOf factsOf afterwards withdrawReasons without slotOfJuror withoutBallot withdrawn isRanking gradedLimits columns ballotBytes unless foundAt firstOf ones rowsOf firstBadRow gradedReasons ballotReasons tabulate firstAboveOne
 withdrawal = refl

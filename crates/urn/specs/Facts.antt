@@ -1,22 +1,21 @@
 -- What is asked of an urn before a ballot goes in or out.
-use mathlib.Core.Bool.{Bool, true, false, cond, _&&_}
+use mathlib.Core.Bool.{Bool, true, false, cond}
 use mathlib.Core.Option.{Option, none, some}
 use mathlib.Core.List.{List, [], _∷_, map}
 use Prim.Native.Nat.{ℕ}
-use lib.Dec.{leb}
 use lib.ListN.{length}
-use Rattle.jury.specs.Shape.{withinLimits}
+use Rattle.jury.specs.Shape.{gradedLimits}
 use Rattle.jury.specs.Reason.{Reason, reasonOf}
 use Rattle.tally.specs.Answer.{Said, refused, accepted}
 use Rattle.urn.specs.declared.answer.Answer.{Answer}
 use Rattle.urn.specs.declared.answer.Answer.the-variants.{Accepted, Refused}
 use Rattle.urn.specs.declared.facts.Facts.{Facts}
-use Rattle.urn.specs.Chains.{Entry, ballotChain, freeChain}
-use Rattle.urn.specs.Sound.{member, juryOfOne, urnSlots, sound}
+use Rattle.chains.specs.Chains.{Entry, ballotChain, freeChain}
+use Rattle.chains.specs.Sound.{member, juryOfOne, urnSlots, sound}
 
 -- The numbers of candidates and grades are those of a jury that grades: a ranking shape, with no grades, is none.
 unfoldable pub gradedShape : ℕ → ℕ → Bool
-gradedShape k d = leb 2 d && withinLimits (juryOfOne k d)
+gradedShape k d = gradedLimits (juryOfOne k d)
 
 unfoldable pub isEmpty : List ℕ → Bool
 isEmpty [] = true

@@ -1,9 +1,7 @@
-pub mod Slots
-pub mod Chains
-pub mod Sound
-pub mod Inner
 pub mod Facts
 pub mod Admit
 pub mod Withdraw
+pub mod Empty
 pub mod Theorems
+pub mod Memory
 pub mod Examples

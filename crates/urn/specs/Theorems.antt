@@ -1,17 +1,25 @@
--- What holds of an urn that admits and withdraws ballots, over the definitions that the contracts equate with the program's answers and with the urn afterwards.
+-- What holds of an urn that is made empty, admits and withdraws ballots, over the definitions that the contracts equate with the program's answers and with the urn afterwards.
 use mathlib.Core.Path.{_≡_}
 use mathlib.Core.Bool.{true, false}
-use mathlib.Core.List.{List, _∷_}
-use Prim.Native.Nat.{ℕ, suc}
+use mathlib.Core.List.{List, [], _∷_}
+use Prim.Native.Nat.{ℕ, suc, _-_, _*_}
 use lib.ListN.{length, drop}
-use Rattle.jury.specs.Reason.{Reason}
-use Rattle.tally.specs.Answer.{refused, accepted}
+use Rattle.jury.specs.Counts.{tabulate}
+use Rattle.tally.specs.Answer.{accepted}
 use Rattle.urn.specs.declared.facts.Facts.{Facts}
-use Rattle.urn.specs.Chains.{Entry, ballotChain, freeChain, firstFree}
-use Rattle.urn.specs.Sound.{urnSlots, sound}
+use Rattle.chains.specs.Chains.{Entry, ballotChain, freeChain, firstFree}
+use Rattle.chains.specs.Sound.{slotCount, urnSlots, sound}
 use Rattle.urn.specs.Facts.{factsOf}
 use Rattle.urn.specs.Admit.{admitSaid, admitted}
 use Rattle.urn.specs.Withdraw.{withdrawSaid, without, slotOfJuror, withdrawn}
+use Rattle.urn.specs.Empty.{emptySaid, emptied}
+
+-- A table that is made an empty urn is a sound one of the same length without a ballot, and all its slots from 1 on are free, in this order.
+pub record AfterEmptying (k d : ℕ) (table : List ℕ) : Type 0 where
+  pub made-sound : sound k d (emptied k d table) ≡ true
+  pub same-length : length (emptied k d table) ≡ length table
+  pub ballots : ballotChain (urnSlots k d (emptied k d table)) ≡ []
+  pub free : freeChain (urnSlots k d (emptied k d table)) ≡ tabulate (slotCount (k * d) (length table) - 1) suc
 
 -- An accepted admission leaves a sound urn of the same length. Its ballot chain is the new ballot, in the slot that was the first free one, before all others as they were; its free chain is the old one without its first slot.
 pub record AfterAdmission (k d : ℕ) (urn : List ℕ) (juror : ℕ) (ballot : List ℕ) : Type 0 where
@@ -22,19 +30,21 @@ pub record AfterAdmission (k d : ℕ) (urn : List ℕ) (juror : ℕ) (ballot : L
   -- withdrawing the same juror's ballot then gives the urn back, byte for byte
   pub undone : withdrawn k d (admitted k d urn juror ballot) juror ≡ urn
 
--- An accepted withdrawal leaves a sound urn of the same length. Its ballot chain is the old one without the juror's ballot; its free chain is that ballot's slot before the old one, so that the next admission takes this slot.
+-- An accepted withdrawal leaves a sound urn of the same length. Its ballot chain is the old one without the juror's ballot; its free chain is that ballot's slot before the old one.
 pub record AfterWithdrawal (k d : ℕ) (urn : List ℕ) (juror : ℕ) : Type 0 where
   pub stays-sound : sound k d (withdrawn k d urn juror) ≡ true
   pub same-length : length (withdrawn k d urn juror) ≡ length urn
   pub ballots : ballotChain (urnSlots k d (withdrawn k d urn juror)) ≡ without juror (ballotChain (urnSlots k d urn))
   pub free : freeChain (urnSlots k d (withdrawn k d urn juror)) ≡ slotOfJuror juror (ballotChain (urnSlots k d urn)) ∷ freeChain (urnSlots k d urn)
+  -- the ballot that is admitted next, whosever it is, takes the same slot again, and the slots that were free before are those that are free after
+  pub taken-again : (next : ℕ) (ballot : List ℕ) (count : ℕ) → admitSaid k d (factsOf k d (withdrawn k d urn juror) next) next ballot ≡ accepted count
+      → (ballotChain (urnSlots k d (admitted k d (withdrawn k d urn juror) next ballot)) ≡ record { slot = slotOfJuror juror (ballotChain (urnSlots k d urn)); juror = next; ballot = ballot } ∷ without juror (ballotChain (urnSlots k d urn)))
+      × (freeChain (urnSlots k d (admitted k d (withdrawn k d urn juror) next ballot)) ≡ freeChain (urnSlots k d urn))
 
 pub record UrnHolds : Type 0 where
+  pub emptying : (k d : ℕ) (table : List ℕ) (count : ℕ) → emptySaid k d table ≡ accepted count → AfterEmptying k d table
   pub admission : (k d : ℕ) (urn : List ℕ) (juror : ℕ) (ballot : List ℕ) (count : ℕ) → admitSaid k d (factsOf k d urn juror) juror ballot ≡ accepted count → AfterAdmission k d urn juror ballot
   pub withdrawal : (k d : ℕ) (urn : List ℕ) (juror count : ℕ) → withdrawSaid k d (factsOf k d urn juror) juror ≡ accepted count → AfterWithdrawal k d urn juror
-  -- a refusal alters nothing
-  pub admit-refused : (k d : ℕ) (urn : List ℕ) (juror : ℕ) (ballot : List ℕ) (r : Reason) → admitSaid k d (factsOf k d urn juror) juror ballot ≡ refused r → admitted k d urn juror ballot ≡ urn
-  pub withdraw-refused : (k d : ℕ) (urn : List ℕ) (juror : ℕ) (r : Reason) → withdrawSaid k d (factsOf k d urn juror) juror ≡ refused r → withdrawn k d urn juror ≡ urn
 
 -- Two urns, of any bytes and any lengths, of which the same is to be told: both are unsound, or both are sound with as many ballots, the same word on this juror and the same on a free slot.
 pub record TellTheSame (k d : ℕ) (one other : List ℕ) (juror : ℕ) : Type 0 where

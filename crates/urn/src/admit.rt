@@ -3,7 +3,7 @@ use crate::answer::Answer;
 use crate::facts;
 use crate::facts::Facts;
 use crate::put;
-use crate::walk::wide;
+use chains::walk::wide;
 use jury::reason::Refusal;
 use jury::reason::Verdict;
 use jury::shape::Shape;
@@ -12,9 +12,9 @@ ghost use mathlib.Core.Bool.{true, false, _&&_};
 ghost use Prim.Native.Nat.{_*_, _≤_};
 ghost use lib.Dec.{T};
 ghost use lib.ListN.{length};
-ghost use Rattle.urn.specs.Slots.{bytesOf};
-ghost use Rattle.urn.specs.Chains.{freeChain};
-ghost use Rattle.urn.specs.Sound.{goodJuror, urnSlots, sound};
+ghost use Rattle.chains.specs.Slots.{bytesOf};
+ghost use Rattle.chains.specs.Chains.{freeChain};
+ghost use Rattle.chains.specs.Sound.{goodJuror, urnSlots, sound};
 ghost use Rattle.urn.specs.Facts.{gradedShape, isEmpty, factsOf, countedBy};
 ghost use Rattle.urn.specs.Admit.{admitSaid, withBallot, admitted};
 
@@ -22,7 +22,7 @@ ghost use Rattle.urn.specs.Admit.{admitSaid, withBallot, admitted};
 pub const MOST_JURORS: usize = 255;
 
 // Whether the numbers of candidates and grades are those of a jury that grades.
-pub(crate) fn is_graded(k: usize, d: usize) -> bool
+pub fn is_graded(k: usize, d: usize) -> bool
     ensures { λ r. ⌜ r ≡ gradedShape k d ⌝ }
 {
     let shape = Shape {
@@ -30,7 +30,7 @@ pub(crate) fn is_graded(k: usize, d: usize) -> bool
         grades: d,
         ballots: 1,
     };
-    Shape::LEAST_GRADES <= d && shape.is_within_limits()
+    shape.is_within_graded_limits()
 }
 
 // Whether a number is one of a juror.

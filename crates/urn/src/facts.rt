@@ -1,13 +1,13 @@
 // What is asked of an urn before a ballot goes in or out.
-use crate::find;
-use crate::find::Link;
-use crate::sound;
-use crate::sound::Soundness;
+use chains::find;
+use chains::find::Link;
+use chains::sound;
+use chains::sound::Soundness;
 ghost use mathlib.Core.Path.{_≡_};
 ghost use Prim.Native.Nat.{_≤_};
 ghost use lib.Dec.{T};
-ghost use Rattle.jury.specs.Shape.{withinLimits};
-ghost use Rattle.urn.specs.Sound.{juryOfOne};
+ghost use Rattle.jury.specs.Shape.{gradedLimits};
+ghost use Rattle.chains.specs.Sound.{juryOfOne};
 ghost use Rattle.urn.specs.Facts.{factsOf};
 
 // Of a sound urn the number of ballots, whether a juror's is among them, and whether no slot is free. Of any other
@@ -20,7 +20,7 @@ pub struct Facts {
 }
 
 pub(crate) fn facts_of(k: usize, d: usize, urn: &[u8], juror: usize) -> Facts
-    requires { ⌜ T (withinLimits (juryOfOne k d)) ⌝ }
+    requires { ⌜ T (gradedLimits (juryOfOne k d)) ⌝ }
     ensures { λ r. ⌜ r ≡ factsOf k d (now (urn .entry)) juror ⌝ }
     ensures { λ r. ⌜ r .ballots ≤ 256 ⌝ }
 {

@@ -1,9 +1,7 @@
-// An urn of graded ballots: a lent table of slots in two chains, the ballots and the free slots.
+// Admission to an urn of graded ballots and withdrawal from it, and what each would answer.
 pub mod admit;
 pub mod answer;
+pub mod empty;
 pub mod facts;
-mod find;
 mod put;
-pub mod sound;
-mod walk;
 pub mod withdraw;

@@ -17,10 +17,10 @@ use Rattle.jury.specs.Ballots.{ones, ballotReasons}
 use Rattle.jury.specs.Accepted.{AcceptedBallots}
 use Rattle.jury.proofs.Limits.{bytes-are}
 use Rattle.jury.proofs.AcceptedLaws as ballots-laws
-use Rattle.urn.specs.Slots.{Slot, slotAt}
-use Rattle.urn.specs.Chains.{Entry, entryAt}
-use Rattle.urn.specs.Sound.{all, juryOfOne, noReason, goodBallot}
-use Rattle.urn.proofs.Lists.{all-first, all-rest}
+use Rattle.chains.specs.Slots.{Slot, slotAt}
+use Rattle.chains.specs.Chains.{Entry, entryAt}
+use Rattle.chains.specs.Sound.{all, juryOfOne, noReason, goodBallot}
+use Rattle.chains.proofs.Lists.{all-first, all-rest}
 use Rattle.jury.proofs.Cases.{below-or-not}
 use Rattle.urn_run.specs.Run.{joined}
 

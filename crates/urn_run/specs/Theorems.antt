@@ -23,7 +23,7 @@ use Rattle.tally.specs.Run.{ran}
 use Rattle.tally.specs.Count.{plainClosing}
 use Rattle.tally.specs.Hiding.{closingBytes}
 use Rattle.tally.specs.Demands.{listIn}
-use Rattle.urn.specs.Sound.{sound}
+use Rattle.chains.specs.Sound.{sound}
 use Rattle.urn_run.specs.Run.{chainBallots, ballotsIn, gradedJury, ranOnUrn}
 
 -- A run on the urn is the run on the ballots of its chain: answer, wire table and board, refusals too.

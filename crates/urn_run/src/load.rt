@@ -6,7 +6,7 @@ ghost use Prim.Native.Nat.{_≤_};
 ghost use lib.Dec.{T};
 ghost use lib.ListN.{length, drop};
 ghost use Rattle.jury.specs.Shape.{withinLimits};
-ghost use Rattle.urn.specs.Sound.{juryOfOne, sound};
+ghost use Rattle.chains.specs.Sound.{juryOfOne, sound};
 ghost use Rattle.urn_run.specs.Run.{chainBallots};
 
 // A byte as a number that indexes.

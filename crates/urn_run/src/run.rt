@@ -4,7 +4,7 @@ use jury::reason::Refusal;
 use jury::reason::Verdict;
 use jury::shape::Shape;
 use tally::answer::Answer;
-use urn::sound::Soundness;
+use chains::sound::Soundness;
 ghost use mathlib.Core.Path.{_≡_};
 ghost use Rattle.gates.specs.Gate.{gatesOf};
 ghost use Rattle.jury.specs.Reason.{firstOf};
@@ -32,7 +32,7 @@ fn test_run(
     if !is_graded(shape) {
         return Answer::Refused(Refusal::Shape);
     }
-    let Soundness::Sound { ballots } = urn::sound::test(shape.candidates, shape.grades, urn) else {
+    let Soundness::Sound { ballots } = chains::sound::test(shape.candidates, shape.grades, urn) else {
         return Answer::Refused(Refusal::Urn);
     };
     let answer = tally::test::test(shape, table);

@@ -1,4 +1,4 @@
--- The gates that the blocks are made of, one constructor a kind. An operand not in use is 0.
+-- The gates that the blocks are made of, one constructor a kind. Operands that a kind does not use are 0.
 use Prim.Native.Nat.{ℕ, _%_}
 use Rattle.gates.specs.Gate.{Gate}
 

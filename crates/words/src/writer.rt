@@ -1,4 +1,4 @@
-// The list writer: a position that each step takes and hands on.
+// The list writer [forms]: where the next gate goes, by value; a step takes one and returns the next.
 use gates::kind;
 ghost use mathlib.Core.Path.{_≡_};
 ghost use mathlib.Core.Bool.{cond};

@@ -17,7 +17,7 @@ use Rattle.words.specs.Choice.{choose}
 use Rattle.words.specs.declared.writer.Writer.{Writer}
 use Rattle.words.specs.Writing.{Room}
 use Rattle.jury.specs.declared.shape.Shape.{Shape}
-use Rattle.jury.specs.Shape.{withinLimits, ballotBytes}
+use Rattle.jury.specs.Shape.{gradedLimits, ballotBytes}
 use Rattle.jury.proofs.Cases.{below-or-not}
 use Rattle.jury.proofs.Limits.{within, within-T, within-back, bytes-are, bytes-bound}
 use Rattle.circuit.specs.declared.plan.Plan.{Plan}
@@ -47,21 +47,21 @@ first-writer s p w ep ew = ew ∙ ap (λ (q : Plan). start (q .inputs)) ep
     start : ℕ → Writer
     start n = record { gate = 0; wire = n; conditional = 0 }
 
-pub first-room : (s : Shape) (w : Writer) (n : ℕ) → T (withinLimits s) → w ≡ record { gate = 0; wire = ballotBytes s; conditional = 0 } → n ≤ 1048576 → Room w n
+pub first-room : (s : Shape) (w : Writer) (n : ℕ) → T (gradedLimits s) → w ≡ record { gate = 0; wire = ballotBytes s; conditional = 0 } → n ≤ 1048576 → Room w n
 first-room s w n l e k =
     record {
       few = omega (arith, ap (λ (v : Writer). v .gate) e);
-      small = omega (arith, ap (λ (v : Writer). v .wire) e, bytes-are s, bytes-bound s (within-T s l));
+      small = omega (arith, ap (λ (v : Writer). v .wire) e, bytes-are s (within-T s l), bytes-bound s (within-T s l));
       counted = omega (arith, ap (λ (v : Writer). v .conditional) e);
     }
 
-pub circuit-short : (s : Shape) (p : Plan) → T (withinLimits s) → p ≡ planOf s → (s .candidates ≡ 1 → ⊥) → length (circuit p) ≤ 1048576
+pub circuit-short : (s : Shape) (p : Plan) → T (gradedLimits s) → p ≡ planOf s → (s .candidates ≡ 1 → ⊥) → length (circuit p) ≤ 1048576
 circuit-short s p l e h = omega (arith, ap (λ (gs : List Gate). length gs) (own-more s p e h), own-list-short s (within-back s (within-T s l)))
 
-pub plan-planned : (s : Shape) (p : Plan) → T (withinLimits s) → p ≡ planOf s → Planned p
+pub plan-planned : (s : Shape) (p : Plan) → T (gradedLimits s) → p ≡ planOf s → Planned p
 plan-planned s p l e = subst Planned (sym e) (planned s (within-back s (within-T s l)))
 
-pub plan-many : (s : Shape) (p : Plan) → T (withinLimits s) → p ≡ planOf s → (s .candidates ≡ 1 → ⊥) → 1 < p .candidates
+pub plan-many : (s : Shape) (p : Plan) → T (gradedLimits s) → p ≡ planOf s → (s .candidates ≡ 1 → ⊥) → 1 < p .candidates
 plan-many s p l e h = subst (λ (q : Plan). 1 < q .candidates) (sym e) (two s (within-T s l .k-least) h)
   where
     two : (s : Shape) → 1 ≤ s .candidates → (s .candidates ≡ 1 → ⊥) → 1 < planOf s .candidates

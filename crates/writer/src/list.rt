@@ -15,7 +15,7 @@ ghost use lib.ListN.{length};
 ghost use Rattle.gates.specs.Board.{conditionalCount};
 ghost use Rattle.words.specs.Limits.{writerLimit};
 ghost use Rattle.words.specs.Writing.{Room, Wrote};
-ghost use Rattle.jury.specs.Shape.{withinLimits, ballotBytes};
+ghost use Rattle.jury.specs.Shape.{gradedLimits, ballotBytes};
 ghost use Rattle.circuit.specs.Plan.{Planned};
 ghost use Rattle.circuit.specs.Key.{keySpan, candidateSpan};
 ghost use Rattle.circuit.specs.Meeting.{meeting, meetingSpan};
@@ -151,7 +151,7 @@ fn circuit(w: Writer, table: &mut [u32], p: Plan) -> Writer
 // Writes the own list of a shape from the table's first number on, as far as the table goes. The writer says how many
 // gates the list has, and how many of them are conditional, whatever the table.
 pub fn own_list(shape: Shape, table: &mut [u32]) -> Writer
-    requires { ⌜ T (withinLimits shape) ⌝ }
+    requires { ⌜ T (gradedLimits shape) ⌝ }
     ensures { λ r. ⌜ Wrote (record { gate = 0; wire = ballotBytes shape; conditional = 0 }) (now (table .entry)) (ownList shape) (now (table .exit)) r ⌝ }
 {
     let p = Plan::new(shape);
@@ -164,7 +164,7 @@ pub fn own_list(shape: Shape, table: &mut [u32]) -> Writer
 
 // G and C of the own list of a shape: what the writer counts while it writes into a table without a place.
 pub fn measure(shape: Shape) -> Writer
-    requires { ⌜ T (withinLimits shape) ⌝ }
+    requires { ⌜ T (gradedLimits shape) ⌝ }
     ensures { λ r. ⌜ (r .gate ≡ length (ownList shape)) × (r .conditional ≡ conditionalCount (ownList shape)) ⌝ }
 {
     own_list(shape, &mut [])

@@ -3,17 +3,17 @@
 use mathlib.Core.Path.{_≡_, _∙_, refl, sym}
 use mathlib.Core.Bool.{true, false}
 use Prim.Native.Nat.{_*_}
-use native.Mathlib.Omega.{arith}
 use lib.ListN.{length}
 use borrow.Author.Tests.{eq-eqb, ne-eqb}
+use borrow.Author.Needs.{needs}
 use Rattle.gates.specs.declared.place.Place.the-variants.{At, Nowhere}
 use Rattle.gates.specs.Test.{firstAboveOne}
-use Rattle.jury.specs.Shape.{ballotBytes}
+use Rattle.jury.specs.Shape.{isRanking, gradedLimits, withinLimits, ballotBytes}
 use Rattle.jury.specs.Reason.{reasonOf, refusedFor, unless, foundAt, firstOf}
-use Rattle.jury.specs.Ballots.{rowsOf, firstBadRow}
-use Rattle.jury.proofs.Limits.{within-T, rows-bound}
-use Rattle.jury.proofs.BallotLaws.{judged, judged-by}
-use borrow.Author.Needs.{needs}
+use Rattle.jury.specs.Ballots.{gradedReasons, rankedReasons, ballotReasons}
+use Rattle.jury.proofs.Flags.{T-true, true-T}
+use Rattle.jury.proofs.Limits.{grades-columns, ranked-bytes, graded-kind}
+use Rattle.jury.proofs.BallotLaws.{judged, kindReason, judged-by, judged-kind, graded-reason, ranked-reason}
 use Rattle.jury.proofs.ballots.test.Statement.{statement}
 use Rattle.jury.proofs.ballots.test.Tie as tie
 
@@ -26,7 +26,7 @@ returns c =
     let start = c .before .before .before in
     let s = start .args .shape in
     let xs = start .args .ballots .now in
-    sym (judged-by s xs false (firstAboveOne 0 xs) (firstBadRow 0 (rowsOf (s .grades) (s .ballots * s .candidates) xs)) (ne-eqb (length xs) (ballotBytes s) (λ e. c .if1 .taken (e ∙ sym (c .before .ballot-bytes .ensures)))) refl refl)
+    sym (judged-by s xs false (firstAboveOne 0 xs) (kindReason s xs) (ne-eqb (length xs) (ballotBytes s) (λ e. c .if1 .taken (e ∙ sym (c .before .ballot-bytes .ensures)))) refl refl)
 
 -- the length is as it must be
 size-known : (c : tie.Else1) → length (c .before .before .before .args .ballots .now) ≡ ballotBytes (c .before .before .before .args .shape)
@@ -38,28 +38,6 @@ first-above-one-requires c κs = search needs
 enum-known-i : tie.Need-enum-known-i
 enum-known-i c = search needs
 
-enum-told : tie.Need-enum-told
-enum-told c = search needs
-
--- no byte is above 1
-no-byte : (c : tie.After-enum-told) → firstAboveOne 0 (c .before .before .before .before .before .before .args .ballots .now) ≡ Nowhere
-no-byte c = sym (c .before .before .first-above-one .ensures) ∙ c .enum-told .given .1
-
-mul-first-bad-row : tie.Need-mul-first-bad-row
-mul-first-bad-row c =
-    let start = c .before .before .before .before .before .before .before in
-    omega (arith, rows-bound (start .args .shape) (within-T (start .args .shape) (start .pre)))
-
-first-bad-row-requires : tie.Need-first-bad-row-requires
-unfolding ballotBytes
-first-bad-row-requires c κs = size-known (c .before .before .before .before)
-
-enum-known-r : tie.Need-enum-known-r
-enum-known-r c = search needs
-
-enum-told-2 : tie.Need-enum-told-2
-enum-told-2 c = search needs
-
 returns-2 : tie.Need-returns-2
 unfolding judged refusedFor reasonOf unless foundAt firstOf
 returns-2 c =
@@ -67,27 +45,55 @@ returns-2 c =
     let start = passed .before .before .before in
     let s = start .args .shape in
     let xs = start .args .ballots .now in
-    sym (judged-by s xs true (At (c .before .i .given .0 .0)) (firstBadRow 0 (rowsOf (s .grades) (s .ballots * s .candidates) xs)) (eq-eqb (length xs) (ballotBytes s) (size-known passed)) (sym (c .before .before .before .first-above-one .ensures) ∙ c .before .i .given .1) refl)
+    sym (judged-by s xs true (At (c .before .i .given .0 .0)) (kindReason s xs) (eq-eqb (length xs) (ballotBytes s) (size-known passed)) (sym (c .before .before .before .first-above-one .ensures) ∙ c .before .i .given .1) refl)
+
+enum-told : tie.Need-enum-told
+enum-told c = search needs
+
+-- no byte is above 1
+no-byte : (c : tie.After-enum-told) → firstAboveOne 0 (c .before .before .before .before .before .before .args .ballots .now) ≡ Nowhere
+no-byte c = sym (c .before .before .first-above-one .ensures) ∙ c .enum-told .given .1
+
+-- so the answer is that of the tests of the kind
+by-kind : (c : tie.After-enum-told) → let a = c .before .before .before .before .before .before .args in firstOf (ballotReasons (a .shape) (a .ballots .now)) ≡ kindReason (a .shape) (a .ballots .now)
+by-kind c =
+    let passed = c .before .before .before in
+    let a = passed .before .before .before .args in
+    judged-by (a .shape) (a .ballots .now) true Nowhere (kindReason (a .shape) (a .ballots .now)) (eq-eqb (length (a .ballots .now)) (ballotBytes (a .shape)) (size-known passed)) (no-byte c) refl
+    ∙ judged-kind (kindReason (a .shape) (a .ballots .now))
+
+is-ranking-requires : tie.Need-is-ranking-requires
+is-ranking-requires c κs = search needs
+
+ranking : (c : tie.After-is-ranking) → isRanking (c .before .before .before .before .before .before .before .args .shape) ≡ c .is-ranking .result
+ranking c = sym (c .is-ranking .ensures)
+
+test-rankings-requires : tie.Need-test-rankings-requires
+test-rankings-requires c κs =
+    let told = c .before .before in
+    let passed = told .before .before .before in
+    size-known passed ∙ ranked-bytes (passed .before .before .before .args .shape) (ranking (c .before) ∙ c .if2 .taken)
+
+test-grades-requires : tie.Need-test-grades-requires
+test-grades-requires c κs =
+    let told = c .before .before in
+    let passed = told .before .before .before in
+    let start = passed .before .before .before in
+    let s = start .args .shape in
+    let graded = ranking (c .before) ∙ c .if2 .left in
+    (true-T (gradedLimits s) (graded-kind s (T-true (withinLimits s) (start .pre)) graded), size-known passed ∙ grades-columns s graded)
 
 returns-3 : tie.Need-returns-3
-unfolding judged refusedFor reasonOf unless foundAt firstOf
 returns-3 c =
-    let none-above = c .before .before .before .before .before in
-    let passed = none-above .before .before .before in
-    let start = passed .before .before .before in
-    let s = start .args .shape in
-    let xs = start .args .ballots .now in
-    sym (judged-by s xs true Nowhere (At (c .before .r .given .0 .0)) (eq-eqb (length xs) (ballotBytes s) (size-known passed)) (no-byte none-above) (sym (c .before .before .before .first-bad-row .ensures) ∙ c .before .r .given .1))
+    let told = c .before .before .before in
+    let a = told .before .before .before .before .before .before .args in
+    c .test-rankings .ensures ∙ sym (ranked-reason (a .shape) (a .ballots .now) (ranking (c .before .before) ∙ c .before .if2 .taken)) ∙ sym (by-kind told)
 
 returns-4 : tie.Need-returns-4
-unfolding judged refusedFor reasonOf unless foundAt firstOf
 returns-4 c =
-    let none-above = c .before .before .before .before in
-    let passed = none-above .before .before .before in
-    let start = passed .before .before .before in
-    let s = start .args .shape in
-    let xs = start .args .ballots .now in
-    sym (judged-by s xs true Nowhere Nowhere (eq-eqb (length xs) (ballotBytes s) (size-known passed)) (no-byte none-above) (sym (c .before .before .first-bad-row .ensures) ∙ c .enum-told2 .given .1))
+    let told = c .before .before .before in
+    let a = told .before .before .before .before .before .before .args in
+    c .test-grades .ensures ∙ sym (graded-reason (a .shape) (a .ballots .now) (ranking (c .before .before) ∙ c .before .if2 .left)) ∙ sym (by-kind told)
 
 pub test-spec : {M : Type 1} → statement M
 test-spec =
@@ -97,11 +103,10 @@ test-spec =
     returns
     first-above-one-requires
     enum-known-i
-    enum-told
-    mul-first-bad-row
-    first-bad-row-requires
-    enum-known-r
-    enum-told-2
     returns-2
+    enum-told
+    is-ranking-requires
+    test-rankings-requires
+    test-grades-requires
     returns-3
     returns-4)

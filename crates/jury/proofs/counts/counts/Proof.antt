@@ -8,11 +8,10 @@ use native.Mathlib.Numerals.{add-one}
 use native.Mathlib.Omega.{arith}
 use lib.ListN.{length, getD, take, drop, length-take, length-drop}
 use Rattle.jury.specs.declared.shape.Shape.{Shape}
-use Rattle.jury.specs.Shape.{ballotBytes}
 use Rattle.jury.specs.Counts.{tabulate}
 use Rattle.jury.specs.Gauge.{sum}
 use Rattle.jury.specs.Inner.{rowsIn, plusBallot}
-use Rattle.jury.proofs.Limits.{within}
+use Rattle.jury.proofs.Limits.{within, bytes-are}
 use Rattle.jury.proofs.BallotLaws.{row-within}
 use Rattle.jury.proofs.CountLaws.{arrayAfter, read-most, array-start, array-step, array-end}
 use Rattle.jury.proofs.CountFacts.{array-sum}
@@ -38,7 +37,6 @@ loop-holds c =
 -- the ballot of a turn lies within the ballots
 end-within : (c : tie.In-loop Inv-loop μ-loop) →
     c .before .loop .at + c .before .before .before .args .shape .candidates * c .before .before .before .args .shape .grades ≤ length (c .before .before .before .args .ballots .now)
-unfolding ballotBytes
 end-within c =
     let at = c .before in
     let start = at .before .before in
@@ -46,6 +44,7 @@ end-within c =
     omega (
       arith,
       start .pre .size,
+      bytes-are s (within s (start .pre .within)),
       mul-assoc (s .ballots) (s .candidates) (s .grades),
       row-within (at .loop .b) (s .ballots) (s .candidates * s .grades) (omega arith),
     )

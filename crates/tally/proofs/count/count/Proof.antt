@@ -1,25 +1,17 @@
 -- `tally::count::count` meets its contract: each answer is the definition's at the outcomes of the tests that led there.
 -- Assumes nothing.
-use mathlib.Core.Path.{_≡_, _∙_, sym, ap, subst}
+use mathlib.Core.Path.{_≡_, _∙_, sym, ap}
 use mathlib.Core.Bool.{true}
 use mathlib.Core.Option.{Option, none, some}
-use mathlib.Core.List.{List}
-use Prim.Native.Nat.{ℕ}
 use borrow.Author.Tests.{not-true, not-false}
 use Rattle.jury.specs.Shape.{withinLimits}
 use Rattle.jury.specs.Reason.{Reason, reasonOf, refusedFor, firstOf}
 use Rattle.jury.specs.Ballots.{ballotReasons}
-use Rattle.jury.specs.Counts.{countsOf}
 use Rattle.jury.specs.Gauge.{eightBytes}
-use Rattle.judgment.specs.Judgment.{judgmentOf}
-use Rattle.judgment.specs.Theorems.{EachGets}
-use Rattle.judgment.proofs.Theorems.{array-gets}
+use Rattle.tally.specs.Rule.{closingFor}
 use Rattle.tally.specs.Count.{countReason, closingAfter, plainClosing}
-use Rattle.jury.specs.Inner.{rowsIn}
 use Rattle.jury.proofs.Flags.{true-T}
-use Rattle.jury.proofs.Limits.{within}
 use Rattle.jury.proofs.AcceptedLaws.{accepted}
-use Rattle.jury.proofs.Matrix.{array-rows}
 use Rattle.tally.proofs.CountReason.{outside-reason, within-reason}
 use borrow.Author.Needs.{needs}
 use Rattle.tally.proofs.count.count.Statement.{statement}
@@ -35,7 +27,7 @@ returns c =
     let s = start .args .shape in
     let xs = start .args .ballots .now in
     let e = outside-reason s xs (sym (c .before .is-within-limits .ensures) ∙ not-true (c .before .is-within-limits .result) (c .if1 .taken)) in
-    (sym e, sym (ap (λ (r : Option Reason). closingAfter r (judgmentOf (countsOf s xs))) e))
+    (sym e, sym (ap (λ (r : Option Reason). closingAfter r (closingFor s xs)) e))
 
 -- the shape is within its limits
 limits : (c : tie.Else1) → withinLimits (c .before .before .before .args .shape) ≡ true
@@ -55,21 +47,11 @@ no-reason : (c : tie.After-enum-told) → firstOf (ballotReasons (c .before .bef
 unfolding refusedFor
 no-reason c = sym (c .before .before .test .ensures) ∙ ap refusedFor (c .enum-told .given .1)
 
-counts-requires : tie.Need-counts-requires
-counts-requires c κs =
+closing-bytes-requires : tie.Need-closing-bytes-requires
+closing-bytes-requires c κs =
     let passed = c .before .before .before in
     let start = passed .before .before .before in
     accepted (start .args .shape) (start .args .ballots .now) (limits passed) (no-reason c)
-
-winners-requires : tie.Need-winners-requires
-winners-requires c κs =
-    let passed = c .before .before .before .before in
-    let start = passed .before .before .before in
-    let s = start .args .shape in
-    let xs = start .args .ballots .now in (
-      true-T (withinLimits s) (limits passed),
-      subst (λ (m : List (List ℕ)). EachGets (s .ballots) (rowsIn (s .candidates) (s .grades) m)) (sym (c .counts .ensures .0)) (array-gets s xs (accepted s xs (limits passed) (no-reason (c .before)))),
-    )
 
 returns-2 : tie.Need-returns-2
 unfolding refusedFor plainClosing closingAfter eightBytes
@@ -80,23 +62,18 @@ returns-2 c =
     let xs = start .args .ballots .now in
     let e : countReason s xs ≡ some (reasonOf (c .before .reason .given .0 .0)) =
     within-reason s xs (limits passed) ∙ sym (c .before .before .before .test .ensures) ∙ ap refusedFor (c .before .reason .given .1) in
-    (sym e, sym (ap (λ (r : Option Reason). closingAfter r (judgmentOf (countsOf s xs))) e))
+    (sym e, sym (ap (λ (r : Option Reason). closingAfter r (closingFor s xs)) e))
 
 returns-3 : tie.Need-returns-3
 unfolding refusedFor plainClosing closingAfter
 returns-3 c =
-    let told = c .before .before in
+    let told = c .before in
     let passed = told .before .before .before in
     let start = passed .before .before .before in
     let s = start .args .shape in
     let xs = start .args .ballots .now in
-    let e : countReason s xs ≡ none = within-reason s xs (limits passed) ∙ no-reason told in (
-      sym e,
-      c .winners .ensures
-          ∙ ap (λ (m : List (List ℕ)). eightBytes (judgmentOf (rowsIn (s .candidates) (s .grades) m))) (c .before .counts .ensures .0)
-          ∙ ap (λ (m : List (List ℕ)). eightBytes (judgmentOf m)) (array-rows s xs (within s (limits passed)))
-          ∙ sym (ap (λ (r : Option Reason). closingAfter r (judgmentOf (countsOf s xs))) e),
-    )
+    let e : countReason s xs ≡ none = within-reason s xs (limits passed) ∙ no-reason told in
+    (sym e, c .closing-bytes .ensures ∙ sym (ap (λ (r : Option Reason). closingAfter r (closingFor s xs)) e))
 
 pub count-spec : {M : Type 1} → statement M
 count-spec =
@@ -107,7 +84,6 @@ count-spec =
     test-requires
     enum-known-reason
     enum-told
-    counts-requires
-    winners-requires
+    closing-bytes-requires
     returns-2
     returns-3)

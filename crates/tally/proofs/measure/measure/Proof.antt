@@ -12,7 +12,7 @@ use Rattle.jury.specs.declared.shape.Shape.{Shape}
 use Rattle.jury.specs.Shape.{withinLimits, ballotBytes}
 use Rattle.jury.specs.Reason.{reasonOf, reasonAt, unless, firstOf}
 use Rattle.jury.proofs.Flags.{true-T}
-use Rattle.circuit.specs.OwnList.{ownList}
+use Rattle.tally.specs.OwnList.{ownList}
 use Rattle.tally.specs.Answer.{refused, accepted, said}
 use Rattle.tally.specs.Measure.{Measures, measuresOf, measureSaid, measuredBy}
 use Rattle.tally.proofs.measure.measure.Statement.{statement}

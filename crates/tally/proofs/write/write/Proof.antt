@@ -13,7 +13,7 @@ use Rattle.jury.specs.declared.shape.Shape.{Shape}
 use Rattle.jury.specs.Shape.{withinLimits}
 use Rattle.jury.specs.Reason.{reasonOf, reasonAt}
 use Rattle.jury.proofs.Flags.{true-T, T-true}
-use Rattle.circuit.specs.OwnList.{ownList}
+use Rattle.tally.specs.OwnList.{ownList}
 use Rattle.tally.specs.Answer.{accepted, saidBy, sizeOf}
 use Rattle.tally.specs.Write.{OwnListHolds}
 use Rattle.tally.proofs.OwnList.{own-list-holds}

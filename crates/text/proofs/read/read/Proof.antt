@@ -2,6 +2,7 @@
 -- Assumes nothing.
 use mathlib.Core.Path.{_≡_, _∙_, refl, sym, ap}
 use mathlib.Core.Bool.{true}
+use mathlib.Core.Logic.{⊎-elim}
 use Prim.Native.Nat.{ℕ, _*_, _<_, _≤_}
 use native.Mathlib.Nat.{mul-pos, le-trans}
 use native.Mathlib.Omega.{arith}
@@ -13,10 +14,11 @@ use Rattle.gates.specs.Gate.{numbersOf}
 use Rattle.gates.specs.Test.{firstBad}
 use Rattle.gates.specs.declared.place.Place.the-variants.{Nowhere}
 use Rattle.gates.proofs.Laws.{length-numbers}
-use Rattle.jury.specs.Shape.{withinLimits, ballotBytes}
+use Rattle.jury.specs.declared.shape.Shape.{Shape}
+use Rattle.jury.specs.Shape.{gradedLimits, rankedLimits, withinLimits, ballotBytes}
 use Rattle.jury.specs.Reason.{reasonOf, reasonAt}
 use Rattle.jury.proofs.Flags.{true-T}
-use Rattle.jury.proofs.Limits.{within, bytes-bound, bytes-are}
+use Rattle.jury.proofs.Limits.{within, ranked, bounds, kinds, bytes-are, ranked-bytes, inputs-bound}
 use Rattle.tally.specs.Answer.{accepted}
 use Rattle.text.specs.Text.{linesOf, firstOther, gatesIn}
 use Rattle.text.specs.Answer.{textReasonOf, lengthSaid}
@@ -54,14 +56,28 @@ gates-all c = sym (c .before .before .first-other .ensures) ∙ c .enum-told .gi
 inputs-few : (c : tie.After-ballot-bytes) → c .ballot-bytes .result < 4294967296
 inputs-few c =
     let s = c .before .before .before .before .before .before .before .before .before .before .before .before .args .shape in
-    omega (arith, c .ballot-bytes .ensures, bytes-are s, bytes-bound s (within s (limits (c .before .before .before .before .before .before .before .before))))
+    omega (arith, c .ballot-bytes .ensures, inputs-bound s (bounds s (limits (c .before .before .before .before .before .before .before .before))))
+
+-- a shape within the limits has a ballot byte
+some-bytes : (s : Shape) → withinLimits s ≡ true → 0 < ballotBytes s
+some-bytes s e = ⊎-elim graded rank (kinds s e)
+  where
+    graded : gradedLimits s ≡ true → 0 < ballotBytes s
+    graded g =
+        let w = within s g in
+        let q = mul-pos (mul-pos (w .n-least) (w .k-least)) (le-trans (lit≤ tt) (w .d-least)) in
+        omega (arith, bytes-are s w)
+
+    rank : rankedLimits s ≡ true → 0 < ballotBytes s
+    rank r =
+        let w = ranked s r in
+        let q = mul-pos (mul-pos (w .n-least) (w .k-least)) (w .k-least) in
+        omega (arith, ranked-bytes s (w .ranking))
 
 inputs-some : (c : tie.After-ballot-bytes) → 0 < c .ballot-bytes .result
 inputs-some c =
     let s = c .before .before .before .before .before .before .before .before .before .before .before .before .args .shape in
-    let w = within s (limits (c .before .before .before .before .before .before .before .before)) in
-    let q = mul-pos (mul-pos (w .n-least) (w .k-least)) (le-trans (lit≤ tt) (w .d-least)) in
-    omega (arith, c .ballot-bytes .ensures, bytes-are s)
+    omega (arith, c .ballot-bytes .ensures, some-bytes s (limits (c .before .before .before .before .before .before .before .before)))
 
 tested : (c : tie.After-first-bad) → firstBad (ballotBytes (c .before .before .before .before .before .before .before .before .before .before .before .before .before .args .shape)) 0 (gatesIn (linesOf (c .before .before .before .before .before .before .before .before .before .before .before .before .before .args .text .now))) ≡ c .first-bad .result
 tested c = sym (c .first-bad .ensures ∙ ap (λ (n : ℕ). firstBad n 0 (gatesIn (linesOf (c .before .before .before .before .before .before .before .before .before .before .before .before .before .args .text .now)))) (c .before .ballot-bytes .ensures))

@@ -8,7 +8,8 @@ use borrow.Author.Tests.{not-true, not-false}
 use Rattle.jury.specs.Reason.{reasonOf, refusedFor, firstOf}
 use Rattle.jury.specs.Ballots.{ballotReasons}
 use Rattle.jury.proofs.Flags.{T-true}
-use Rattle.urn.specs.Sound.{juryOfOne, goodJuror}
+use Rattle.jury.proofs.Limits.{graded-T}
+use Rattle.chains.specs.Sound.{juryOfOne, goodJuror}
 use Rattle.urn.specs.Facts.{gradedShape, countedBy}
 use Rattle.urn.specs.Admit.{admitSaid}
 use Rattle.urn.proofs.Deciding.{admit-first, admit-13, admit-14, admit-ballot, admit-15, admit-none, said-refused, said-accepted, juror-present, juror-absent, juror-bad, graded-within}
@@ -47,7 +48,7 @@ test-requires : tie.Need-test-requires
 unfolding juryOfOne
 test-requires c κs =
     let s = c .before .before .before .before .before .before in
-    graded-within (s .args .k) (s .args .d) (s .pre .0)
+    graded-T (juryOfOne (s .args .k) (s .args .d)) (graded-within (s .args .k) (s .args .d) (s .pre .0))
 
 enum-known-reason : tie.Need-enum-known-reason
 enum-known-reason c = search needs

@@ -7,15 +7,15 @@ use Prim.Native.Nat.{ℕ, _+_, _-_, _*_, _≤_, _<_}
 use native.Mathlib.Nat.{sub-zero}
 use lib.Dec.{T}
 use lib.ListN.{length, getD, set, take, drop, replicate, length-set, length-take}
-use Rattle.jury.specs.Shape.{withinLimits}
-use Rattle.urn.specs.Slots.{slotBytes, slotsOf}
-use Rattle.urn.specs.Chains.{chain, ballotChain}
-use Rattle.urn.specs.Sound.{member, juryOfOne, slotCount, urnSlots}
+use Rattle.jury.specs.Shape.{gradedLimits}
+use Rattle.chains.specs.Slots.{slotBytes, slotsOf}
+use Rattle.chains.specs.Chains.{chain, ballotChain}
+use Rattle.chains.specs.Sound.{member, juryOfOne, slotCount, urnSlots}
 use Rattle.urn.specs.Facts.{jurorsOf}
-use Rattle.urn.specs.declared.find.Link.the-variants.{Found}
-use Rattle.urn.specs.Inner.{linkOf}
-use Rattle.urn.proofs.SlotLaws.{size-least}
-use Rattle.urn.proofs.Judging.{clash, few-bytes}
+use Rattle.chains.specs.declared.find.Link.the-variants.{Found}
+use Rattle.chains.specs.Inner.{linkOf}
+use Rattle.chains.proofs.SlotLaws.{size-least}
+use Rattle.chains.proofs.Judging.{clash, few-bytes}
 use Rattle.urn.proofs.Deciding.{graded-within}
 use Rattle.urn.proofs.FactLaws.{link-absent, its-table, can-find, jurors-are}
 use Rattle.urn.proofs.Taking.{take-zeros, slot-below, slot-inside, link-inside, withdraw-bytes}
@@ -24,7 +24,7 @@ use borrow.Author.Needs.{needs}
 use Rattle.urn.proofs.withdraw.take_ballot.Statement.{statement}
 use Rattle.urn.proofs.withdraw.take_ballot.Tie as tie
 
-limits : (s : tie.Start) → T (withinLimits (juryOfOne (s .args .k) (s .args .d)))
+limits : (s : tie.Start) → T (gradedLimits (juryOfOne (s .args .k) (s .args .d)))
 limits s = graded-within (s .args .k) (s .args .d) (s .pre .1 .1)
 
 -- the urn is not short

@@ -6,7 +6,7 @@ use mathlib.Core.Option.{none}
 use mathlib.Core.List.{List}
 use Rattle.jury.specs.Reason.{reasonOf, firstOf}
 use Rattle.jury.proofs.Flags.{and-second, true-T}
-use Rattle.urn.specs.Sound.{goodJuror}
+use Rattle.chains.specs.Sound.{goodJuror}
 use Rattle.urn.specs.Facts.{factsOf, countedBy, afterwards}
 use Rattle.urn.specs.Withdraw.{withdrawReasons, withdrawSaid, withdrawn}
 use Rattle.urn.proofs.FactLaws.{facts-sound, facts-present}

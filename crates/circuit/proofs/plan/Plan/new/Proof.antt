@@ -6,9 +6,9 @@ use native.Mathlib.Omega.{arith}
 use lib.Dec.{T}
 use borrow.Author.Needs.{needs}
 use Rattle.jury.specs.declared.shape.Shape.{Shape}
-use Rattle.jury.specs.Shape.{withinLimits, ballotBytes}
+use Rattle.jury.specs.Shape.{gradedLimits, ballotBytes}
 use Rattle.jury.specs.Width.{widthOf}
-use Rattle.jury.proofs.Limits.{Within, within-T, bytes-are, bytes-bound}
+use Rattle.jury.proofs.Limits.{Within, within-T, graded-T, bytes-are, bytes-bound}
 use Rattle.jury.proofs.WidthLaws.{width-half, width-most}
 use Rattle.circuit.specs.declared.plan.Plan.{Plan}
 use Rattle.circuit.specs.Plan.{planOf}
@@ -17,10 +17,10 @@ use Rattle.circuit.proofs.plan.Plan.new.Statement.{statement}
 use Rattle.circuit.proofs.plan.Plan.new.Tie as tie
 
 -- the width of a number of ballots
-widths : (s : Shape) → T (withinLimits s) → (1 ≤ widthOf (s .ballots)) × (widthOf (s .ballots) ≤ 8)
+widths : (s : Shape) → T (gradedLimits s) → (1 ≤ widthOf (s .ballots)) × (widthOf (s .ballots) ≤ 8)
 widths s t = let w = within-T s t in (omega (arith, width-half (s .ballots) (w .n-least)), width-most (s .ballots) (w .n-most))
 
-halves : (s : Shape) → T (withinLimits s) → ((s .ballots + 1) / 2 ≤ 2 ^ (widthOf (s .ballots) - 1)) × (1 + s .ballots / 2 ≤ 2 ^ (widthOf (s .ballots) - 1))
+halves : (s : Shape) → T (gradedLimits s) → ((s .ballots + 1) / 2 ≤ 2 ^ (widthOf (s .ballots) - 1)) × (1 + s .ballots / 2 ≤ 2 ^ (widthOf (s .ballots) - 1))
 halves s t =
     let high = high-width (s .ballots) (within-T s t .n-least) in
     (half-most (s .ballots) (widthOf (s .ballots) - 1) high, rest-most (s .ballots) (widthOf (s .ballots) - 1) high)
@@ -47,10 +47,10 @@ cast-t7 : tie.Need-cast-t7
 cast-t7 c = let a = c .before .before .before .before .before in omega (arith, within-T (a .args .shape) (a .pre) .d-most)
 
 ballot-bytes-requires : tie.Need-ballot-bytes-requires
-ballot-bytes-requires c κs = search needs
+ballot-bytes-requires c κs = let a = c .before .before .before .before .before in graded-T (a .args .shape) (a .pre)
 
 cast-t8 : tie.Need-cast-t8
-cast-t8 c = let a = c .before .before .before .before .before .before in omega (arith, c .ballot-bytes .ensures, bytes-are (a .args .shape), bytes-bound (a .args .shape) (within-T (a .args .shape) (a .pre)))
+cast-t8 c = let a = c .before .before .before .before .before .before in omega (arith, c .ballot-bytes .ensures, bytes-are (a .args .shape) (within-T (a .args .shape) (a .pre)), bytes-bound (a .args .shape) (within-T (a .args .shape) (a .pre)))
 
 add-t9 : tie.Need-add-t9
 add-t9 c = let a = c .before .before .before .before .before .before in omega (arith, within-T (a .args .shape) (a .pre) .n-most)
@@ -69,7 +69,7 @@ sub-t14 : tie.Need-sub-t14
 sub-t14 c = let a = c .before .before .before .before .before .before in let e = power-is c in omega (arith, halves (a .args .shape) (a .pre))
 
 -- the width of the number of a grade
-grade-widths : (s : Shape) → T (withinLimits s) → (1 ≤ widthOf (s .grades - 1)) × (widthOf (s .grades - 1) ≤ 8)
+grade-widths : (s : Shape) → T (gradedLimits s) → (1 ≤ widthOf (s .grades - 1)) × (widthOf (s .grades - 1) ≤ 8)
 grade-widths s t =
     let w = within-T s t in
     (omega (arith, width-half (s .grades - 1) (omega (arith, w .d-least))), width-most (s .grades - 1) (omega (arith, w .d-most)))

@@ -19,6 +19,12 @@ enum-known-self-3 c = search needs
 enum-known-self-4 : tie.Need-enum-known-self-4
 enum-known-self-4 c = search needs
 
+enum-known-self-5 : tie.Need-enum-known-self-5
+enum-known-self-5 c = search needs
+
+enum-known-self-6 : tie.Need-enum-known-self-6
+enum-known-self-6 c = search needs
+
 enum-told : tie.Need-enum-told
 enum-told c = search needs
 
@@ -46,6 +52,21 @@ enum-told-8 c = search needs
 enum-told-9 : tie.Need-enum-told-9
 enum-told-9 c = search needs
 
+enum-told-10 : tie.Need-enum-told-10
+enum-told-10 c = search needs
+
+enum-told-11 : tie.Need-enum-told-11
+enum-told-11 c = search needs
+
+enum-told-12 : tie.Need-enum-told-12
+enum-told-12 c = search needs
+
+enum-told-13 : tie.Need-enum-told-13
+enum-told-13 c = search needs
+
+enum-told-14 : tie.Need-enum-told-14
+enum-told-14 c = search needs
+
 returns : tie.Need-returns
 unfolding reasonOf reasonAt
 returns c = ap (λ (t : Refusal). reasonOf t .place) (sym (c .before .self .given .1))
@@ -64,39 +85,67 @@ returns-4 c = ap (λ (t : Refusal). reasonOf t .place) (sym (c .before .self4 .g
 
 returns-5 : tie.Need-returns-5
 unfolding reasonOf reasonAt
-returns-5 c = ap (λ (t : Refusal). reasonOf t .place) (sym (c .enum-told .given .1))
+returns-5 c = ap (λ (t : Refusal). reasonOf t .place) (sym (c .before .self5 .given .1))
 
 returns-6 : tie.Need-returns-6
 unfolding reasonOf reasonAt
-returns-6 c = ap (λ (t : Refusal). reasonOf t .place) (sym (c .enum-told2 .given .1))
+returns-6 c = ap (λ (t : Refusal). reasonOf t .place) (sym (c .before .self6 .given .1))
 
 returns-7 : tie.Need-returns-7
 unfolding reasonOf reasonAt
-returns-7 c = ap (λ (t : Refusal). reasonOf t .place) (sym (c .enum-told3 .given .1))
+returns-7 c = ap (λ (t : Refusal). reasonOf t .place) (sym (c .enum-told .given .1))
 
 returns-8 : tie.Need-returns-8
 unfolding reasonOf reasonAt
-returns-8 c = ap (λ (t : Refusal). reasonOf t .place) (sym (c .enum-told4 .given .1))
+returns-8 c = ap (λ (t : Refusal). reasonOf t .place) (sym (c .enum-told2 .given .1))
 
 returns-9 : tie.Need-returns-9
 unfolding reasonOf reasonAt
-returns-9 c = ap (λ (t : Refusal). reasonOf t .place) (sym (c .enum-told5 .given .1))
+returns-9 c = ap (λ (t : Refusal). reasonOf t .place) (sym (c .enum-told3 .given .1))
 
 returns-10 : tie.Need-returns-10
 unfolding reasonOf reasonAt
-returns-10 c = ap (λ (t : Refusal). reasonOf t .place) (sym (c .enum-told6 .given .1))
+returns-10 c = ap (λ (t : Refusal). reasonOf t .place) (sym (c .enum-told4 .given .1))
 
 returns-11 : tie.Need-returns-11
 unfolding reasonOf reasonAt
-returns-11 c = ap (λ (t : Refusal). reasonOf t .place) (sym (c .enum-told7 .given .1))
+returns-11 c = ap (λ (t : Refusal). reasonOf t .place) (sym (c .enum-told5 .given .1))
 
 returns-12 : tie.Need-returns-12
 unfolding reasonOf reasonAt
-returns-12 c = ap (λ (t : Refusal). reasonOf t .place) (sym (c .enum-told8 .given .1))
+returns-12 c = ap (λ (t : Refusal). reasonOf t .place) (sym (c .enum-told6 .given .1))
 
 returns-13 : tie.Need-returns-13
 unfolding reasonOf reasonAt
-returns-13 c = ap (λ (t : Refusal). reasonOf t .place) (sym (c .enum-told9 .given .1))
+returns-13 c = ap (λ (t : Refusal). reasonOf t .place) (sym (c .enum-told7 .given .1))
+
+returns-14 : tie.Need-returns-14
+unfolding reasonOf reasonAt
+returns-14 c = ap (λ (t : Refusal). reasonOf t .place) (sym (c .enum-told8 .given .1))
+
+returns-15 : tie.Need-returns-15
+unfolding reasonOf reasonAt
+returns-15 c = ap (λ (t : Refusal). reasonOf t .place) (sym (c .enum-told9 .given .1))
+
+returns-16 : tie.Need-returns-16
+unfolding reasonOf reasonAt
+returns-16 c = ap (λ (t : Refusal). reasonOf t .place) (sym (c .enum-told10 .given .1))
+
+returns-17 : tie.Need-returns-17
+unfolding reasonOf reasonAt
+returns-17 c = ap (λ (t : Refusal). reasonOf t .place) (sym (c .enum-told11 .given .1))
+
+returns-18 : tie.Need-returns-18
+unfolding reasonOf reasonAt
+returns-18 c = ap (λ (t : Refusal). reasonOf t .place) (sym (c .enum-told12 .given .1))
+
+returns-19 : tie.Need-returns-19
+unfolding reasonOf reasonAt
+returns-19 c = ap (λ (t : Refusal). reasonOf t .place) (sym (c .enum-told13 .given .1))
+
+returns-20 : tie.Need-returns-20
+unfolding reasonOf reasonAt
+returns-20 c = ap (λ (t : Refusal). reasonOf t .place) (sym (c .enum-told14 .given .1))
 
 pub place-spec : {M : Type 1} → statement M
 place-spec =
@@ -106,6 +155,8 @@ place-spec =
     enum-known-self-2
     enum-known-self-3
     enum-known-self-4
+    enum-known-self-5
+    enum-known-self-6
     enum-told
     enum-told-2
     enum-told-3
@@ -115,6 +166,11 @@ place-spec =
     enum-told-7
     enum-told-8
     enum-told-9
+    enum-told-10
+    enum-told-11
+    enum-told-12
+    enum-told-13
+    enum-told-14
     returns
     returns-2
     returns-3
@@ -127,4 +183,11 @@ place-spec =
     returns-10
     returns-11
     returns-12
-    returns-13)
+    returns-13
+    returns-14
+    returns-15
+    returns-16
+    returns-17
+    returns-18
+    returns-19
+    returns-20)

@@ -1,0 +1,4 @@
+pub mod Copying
+pub mod Answering
+pub mod Lengths
+pub mod Statuses

@@ -1,0 +1,67 @@
+-- The numbers that a call leaves in its answer array, and the status that it returns.
+use mathlib.Core.Option.{Option, none, some}
+use mathlib.Core.Bool.{cond}
+use mathlib.Core.List.{List, [], _∷_, _++_}
+use Prim.Native.Nat.{ℕ}
+use lib.Dec.{ltb}
+use lib.ListN.{length, getD, drop}
+use Rattle.jury.specs.declared.shape.Shape.{Shape}
+use Rattle.jury.specs.Reason.{Reason}
+use Rattle.tally.specs.Answer.{Said, refused, accepted, Size}
+use Rattle.tally.specs.Measure.{Measures}
+
+unfoldable pub shapeOf : ℕ → ℕ → ℕ → Shape
+shapeOf candidates grades ballots = record { candidates = candidates; grades = grades; ballots = ballots }
+
+-- Writing, testing and running: reason, 0 where accepted; place; G; C. A refusal has no G and C: they are 0.
+unfoldable pub sizeNumbers : Said Size → List ℕ
+sizeNumbers (refused r) = r .number ∷ r .place ∷ 0 ∷ 0 ∷ []
+sizeNumbers (accepted size) = 0 ∷ 0 ∷ size .gates ∷ size .conditional ∷ []
+
+-- Measuring: the same, and I behind them.
+unfoldable pub measureNumbers : Said Measures → List ℕ
+measureNumbers (refused r) = r .number ∷ r .place ∷ 0 ∷ 0 ∷ 0 ∷ []
+measureNumbers (accepted m) = 0 ∷ 0 ∷ m .gates ∷ m .conditional ∷ m .inputs ∷ []
+
+-- Counting plainly: reason and place, then the eight closing bytes, which are 0 on a refusal.
+unfoldable pub countNumbers : Option Reason → List ℕ → List ℕ
+countNumbers none closing = 0 ∷ 0 ∷ closing
+countNumbers (some r) closing = r .number ∷ r .place ∷ closing
+
+-- Calls that tell one number, as the length of a text or the ballots of an urn: reason and place, then that number, 0 on a refusal.
+unfoldable pub oneNumber : Said ℕ → List ℕ
+oneNumber (refused r) = r .number ∷ r .place ∷ 0 ∷ []
+oneNumber (accepted told) = 0 ∷ 0 ∷ told ∷ []
+
+-- How many numbers each kind of answer has.
+abbrev pub sizeAnswer : ℕ
+sizeAnswer = 4
+
+abbrev pub measureAnswer : ℕ
+measureAnswer = 5
+
+abbrev pub countAnswer : ℕ
+countAnswer = 10
+
+abbrev pub oneAnswer : ℕ
+oneAnswer = 3
+
+-- The first of the numbers: the reason, 0 where the call is accepted.
+unfoldable pub statusOf : List ℕ → ℕ
+statusOf numbers = getD numbers 0 0
+
+-- The status of a call whose answer array is shorter than the call needs. `Status` says that no reason has this number.
+abbrev pub shortAnswer : ℕ
+shortAnswer = 255
+
+-- What a call returns: the reason, 0 where it is accepted, or that the answer array is too short.
+unfoldable pub status : ℕ → List ℕ → List ℕ → ℕ
+status needed numbers answer = cond (ltb (length answer) needed) shortAnswer (statusOf numbers)
+
+-- The answer array afterwards: the numbers at its start, what stands behind them as it was; one that is too short is not altered.
+unfoldable pub answered : ℕ → List ℕ → List ℕ → List ℕ
+answered needed numbers answer = cond (ltb (length answer) needed) answer (numbers ++ drop needed answer)
+
+-- Another lent slice afterwards: as the entry point leaves it, or as it was where the answer array is too short.
+unfoldable pub altered : ℕ → List ℕ → List ℕ → List ℕ → List ℕ
+altered needed answer new old = cond (ltb (length answer) needed) old new

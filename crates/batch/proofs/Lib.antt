@@ -1,0 +1,5 @@
+pub mod RowLaws
+pub mod JuryLaws
+pub mod Reasons
+pub mod Outside
+pub mod Theorems

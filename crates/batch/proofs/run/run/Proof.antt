@@ -1,0 +1,108 @@
+-- `batch::run::run` meets its contract: where the tests pass, the evaluation fills the wire table and the board and the wire table is emptied, and else nothing is touched.
+-- Assumes nothing.
+use mathlib.Core.Path.{_≡_, _∙_, sym, ap}
+use mathlib.Core.Option.{Option, none, some}
+use mathlib.Core.List.{List}
+use Prim.Native.Nat.{ℕ}
+use lib.ListN.{replicate}
+use borrow.Author.Needs.{needs}
+use Rattle.gates.specs.Gate.{gatesOf}
+use Rattle.gates.specs.Wires.{wiresOf}
+use Rattle.gates.specs.Board.{boardOf}
+use Rattle.jury.specs.Reason.{Reason, reasonOf, firstOf}
+use Rattle.tally.specs.Answer.{Size, said, saidBy, sizeOf}
+use Rattle.tally.specs.Run.{Ran}
+use Rattle.tally.proofs.RunReasons.{said-refused, said-accepted}
+use Rattle.lanes.specs.Lane.{laneOf, wordsOf}
+use Rattle.lanes.proofs.ListLaws.{words-are}
+use Rattle.batch.specs.Run.{batchReasons, batchAfter, batchRan}
+use Rattle.batch.proofs.Reasons.{batch-passed, batch-ready, batch-by}
+use Rattle.batch.proofs.run.run.Statement.{statement}
+use Rattle.batch.proofs.run.run.Tie as tie
+
+test-run-requires : tie.Need-test-run-requires
+test-run-requires c κs = search needs
+
+enum-told : tie.Need-enum-told
+enum-told c = search needs
+
+-- where the tests pass, no reason applies
+no-reason : (c : tie.After-enum-told) → let a = c .before .before .before .before .before .before .before .before .before .before .args in
+    firstOf (batchReasons (a .shape) (a .table .now) (a .ballots .now) (a .tape .now) (a .wires .now) (a .board .now)) ≡ none
+unfolding saidBy
+no-reason c =
+    let a = c .before .before .before .before .before .before .before .before .before .before .args in
+    let o = firstOf (batchReasons (a .shape) (a .table .now) (a .ballots .now) (a .tape .now) (a .wires .now) (a .board .now)) in
+    said-accepted o (sizeOf (gatesOf (a .table .now))) _ (sym (c .before .before .test-run .ensures) ∙ ap saidBy (c .enum-told .given .1))
+
+run-requires : tie.Need-run-requires
+run-requires c κs =
+    let told = c .before .before in
+    let a = told .before .before .before .before .before .before .before .before .before .before .args in
+    batch-ready (a .shape) (a .table .now) (a .ballots .now) (a .tape .now) (a .wires .now) (a .board .now)
+    (batch-passed (a .shape) (a .table .now) (a .ballots .now) (a .tape .now) (a .wires .now) (a .board .now) (no-reason told))
+
+empty-requires : tie.Need-empty-requires
+empty-requires c κs = search needs
+
+enum-told-2 : tie.Need-enum-told-2
+enum-told-2 c = search needs
+
+same-length : tie.Need-same-length
+same-length c = search needs
+
+same-length-2 : tie.Need-same-length-2
+same-length-2 c = search needs
+
+returns : tie.Need-returns
+unfolding said batchAfter
+returns c =
+    let emptied = c .before .before in
+    let done = emptied .before .before .before .before .before .before in
+    let told = done .before .before .before in
+    let a = told .before .before .before .before .before .before .before .before .before .before .args in
+    let gs = gatesOf (a .table .now) in
+    let p = batch-passed (a .shape) (a .table .now) (a .ballots .now) (a .tape .now) (a .wires .now) (a .board .now) (no-reason told) in
+    let e = batch-by (a .shape) (a .table .now) (a .ballots .now) (a .tape .now) (a .wires .now) (a .board .now) none (no-reason told) in
+    let boards : ℕ → List ℕ = λ j. boardOf (wiresOf (laneOf j (a .ballots .now)) gs) gs (a .shape .candidates) (laneOf j (a .tape .now)) in
+    let same = done .run .kept .1 .1 .1 .1 .0 in (
+      told .before .before .test-run .ensures ∙ ap (λ (o : Option Reason). said o (sizeOf gs)) (no-reason told) ∙ sym (ap (λ (r : Ran). r .answer) e),
+      (
+        emptied .empty .ensures ∙ ap (λ (n : ℕ). replicate n 0) same ∙ sym (ap (λ (r : Ran). r .wires) e),
+        words-are _ boards (λ i. c .before .before .before .before .slice-known4 .given i .fits) (done .run .ensures .1) ∙ ap (λ (n : ℕ). wordsOf n boards) (done .run .kept .1 .1 .1 .1 .1 .0 ∙ p .boardLength) ∙ sym (ap (λ (r : Ran). r .board) e),
+      ),
+    )
+
+same-length-3 : tie.Need-same-length-3
+same-length-3 c = search needs
+
+same-length-4 : tie.Need-same-length-4
+same-length-4 c = search needs
+
+returns-2 : tie.Need-returns-2
+unfolding saidBy batchAfter
+returns-2 c =
+    let a = c .before .before .before .before .before .before .before .before .before .before .args in
+    let o = firstOf (batchReasons (a .shape) (a .table .now) (a .ballots .now) (a .tape .now) (a .wires .now) (a .board .now)) in
+    let r = reasonOf (c .enum-told2 .given .0 .0) in
+    let told = ap saidBy (c .enum-told2 .given .1) in
+    let e = batch-by (a .shape) (a .table .now) (a .ballots .now) (a .tape .now) (a .wires .now) (a .board .now) (some r) (said-refused o (sizeOf (gatesOf (a .table .now))) r (sym (c .before .before .test-run .ensures) ∙ told)) in (
+      told ∙ sym (ap (λ (q : Ran). q .answer) e),
+      (sym (ap (λ (q : Ran). q .wires) e), sym (ap (λ (q : Ran). q .board) e)),
+    )
+
+pub run-spec : {M : Type 1} → statement M
+run-spec =
+    tie.close
+    (tie.spec
+    test-run-requires
+    enum-told
+    run-requires
+    empty-requires
+    enum-told-2
+    same-length
+    same-length-2
+    returns
+    same-length-3
+    same-length-4
+    returns-2)

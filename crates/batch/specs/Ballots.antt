@@ -1,0 +1,39 @@
+-- The tests of the ballots of 64 juries.
+use mathlib.Core.Bool.{cond}
+use mathlib.Core.Option.{Option}
+use mathlib.Core.List.{List, [], _∷_}
+use Prim.Native.Nat.{ℕ, _*_}
+use lib.Dec.{eqb}
+use lib.ListN.{length}
+use Rattle.gates.specs.declared.place.Place.{Place}
+use Rattle.gates.specs.declared.place.Place.the-variants.{At, Nowhere}
+use Rattle.jury.specs.declared.shape.Shape.{Shape}
+use Rattle.jury.specs.Shape.{ballotBytes}
+use Rattle.jury.specs.Reason.{Reason, unless, foundAt}
+use Rattle.jury.specs.Ballots.{rowsOf, firstBadRow}
+use Rattle.jury.specs.Rankings.{firstOver}
+use Rattle.lanes.specs.Lane.{laneCount, lane, laneOf}
+
+-- The jury in place of what was found in it.
+unfoldable pub inJury : ℕ → Place → Place
+inJury j (At place) = At j
+inJury j Nowhere = Nowhere
+
+-- The first jury in whose own bytes the search finds something.
+unfoldable pub firstJury : (List ℕ → Place) → List ℕ → Place
+firstJury search words = firstOver laneCount (λ j. inJury j (search (laneOf j words)))
+
+-- The tests of the ballots in checking order: 4, which counts words, and then, over all juries, the test 6 of a single run. A bit is never above 1, so 5 does not concern words (request 2.11).
+unfoldable pub wordBallotReasons : Shape → List ℕ → List (Option Reason)
+wordBallotReasons s words =
+    unless (eqb (length words) (ballotBytes s)) 4
+    ∷ foundAt 6 (firstJury (λ xs. firstBadRow 0 (rowsOf (s .grades) (s .ballots * s .candidates) xs)) words)
+    ∷ []
+
+-- For the inner functions: whether something was found, as a bit, and the first lane of a word that is 1.
+unfoldable pub foundBit : Place → ℕ
+foundBit (At place) = 1
+foundBit Nowhere = 0
+
+unfoldable pub firstSet : ℕ → Place
+firstSet w = firstOver laneCount (λ j. cond (eqb (lane j w) 1) (At j) Nowhere)

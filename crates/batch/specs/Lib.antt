@@ -1,0 +1,3 @@
+pub mod Ballots
+pub mod Run
+pub mod Theorems

@@ -1,0 +1,67 @@
+-- What holds of a run for 64 juries: each jury has its single run, so the three demands hold jury by jury.
+use mathlib.Core.Path.{_≡_}
+use mathlib.Core.Logic.{_≢_, _↔_}
+use mathlib.Core.List.{List, [], _∷_}
+use Prim.Native.Nat.{ℕ, _<_}
+use lib.Dec.{T}
+use lib.ListN.{length, getD, take, replicate}
+use Rattle.gates.specs.Gate.{gatesOf}
+use Rattle.jury.specs.declared.shape.Shape.{Shape}
+use Rattle.jury.specs.Reason.{Reason, reasonAt}
+use Rattle.jury.specs.Counts.{countsOf}
+use Rattle.judgment.specs.Winner.{Wins}
+use Rattle.tally.specs.Answer.{refused, accepted, hasNumberIn, Size, sizeOf}
+use Rattle.tally.specs.Count.{plainClosing}
+use Rattle.tally.specs.Write.{writeSaid}
+use Rattle.tally.specs.Run.{Ran, ran}
+use Rattle.tally.specs.Hiding.{closingBytes, Hidden}
+use Rattle.tally.specs.Demands.{listIn}
+use Rattle.lanes.specs.Lane.{laneCount, laneOf}
+use Rattle.batch.specs.Run.{batchRan}
+
+-- The single run of jury j: on its bits of the ballots, the tape, the wire table and the board.
+abbrev pub ranAlone : ℕ → Shape → List ℕ → List ℕ → List ℕ → List ℕ → List ℕ → Ran
+ranAlone j s table ballots tape wires board = ran s table (laneOf j ballots) (laneOf j tape) (laneOf j wires) (laneOf j board)
+
+-- Each jury of an accepted call has what its single run gives: the answer, its bits of the wire table and its bits of the board.
+abbrev pub EachAsAlone : Type 0
+EachAsAlone =
+    (s : Shape) (table ballots tape wires board : List ℕ) (size : Size) → batchRan s table ballots tape wires board .answer ≡ accepted size → (j : ℕ) → j < laneCount
+    → (ranAlone j s table ballots tape wires board .answer ≡ accepted size)
+    × (laneOf j (batchRan s table ballots tape wires board .wires) ≡ ranAlone j s table ballots tape wires board .wires)
+    × (laneOf j (batchRan s table ballots tape wires board .board) ≡ ranAlone j s table ballots tape wires board .board)
+
+-- And a call is accepted where all 64 single runs are.
+abbrev pub AcceptedAsAll : Type 0
+AcceptedAsAll =
+    (s : Shape) (table ballots tape wires board : List ℕ) (size : Size) → ((j : ℕ) → j < laneCount → ranAlone j s table ballots tape wires board .answer ≡ accepted size)
+    → batchRan s table ballots tape wires board .answer ≡ accepted size
+
+-- Demand 1: a refusal has the number of a reason that concerns the call and alters no lent word, an accepted call leaves a wire table of zeros, and no call changes a length.
+pub record BatchMemory : Type 0 where
+  pub number : (s : Shape) (table ballots tape wires board : List ℕ) (r : Reason) → batchRan s table ballots tape wires board .answer ≡ refused r
+      → T (hasNumberIn (1 ∷ 2 ∷ 3 ∷ 4 ∷ 6 ∷ 7 ∷ 9 ∷ 10 ∷ []) r)
+  pub refusal : (s : Shape) (table ballots tape wires board : List ℕ) (r : Reason) → batchRan s table ballots tape wires board .answer ≡ refused r
+      → (batchRan s table ballots tape wires board .wires ≡ wires) × (batchRan s table ballots tape wires board .board ≡ board)
+  pub empties : (s : Shape) (table ballots tape wires board : List ℕ) (size : Size) → batchRan s table ballots tape wires board .answer ≡ accepted size
+      → batchRan s table ballots tape wires board .wires ≡ replicate (length wires) 0
+  pub lengths : (s : Shape) (table ballots tape wires board : List ℕ)
+      → (length (batchRan s table ballots tape wires board .wires) ≡ length wires) × (length (batchRan s table ballots tape wires board .board) ≡ length board)
+
+-- Demand 2: with the list that the core writes for a shape, a jury's closing bytes are those of its plain count, and say who wins in that jury.
+abbrev pub BatchAccuracy : Type 0
+BatchAccuracy =
+    (s : Shape) (table : List ℕ) (size : Size) → writeSaid s table ≡ accepted size
+    → (ballots tape wires board : List ℕ) (answer : Size) → batchRan s (listIn s size table) ballots tape wires board .answer ≡ accepted answer → (j : ℕ) → j < laneCount
+    → (closingBytes s (laneOf j (batchRan s (listIn s size table) ballots tape wires board .board)) ≡ take (s .candidates) (plainClosing s (laneOf j ballots)))
+    × ((i : ℕ) → i < s .candidates → (getD (closingBytes s (laneOf j (batchRan s (listIn s size table) ballots tape wires board .board))) i 0 ≡ 1) ↔ Wins (countsOf s (laneOf j ballots)) i)
+
+-- Demand 3: any jury i of one accepted call and any jury j of another, of one shape and one list, that end with the same closing bytes show the same of their ballots; the calls may be the same.
+abbrev pub BatchHiding : Type 0
+BatchHiding =
+    (s : Shape) (table xs ys t u vs ws bs ds : List ℕ) (first second : Size)
+    → batchRan s table xs t vs bs .answer ≡ accepted first
+    → batchRan s table ys u ws ds .answer ≡ accepted second
+    → (i j : ℕ) → i < laneCount → j < laneCount
+    → closingBytes s (laneOf i (batchRan s table xs t vs bs .board)) ≡ closingBytes s (laneOf j (batchRan s table ys u ws ds .board))
+    → Hidden s table (laneOf i xs) (laneOf j ys) (laneOf i vs) (laneOf j ws) (laneOf i bs) (laneOf j ds)

@@ -1,0 +1,79 @@
+// The tests of the ballots of 64 juries, all of them at once: bit j of a word says whether jury j has the fault.
+use gates::place::Place;
+use jury::reason::Refusal;
+use jury::reason::Verdict;
+use jury::shape::Shape;
+use lanes::word;
+ghost use mathlib.Core.Path.{_≡_};
+ghost use mathlib.Core.Bool.{cond};
+ghost use Prim.Native.Nat.{ℕ, _*_, _<_};
+ghost use lib.Dec.{T, eqb};
+ghost use lib.ListN.{length};
+ghost use Rattle.jury.specs.Shape.{withinLimits};
+ghost use Rattle.jury.specs.Reason.{refusedFor, firstOf};
+ghost use Rattle.jury.specs.Ballots.{ones, rowsOf, firstBadRow};
+ghost use Rattle.lanes.specs.Lane.{laneCount, lane, laneOf};
+ghost use Rattle.batch.specs.Ballots.{foundBit, firstSet, wordBallotReasons};
+
+// How many juries a word serves.
+const JURIES: u32 = 64;
+
+// Reasons 4 and 6, in this order. What a shape asks of its rows is chosen here and nowhere else.
+pub fn test(shape: Shape, ballots: &[u64]) -> Verdict
+    requires { ⌜ T (withinLimits shape) ⌝ }
+    ensures { λ r. ⌜ refusedFor r ≡ firstOf (wordBallotReasons shape (now (ballots .entry))) ⌝ }
+{
+    if ballots.len() != shape.ballot_bytes() {
+        return Verdict::Refused(Refusal::BallotsLength);
+    }
+    let faults = bad_rows(ballots, shape.grades, shape.ballots * shape.candidates);
+    match first_jury(faults) {
+        Place::At(j) => Verdict::Refused(Refusal::BallotRow(j)),
+        Place::Nowhere => Verdict::Accepted,
+    }
+}
+
+// The juries in which one of so many rows of d words does not hold exactly one 1.
+fn bad_rows(words: &[u64], d: usize, rows: usize) -> u64
+    requires { ⌜ length (now words) ≡ rows * d ⌝ }
+    ensures { λ r. ⌜ ((j : ℕ) → j < laneCount → lane j r ≡ foundBit (firstBadRow 0 (rowsOf d rows (laneOf j (now (words .entry)))))) ⌝ }
+{
+    let mut faults: u64 = 0;
+    let mut row = 0;
+    let mut at = 0;
+    while row < rows {
+        let end = at + d;
+        faults = faults | bad_row(&words[at..end]);
+        row += 1;
+        at = end;
+    }
+    faults
+}
+
+// The juries in which a row does not hold exactly one 1: those that had no 1, and those that had a second one.
+fn bad_row(words: &[u64]) -> u64
+    ensures { λ r. ⌜ ((j : ℕ) → j < laneCount → lane j r ≡ cond (eqb (ones (laneOf j (now (words .entry)))) 1) 0 1) ⌝ }
+{
+    let mut once: u64 = 0;
+    let mut twice: u64 = 0;
+    let mut i = 0;
+    while i < words.len() {
+        let word = words[i];
+        twice = twice | (once & word);
+        once = once | word;
+        i += 1;
+    }
+    twice | (once ^ word::ALL)
+}
+
+// The first jury whose bit is set.
+fn first_jury(faults: u64) -> Place
+    ensures { λ r. ⌜ r ≡ firstSet faults ⌝ }
+{
+    let j = u64::trailing_zeros(faults);
+    if j < JURIES {
+        Place::At(j as usize)
+    } else {
+        Place::Nowhere
+    }
+}

@@ -1,0 +1,3 @@
+// The entry point that runs one list on 64 juries of one shape at once.
+pub mod ballots;
+pub mod run;

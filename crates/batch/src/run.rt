@@ -1,0 +1,93 @@
+// The entry point [lanes]: a run for 64 juries.
+use jury::reason::Refusal;
+use jury::reason::Verdict;
+use jury::shape::Shape;
+use lanes::word;
+use tally::answer::Answer;
+ghost use mathlib.Core.Path.{_≡_};
+ghost use Rattle.gates.specs.Gate.{gatesOf};
+ghost use Rattle.jury.specs.Reason.{refusedFor, firstOf};
+ghost use Rattle.tally.specs.Answer.{saidBy, said, sizeOf};
+ghost use Rattle.batch.specs.Run.{wordLentReasons, batchReasons, batchRan};
+
+// Reasons 7, 9 and 10, for a list of so many inputs, outputs, gates and conditional gates.
+fn test_lent(
+    inputs: usize,
+    outputs: usize,
+    gates: usize,
+    conditional: usize,
+    tape: &[u64],
+    wires: &[u64],
+    board: &[u64],
+) -> Verdict
+    ensures { λ r. ⌜ refusedFor r ≡ firstOf (wordLentReasons inputs outputs (record { gates = gates; conditional = conditional }) (now (tape .entry)) (now (wires .entry)) (now (board .entry))) ⌝ }
+{
+    if !word::has_length(tape, conditional, 0) {
+        return Verdict::Refused(Refusal::TapeLength);
+    }
+    if !word::has_length(wires, inputs, gates) {
+        return Verdict::Refused(Refusal::WiresLength);
+    }
+    if !word::has_length(board, conditional, outputs) {
+        return Verdict::Refused(Refusal::BoardLength);
+    }
+    Verdict::Accepted
+}
+
+// Reasons 1, 2, 3, 4, 6, 7, 9 and 10.
+fn test_run(
+    shape: Shape,
+    table: &[u32],
+    ballots: &[u64],
+    tape: &[u64],
+    wires: &[u64],
+    board: &[u64],
+) -> Answer
+    ensures { λ r. ⌜ saidBy r ≡ said (firstOf (batchReasons shape (now (table .entry)) (now (ballots .entry)) (now (tape .entry)) (now (wires .entry)) (now (board .entry)))) (sizeOf (gatesOf (now (table .entry)))) ⌝ }
+{
+    let answer = tally::test::test(shape, table);
+    let Answer::Accepted { gates, conditional } = answer else {
+        return answer;
+    };
+    if let Verdict::Refused(reason) = crate::ballots::test(shape, ballots) {
+        return Answer::Refused(reason);
+    }
+    let inputs = shape.ballot_bytes();
+    match test_lent(
+        inputs,
+        shape.candidates,
+        gates,
+        conditional,
+        tape,
+        wires,
+        board,
+    ) {
+        Verdict::Refused(reason) => Answer::Refused(reason),
+        Verdict::Accepted => answer,
+    }
+}
+
+// Runs a list, whoever wrote it, on the ballots of 64 juries of one shape. Bit j of each number is jury j's. The wire
+// table holds all ballots and values in clear while it runs, so it is emptied once the closing words stand on the board.
+pub fn run(
+    shape: Shape,
+    table: &[u32],
+    ballots: &[u64],
+    tape: &[u64],
+    wires: &mut [u64],
+    board: &mut [u64],
+) -> Answer
+    ensures { λ r. ⌜ saidBy r ≡ (batchRan shape (now (table .entry)) (now (ballots .entry)) (now (tape .entry)) (now (wires .entry)) (now (board .entry))) .answer ⌝ }
+    ensures { λ _. ⌜ now (wires .exit) ≡ (batchRan shape (now (table .entry)) (now (ballots .entry)) (now (tape .entry)) (now (wires .entry)) (now (board .entry))) .wires ⌝ }
+    ensures { λ _. ⌜ now (board .exit) ≡ (batchRan shape (now (table .entry)) (now (ballots .entry)) (now (tape .entry)) (now (wires .entry)) (now (board .entry))) .board ⌝ }
+{
+    let answer = test_run(shape, table, ballots, tape, wires, board);
+    if let Answer::Accepted {
+        gates: _,
+        conditional: _,
+    } = answer {
+        lanes::step::run(ballots, table, shape.candidates, tape, wires, board);
+        word::empty(wires);
+    }
+    answer
+}

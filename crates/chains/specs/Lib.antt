@@ -1,0 +1,4 @@
+pub mod Slots
+pub mod Chains
+pub mod Sound
+pub mod Inner

@@ -1,5 +1,0 @@
-pub mod Copying
-pub mod Answering
-pub mod Statuses
-pub mod Lengths
-pub mod UrnStatuses

@@ -1,4 +1,0 @@
-pub mod Numbers
-pub mod Status
-pub mod Paper
-pub mod Urn

@@ -1,0 +1,2 @@
+// The calls on an urn, for programs in C and Rust.
+pub mod urns;

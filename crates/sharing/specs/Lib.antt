@@ -1,0 +1,4 @@
+pub mod Tables
+pub mod Gate
+pub mod Evaluate
+pub mod Dealing

@@ -1,0 +1,17 @@
+-- The own list of a shape of either kind, and the bound on its number of gates.
+use mathlib.Core.Bool.{cond}
+use mathlib.Core.List.{List}
+use Prim.Native.Nat.{ℕ}
+use Rattle.gates.specs.Gate.{Gate}
+use Rattle.jury.specs.declared.shape.Shape.{Shape}
+use Rattle.jury.specs.Shape.{isRanking}
+use Rattle.jury.specs.Width.{widthOf}
+use Rattle.circuit.specs.OwnList as graded
+use Rattle.circuit.specs.Bound as graded-bound
+use Rattle.ranking.specs.OwnRanking.{ownRanking, rankingBound}
+
+unfoldable pub ownList : Shape → List Gate
+ownList s = cond (isRanking s) (ownRanking (s .candidates) (s .ballots)) (graded.ownList s)
+
+unfoldable pub gateBound : Shape → ℕ
+gateBound s = cond (isRanking s) (rankingBound (s .candidates) (s .ballots) (widthOf (s .ballots))) (graded-bound.gateBound s)

@@ -1,0 +1,25 @@
+-- The rule of a shape: full majority judgment for grades, Schulze's rule for rankings (requests 2.1 and 2.2).
+use mathlib.Core.Path.{_≡_}
+use mathlib.Core.Bool.{true, false, cond}
+use mathlib.Core.List.{List}
+use Prim.Native.Nat.{ℕ}
+use Rattle.jury.specs.declared.shape.Shape.{Shape}
+use Rattle.jury.specs.Shape.{isRanking}
+use Rattle.jury.specs.Counts.{countsOf}
+use Rattle.judgment.specs.Judgment.{judgmentOf}
+use Rattle.judgment.specs.Winner as judgment
+use Rattle.schulze.specs.Votes.{votes}
+use Rattle.schulze.specs.Schulze.{closingBytes}
+use Rattle.schulze.specs.Winner.{Winner}
+
+-- The closing bytes that the rule gives the ballots of a jury.
+unfoldable pub closingFor : Shape → List ℕ → List ℕ
+closingFor s xs =
+    cond (isRanking s) (closingBytes (votes (s .candidates) (s .ballots) xs) (s .candidates)) (judgmentOf (countsOf s xs))
+
+-- Who wins, said without a computation.
+pub record Wins (s : Shape) (xs : List ℕ) (i : ℕ) : Type 0 where
+  -- with grades: no candidate's sequence comes before that of i
+  pub graded : isRanking s ≡ false → judgment.Wins (countsOf s xs) i
+  -- with rankings: nobody's strongest path to i is stronger than the one from i back
+  pub ranked : isRanking s ≡ true → Winner (votes (s .candidates) (s .ballots) xs) (s .candidates) i

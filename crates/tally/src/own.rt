@@ -1,0 +1,27 @@
+// The own list of a shape of either kind.
+use jury::shape::Shape;
+use words::writer::Writer;
+ghost use mathlib.Core.Path.{_≡_};
+ghost use lib.Dec.{T};
+ghost use lib.ListN.{length};
+ghost use Rattle.gates.specs.Board.{conditionalCount};
+ghost use Rattle.words.specs.Writing.{Wrote};
+ghost use Rattle.jury.specs.Shape.{withinLimits, ballotBytes};
+ghost use Rattle.tally.specs.OwnList.{ownList};
+
+// Writes it from the table's first number on, as far as the table goes. The writer says how many gates the list has, and
+// how many of them are conditional, whatever the table.
+pub fn own_list(shape: Shape, table: &mut [u32]) -> Writer
+    requires { ⌜ T (withinLimits shape) ⌝ }
+    ensures { λ r. ⌜ Wrote (record { gate = 0; wire = ballotBytes shape; conditional = 0 }) (now (table .entry)) (ownList shape) (now (table .exit)) r ⌝ }
+{
+    writer::list::own_list(shape, table)
+}
+
+// G and C of it: what the writer counts while it writes into a table without a place.
+pub fn measure(shape: Shape) -> Writer
+    requires { ⌜ T (withinLimits shape) ⌝ }
+    ensures { λ r. ⌜ (r .gate ≡ length (ownList shape)) × (r .conditional ≡ conditionalCount (ownList shape)) ⌝ }
+{
+    own_list(shape, &mut [])
+}

@@ -1,0 +1,131 @@
+-- The opened closing bits, and what the evaluation asks in an accepted call.
+-- Assumes nothing.
+use mathlib.Core.Path.{_≡_, _∙_, refl, sym, ap}
+use mathlib.Core.Logic.{⊎-elim}
+use mathlib.Core.List.{List, [], _∷_, _++_}
+use Prim.Native.Nat.{ℕ, _+_, _-_, _*_, _≤_, _<_}
+use native.Mathlib.Nat.{mul-pos}
+use native.Mathlib.Omega.{arith}
+use lib.ListN.{length, getD, length-append, length-drop, List·getD-eq-default}
+use lib.Seq.{ext-getD, getD-append-add}
+use Rattle.gates.specs.Gate.{gatesOf}
+use Rattle.gates.specs.Board.{conditionalCount}
+use Rattle.gates.specs.Test.{firstBad}
+use Rattle.gates.proofs.Counting.{count-most}
+use Rattle.gates.proofs.Evaluating.{accepted-list}
+use Rattle.jury.specs.declared.shape.Shape.{Shape}
+use Rattle.jury.specs.Shape.{ballotBytes}
+use Rattle.jury.specs.Counts.{tabulate}
+use Rattle.jury.specs.Gauge.{eightBytes}
+use Rattle.jury.proofs.Cases.{below-or-not}
+use Rattle.jury.proofs.Limits.{Within, within, bytes-are, bytes-bound}
+use Rattle.jury.proofs.Rows.{eight-at, eight-length}
+use Rattle.jury.proofs.Tabulate.{length-tabulate, getD-tabulate, tabulate-cong, upTo, upTo-new, upTo-old}
+use Rattle.tally.specs.Answer.{Size, sizeOf}
+use Rattle.shares.specs.Shares.{opened, part, Held}
+use Rattle.shares.specs.Views.{piece, joined, Dealing, ballotsOf, dealtOf, wirePartsOf, maskedFactors, closingParts, publishedOf}
+use Rattle.shares.proofs.Accuracy.{opened-same}
+use Rattle.shares.proofs.Tables.{length-piece, piece-joined}
+use Rattle.shares.proofs.Publishing.{length-masked}
+use Rattle.sharing.specs.Evaluate.{EvaluateReady}
+use Rattle.sharing.proofs.Running.{length-parts}
+use Rattle.trustees.specs.Shared.{closingSums}
+use Rattle.trustees.proofs.Reasons.{CallPassed}
+
+-- bytes below k, and 0 from k on
+pub eight-tabulated : (k : ℕ) (f : ℕ → ℕ) → tabulate 8 (upTo k f (λ i. 0)) ≡ eightBytes (tabulate k f)
+eight-tabulated k f =
+    ext-getD 0 (tabulate 8 (upTo k f (λ i. 0))) (eightBytes (tabulate k f)) (length-tabulate 8 (upTo k f (λ i. 0)) ∙ sym (eight-length (tabulate k f)))
+    (λ j l. at j (omega (arith, length-tabulate 8 (upTo k f (λ i. 0)))))
+  where
+    entry : (j : ℕ) → upTo k f (λ i. 0) j ≡ getD (tabulate k f) j 0
+    entry j =
+        ⊎-elim (λ l. upTo-new k j f (λ i. 0) l ∙ sym (getD-tabulate k j f 0 l))
+        (λ l. upTo-old k j f (λ i. 0) l ∙ sym (List·getD-eq-default (tabulate k f) 0 {n = j} (omega (arith, length-tabulate k f)))) (below-or-not j k)
+
+    at : (j : ℕ) → j < 8 → getD (tabulate 8 (upTo k f (λ i. 0))) j 0 ≡ getD (eightBytes (tabulate k f)) j 0
+    at j l = getD-tabulate 8 j (upTo k f (λ i. 0)) 0 l ∙ entry j ∙ sym (eight-at (tabulate k f) j l)
+
+-- a shape within its limits has ballot bytes
+some-bytes : (s : Shape) → Within s → 1 ≤ ballotBytes s
+some-bytes s w =
+    let rows : 0 < s .ballots * s .candidates = mul-pos (w .n-least) (w .k-least) in
+    let d : 0 < s .grades = omega (arith, w .d-least) in
+    let all : 0 < s .ballots * s .candidates * s .grades = mul-pos rows d in
+    omega (arith, bytes-are s)
+
+-- what is known of an accepted call
+pub record Ready (s : Shape) (table ballots : List ℕ) (t : ℕ) (d : Dealing) (wireParts published : List ℕ) (size : Size) : Type 0 where
+  pub small : (size .conditional ≤ 1048576) × (s .candidates ≤ 8)
+  pub k-most : s .candidates ≤ 8
+  pub published-length : length published ≡ t * (2 * size .conditional + s .candidates)
+  pub evaluate : EvaluateReady t (length ballots) table (size .conditional) (s .candidates) (d .ballotParts) (d .dealerParts) wireParts published
+
+module _ (s : Shape) (table ballots : List ℕ) (t : ℕ) (d : Dealing) (wireParts published : List ℕ) where
+  ready-own : CallPassed s table ballots t d wireParts published → Ready s table ballots t d wireParts published (sizeOf (gatesOf table))
+  unfolding sizeOf
+  ready-own p =
+      let f = accepted-list (ballotBytes s) (s .candidates) table (length (gatesOf table)) (conditionalCount (gatesOf table)) (p .test .tests) in
+      let w = within s (p .test .within) in
+      let n = p .ballotsPassed .size in
+      let l = p .parts .tables in
+      record {
+        small = (omega (arith, f .few, count-most (gatesOf table)), w .k-most);
+        k-most = w .k-most;
+        published-length = l .published-length;
+        evaluate = record {
+          some-input = omega (arith, some-bytes s w);
+          few = omega (arith, f .few, bytes-are s, bytes-bound s w);
+          good = ap (λ (i : ℕ). firstBad i 0 (gatesOf table)) n ∙ f .good;
+          enough = f .enough;
+          conditional-is = refl;
+          ballot-length = l .ballot-length;
+          dealt-length = l .dealer-length;
+          wires-length = l .wires-length;
+          published-length = l .published-length;
+        };
+      }
+
+  pub call-ready : (size : Size) → size ≡ sizeOf (gatesOf table) → CallPassed s table ballots t d wireParts published → Ready s table ballots t d wireParts published size
+  call-ready size e p = rw e (ready-own p)
+
+  -- the closing bits stand behind the factors in each trustee's piece
+  module _ (size : Size) (r : Ready s table ballots t d wireParts published size) where
+    parts : Held
+    parts = wirePartsOf t (length ballots) (gatesOf table) d
+
+    parts-long : (p : ℕ) → p < t → length (parts p) ≡ length ballots + length (gatesOf table)
+    unfolding parts wirePartsOf ballotsOf
+    parts-long p h =
+        length-parts t (dealtOf (gatesOf table) d) (gatesOf table) (piece (length ballots) (d .ballotParts)) 0 (length ballots) p (length-piece t (length ballots) (d .ballotParts) p (r .evaluate .ballot-length) h)
+
+    closing-long : (p : ℕ) → p < t → length (closingParts (s .candidates) (parts p)) ≡ s .candidates
+    unfolding closingParts
+    closing-long p h = omega (arith, length-drop (length (parts p) - s .candidates) (parts p), parts-long p h, r .evaluate .enough)
+
+    factors-long : (p : ℕ) → length (maskedFactors (parts p) (dealtOf (gatesOf table) d p) 0 (gatesOf table)) ≡ 2 * size .conditional
+    factors-long p = omega (arith, length-masked (parts p) (dealtOf (gatesOf table) d p) 0 (gatesOf table), r .evaluate .conditional-is)
+
+    pub published-long : (p : ℕ) → p < t → length (publishedOf t (length ballots) (gatesOf table) (s .candidates) d p) ≡ 2 * size .conditional + s .candidates
+    unfolding publishedOf parts
+    published-long p h =
+        omega (arith, length-append (maskedFactors (parts p) (dealtOf (gatesOf table) d p) 0 (gatesOf table)) (closingParts (s .candidates) (parts p)), factors-long p, closing-long p h)
+
+    pub opened-closing : (after : List ℕ) → after ≡ joined t (publishedOf t (length ballots) (gatesOf table) (s .candidates) d)
+        → eightBytes (tabulate (s .candidates) (λ j. opened t (λ p. part (piece (2 * size .conditional + s .candidates) after p) (2 * size .conditional + j))))
+        ≡ closingSums t (s .candidates) (wirePartsOf t (length ballots) (gatesOf table) d)
+    unfolding closingSums parts
+    opened-closing after e =
+        let k = s .candidates in
+        let m = 2 * size .conditional in
+        ap eightBytes (tabulate-cong k (λ j. opened t (λ p. part (piece (m + k) after p) (m + j))) (λ j. opened t (λ p. part (closingParts k (parts p)) j))
+        (λ j l. opened-same t (λ p. part (piece (m + k) after p) (m + j)) (λ p. part (closingParts k (parts p)) j)
+        (λ (p : ℕ) h.
+        ap (λ (xs : List ℕ). part (piece (m + k) xs p) (m + j)) e
+        ∙ ap (λ (xs : List ℕ). part xs (m + j)) (piece-joined (m + k) (publishedOf t (length ballots) (gatesOf table) k d) t published-long p h) ∙ behind p j)))
+      where
+        behind : (p j : ℕ) → part (publishedOf t (length ballots) (gatesOf table) (s .candidates) d p) (2 * size .conditional + j) ≡ part (closingParts (s .candidates) (parts p)) j
+        behind p j =
+            unfold publishedOf part parts in
+            (ap (λ (n : ℕ). getD (maskedFactors (parts p) (dealtOf (gatesOf table) d p) 0 (gatesOf table) ++ closingParts (s .candidates) (parts p)) (n + j) 0) (sym (factors-long p))
+            ∙ getD-append-add (maskedFactors (parts p) (dealtOf (gatesOf table) d p) 0 (gatesOf table)) (closingParts (s .candidates) (parts p)) j 0)

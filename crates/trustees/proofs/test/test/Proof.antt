@@ -1,0 +1,148 @@
+-- `trustees::test::test` meets its contract: the list is tested first, then the ballots, then the parts.
+-- Assumes nothing.
+use borrow.Author.Needs.{needs}
+use mathlib.Core.Path.{_≡_, _∙_, refl, sym, ap}
+use mathlib.Core.Bool.{true}
+use mathlib.Core.Option.{Option, none, some}
+use Prim.Native.Nat.{ℕ, zero, suc, _+_, _-_, _*_, _/_, _%_, _≤_, _<_}
+use native.Mathlib.Omega.{arith}
+use lib.ListN.{length}
+use Rattle.gates.specs.Gate.{gatesOf}
+use Rattle.gates.specs.Board.{conditionalCount}
+use Rattle.gates.proofs.Counting.{count-most}
+use Rattle.gates.proofs.Evaluating.{accepted-list}
+use Rattle.jury.specs.Shape.{withinLimits, ballotBytes}
+use Rattle.jury.specs.Reason.{Reason, reasonOf, refusedFor, firstOf}
+use Rattle.jury.specs.Ballots.{ballotReasons}
+use Rattle.jury.proofs.Flags.{true-T}
+use Rattle.jury.proofs.AcceptedLaws as ballots-laws
+use Rattle.tally.specs.Answer.{Size, refused, said, saidBy, sizeOf}
+use Rattle.tally.specs.Test.{testReasons, testSaid}
+use Rattle.tally.proofs.TestReasons.{TestPassed, test-passed}
+use Rattle.shares.specs.Views.{Dealing}
+use Rattle.trustees.specs.Shared.{sharedReasons}
+use Rattle.trustees.specs.Inner.{SmallSizes}
+use Rattle.trustees.proofs.Reasons.{by-test, by-ballots, by-parts, small-sizes}
+use Rattle.trustees.proofs.test.test.Statement.{statement}
+use Rattle.trustees.proofs.test.test.Tie as tie
+
+abbrev dealing : tie.Start → Dealing
+dealing s = record { ballotParts = s .args .parts .now; dealerParts = s .args .dealt .now }
+
+-- the first reason decides of the answer
+refuses : (start : tie.Start) (r : Reason) → let a = start .args in firstOf (sharedReasons (a .shape) (a .table .now) (a .ballots .now) (a .t) (dealing start) (a .wires .now) (a .published .now)) ≡ some r
+    → refused r ≡ said (firstOf (sharedReasons (a .shape) (a .table .now) (a .ballots .now) (a .t) (dealing start) (a .wires .now) (a .published .now))) (sizeOf (gatesOf (a .table .now)))
+unfolding said
+refuses start r e = sym (ap (λ (o : Option Reason). said o (sizeOf (gatesOf (start .args .table .now)))) e)
+
+-- past the test of the list
+size : tie.After-known-told → Size
+size c = let g = c .before .answer .given in record { gates = g .0 .0; conditional = g .0 .1 .0 }
+
+passed : (c : tie.After-known-told) → let a = c .before .before .before .before .before .before .before .before .before .before .args in TestPassed (a .shape) (a .table .now) (size c)
+unfolding saidBy size
+passed c =
+    let a = c .before .before .before .before .before .before .before .before .before .before .args in
+    test-passed (a .shape) (a .table .now) (size c) (sym (c .before .before .before .test .ensures) ∙ ap saidBy (c .before .answer .given .1))
+
+-- past the test of the ballots
+no-reason : (c : tie.After-enum-told2) → let a = c .before .before .before .before .before .before .before .before .before .before .before .before .before .args in firstOf (ballotReasons (a .shape) (a .ballots .now)) ≡ none
+unfolding refusedFor
+no-reason c = sym (c .before .before .test2 .ensures) ∙ ap refusedFor (c .enum-told2 .given .1)
+
+-- what the tests 16 to 18 answer is what the whole answers
+parts-answer : (c : tie.After-test-parts) → let start = c .before .before .before .before .before .before .before .before .before .before .before .before .before .before in let a = start .args in firstOf (sharedReasons (a .shape) (a .table .now) (a .ballots .now) (a .t) (dealing start) (a .wires .now) (a .published .now)) ≡ refusedFor (c .test-parts .result)
+unfolding size
+parts-answer c =
+    let passes = c .before in
+    let told = passes .before .before .before in
+    let start = told .before .before .before .before .before .before .before .before .before .before in
+    let a = start .args in
+    by-parts (a .shape) (a .table .now) (a .ballots .now) (a .t) (dealing start) (a .wires .now) (a .published .now) (passed told .reasons) (size told) (refusedFor (c .test-parts .result)) (passed told .size) (no-reason passes) (sym (c .test-parts .ensures))
+
+test-requires : tie.Need-test-requires
+test-requires c κs = search needs
+
+enum-known-answer : tie.Need-enum-known-answer
+enum-known-answer c = search needs
+
+enum-told : tie.Need-enum-told
+enum-told c = search needs
+
+returns : tie.Need-returns
+unfolding saidBy
+returns c =
+    let start = c .before .before .before .before .before .before .before .before .before in
+    let a = start .args in
+    let r = reasonOf (c .enum-told .given .0 .0) in
+    let e = ap saidBy (c .enum-told .given .1) in
+    e ∙ refuses start r (by-test (a .shape) (a .table .now) (a .ballots .now) (a .t) (dealing start) (a .wires .now) (a .published .now) r (sym (c .before .before .test .ensures) ∙ e))
+
+test-requires-2 : tie.Need-test-requires-2
+test-requires-2 c κs = true-T (withinLimits (c .before .before .before .before .before .before .before .before .before .before .args .shape)) (passed c .within)
+
+enum-known-reason : tie.Need-enum-known-reason
+enum-known-reason c = search needs
+
+returns-2 : tie.Need-returns-2
+unfolding saidBy refusedFor
+returns-2 c =
+    let told = c .before .before .before .before in
+    let start = told .before .before .before .before .before .before .before .before .before .before in
+    let a = start .args in
+    let r = reasonOf (c .before .reason .given .0 .0) in
+    refuses start r
+    (by-ballots (a .shape) (a .table .now) (a .ballots .now) (a .t) (dealing start) (a .wires .now) (a .published .now) (passed told .reasons) r
+    (sym (c .before .before .before .test2 .ensures) ∙ ap refusedFor (c .before .reason .given .1)))
+
+enum-told-2 : tie.Need-enum-told-2
+enum-told-2 c = search needs
+
+test-parts-requires : tie.Need-test-parts-requires
+unfolding size
+test-parts-requires c κs =
+    let told = c .before .before .before in
+    let a = told .before .before .before .before .before .before .before .before .before .before .args in
+    small-sizes (a .shape) (a .table .now) (a .ballots .now) (size told) (passed told) (no-reason c)
+
+enum-known-reason-2 : tie.Need-enum-known-reason-2
+enum-known-reason-2 c = search needs
+
+enum-told-3 : tie.Need-enum-told-3
+enum-told-3 c = search needs
+
+returns-3 : tie.Need-returns-3
+unfolding saidBy refusedFor
+returns-3 c =
+    let parts = c .before .before .before in
+    let start = parts .before .before .before .before .before .before .before .before .before .before .before .before .before .before in
+    let r = reasonOf (c .before .reason2 .given .0 .0) in
+    refuses start r (parts-answer parts ∙ ap refusedFor (c .before .reason2 .given .1))
+
+returns-4 : tie.Need-returns-4
+unfolding testSaid refusedFor
+returns-4 c =
+    let parts = c .before .before in
+    let told = parts .before .before .before .before in
+    let a = told .before .before .before .before .before .before .before .before .before .before .args in
+    let none-applies = parts-answer parts ∙ ap refusedFor (c .enum-told3 .given .1) in
+    sym (ap saidBy (told .before .answer .given .1)) ∙ told .before .before .before .test .ensures
+    ∙ ap (λ (o : Option Reason). said o (sizeOf (gatesOf (a .table .now)))) (passed told .reasons ∙ sym none-applies)
+
+pub test-spec : {M : Type 1} → statement M
+test-spec =
+    tie.close
+    (tie.spec
+    test-requires
+    enum-known-answer
+    enum-told
+    returns
+    test-requires-2
+    enum-known-reason
+    returns-2
+    enum-told-2
+    test-parts-requires
+    enum-known-reason-2
+    enum-told-3
+    returns-3
+    returns-4)

@@ -1,0 +1,80 @@
+// The entry point [trustees].
+use jury::shape::Shape;
+use tally::answer::Answer;
+ghost use mathlib.Core.Path.{_≡_};
+ghost use Prim.Native.Nat.{_+_, _*_, _≤_};
+ghost use lib.ListN.{length};
+ghost use Rattle.jury.specs.Counts.{tabulate};
+ghost use Rattle.jury.specs.Gauge.{eightBytes};
+ghost use Rattle.tally.specs.Answer.{saidBy};
+ghost use Rattle.shares.specs.Shares.{opened, part};
+ghost use Rattle.shares.specs.Views.{piece};
+ghost use Rattle.trustees.specs.Shared.{shared};
+
+// G and C of the list, or the first reason that applies; and the opened closing bits: 0 from place k on, and eight zeros
+// on a refusal.
+pub struct Tallied {
+    pub answer: Answer,
+    pub closing: [u8; 8],
+}
+
+// Opens the closing bits, which stand last in each trustee's piece of what is published.
+fn open_closing(t: usize, size: usize, first: usize, k: usize, published: &[u8]) -> [u8; 8]
+    requires { ⌜ (k ≤ 8) × (first + k ≤ size) × (length (now published) ≡ t * size) ⌝ }
+    ensures { λ r. ⌜ r ≡ eightBytes (tabulate k (λ j. opened t (λ p. part (piece size (now (published .entry)) p) (first + j)))) ⌝ }
+{
+    let mut closing = [0u8; 8];
+    let mut j = 0;
+    while j < k {
+        closing[j] = sharing::table::open(published, size, t, first + j);
+        j += 1;
+    }
+    closing
+}
+
+// Runs a list on ballots that t trustees hold in parts, with dealt triples for its conditional gates. The wire parts
+// tell the wires while it runs, so they are emptied once the closing bits are published.
+pub fn run(
+    shape: Shape,
+    table: &[u32],
+    ballots: &[u8],
+    t: usize,
+    parts: &[u8],
+    dealt: &[u8],
+    wires: &mut [u8],
+    published: &mut [u8],
+) -> Tallied
+    ensures { λ r. ⌜ saidBy (r .answer) ≡ (shared shape (now (table .entry)) (now (ballots .entry)) t (record { ballotParts = now (parts .entry); dealerParts = now (dealt .entry) }) (now (wires .entry)) (now (published .entry))) .answer ⌝ }
+    ensures { λ r. ⌜ r .closing ≡ (shared shape (now (table .entry)) (now (ballots .entry)) t (record { ballotParts = now (parts .entry); dealerParts = now (dealt .entry) }) (now (wires .entry)) (now (published .entry))) .closing ⌝ }
+    ensures { λ _. ⌜ now (wires .exit) ≡ (shared shape (now (table .entry)) (now (ballots .entry)) t (record { ballotParts = now (parts .entry); dealerParts = now (dealt .entry) }) (now (wires .entry)) (now (published .entry))) .wireParts ⌝ }
+    ensures { λ _. ⌜ now (published .exit) ≡ (shared shape (now (table .entry)) (now (ballots .entry)) t (record { ballotParts = now (parts .entry); dealerParts = now (dealt .entry) }) (now (wires .entry)) (now (published .entry))) .published ⌝ }
+{
+    let answer = crate::test::test(
+        shape, table, ballots, t, parts, dealt, wires, published,
+    );
+    let Answer::Accepted {
+        gates: _,
+        conditional,
+    } = answer else {
+        return Tallied {
+            answer,
+            closing: [0u8; 8],
+        };
+    };
+    let k = shape.candidates;
+    let factors = 2 * conditional;
+    sharing::evaluate::evaluate(
+        t,
+        ballots.len(),
+        table,
+        conditional,
+        k,
+        parts,
+        dealt,
+        wires,
+        published,
+    );
+    let closing = open_closing(t, factors + k, factors, k, published);
+    tally::empty::empty(wires);
+    Tallied { answer, closing }
+}

@@ -1,0 +1,148 @@
+// Reasons 1 to 6 and 16 to 18.
+use jury::reason::Refusal;
+use jury::reason::Verdict;
+use jury::shape::Shape;
+use tally::answer::Answer;
+ghost use mathlib.Core.Path.{_≡_};
+ghost use mathlib.Core.Bool.{_&&_};
+ghost use Prim.Native.Nat.{_+_, _*_, _≤_};
+ghost use lib.Dec.{leb};
+ghost use lib.ListN.{length};
+ghost use Rattle.gates.specs.Gate.{gatesOf};
+ghost use Rattle.jury.specs.Reason.{refusedFor, firstOf};
+ghost use Rattle.tally.specs.Answer.{saidBy, said, sizeOf};
+ghost use Rattle.sharing.specs.Dealing.{dealtWell};
+ghost use Rattle.trustees.specs.Shared.{tablesFit, partReasons, sharedReasons};
+ghost use Rattle.trustees.specs.Inner.{SmallSizes, DealtSizes};
+
+pub const LEAST_TRUSTEES: usize = 2;
+
+pub const MOST_TRUSTEES: usize = 5;
+
+// Whether there may be so many trustees.
+fn are_trustees(t: usize) -> bool
+    ensures { λ r. ⌜ r ≡ (leb 2 t && leb t 5) ⌝ }
+{
+    if t < LEAST_TRUSTEES {
+        return false;
+    }
+    t <= MOST_TRUSTEES
+}
+
+// Whether the four tables have the lengths that list and shape need.
+fn tables_fit(
+    inputs: usize,
+    outputs: usize,
+    gates: usize,
+    conditional: usize,
+    t: usize,
+    parts: &[u8],
+    dealt: &[u8],
+    wires: &[u8],
+    published: &[u8],
+) -> bool
+    requires { ⌜ SmallSizes inputs outputs gates conditional ⌝ }
+    requires { ⌜ t ≤ 5 ⌝ }
+    ensures { λ r. ⌜ r ≡ tablesFit inputs outputs (record { gates = gates; conditional = conditional }) t (record { ballotParts = now (parts .entry); dealerParts = now (dealt .entry) }) (now (wires .entry)) (now (published .entry)) ⌝ }
+{
+    if parts.len() != t * inputs {
+        return false;
+    }
+    if dealt.len() != t * (3 * conditional) {
+        return false;
+    }
+    if wires.len() != t * (inputs + gates) {
+        return false;
+    }
+    published.len() == t * (2 * conditional + outputs)
+}
+
+// Whether the parts are bits and add up.
+fn is_dealt_well(t: usize, conditional: usize, ballots: &[u8], parts: &[u8], dealt: &[u8]) -> bool
+    requires { ⌜ DealtSizes t conditional (now ballots) (now parts) (now dealt) ⌝ }
+    ensures { λ r. ⌜ r ≡ dealtWell t conditional (now (ballots .entry)) (record { ballotParts = now (parts .entry); dealerParts = now (dealt .entry) }) ⌝ }
+{
+    if !sharing::dealing::only_bits(parts) {
+        return false;
+    }
+    if !sharing::dealing::only_bits(dealt) {
+        return false;
+    }
+    if !sharing::dealing::adds_up(t, ballots, parts) {
+        return false;
+    }
+    sharing::dealing::products_add_up(t, conditional, dealt)
+}
+
+// Reasons 16 to 18.
+fn test_parts(
+    outputs: usize,
+    gates: usize,
+    conditional: usize,
+    ballots: &[u8],
+    t: usize,
+    parts: &[u8],
+    dealt: &[u8],
+    wires: &[u8],
+    published: &[u8],
+) -> Verdict
+    requires { ⌜ SmallSizes (length (now ballots)) outputs gates conditional ⌝ }
+    ensures { λ r. ⌜ refusedFor r ≡ firstOf (partReasons outputs (record { gates = gates; conditional = conditional }) (now (ballots .entry)) t (record { ballotParts = now (parts .entry); dealerParts = now (dealt .entry) }) (now (wires .entry)) (now (published .entry))) ⌝ }
+{
+    if !are_trustees(t) {
+        return Verdict::Refused(Refusal::Trustees);
+    }
+    if !tables_fit(
+        ballots.len(),
+        outputs,
+        gates,
+        conditional,
+        t,
+        parts,
+        dealt,
+        wires,
+        published,
+    ) {
+        return Verdict::Refused(Refusal::PartTables);
+    }
+    if !is_dealt_well(t, conditional, ballots, parts, dealt) {
+        return Verdict::Refused(Refusal::Dealing);
+    }
+    Verdict::Accepted
+}
+
+// All of them in checking order.
+pub(crate) fn test(
+    shape: Shape,
+    table: &[u32],
+    ballots: &[u8],
+    t: usize,
+    parts: &[u8],
+    dealt: &[u8],
+    wires: &[u8],
+    published: &[u8],
+) -> Answer
+    ensures { λ r. ⌜ saidBy r ≡ said (firstOf (sharedReasons shape (now (table .entry)) (now (ballots .entry)) t (record { ballotParts = now (parts .entry); dealerParts = now (dealt .entry) }) (now (wires .entry)) (now (published .entry)))) (sizeOf (gatesOf (now (table .entry)))) ⌝ }
+{
+    let answer = tally::test::test(shape, table);
+    let Answer::Accepted { gates, conditional } = answer else {
+        return answer;
+    };
+    if let Verdict::Refused(reason) = jury::ballots::test(shape, ballots) {
+        return Answer::Refused(reason);
+    }
+    match test_parts(
+        shape.candidates,
+        gates,
+        conditional,
+        ballots,
+        t,
+        parts,
+        dealt,
+        wires,
+        published,
+    ) {
+        Verdict::Refused(reason) => Answer::Refused(reason),
+        Verdict::Accepted => answer,
+    }
+}

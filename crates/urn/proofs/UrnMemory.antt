@@ -1,0 +1,73 @@
+-- The memory demand holds of the urn.
+-- Assumes nothing.
+use mathlib.Core.Path.{_≡_, _∙_, refl, sym, ap}
+use mathlib.Core.Option.{Option, none, some}
+use mathlib.Core.List.{List, [], _∷_, _++_}
+use Prim.Native.Nat.{ℕ, _+_, _-_}
+use lib.Dec.{T}
+use lib.ListN.{length}
+use Rattle.jury.specs.declared.shape.Shape.{Shape}
+use Rattle.jury.specs.Reason.{Reason, reasonAt, unless, firstOf}
+use Rattle.jury.specs.Ballots.{ballotReasons}
+use Rattle.tally.specs.Answer.{Said, refused, accepted, said, hasNumberIn}
+use Rattle.tally.proofs.Numbering.{All, first-fine, both, unless-fine, found-fine, said-fine, refused-fine}
+use Rattle.chains.specs.Sound.{juryOfOne}
+use Rattle.urn.specs.declared.facts.Facts.{Facts}
+use Rattle.urn.specs.Facts.{factsOf, afterwards}
+use Rattle.urn.specs.Admit.{admitReasons, admitSaid, admitted}
+use Rattle.urn.specs.Withdraw.{withdrawReasons, withdrawSaid, withdrawn}
+use Rattle.urn.specs.Empty.{emptyReasons, emptySaid, emptied}
+use Rattle.urn.specs.Theorems.{AfterEmptying, AfterAdmission, AfterWithdrawal, UrnHolds}
+use Rattle.urn.specs.Memory.{UrnMemory}
+use Rattle.urn.proofs.Deciding.{refused-kept}
+use Rattle.urn.proofs.UrnTheorems.{urn-holds}
+
+-- the numbers that concern an admission
+admitting : List ℕ
+admitting = 1 ∷ 13 ∷ 14 ∷ 4 ∷ 5 ∷ 6 ∷ 15 ∷ []
+
+ballots-fine : (s : Shape) (xs : List ℕ) → All admitting (ballotReasons s xs)
+unfolding All ballotReasons hasNumberIn reasonAt admitting
+ballots-fine s xs = (unless-fine admitting _ 4 tt, (found-fine admitting 5 _ (λ i. tt), (found-fine admitting 6 _ (λ i. tt), tt)))
+
+admit-fine : (k d : ℕ) (f : Facts) (j : ℕ) (x : List ℕ) → All admitting (admitReasons k d f j x)
+unfolding All admitReasons hasNumberIn reasonAt admitting
+admit-fine k d f j x =
+    (unless-fine admitting _ 1 tt, (unless-fine admitting _ 13 tt, (unless-fine admitting _ 14 tt, both admitting (ballotReasons (juryOfOne k d) x) _ (ballots-fine (juryOfOne k d) x) (unless-fine admitting _ 15 tt, tt))))
+
+admit-numbered : (k d : ℕ) (f : Facts) (j : ℕ) (x : List ℕ) (r : Reason) → admitSaid k d f j x ≡ refused r → T (hasNumberIn (1 ∷ 13 ∷ 14 ∷ 4 ∷ 5 ∷ 6 ∷ 15 ∷ []) r)
+unfolding admitSaid admitting
+admit-numbered k d f j x r e = refused-fine admitting (admitSaid k d f j x) r (said-fine admitting _ _ (first-fine admitting (admitReasons k d f j x) (admit-fine k d f j x))) e
+
+withdraw-numbered : (k d : ℕ) (f : Facts) (j : ℕ) (r : Reason) → withdrawSaid k d f j ≡ refused r → T (hasNumberIn (1 ∷ 13 ∷ 14 ∷ []) r)
+unfolding withdrawSaid withdrawReasons All hasNumberIn reasonAt
+withdraw-numbered k d f j r e =
+    let ns : List ℕ = 1 ∷ 13 ∷ 14 ∷ [] in
+    refused-fine ns (withdrawSaid k d f j) r (said-fine ns _ _ (first-fine ns (withdrawReasons k d f j) (unless-fine ns _ 1 tt, (unless-fine ns _ 13 tt, (unless-fine ns _ 14 tt, tt))))) e
+
+empty-numbered : (k d : ℕ) (table : List ℕ) (r : Reason) → emptySaid k d table ≡ refused r → T (hasNumberIn (1 ∷ 13 ∷ []) r)
+unfolding emptySaid emptyReasons All hasNumberIn reasonAt
+empty-numbered k d table r e =
+    let ns : List ℕ = 1 ∷ 13 ∷ [] in
+    refused-fine ns (emptySaid k d table) r (said-fine ns _ _ (first-fine ns (emptyReasons k d table) (unless-fine ns _ 1 tt, (unless-fine ns _ 13 tt, tt)))) e
+
+-- a length stays where it stays after a refusal and after an accepted call
+kept : (o : Option Reason) (v : ℕ) (new old : List ℕ) → ((count : ℕ) → said o v ≡ accepted count → length (afterwards o new old) ≡ length old) → length (afterwards o new old) ≡ length old
+unfolding said afterwards
+kept none v new old f = f v refl
+kept (some r) v new old f = refl
+
+pub urn-memory : UrnMemory
+unfolding admitSaid admitted withdrawSaid withdrawn emptySaid emptied
+urn-memory =
+    record {
+      empty-number = empty-numbered;
+      admit-number = λ k d urn j x r e. admit-numbered k d (factsOf k d urn j) j x r e;
+      withdraw-number = λ k d urn j r e. withdraw-numbered k d (factsOf k d urn j) j r e;
+      empty-refused = λ k d table r h. refused-kept (firstOf (emptyReasons k d table)) 0 r _ table h;
+      admit-refused = λ k d urn j x r h. refused-kept (firstOf (admitReasons k d (factsOf k d urn j) j x)) (factsOf k d urn j .ballots + 1) r _ urn h;
+      withdraw-refused = λ k d urn j r h. refused-kept (firstOf (withdrawReasons k d (factsOf k d urn j) j)) (factsOf k d urn j .ballots - 1) r _ urn h;
+      empty-length = λ k d table. kept (firstOf (emptyReasons k d table)) 0 _ table (λ count h. urn-holds .emptying k d table count h .same-length);
+      admit-length = λ k d urn j x. kept (firstOf (admitReasons k d (factsOf k d urn j) j x)) (factsOf k d urn j .ballots + 1) _ urn (λ count h. urn-holds .admission k d urn j x count h .same-length);
+      withdraw-length = λ k d urn j. kept (firstOf (withdrawReasons k d (factsOf k d urn j) j)) (factsOf k d urn j .ballots - 1) _ urn (λ count h. urn-holds .withdrawal k d urn j count h .same-length);
+    }

@@ -1,0 +1,45 @@
+// The entry point that makes a lent table an empty urn.
+use crate::admit::is_graded;
+use crate::answer::Answer;
+use chains::sound;
+use jury::reason::Refusal;
+ghost use mathlib.Core.Path.{_≡_};
+ghost use Rattle.chains.specs.Slots.{bytesOf};
+ghost use Rattle.chains.specs.Inner.{SlotTable};
+ghost use Rattle.urn.specs.Facts.{countedBy};
+ghost use Rattle.urn.specs.Empty.{emptySaid, allFree, emptied};
+
+// Frees all slots from 1 on of a table of slots for ballots of `bytes` bytes. Each becomes the first free one, the last
+// slot before the others, so that they are free in order.
+fn free_all(urn: &mut [u8], bytes: usize, slots: usize)
+    requires { ⌜ SlotTable bytes slots (now urn) ⌝ }
+    ensures { λ _. ⌜ now (urn .exit) ≡ bytesOf (allFree slots bytes) ⌝ }
+{
+    tally::empty::empty(urn);
+    let size = 2 + bytes;
+    let mut slot = slots;
+    let mut first = 0u8;
+    while 1 < slot {
+        slot -= 1;
+        urn[slot * size] = first;
+        first = slot as u8;
+    }
+    urn[1] = first;
+}
+
+// Makes a table of the length of an urn an empty one, whatever its bytes were.
+pub fn empty(k: usize, d: usize, urn: &mut [u8]) -> Answer
+    ensures { λ r. ⌜ countedBy r ≡ emptySaid k d (now (urn .entry)) ⌝ }
+    ensures { λ _. ⌜ now (urn .exit) ≡ emptied k d (now (urn .entry)) ⌝ }
+{
+    if !is_graded(k, d) {
+        return Answer::Refused(Refusal::Shape);
+    }
+    let bytes = k * d;
+    let slots = sound::slots_in(bytes, urn.len());
+    if slots == 0 {
+        return Answer::Refused(Refusal::Urn);
+    }
+    free_all(urn, bytes, slots);
+    Answer::Accepted { ballots: 0 }
+}
