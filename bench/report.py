@@ -97,6 +97,25 @@ def plot(times, counts):
     return "\n".join(out) + "\n"
 
 
+URN_GOAL = 1.2
+
+
+def urn_table(folder):
+    """The calls on an urn: rows of the same kind, by slots and ballots in it."""
+    times, counts = read_times(folder / "times"), read_counts(folder)
+    lines = [
+        "| call | k d | slots | ballots | core, ns | C, ns | time ratio | goal | core, instructions | C, instructions | ratio |",
+        "|---|---|--:|--:|--:|--:|--:|--:|--:|--:|--:|",
+    ]
+    above = []
+    for (op, (k, d, slots)), (ballots, core, c, ratio) in times.items():
+        a, b = counts[op, (k, d, slots), "core"], counts[op, (k, d, slots), "c"]
+        lines.append(f"| {op} | {k} {d} | {slots} | {ballots} | {core:.0f} | {c:.0f} | {ratio:.2f} | {URN_GOAL} | {a} | {b} | {a / b:.2f} |")
+        if round(ratio, 2) > URN_GOAL:
+            above.append(f"{op} at {slots} slots")
+    return "\n".join(lines) + "\n\nTime ratios above their goal: " + (", ".join(above) or "none") + "."
+
+
 def machine():
     """Processor and cores, as the system names them."""
     info = pathlib.Path("/proc/cpuinfo")
@@ -108,7 +127,8 @@ def main():
     folder = pathlib.Path(sys.argv[1])
     times, counts = read_times(folder / "times"), read_counts(folder)
     text = f"{table(times, counts)}\n\n{missed(times)}"
-    print(text)
+    urn = urn_table(folder / "urn")
+    print(text, urn, sep="\n\n")
     (HERE / "RESULT.md").write_text(
         "# The core against the same work in C\n\n"
         f"Made by `bench/run` on {machine()}. C is `bench/core.c` by `gcc -O2`, with the same tests made.\n\n"
@@ -118,7 +138,10 @@ def main():
         "- The goal is the most that the time ratio should be. Writing may take twice the time of C, since the core measures the\n"
         "  list in a first pass by the same program, while C has a formula for it.\n"
         "- Instructions are those of one call, counted by callgrind, and repeat.\n\n"
-        f"{text}\n\n![ratios](result.svg)\n"
+        f"{text}\n\n![ratios](result.svg)\n\n"
+        "## The urn\n\n"
+        "C is `tests/library_c/urn_reference.c`. Half of the slots hold ballots; the juror withdrawn is the last of the chain.\n\n"
+        f"{urn}\n"
     )
     (HERE / "result.svg").write_text(plot(times, counts))
 

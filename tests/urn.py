@@ -1,6 +1,6 @@
 #!/usr/bin/env python3
 """The exported calls on an urn against a model written apart, over the static library: soundness of every urn of two and
-three slots over small bytes, damaged urns, urns of 256 slots, pairs of faults, long random sequences of calls, tables of
+three slots over small bytes, every kind of damage, urns of 256 slots, pairs of faults, long random sequences of calls, tables of
 every length made empty, and previews of different urns that have the same told of them.
 Needs gcc and target/staticlib/libjugyvaros.a."""
 import ctypes
@@ -257,6 +257,35 @@ def told(rounds):
     print(f"tests/urn: previews agree on {same} pairs of urns that have the same told of them")
 
 
+def edges():
+    """Lengths about the limits, chains that cross, equal jurors far apart, and an urn handed over with k and d exchanged."""
+    k, d, size = 2, 3, 8
+    for slots, more in itertools.product((1, 2, 255, 256, 257), (-1, 0, 1)):
+        urn = bytearray(slots * size)
+        urn[1] = 1
+        for slot in range(1, slots - 1):
+            urn[slot * size] = (slot + 1) % 256
+        urn = bytes(urn[:more]) if more < 0 else bytes(urn) + bytes(more)
+        answer, _ = compare(k, d, urn, 255, good_ballot(k, d))
+        assert answer == ((0, 0, 1) if more == 0 and 2 <= slots <= 256 else (13, 0, 0)), (slots, more, answer)
+    assert compare(d, k, empty(k, d, 4), 1, good_ballot(d, k))[0] == (0, 0, 1)
+    sound = put_together(k, d, 6, [(s, j, b"\1\0\0\1\0\0") for s, j in ((3, 1), (1, 255), (5, 7))], [2, 4])
+    assert compare(k, d, sound, 9, good_ballot(k, d))[0] == (0, 0, 4)
+    # its rows of three bytes are no rows of two
+    assert compare(d, k, sound, 9, good_ballot(d, k))[0] == (13, 0, 0)
+    places = {"equal jurors in first and last": (5 * size + 1, 1), "juror 0": (size + 1, 0), "chain into the free one": (5 * size, 2),
+              "free chain into the ballots": (4 * size, 3), "self loop": (size, 1), "long loop": (5 * size, 3),
+              "past the last slot": (5 * size, 6), "both chains begin alike": (0, 2), "slots in no chain": (2 * size, 0),
+              "slot 0 not zero": (size - 1, 1), "free slot's juror": (4 * size + 1, 9), "free slot's last byte": (5 * size - 1, 1),
+              "a byte 2": (size + 2, 2), "an empty row": (size + 2, 0)}
+    for what, (place, byte) in places.items():
+        damaged = bytearray(sound)
+        assert damaged[place] != byte, what
+        damaged[place] = byte
+        for juror in (0, 1, 7, 9, 255, 256):
+            assert compare(k, d, bytes(damaged), juror, good_ballot(k, d))[0] == (13, 0, 0), what
+
+
 def short_answers():
     """No call alters anything where the answer array is too short."""
     urn, ballot = empty(1, 2, 3), b"\1\0"
@@ -280,6 +309,7 @@ def main():
     pairs()
     full()
     sequences(150)
+    edges()
     made_empty()
     told(20000)
     short_answers()

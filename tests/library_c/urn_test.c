@@ -1,6 +1,7 @@
 /* Empty urns, admission and withdrawal on heap buffers of exactly the lent length, for valgrind: random calls on sound and damaged urns of any
- * length. What each call answers is compared with its preview, and a refused urn with its copy. */
+ * length. Answer and urn of each call are compared with the reference's on a copy, and the answer with the preview's. */
 #include "../../c/jugyvaros.h"
+#include "urn_reference.h"
 #include <stdio.h>
 #include <stdlib.h>
 #include <string.h>
@@ -19,23 +20,25 @@ static uint8_t *copy_of(const uint8_t *bytes, size_t length) {
 }
 
 static void one_call(size_t k, size_t d, uint8_t *urn, size_t length) {
-    size_t said[JUGY_URN_ANSWER], seen[JUGY_URN_ANSWER];
+    size_t said[JUGY_URN_ANSWER], seen[JUGY_URN_ANSWER], right[JUGY_URN_ANSWER];
     size_t ballot_length = below(8) ? k * d : below(60), juror = below(12) ? 1 + below(6) : below(300);
-    uint8_t *before = copy_of(urn, length), *ballot = calloc(ballot_length ? ballot_length : 1, 1);
+    uint8_t *copy = copy_of(urn, length), *ballot = calloc(ballot_length ? ballot_length : 1, 1);
     for (size_t i = 0; i < ballot_length; i += d ? d : 1)
         ballot[i] = below(20) ? 1 : 2;
     if (below(2)) {
         jugy_preview_admit(k, d, urn, length, juror, ballot, ballot_length, seen, JUGY_URN_ANSWER);
         jugy_admit(k, d, urn, length, juror, ballot, ballot_length, said, JUGY_URN_ANSWER);
+        urn_admit(k, d, copy, length, juror, ballot, ballot_length, right, JUGY_URN_ANSWER);
     } else {
         jugy_preview_withdraw(k, d, urn, length, juror, seen, JUGY_URN_ANSWER);
         jugy_withdraw(k, d, urn, length, juror, said, JUGY_URN_ANSWER);
+        urn_withdraw(k, d, copy, length, juror, right, JUGY_URN_ANSWER);
     }
-    if (memcmp(said, seen, sizeof said) || (said[0] && memcmp(before, urn, length))) {
-        printf("urn_test: a preview differs, or a refusal alters\n");
+    if (memcmp(said, seen, sizeof said) || memcmp(said, right, sizeof said) || memcmp(copy, urn, length)) {
+        printf("urn_test: preview, call and reference differ\n");
         exit(1);
     }
-    free(before);
+    free(copy);
     free(ballot);
 }
 
@@ -47,12 +50,15 @@ int main(int count, char **words) {
         uint8_t *urn = malloc(length ? length : 1);
         for (size_t i = 0; i < length; i++)
             urn[i] = (uint8_t)below(256);
-        size_t said[JUGY_URN_ANSWER];
-        size_t status = jugy_empty_urn(k, d, urn, length, said, JUGY_URN_ANSWER);
-        if (status != (k < 1 || k > 8 || d < 2 || d > 7 ? 1 : length % size || slots < 2 || slots > 256 ? 13 : 0)) {
-            printf("urn_test: a table is made empty that should not be, or the other way round\n");
+        size_t said[JUGY_URN_ANSWER], right[JUGY_URN_ANSWER];
+        uint8_t *copy = copy_of(urn, length);
+        jugy_empty_urn(k, d, urn, length, said, JUGY_URN_ANSWER);
+        urn_empty(k, d, copy, length, right, JUGY_URN_ANSWER);
+        if (memcmp(said, right, sizeof said) || memcmp(copy, urn, length)) {
+            printf("urn_test: an empty urn and the reference's differ\n");
             exit(1);
         }
+        free(copy);
         for (int i = 0; i < 30; i++) {
             one_call(k, d, urn, length);
             if (!below(25))

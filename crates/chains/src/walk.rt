@@ -32,18 +32,19 @@ pub fn wide(byte: u8) -> usize
     byte as usize
 }
 
-// Whether all bytes are 0.
+// Whether all bytes are 0. Each of them is looked at: where a loop may end at any byte, the processor cannot take several at a time.
 pub fn is_zero(bytes: &[u8]) -> bool
     ensures { λ r. ⌜ r ≡ allZero (now (bytes .entry)) ⌝ }
 {
+    let mut zero = true;
     let mut i = 0;
     while i < bytes.len() {
         if bytes[i] != 0 {
-            return false;
+            zero = false;
         }
         i += 1;
     }
-    true
+    zero
 }
 
 // Whether a slot of the ballot chain holds a juror's number and a good ballot. The number of a juror is a byte.

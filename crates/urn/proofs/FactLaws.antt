@@ -8,7 +8,7 @@ use Prim.Native.Nat.{ℕ, zero, suc, _+_, _*_, _-_, _≤_, _<_}
 use native.Mathlib.Omega.{arith}
 use lib.Dec.{T, eqb, eqb·suc-zero}
 use lib.ListN.{length, getD}
-use borrow.Author.Tests.{not-true}
+use borrow.Author.Tests.{eqb-true, not-true}
 use Rattle.jury.specs.Shape.{gradedLimits}
 use Rattle.jury.proofs.Flags.{and-first, and-second, or-first, or-second}
 use Rattle.chains.specs.Slots.{Slot, slotBytes, slotsOf, slotAt}
@@ -24,12 +24,23 @@ use Rattle.chains.proofs.SlotLaws.{slots-length}
 use Rattle.chains.proofs.SoundLaws.{Parts, sound-parts, parts-found, jurors-of-entries}
 use Rattle.chains.proofs.Judging.{table, few-bytes, slots-by-bytes, free-by-bytes, count-by-bytes}
 
+found-slot : (a b p s : ℕ) → Found a b ≡ Found p s → s ≡ b
+found-slot a b p s e = cc
+
 pub link-found : (S : List Slot) (j b : ℕ) (is : List ℕ) (p s : ℕ) → linkOf S j b is ≡ Found p s → member j (jurorsAt S is) ≡ true
 unfolding linkOf jurorsAt member
 link-found S j b [] p s e = let z : _≡_ {A = ℕ} 0 1 = cc in absurd (omega arith)
 link-found S j b (i ∷ is) p s e =
     ⊎-elim (λ h. or-first (eqb j (slotAt S i .juror)) (member j (jurorsAt S is)) (eqb-sym j (slotAt S i .juror) ∙ h))
     (λ h. or-second (eqb j (slotAt S i .juror)) (member j (jurorsAt S is)) (link-found S j i is p s (ap (λ (t : Bool). cond t (Found b i) (linkOf S j i is)) (sym h) ∙ e)))
+    (true-or-false (eqb (slotAt S i .juror) j))
+
+pub link-juror : (S : List Slot) (j b : ℕ) (is : List ℕ) (p s : ℕ) → linkOf S j b is ≡ Found p s → slotAt S s .juror ≡ j
+unfolding linkOf
+link-juror S j b [] p s e = let z : _≡_ {A = ℕ} 0 1 = cc in absurd (omega arith)
+link-juror S j b (i ∷ is) p s e =
+    ⊎-elim (λ h. ap (λ (m : ℕ). slotAt S m .juror) (found-slot b i p s (ap (λ (t : Bool). cond t (Found b i) (linkOf S j i is)) (sym h) ∙ e)) ∙ eqb-true (slotAt S i .juror) j h)
+    (λ h. link-juror S j i is p s (ap (λ (t : Bool). cond t (Found b i) (linkOf S j i is)) (sym h) ∙ e))
     (true-or-false (eqb (slotAt S i .juror) j))
 
 pub link-absent : (S : List Slot) (j b : ℕ) (is : List ℕ) → linkOf S j b is ≡ Absent → member j (jurorsAt S is) ≡ false

@@ -33,7 +33,7 @@ unfolding slotBytes slotOf slotsOf slotAt chain ends entryAt ballotSlots ballotC
 loop-unsound = refl
 
 pub emptying : emptied 1 2 (9 ∷ 9 ∷ 9 ∷ 9 ∷ 9 ∷ 9 ∷ 9 ∷ 9 ∷ 9 ∷ 9 ∷ 9 ∷ 9 ∷ []) ≡ 0 ∷ 1 ∷ 0 ∷ 0 ∷ 2 ∷ 0 ∷ 0 ∷ 0 ∷ 0 ∷ 0 ∷ 0 ∷ 0 ∷ []
-unfolding slotBytes bytesOfSlot bytesOf freeSlot firstEntry firstFree withBallots withFree headSlot layout juryOfOne slotCount urnLength gradedShape afterwards emptyReasons allFree emptied withinLimits unless firstOf tabulate
+unfolding slotBytes bytesOfSlot bytesOf freeSlot firstEntry firstFree withBallots withFree headSlot layout juryOfOne slotCount urnLength gradedShape afterwards emptyReasons allFree emptied gradedLimits unless firstOf tabulate
 emptying = refl
 
 pub admission : admitted 1 2 emptyUrn 9 (0 ∷ 1 ∷ []) ≡ oneBallotIn

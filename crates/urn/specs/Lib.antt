@@ -1,3 +1,4 @@
+pub mod Inner
 pub mod Facts
 pub mod Admit
 pub mod Withdraw

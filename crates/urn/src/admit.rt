@@ -78,8 +78,8 @@ pub fn preview(k: usize, d: usize, urn: &[u8], juror: usize, ballot: &[u8]) -> A
     if !is_graded(k, d) {
         return Answer::Refused(Refusal::Shape);
     }
-    let facts = facts::facts_of(k, d, urn, juror);
-    decide(k, d, facts, juror, ballot)
+    let looked = facts::look(k, d, urn, juror);
+    decide(k, d, looked.facts, juror, ballot)
 }
 
 // Puts a ballot in the first free slot, and that slot first in the ballot chain.

@@ -4,10 +4,12 @@ use chains::find::Link;
 use chains::sound;
 use chains::sound::Soundness;
 ghost use mathlib.Core.Path.{_≡_};
+ghost use mathlib.Core.Bool.{true};
 ghost use Prim.Native.Nat.{_≤_};
 ghost use lib.Dec.{T};
 ghost use Rattle.jury.specs.Shape.{gradedLimits};
 ghost use Rattle.chains.specs.Sound.{juryOfOne};
+ghost use Rattle.urn.specs.Inner.{linkIn};
 ghost use Rattle.urn.specs.Facts.{factsOf};
 
 // Of a sound urn the number of ballots, whether a juror's is among them, and whether no slot is free. Of any other
@@ -19,34 +21,50 @@ pub struct Facts {
     pub full: bool,
 }
 
-pub(crate) fn facts_of(k: usize, d: usize, urn: &[u8], juror: usize) -> Facts
+// The facts, and where the juror's ballot lies in a sound urn.
+pub(crate) struct Looked {
+    pub(crate) facts: Facts,
+    pub(crate) link: Link,
+}
+
+pub(crate) fn look(k: usize, d: usize, urn: &[u8], juror: usize) -> Looked
     requires { ⌜ T (gradedLimits (juryOfOne k d)) ⌝ }
-    ensures { λ r. ⌜ r ≡ factsOf k d (now (urn .entry)) juror ⌝ }
-    ensures { λ r. ⌜ r .ballots ≤ 256 ⌝ }
+    ensures { λ r. ⌜ r .facts ≡ factsOf k d (now (urn .entry)) juror ⌝ }
+    ensures { λ r. ⌜ r .facts .ballots ≤ 256 ⌝ }
+    ensures { λ r. ⌜ (r .facts .sound ≡ true → r .link ≡ linkIn k d (now (urn .entry)) juror) ⌝ }
 {
     let Soundness::Sound { ballots } = sound::test(k, d, urn) else {
-        return Facts {
-            sound: false,
-            ballots: 0,
-            present: false,
-            full: false,
+        return Looked {
+            facts: Facts {
+                sound: false,
+                ballots: 0,
+                present: false,
+                full: false,
+            },
+            link: Link::Absent,
         };
     };
     let bytes = k * d;
     let slots = urn.len() / (2 + bytes);
     let full = urn[1] == 0;
     match find::find(urn, bytes, slots, juror) {
-        Link::Found { before: _, slot: _ } => Facts {
-            sound: true,
-            ballots,
-            present: true,
-            full,
+        Link::Found { before, slot } => Looked {
+            facts: Facts {
+                sound: true,
+                ballots,
+                present: true,
+                full,
+            },
+            link: Link::Found { before, slot },
         },
-        Link::Absent => Facts {
-            sound: true,
-            ballots,
-            present: false,
-            full,
+        Link::Absent => Looked {
+            facts: Facts {
+                sound: true,
+                ballots,
+                present: false,
+                full,
+            },
+            link: Link::Absent,
         },
     }
 }

@@ -5,17 +5,17 @@ use crate::answer::Answer;
 use crate::facts;
 use crate::facts::Facts;
 use crate::put;
-use chains::find;
 use chains::find::Link;
 use jury::reason::Refusal;
 ghost use mathlib.Core.Path.{_≡_};
 ghost use mathlib.Core.Bool.{true};
 ghost use Prim.Native.Nat.{_*_};
 ghost use lib.Dec.{T};
-ghost use Rattle.chains.specs.Slots.{bytesOf};
-ghost use Rattle.chains.specs.Chains.{ballotChain};
-ghost use Rattle.chains.specs.Sound.{member, urnSlots, sound};
-ghost use Rattle.urn.specs.Facts.{gradedShape, jurorsOf, factsOf, countedBy};
+ghost use Rattle.chains.specs.Slots.{bytesOf, slotAt};
+ghost use Rattle.chains.specs.Sound.{urnSlots, sound};
+ghost use Rattle.chains.specs.declared.find.Link.the-variants.{Found};
+ghost use Rattle.urn.specs.Inner.{linkIn};
+ghost use Rattle.urn.specs.Facts.{gradedShape, factsOf, countedBy};
 ghost use Rattle.urn.specs.Withdraw.{withdrawSaid, withoutBallot, withdrawn};
 
 // The answer to a withdrawal, by what is asked of the urn alone.
@@ -48,23 +48,19 @@ pub fn preview(k: usize, d: usize, urn: &[u8], juror: usize) -> Answer
     if !is_graded(k, d) {
         return Answer::Refused(Refusal::Shape);
     }
-    let facts = facts::facts_of(k, d, urn, juror);
-    decide(k, d, facts, juror)
+    let looked = facts::look(k, d, urn, juror);
+    decide(k, d, looked.facts, juror)
 }
 
-// Takes the ballot of a juror out, and puts its slot first in the free chain.
-fn take_ballot(k: usize, d: usize, urn: &mut [u8], juror: usize)
+// Takes out the ballot in this slot, which follows slot `before` in the ballot chain, and puts its slot first in the free chain.
+fn take_ballot(k: usize, d: usize, urn: &mut [u8], before: usize, slot: usize)
     requires { ⌜ sound k d (now urn) ≡ true ⌝ }
-    requires { ⌜ member juror (jurorsOf (ballotChain (urnSlots k d (now urn)))) ≡ true ⌝ }
+    requires { ⌜ linkIn k d (now urn) (slotAt (urnSlots k d (now urn)) slot .juror) ≡ Found before slot ⌝ }
     requires { ⌜ T (gradedShape k d) ⌝ }
-    ensures { λ _. ⌜ now (urn .exit) ≡ bytesOf (withoutBallot (k * d) (urnSlots k d (now (urn .entry))) juror) ⌝ }
+    ensures { λ _. ⌜ now (urn .exit) ≡ bytesOf (withoutBallot (k * d) (urnSlots k d (now (urn .entry))) (slotAt (urnSlots k d (now (urn .entry))) slot .juror)) ⌝ }
 {
     let bytes = k * d;
     let size = 2 + bytes;
-    let slots = urn.len() / size;
-    let Link::Found { before, slot } = find::find(urn, bytes, slots, juror) else {
-        return;
-    };
     let zeros = [0u8; 56];
     let from = before * size;
     let at = slot * size;
@@ -79,9 +75,16 @@ pub fn withdraw(k: usize, d: usize, urn: &mut [u8], juror: usize) -> Answer
     ensures { λ r. ⌜ countedBy r ≡ withdrawSaid k d (factsOf k d (now (urn .entry)) juror) juror ⌝ }
     ensures { λ _. ⌜ now (urn .exit) ≡ withdrawn k d (now (urn .entry)) juror ⌝ }
 {
-    let answer = preview(k, d, urn, juror);
+    if !is_graded(k, d) {
+        return Answer::Refused(Refusal::Shape);
+    }
+    let looked = facts::look(k, d, urn, juror);
+    let link = looked.link;
+    let answer = decide(k, d, looked.facts, juror);
     if let Answer::Accepted { ballots: _ } = answer {
-        take_ballot(k, d, urn, juror);
+        if let Link::Found { before, slot } = link {
+            take_ballot(k, d, urn, before, slot);
+        }
     }
     answer
 }

@@ -6,7 +6,7 @@ use Prim.Native.Nat.{ℕ, _*_}
 use lib.Dec.{T}
 use lib.ListN.{length}
 use borrow.Author.Tests.{not-true, not-false}
-use Rattle.jury.specs.Shape.{withinLimits}
+use Rattle.jury.specs.Shape.{gradedLimits}
 use Rattle.jury.specs.Reason.{reasonOf}
 use Rattle.jury.proofs.Flags.{true-T}
 use Rattle.chains.specs.Slots.{bytesOf}
@@ -26,7 +26,7 @@ use Rattle.urn.proofs.empty.empty.Tie as tie
 graded : (c : tie.Else1) → gradedShape (c .before .before .before .args .k) (c .before .before .before .args .d) ≡ true
 graded c = sym (c .before .is-graded .ensures) ∙ not-false _ (c .if1 .left)
 
-within : (c : tie.Else1) → T (withinLimits (juryOfOne (c .before .before .before .args .k) (c .before .before .before .args .d)))
+within : (c : tie.Else1) → T (gradedLimits (juryOfOne (c .before .before .before .args .k) (c .before .before .before .args .d)))
 within c = graded-within (c .before .before .before .args .k) (c .before .before .before .args .d) (true-T _ (graded c))
 
 is-graded-requires : tie.Need-is-graded-requires

@@ -1,74 +1,181 @@
--- `urn::withdraw::withdraw` meets its contract: the preview decides, and only an accepted withdrawal takes the ballot out.
+-- `urn::withdraw::withdraw` meets its contract: the facts decide, and only an accepted withdrawal takes the ballot out.
 -- Assumes nothing.
 use mathlib.Core.Path.{_≡_, _∙_, refl, sym, ap}
 use mathlib.Core.Bool.{Bool, true, false}
 use mathlib.Core.Option.{none}
 use mathlib.Core.List.{List}
+use Prim.Native.Nat.{ℕ, _*_}
+use lib.Dec.{T}
+use lib.ListN.{length, getD}
+use borrow.Author.Tests.{not-true, not-false}
+use Rattle.jury.specs.Shape.{gradedLimits}
 use Rattle.jury.specs.Reason.{reasonOf, firstOf}
 use Rattle.jury.proofs.Flags.{and-second, true-T}
-use Rattle.chains.specs.Sound.{goodJuror}
-use Rattle.urn.specs.Facts.{factsOf, countedBy, afterwards}
-use Rattle.urn.specs.Withdraw.{withdrawReasons, withdrawSaid, withdrawn}
-use Rattle.urn.proofs.FactLaws.{facts-sound, facts-present}
-use Rattle.urn.proofs.Deciding.{Withdrawable, withdrawable, accepted-none, refused-kept, none-new}
+use Rattle.chains.specs.Slots.{bytesOf, slotAt}
+use Rattle.chains.specs.Chains.{chain, ballotChain}
+use Rattle.chains.specs.Sound.{member, juryOfOne, goodJuror, slotCount, urnSlots, sound}
+use Rattle.chains.specs.declared.find.Link.the-variants.{Found}
+use Rattle.chains.proofs.Judging.{clash}
+use Rattle.urn.specs.declared.facts.Facts.{Facts}
+use Rattle.urn.specs.Inner.{linkIn}
+use Rattle.urn.specs.Facts.{gradedShape, jurorsOf, factsOf, countedBy, afterwards}
+use Rattle.urn.specs.Withdraw.{withdrawReasons, withdrawSaid, withoutBallot, withdrawn}
+use Rattle.urn.proofs.FactLaws.{link-juror, link-absent, jurors-are, facts-sound, facts-present}
+use Rattle.urn.proofs.Deciding.{Withdrawable, withdrawable, accepted-none, refused-kept, none-new, some-old, withdraw-first, withdraw-1, said-refused, graded-within}
 use native.Mathlib.Omega.{arith}
 use borrow.Author.Needs.{needs}
 use Rattle.urn.proofs.withdraw.withdraw.Statement.{statement}
 use Rattle.urn.proofs.withdraw.withdraw.Tie as tie
 
+-- the shape is that of a jury that grades
+graded : (c : tie.Else1) → T (gradedShape (c .before .before .before .args .k) (c .before .before .before .args .d))
+graded c = true-T _ (sym (c .before .is-graded .ensures) ∙ not-false _ (c .if1 .left))
+
+-- the answer is that of the definition
+answered : (D : tie.After-decide) →
+    let a = D .before .before .before .before .before .before .args in
+    countedBy (D .decide .result) ≡ withdrawSaid (a .k) (a .d) (factsOf (a .k) (a .d) (a .urn .now) (a .juror)) (a .juror)
+answered D =
+    let a = D .before .before .before .before .before .before .args in
+    D .decide .ensures ∙ ap (λ (x : Facts). withdrawSaid (a .k) (a .d) x (a .juror)) (D .before .look .ensures .0)
+
 -- an accepted answer has no reason against it
-no-reason : (c : tie.After-enum-told) →
-    let a = c .before .before .before .before .before .args in
+no-reason : (e : tie.After-enum-told) →
+    let a = e .before .before .before .before .before .before .before .before .args in
     firstOf (withdrawReasons (a .k) (a .d) (factsOf (a .k) (a .d) (a .urn .now) (a .juror)) (a .juror)) ≡ none
 unfolding withdrawSaid countedBy
-no-reason c = accepted-none _ _ _ (sym (c .before .before .preview .ensures) ∙ ap countedBy (c .enum-told .given .1))
+no-reason e = accepted-none _ _ _ (sym (answered (e .before .before)) ∙ ap countedBy (e .enum-told .given .1))
 
-preview-requires : tie.Need-preview-requires
-preview-requires c κs = search needs
+passed : (e : tie.After-enum-told) →
+    let a = e .before .before .before .before .before .before .before .before .args in
+    Withdrawable (a .k) (a .d) (factsOf (a .k) (a .d) (a .urn .now) (a .juror)) (a .juror)
+passed e =
+    let a = e .before .before .before .before .before .before .before .before .args in
+    withdrawable (a .k) (a .d) (factsOf (a .k) (a .d) (a .urn .now) (a .juror)) (a .juror) (no-reason e)
+
+limits : (e : tie.After-enum-told) → T (gradedLimits (juryOfOne (e .before .before .before .before .before .before .before .before .args .k) (e .before .before .before .before .before .before .before .before .args .d)))
+limits e =
+    let a = e .before .before .before .before .before .before .before .before .args in
+    graded-within (a .k) (a .d) (true-T _ (passed e .graded))
+
+its-sound : (e : tie.After-enum-told) → sound (e .before .before .before .before .before .before .before .before .args .k) (e .before .before .before .before .before .before .before .before .args .d) (e .before .before .before .before .before .before .before .before .args .urn .now) ≡ true
+its-sound e =
+    let a = e .before .before .before .before .before .before .before .before .args in
+    facts-sound (a .k) (a .d) (a .urn .now) (a .juror) (passed e .isSound)
+
+-- the juror's ballot is in, and the look found it
+inside : (e : tie.After-enum-told) →
+    let a = e .before .before .before .before .before .before .before .before .args in
+    member (a .juror) (jurorsOf (ballotChain (urnSlots (a .k) (a .d) (a .urn .now)))) ≡ true
+inside e =
+    let a = e .before .before .before .before .before .before .before .before .args in
+    facts-present (a .k) (a .d) (a .urn .now) (a .juror) (its-sound e) (and-second (goodJuror (a .juror)) (factsOf (a .k) (a .d) (a .urn .now) (a .juror) .present) (passed e .juror))
+
+found : (e : tie.After-enum-told) →
+    let a = e .before .before .before .before .before .before .before .before .args in
+    e .before .before .before .look .result .link ≡ linkIn (a .k) (a .d) (a .urn .now) (a .juror)
+found e =
+    let l = e .before .before .before .look in
+    l .ensures .1 .1 (ap (λ (f : Facts). f .sound) (l .ensures .0) ∙ passed e .isSound)
+
+-- the slot that was found holds the juror's ballot
+whose : (e : tie.After-enum-told) (p s : ℕ) → e .before .before .before .look .result .link ≡ Found p s →
+    let a = e .before .before .before .before .before .before .before .before .args in
+    slotAt (urnSlots (a .k) (a .d) (a .urn .now)) s .juror ≡ a .juror
+unfolding linkIn
+whose e p s h =
+    let a = e .before .before .before .before .before .before .before .before .args in
+    let S = urnSlots (a .k) (a .d) (a .urn .now) in
+    link-juror S (a .juror) 0 (chain (slotCount (a .k * a .d) (length (a .urn .now))) (getD (a .urn .now) 0 0) S) p s (sym (found e) ∙ h)
+
+is-graded-requires : tie.Need-is-graded-requires
+is-graded-requires c κs = tt
+
+returns : tie.Need-returns
+unfolding withdrawSaid withdrawn countedBy reasonOf
+returns c =
+    let a = c .before .before .before .args in
+    let e = withdraw-first (a .k) (a .d) (factsOf (a .k) (a .d) (a .urn .now) (a .juror)) (a .juror) ∙ withdraw-1 _ _ _ (sym (c .before .is-graded .ensures) ∙ not-true _ (c .if1 .taken)) in
+    (said-refused _ _ _ e, some-old _ _ _ _ e)
+
+look-requires : tie.Need-look-requires
+look-requires c κs =
+    let g = c .before in
+    let a = g .before .before .before .args in
+    graded-within (a .k) (a .d) (graded g)
+
+decide-requires : tie.Need-decide-requires
+decide-requires c κs =
+    graded (c .before .before)
 
 enum-told : tie.Need-enum-told
 enum-told c = search needs
 
+enum-known-link : tie.Need-enum-known-link
+enum-known-link c = search needs
+
 take-ballot-requires : tie.Need-take-ballot-requires
 take-ballot-requires c κs =
-    let t = c .before in
-    let s = t .before .before .before .before .before in
-    let a = s .args in
-    let f = factsOf (a .k) (a .d) (a .urn .now) (a .juror) in
-    let p = withdrawable (a .k) (a .d) f (a .juror) (no-reason t) in
-    let e = facts-sound (a .k) (a .d) (a .urn .now) (a .juror) (p .isSound) in
-    (e, (facts-present (a .k) (a .d) (a .urn .now) (a .juror) e (and-second (goodJuror (a .juror)) (f .present) (p .juror)), true-T _ (p .graded)))
+    let e = c .before .before .before .before in
+    let a = c .before .before .before .before .before .before .before .before .before .before .before .before .args in
+    (its-sound e, (ap (linkIn (a .k) (a .d) (a .urn .now)) (whose e _ _ (c .before .before .link .given .1)) ∙ sym (found e) ∙ c .before .before .link .given .1, graded (e .before .before .before .before .before)))
 
 enum-told-2 : tie.Need-enum-told-2
 enum-told-2 c = search needs
 
-same-length : tie.Need-same-length
-same-length c =
-    c .before .before .take-ballot .kept .1 .1 .0
+enum-told-3 : tie.Need-enum-told-3
+enum-told-3 c = search needs
 
-returns : tie.Need-returns
+same-length : tie.Need-same-length
+same-length c = search needs
+
+returns-2 : tie.Need-returns-2
 unfolding withdrawn
-returns c =
-    let t = c .before .before .before .before in
-    (t .before .before .preview .ensures, c .before .before .take-ballot .ensures ∙ sym (none-new _ _ _ (no-reason t)))
+returns-2 c =
+    let e = c .before .before .before .before .before .before .before in
+    let a = e .before .before .before .before .before .before .before .before .args in (
+      answered (e .before .before),
+      c .before .before .take-ballot .ensures
+          ∙ ap (λ (j : ℕ). bytesOf (withoutBallot (a .k * a .d) (urnSlots (a .k) (a .d) (a .urn .now)) j)) (whose e _ _ (c .before .before .before .before .before .link .given .1))
+          ∙ sym (none-new _ _ _ (no-reason e)),
+    )
 
 same-length-2 : tie.Need-same-length-2
 same-length-2 c = search needs
 
-returns-2 : tie.Need-returns-2
+returns-3 : tie.Need-returns-3
+unfolding linkIn urnSlots
+returns-3 c =
+    let e = c .before .before in
+    let a = e .before .before .before .before .before .before .before .before .args in
+    absurd
+    (clash (member (a .juror) (jurorsOf (ballotChain (urnSlots (a .k) (a .d) (a .urn .now))))) (inside e)
+    (ap (member (a .juror)) (jurors-are (a .k) (a .d) (a .urn .now) (limits e) (its-sound e)) ∙ link-absent _ _ _ _ (sym (found e) ∙ c .enum-told2 .given .1)))
+
+same-length-3 : tie.Need-same-length-3
+same-length-3 c = search needs
+
+returns-4 : tie.Need-returns-4
 unfolding withdrawn withdrawSaid countedBy
-returns-2 c =
-    (c .before .before .preview .ensures, sym (refused-kept _ _ _ _ _ (sym (c .before .before .preview .ensures) ∙ ap countedBy (c .enum-told2 .given .1))))
+returns-4 c =
+    (answered (c .before .before), sym (refused-kept _ _ _ _ _ (sym (answered (c .before .before)) ∙ ap countedBy (c .enum-told3 .given .1))))
 
 pub withdraw-spec : {M : Type 1} → statement M
 withdraw-spec =
     tie.close
     (tie.spec
-    preview-requires
+    is-graded-requires
+    returns
+    look-requires
+    decide-requires
     enum-told
+    enum-known-link
     take-ballot-requires
     enum-told-2
+    enum-told-3
     same-length
-    returns
+    returns-2
     same-length-2
-    returns-2)
+    returns-3
+    same-length-3
+    returns-4)
