@@ -116,6 +116,18 @@ def urn_table(folder):
     return "\n".join(lines) + "\n\nTime ratios above their goal: " + (", ".join(above) or "none") + "."
 
 
+def urn_run_table(path):
+    """The run on an urn, and the run on the same ballots, both beside the run on an urn in C."""
+    lines = ["| shape | gates | core, µs | C, µs | time ratio | goal | run, time ratio |", "|---|--:|--:|--:|--:|--:|--:|"]
+    above = []
+    for line in path.read_text().splitlines():
+        k, d, n, gates, core, c, ratio, plain = line.split()
+        lines.append(f"| {k} {d} {n} | {gates} | {float(core) / 1000:.2f} | {float(c) / 1000:.2f} | {float(ratio):.2f} | {URN_GOAL} | {float(plain):.2f} |")
+        if round(float(ratio), 2) > URN_GOAL:
+            above.append(f"{k} {d} {n}")
+    return "\n".join(lines) + "\n\nTime ratios above their goal: " + (", ".join(above) or "none") + "."
+
+
 def machine():
     """Processor and cores, as the system names them."""
     info = pathlib.Path("/proc/cpuinfo")
@@ -127,8 +139,8 @@ def main():
     folder = pathlib.Path(sys.argv[1])
     times, counts = read_times(folder / "times"), read_counts(folder)
     text = f"{table(times, counts)}\n\n{missed(times)}"
-    urn = urn_table(folder / "urn")
-    print(text, urn, sep="\n\n")
+    urn, urn_run = urn_table(folder / "urn"), urn_run_table(folder / "urn_run_times")
+    print(text, urn, urn_run, sep="\n\n")
     (HERE / "RESULT.md").write_text(
         "# The core against the same work in C\n\n"
         f"Made by `bench/run` on {machine()}. C is `bench/core.c` by `gcc -O2`, with the same tests made.\n\n"
@@ -141,7 +153,10 @@ def main():
         f"{text}\n\n![ratios](result.svg)\n\n"
         "## The urn\n\n"
         "C is `tests/library_c/urn_reference.c`. Half of the slots hold ballots; the juror withdrawn is the last of the chain.\n\n"
-        f"{urn}\n"
+        f"{urn}\n\n"
+        "## The run on an urn\n\n"
+        "C is `bench/urn_run.c`. The urn is full but for one slot. The last column is `run` on the same ballots, beside the same C.\n\n"
+        f"{urn_run}\n"
     )
     (HERE / "result.svg").write_text(plot(times, counts))
 

@@ -1,5 +1,5 @@
 /* Times a run on an urn beside the same work in C, in one run.
- *     urn_run    K D N GATES CORE_NS C_NS RATIO, and the ratio of jugy_run on the same ballots to C, a line
+ *     urn_run    K D N GATES CORE_NS C_NS RATIO RUN_RATIO a line, the last of jugy_run on the same ballots beside the same C
  * Answers, wire tables and boards of both are compared first. The urn is full but for one slot, and its chain goes through the slots
  * backwards. Times and ratios are taken as in bench.c. The file core.c is taken in whole, for its tests and its gates. */
 #include "core.c"

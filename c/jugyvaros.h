@@ -153,7 +153,7 @@ size_t jugy_preview_withdraw(size_t candidates, size_t grades, const uint8_t *by
                              size_t *answer, size_t answer_length);
 
 /* Runs a list on the ballots in an urn, in the order of its ballot chain: answer[2] is G, answer[3] is C. It answers and leaves what
- * jugy_run does on these ballots one after the other. Reasons 1, 13 (the urn is not sound), 2, 3, 4 (ballots is not the number of
+ * jugy_run does on these ballots one after the other. Reasons 1 (a ranking shape gives it too), 13 (the urn is not sound), 2, 3, 4 (ballots is not the number of
  * ballots in the urn), 7, 8, 9, 10, in this order; 5 and 6 never, as the ballots of a sound urn are good.
  *   table  4 G numbers, the list's own length
  *   bytes  an urn of s slots, 2 to 256: s (2 + k d) bytes, which are read and not altered. It holds the ballots in clear

@@ -2,20 +2,22 @@
 -- Assumes nothing.
 use mathlib.Core.Path.{_≡_, _∙_, refl, sym, ap, subst}
 use mathlib.Core.Logic.{⊎-elim}
-use mathlib.Core.Bool.{Bool, true, false}
+use mathlib.Core.Bool.{Bool, true, false, true≢false}
 use mathlib.Core.Option.{Option, none, some}
 use mathlib.Core.List.{List, [], _∷_, _++_, map}
 use Prim.Native.Nat.{ℕ, zero, suc, _+_, _*_, _-_, _≤_, _<_}
 use native.Mathlib.Nat.{zero-mul, suc-mul, one-mul, add-mul, mul-assoc, mul-le-mul-right}
 use native.Mathlib.Omega.{arith}
+use lib.Dec.{eqb}
 use lib.ListN.{length, getD, take, drop, length-append, length-drop, List·getD-append}
 use lib.Seq.{take-append-le, drop-append-le, drop-append-add, getD-append-add}
 use Rattle.jury.specs.declared.shape.Shape.{Shape}
-use Rattle.jury.specs.Shape.{withinLimits, ballotBytes}
+use Rattle.jury.specs.Shape.{gradedLimits, ballotBytes}
 use Rattle.jury.specs.Reason.{Reason, firstOf}
 use Rattle.jury.specs.Ballots.{ones, ballotReasons}
 use Rattle.jury.specs.Accepted.{AcceptedBallots}
-use Rattle.jury.proofs.Limits.{bytes-are}
+use Rattle.jury.proofs.Flags.{and-second}
+use Rattle.jury.proofs.Limits.{within, graded-within, graded-is, bytes-are}
 use Rattle.jury.proofs.AcceptedLaws as ballots-laws
 use Rattle.chains.specs.Slots.{Slot, slotAt}
 use Rattle.chains.specs.Chains.{Entry, entryAt}
@@ -89,18 +91,20 @@ unfolding noReason
 nothing-said none e = refl
 nothing-said (some r) e = let z : _≡_ {A = ℕ} 0 1 = cc in absurd (omega arith)
 
-pub good-one : (k d : ℕ) (x : List ℕ) → withinLimits (juryOfOne k d) ≡ true → goodBallot k d x ≡ true → Good k d 1 x
+pub good-one : (k d : ℕ) (x : List ℕ) → gradedLimits (juryOfOne k d) ≡ true → goodBallot k d x ≡ true → Good k d 1 x
 unfolding goodBallot juryOfOne
 good-one k d x w e =
-    let a = ballots-laws.accepted (juryOfOne k d) x w (nothing-said (firstOf (ballotReasons (juryOfOne k d) x)) e) in
+    let o = firstOf (ballotReasons (juryOfOne k d) x) in
+    let a = ballots-laws.accepted (juryOfOne k d) x (graded-within (juryOfOne k d) w) (nothing-said o (and-second (eqb (length x) (k * d)) (noReason o) e)) in
+    let b = ballots-laws.graded (juryOfOne k d) x a w in
     record {
-      size = a .size ∙ bytes-are (juryOfOne k d) ∙ mul-assoc 1 k d;
-      bits = a .bits;
-      rows = a .rows;
+      size = b .size ∙ bytes-are (juryOfOne k d) (within (juryOfOne k d) w) ∙ mul-assoc 1 k d;
+      bits = b .bits;
+      rows = b .rows;
     }
 
 -- the ballots in these slots
-pub good-along : (k d : ℕ) (S : List Slot) (is : List ℕ) → withinLimits (juryOfOne k d) ≡ true → all (λ i. goodBallot k d (slotAt S i .ballot)) is ≡ true
+pub good-along : (k d : ℕ) (S : List Slot) (is : List ℕ) → gradedLimits (juryOfOne k d) ≡ true → all (λ i. goodBallot k d (slotAt S i .ballot)) is ≡ true
     → Good k d (length is) (joined (map (entryAt S) is))
 unfolding joined entryAt
 good-along k d S [] w e = good-none k d
@@ -112,11 +116,12 @@ good-along k d S (i ∷ is) w e =
     (good-both k d 1 (length is) x rest (good-one k d x w (all-first p i is e)) (good-along k d S is w (all-rest p i is e)))
 
 -- good ballots, as many as the shape says, are accepted
-pub good-accepted : (s : Shape) (xs : List ℕ) → withinLimits s ≡ true → Good (s .candidates) (s .grades) (s .ballots) xs → AcceptedBallots s xs
+pub good-accepted : (s : Shape) (xs : List ℕ) → gradedLimits s ≡ true → Good (s .candidates) (s .grades) (s .ballots) xs → AcceptedBallots s xs
 good-accepted s xs w g =
     record {
-      within = w;
-      size = g .size ∙ sym (mul-assoc (s .ballots) (s .candidates) (s .grades)) ∙ sym (bytes-are s);
+      within = graded-within s w;
+      size = g .size ∙ sym (mul-assoc (s .ballots) (s .candidates) (s .grades)) ∙ sym (bytes-are s (within s w));
       bits = g .bits;
-      rows = g .rows;
+      rows = λ e. g .rows;
+      orders = λ e. absurd (true≢false (sym e ∙ graded-is s (within s w)));
     }

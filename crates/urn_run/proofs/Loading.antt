@@ -10,7 +10,7 @@ use native.Mathlib.Omega.{arith}
 use lib.Dec.{T}
 use lib.ListN.{length, getD, set, take, drop, length-append, length-take, length-drop, drop-of-length-le}
 use lib.Seq.{sets, sets-eq, length-sets, take-all, take-length, drop-drop}
-use Rattle.jury.specs.Shape.{withinLimits}
+use Rattle.jury.specs.Shape.{gradedLimits}
 use Rattle.jury.proofs.Cases.{below-or-not}
 use Rattle.jury.proofs.Flags.{never-true}
 use Rattle.chains.specs.Slots.{Slot, slotBytes, slotsOf, slotAt}
@@ -133,7 +133,7 @@ module _ (S : List Slot) (n b size : ℕ) (final ws : List ℕ) (count slot : �
       sym (ap (λ (is : List ℕ). sets ws (count * b) (along S is)) none) ∙ on .left
 
 -- a sound urn, by its bytes
-module _ (k d : ℕ) (urn : List ℕ) (w : T (withinLimits (juryOfOne k d))) (e : sound k d urn ≡ true) where
+module _ (k d : ℕ) (urn : List ℕ) (w : T (gradedLimits (juryOfOne k d))) (e : sound k d urn ≡ true) where
   pub its-end : ends (slotCount (k * d) (length urn)) (getD urn 0 0) (slotsOf (k * d) (slotCount (k * d) (length urn)) urn) ≡ true
   unfolding urnSlots
   its-end =

@@ -2,13 +2,13 @@
 -- Assumes nothing.
 use mathlib.Core.Path.{_≡_, _∙_, refl, sym, ap, subst}
 use mathlib.Core.Logic.{⊎-elim, _≢_}
-use mathlib.Core.Bool.{Bool, true, false, _&&_}
+use mathlib.Core.Bool.{Bool, true, false}
 use mathlib.Core.Option.{Option, none, some}
 use mathlib.Core.List.{List, [], _∷_, _++_, map}
 use Prim.Native.Nat.{ℕ, zero, suc, _+_, _*_, _-_, _≤_, _<_}
 use native.Mathlib.Nat.{mul-assoc, mul-pos, eq-of-mul-eq-mul-right}
 use native.Mathlib.Omega.{arith}
-use lib.Dec.{T, eqb, leb}
+use lib.Dec.{T, eqb}
 use lib.ListN.{length, take, drop, length-map, length-append, length-drop}
 use lib.Seq.{take-at}
 use borrow.Author.Tests.{eq-eqb, ne-eqb, eqb-true, eqb-false}
@@ -16,13 +16,13 @@ use Rattle.gates.specs.Gate.{gatesOf}
 use Rattle.gates.specs.Test.{firstAboveOne, firstBad, tested}
 use Rattle.gates.specs.Step.{FinishReady}
 use Rattle.jury.specs.declared.shape.Shape.{Shape}
-use Rattle.jury.specs.Shape.{withinLimits, ballotBytes}
+use Rattle.jury.specs.Shape.{gradedLimits, withinLimits, ballotBytes}
 use Rattle.jury.specs.Reason.{Reason, reasonAt, unless, foundAt, listReason, firstOf}
-use Rattle.jury.specs.Ballots.{rowsOf, firstBadRow, ballotReasons}
+use Rattle.jury.specs.Ballots.{ballotReasons}
 use Rattle.jury.specs.Accepted.{AcceptedBallots}
-use Rattle.jury.proofs.Flags.{and-first, and-second, true-T}
-use Rattle.jury.proofs.Limits.{Within, within, within-back, bytes-are}
-use Rattle.jury.proofs.BallotLaws.{judged, judged-by}
+use Rattle.jury.proofs.Flags.{true-T}
+use Rattle.jury.proofs.Limits.{Within, within, within-back, graded-within, bytes-are}
+use Rattle.jury.proofs.BallotLaws.{judged, judged-by, kindReason}
 use Rattle.jury.proofs.AcceptedLaws as ballots-laws
 use Rattle.tally.specs.Answer.{refused, accepted, said, Size, sizeOf}
 use Rattle.tally.specs.Test.{testReasons, testSaid}
@@ -33,7 +33,7 @@ use Rattle.chains.specs.Chains.{Entry, entryAt, ballotSlots, ballotChain}
 use Rattle.chains.specs.Sound.{juryOfOne, urnSlots, sound}
 use Rattle.chains.proofs.Marks.{true-or-false}
 use Rattle.urn.proofs.FactLaws.{its-parts}
-use Rattle.urn_run.specs.Run.{joined, chainBallots, ballotsIn, gradedJury, urnRunReasons, ranOnUrn}
+use Rattle.urn_run.specs.Run.{joined, chainBallots, ballotsIn, urnRunReasons, ranOnUrn}
 use Rattle.urn_run.proofs.Joined.{Good, good-along, good-accepted}
 
 -- the first reason of tests one after the other
@@ -56,20 +56,19 @@ unfoldable pub firstOnUrn : Bool → Bool → Option Reason → Option Reason �
 firstOnUrn graded isSound list number lent = orElse (unless graded 1) (orElse (unless isSound 13) (orElse list (orElse number lent)))
 
 -- a whole shape of a jury that grades
-module _ (s : Shape) (g : gradedJury s ≡ true) where
+module _ (s : Shape) (g : gradedLimits s ≡ true) where
   pub whole-within : withinLimits s ≡ true
-  unfolding gradedJury
-  whole-within = and-second (leb 2 (s .grades)) (withinLimits s) g
+  whole-within = graded-within s g
 
-  pub one-within : withinLimits (juryOfOne (s .candidates) (s .grades)) ≡ true
+  pub one-within : gradedLimits (juryOfOne (s .candidates) (s .grades)) ≡ true
   unfolding juryOfOne
   one-within =
-      let w = within s whole-within in
+      let w = within s g in
       within-back (juryOfOne (s .candidates) (s .grades))
       (record { k-least = w .k-least; k-most = w .k-most; d-least = w .d-least; d-most = w .d-most; n-least = omega arith; n-most = omega arith })
 
-  pub one-T : T (withinLimits (juryOfOne (s .candidates) (s .grades)))
-  one-T = true-T (withinLimits (juryOfOne (s .candidates) (s .grades))) one-within
+  pub one-T : T (gradedLimits (juryOfOne (s .candidates) (s .grades)))
+  one-T = true-T (gradedLimits (juryOfOne (s .candidates) (s .grades))) one-within
 
   -- of the tests of a list, those of its gates decide
   pub list-first : (table : List ℕ) → firstOf (testReasons s table) ≡ listReason (tested (ballotBytes s) (s .candidates) table)
@@ -97,20 +96,20 @@ module _ (s : Shape) (g : gradedJury s ≡ true) where
     chain-accepted n =
         let k = s .candidates in
         let d = s .grades in
-        good-accepted s (chainBallots k d urn) whole-within (subst (λ (m : ℕ). Good k d m (chainBallots k d urn)) n chain-good)
+        good-accepted s (chainBallots k d urn) g (subst (λ (m : ℕ). Good k d m (chainBallots k d urn)) n chain-good)
 
     other-length : ballotsIn (s .candidates) (s .grades) urn ≢ s .ballots → length (chainBallots (s .candidates) (s .grades) urn) ≢ ballotBytes s
     other-length n q =
         let k = s .candidates in
         let d = s .grades in
-        let w = within s whole-within in
+        let w = within s g in
         let p : 0 < k * d = mul-pos (w .k-least) (omega (arith, w .d-least)) in
-        n (eq-of-mul-eq-mul-right (k * d) p (ballotsIn k d urn) (s .ballots) (sym (chain-good .size) ∙ q ∙ bytes-are s ∙ mul-assoc (s .ballots) k d))
+        n (eq-of-mul-eq-mul-right (k * d) p (ballotsIn k d urn) (s .ballots) (sym (chain-good .size) ∙ q ∙ bytes-are s w ∙ mul-assoc (s .ballots) k d))
 
     -- so of the tests of ballots only 4 can apply to them, and it does where n is not their number
     four : (xs : List ℕ) → length xs ≢ ballotBytes s → firstOf (ballotReasons s xs) ≡ some (reasonAt 4 0)
     unfolding judged unless firstOf
-    four xs n = judged-by s xs false (firstAboveOne 0 xs) (firstBadRow 0 (rowsOf (s .grades) (s .ballots * s .candidates) xs)) (ne-eqb (length xs) (ballotBytes s) n) refl refl
+    four xs n = judged-by s xs false (firstAboveOne 0 xs) (kindReason s xs) (ne-eqb (length xs) (ballotBytes s) n) refl refl
 
     pub ballots-first : firstOf (ballotReasons s (chainBallots (s .candidates) (s .grades) urn)) ≡ unless (eqb (ballotsIn (s .candidates) (s .grades) urn) (s .ballots)) 4
     unfolding unless
@@ -126,18 +125,18 @@ module _ (s : Shape) (g : gradedJury s ≡ true) where
 
 module _ (s : Shape) (table urn tape wires board : List ℕ) where
   pub urn-first : firstOf (urnRunReasons s table urn tape wires board)
-      ≡ firstOnUrn (gradedJury s) (sound (s .candidates) (s .grades) urn) (listReason (tested (ballotBytes s) (s .candidates) table))
+      ≡ firstOnUrn (gradedLimits s) (sound (s .candidates) (s .grades) urn) (listReason (tested (ballotBytes s) (s .candidates) table))
       (unless (eqb (ballotsIn (s .candidates) (s .grades) urn) (s .ballots)) 4)
       (firstOf (lentReasons (ballotBytes s) (s .candidates) (sizeOf (gatesOf table)) tape wires board))
   unfolding urnRunReasons firstOnUrn
   urn-first = simp first-cons
 
   -- the answer by the first test that applies
-  pub by-1 : gradedJury s ≡ false → firstOf (urnRunReasons s table urn tape wires board) ≡ some (reasonAt 1 0)
+  pub by-1 : gradedLimits s ≡ false → firstOf (urnRunReasons s table urn tape wires board) ≡ some (reasonAt 1 0)
   unfolding firstOnUrn orElse unless
   by-1 g = urn-first ∙ rw g
 
-  module _ (g : gradedJury s ≡ true) where
+  module _ (g : gradedLimits s ≡ true) where
     pub by-13 : sound (s .candidates) (s .grades) urn ≡ false → firstOf (urnRunReasons s table urn tape wires board) ≡ some (reasonAt 13 0)
     unfolding firstOnUrn orElse unless
     by-13 e = urn-first ∙ rw (g, e)
@@ -173,7 +172,7 @@ module _ (s : Shape) (table urn tape wires board : List ℕ) where
           ∙ ap (λ (o : Option Reason). firstOfThree (firstOf (testReasons s table)) o lent) (sym (ballots-first s g urn e))
           ∙ sym (run-first s table (chainBallots (s .candidates) (s .grades) urn) tape wires board)
         where
-          opened : (list number lent : Option Reason) → firstOnUrn (gradedJury s) (sound (s .candidates) (s .grades) urn) list number lent ≡ firstOfThree list number lent
+          opened : (list number lent : Option Reason) → firstOnUrn (gradedLimits s) (sound (s .candidates) (s .grades) urn) list number lent ≡ firstOfThree list number lent
           opened list number lent = unfold firstOnUrn firstOfThree orElse unless in (rw (g, e) (unfold orElse in or-assoc list number lent))
 
       pub same-run : ranOnUrn s table urn tape wires board ≡ ran s table (chainBallots (s .candidates) (s .grades) urn) tape wires board
@@ -191,22 +190,22 @@ module _ (s : Shape) (table urn tape wires board : List ℕ) where
 
   -- what an accepted run on an urn has passed
   pub record UrnRunPassed : Type 0 where
-    pub graded : gradedJury s ≡ true
+    pub graded : gradedLimits s ≡ true
     pub isSound : sound (s .candidates) (s .grades) urn ≡ true
     pub run : RunPassed s table (chainBallots (s .candidates) (s .grades) urn) tape wires board
 
   pub urn-run-passed : firstOf (urnRunReasons s table urn tape wires board) ≡ none → UrnRunPassed
-  urn-run-passed e = shape (gradedJury s) refl
+  urn-run-passed e = shape (gradedLimits s) refl
     where
       no : {A : Type 0} (r : Reason) → firstOf (urnRunReasons s table urn tape wires board) ≡ some r → A
       no r q = let z : none ≡ some r = sym e ∙ q in let y : _≡_ {A = ℕ} 0 1 = cc in absurd (omega arith)
 
-      inside : gradedJury s ≡ true → (b : Bool) → sound (s .candidates) (s .grades) urn ≡ b → UrnRunPassed
+      inside : gradedLimits s ≡ true → (b : Bool) → sound (s .candidates) (s .grades) urn ≡ b → UrnRunPassed
       inside g true f =
           record { graded = g; isSound = f; run = run-passed s table (chainBallots (s .candidates) (s .grades) urn) tape wires board (sym (same-reasons g f) ∙ e) }
       inside g false f = no (reasonAt 13 0) (by-13 g f)
 
-      shape : (b : Bool) → gradedJury s ≡ b → UrnRunPassed
+      shape : (b : Bool) → gradedLimits s ≡ b → UrnRunPassed
       shape true g = inside g (sound (s .candidates) (s .grades) urn) refl
       shape false g = no (reasonAt 1 0) (by-1 g)
 

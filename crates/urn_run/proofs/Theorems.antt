@@ -15,10 +15,8 @@ use Rattle.gates.specs.Board.{MaskTape}
 use Rattle.gates.specs.Hiding.{Finished}
 use Rattle.gates.specs.Test.{tested}
 use Rattle.jury.specs.declared.shape.Shape.{Shape}
-use Rattle.jury.specs.Shape.{ballotBytes}
+use Rattle.jury.specs.Shape.{gradedLimits, ballotBytes}
 use Rattle.jury.specs.Reason.{Reason, reasonAt, unless, listReason, firstOf}
-use Rattle.jury.specs.Counts.{countsOf}
-use Rattle.judgment.specs.Winner.{Wins}
 use Rattle.tally.specs.Answer.{Said, refused, accepted, hasNumberIn, Size, sizeOf}
 use Rattle.tally.specs.Test.{testSaid}
 use Rattle.tally.specs.Write.{writeSaid}
@@ -31,7 +29,7 @@ use Rattle.tally.proofs.Hiding.{board-tells-no-more}
 use Rattle.tally.proofs.Demands.{three-demands}
 use Rattle.chains.specs.Sound.{sound}
 use Rattle.chains.proofs.Marks.{true-or-false}
-use Rattle.urn_run.specs.Run.{chainBallots, ballotsIn, gradedJury, urnRunReasons, ranOnUrn}
+use Rattle.urn_run.specs.Run.{chainBallots, ballotsIn, urnRunReasons, ranOnUrn}
 use Rattle.urn_run.specs.Theorems.{SameAsRun, UrnRunMemory, UrnAccuracy, UrnHidden, UrnTellsNoMore, UrnRunHolds}
 use Rattle.urn_run.proofs.Reasons.{by-1, by-13, by-4, same-run, ran-on-urn-by, chain-accepted, urn-run-passed, UrnRunPassed}
 
@@ -137,14 +135,14 @@ module _ (s : Shape) (table : List ℕ) (size : Size) (a : Accuracy s table size
 
   not-2-or-3 : (urn tape wires board : List ℕ) (r : Reason) → ranOnUrn s list urn tape wires board .answer ≡ refused r → (r .number ≢ 2) × (r .number ≢ 3)
   unfolding list
-  not-2-or-3 urn tape wires board r e = shape (gradedJury s) refl
+  not-2-or-3 urn tape wires board r e = shape (gradedLimits s) refl
     where
-      inside : gradedJury s ≡ true → (b : Bool) → sound (s .candidates) (s .grades) urn ≡ b → (r .number ≢ 2) × (r .number ≢ 3)
+      inside : gradedLimits s ≡ true → (b : Bool) → sound (s .candidates) (s .grades) urn ≡ b → (r .number ≢ 2) × (r .number ≢ 3)
       inside g true f = a .never-2-or-3 (chainBallots (s .candidates) (s .grades) urn) tape wires board r (sym (ap (λ (z : Ran). z .answer) (same-run s list urn tape wires board g f)) ∙ e)
       inside g false f =
           other-reason 13 r (same-reason r (reasonAt 13 0) urn tape wires board e (refusal-is s list urn tape wires board (reasonAt 13 0) (by-13 s list urn tape wires board g f))) (λ h. omega arith) (λ h. omega arith)
 
-      shape : (b : Bool) → gradedJury s ≡ b → (r .number ≢ 2) × (r .number ≢ 3)
+      shape : (b : Bool) → gradedLimits s ≡ b → (r .number ≢ 2) × (r .number ≢ 3)
       shape true g = inside g (sound (s .candidates) (s .grades) urn) refl
       shape false g =
           other-reason 1 r (same-reason r (reasonAt 1 0) urn tape wires board e (refusal-is s list urn tape wires board (reasonAt 1 0) (by-1 s list urn tape wires board g))) (λ h. omega arith) (λ h. omega arith)

@@ -1,14 +1,13 @@
 -- The entry point [urn-run]: a run on the ballots of an urn.
-use mathlib.Core.Bool.{Bool, _&&_}
 use mathlib.Core.Option.{Option}
 use mathlib.Core.List.{List, [], _∷_, _++_}
 use Prim.Native.Nat.{ℕ}
-use lib.Dec.{eqb, leb}
+use lib.Dec.{eqb}
 use lib.ListN.{length}
 use Rattle.gates.specs.Gate.{gatesOf}
 use Rattle.gates.specs.Test.{tested}
 use Rattle.jury.specs.declared.shape.Shape.{Shape}
-use Rattle.jury.specs.Shape.{withinLimits, ballotBytes}
+use Rattle.jury.specs.Shape.{gradedLimits, ballotBytes}
 use Rattle.jury.specs.Reason.{Reason, unless, listReason, firstOf}
 use Rattle.tally.specs.Answer.{sizeOf}
 use Rattle.tally.specs.Run.{lentReasons, Ran, ranAfter}
@@ -27,14 +26,10 @@ chainBallots k d urn = joined (ballotChain (urnSlots k d urn))
 unfoldable pub ballotsIn : ℕ → ℕ → List ℕ → ℕ
 ballotsIn k d urn = length (ballotChain (urnSlots k d urn))
 
--- A whole shape of a jury that grades: a ranking shape, with no grades, is none.
-unfoldable pub gradedJury : Shape → Bool
-gradedJury s = leb 2 (s .grades) && withinLimits s
-
--- The tests in checking order: 1, 13, those of the list (2 and 3), 4 where n is not the number of ballots in the urn, and those of what else is lent (7, 8, 9, 10). The ballots of a sound urn are good, so that 5 and 6 concern no run on an urn.
+-- The tests in checking order: 1, which a ranking shape gives too, 13, those of the list (2 and 3), 4 where n is not the number of ballots in the urn, and those of what else is lent (7, 8, 9, 10). The ballots of a sound urn are good, so that 5 and 6 concern no run on an urn.
 unfoldable pub urnRunReasons : Shape → List ℕ → List ℕ → List ℕ → List ℕ → List ℕ → List (Option Reason)
 urnRunReasons s table urn tape wires board =
-    unless (gradedJury s) 1
+    unless (gradedLimits s) 1
     ∷ unless (sound (s .candidates) (s .grades) urn) 13
     ∷ listReason (tested (ballotBytes s) (s .candidates) table)
     ∷ unless (eqb (ballotsIn (s .candidates) (s .grades) urn) (s .ballots)) 4

@@ -11,11 +11,10 @@ use Rattle.gates.specs.Wires.{wiresOf}
 use Rattle.gates.specs.Board.{MaskTape}
 use Rattle.gates.specs.Hiding.{ExactlyOne, Finished}
 use Rattle.jury.specs.declared.shape.Shape.{Shape}
-use Rattle.jury.specs.Shape.{ballotBytes}
+use Rattle.jury.specs.Shape.{gradedLimits, ballotBytes}
 use Rattle.jury.specs.Reason.{Reason, reasonAt}
 use Rattle.jury.specs.Accepted.{AcceptedBallots}
-use Rattle.jury.specs.Counts.{countsOf}
-use Rattle.judgment.specs.Winner.{Wins}
+use Rattle.tally.specs.Rule.{Wins}
 use Rattle.tally.specs.Answer.{refused, accepted, hasNumberIn, Size, sizeOf}
 use Rattle.tally.specs.Test.{testSaid}
 use Rattle.tally.specs.Write.{writeSaid}
@@ -24,25 +23,25 @@ use Rattle.tally.specs.Count.{plainClosing}
 use Rattle.tally.specs.Hiding.{closingBytes}
 use Rattle.tally.specs.Demands.{listIn}
 use Rattle.chains.specs.Sound.{sound}
-use Rattle.urn_run.specs.Run.{chainBallots, ballotsIn, gradedJury, ranOnUrn}
+use Rattle.urn_run.specs.Run.{chainBallots, ballotsIn, ranOnUrn}
 
 -- A run on the urn is the run on the ballots of its chain: answer, wire table and board, refusals too.
 pub record SameAsRun : Type 0 where
   -- of a shape that grades and a sound urn, whatever n is
-  pub on-chain : (s : Shape) (table urn tape wires board : List ℕ) → gradedJury s ≡ true → sound (s .candidates) (s .grades) urn ≡ true
+  pub on-chain : (s : Shape) (table urn tape wires board : List ℕ) → gradedLimits s ≡ true → sound (s .candidates) (s .grades) urn ≡ true
       → ranOnUrn s table urn tape wires board ≡ ran s table (chainBallots (s .candidates) (s .grades) urn) tape wires board
   -- where n is the number of ballots in the urn, these are ballots that the run accepts
-  pub good-ballots : (s : Shape) (urn : List ℕ) → gradedJury s ≡ true → sound (s .candidates) (s .grades) urn ≡ true → ballotsIn (s .candidates) (s .grades) urn ≡ s .ballots
+  pub good-ballots : (s : Shape) (urn : List ℕ) → gradedLimits s ≡ true → sound (s .candidates) (s .grades) urn ≡ true → ballotsIn (s .candidates) (s .grades) urn ≡ s .ballots
       → AcceptedBallots s (chainBallots (s .candidates) (s .grades) urn)
   -- another n gives 4, after the reasons of the list
-  pub other-number : (s : Shape) (table urn tape wires board : List ℕ) (size : Size) → gradedJury s ≡ true → sound (s .candidates) (s .grades) urn ≡ true
+  pub other-number : (s : Shape) (table urn tape wires board : List ℕ) (size : Size) → gradedLimits s ≡ true → sound (s .candidates) (s .grades) urn ≡ true
       → testSaid s table ≡ accepted size → ballotsIn (s .candidates) (s .grades) urn ≢ s .ballots
       → ranOnUrn s table urn tape wires board .answer ≡ refused (reasonAt 4 0)
   -- any other urn gives 13, before the reasons of the list
-  pub unsound : (s : Shape) (table urn tape wires board : List ℕ) → gradedJury s ≡ true → sound (s .candidates) (s .grades) urn ≡ false
+  pub unsound : (s : Shape) (table urn tape wires board : List ℕ) → gradedLimits s ≡ true → sound (s .candidates) (s .grades) urn ≡ false
       → ranOnUrn s table urn tape wires board .answer ≡ refused (reasonAt 13 0)
   -- any other shape gives 1, before all
-  pub other-shape : (s : Shape) (table urn tape wires board : List ℕ) → gradedJury s ≡ false
+  pub other-shape : (s : Shape) (table urn tape wires board : List ℕ) → gradedLimits s ≡ false
       → ranOnUrn s table urn tape wires board .answer ≡ refused (reasonAt 1 0)
 
 -- Demand 1: a refusal's number is that of a reason which concerns a run on an urn, a refusal alters no lent byte, an accepted run leaves a wire table of zeros, and no call changes a length.
@@ -60,7 +59,7 @@ pub record UrnRunMemory : Type 0 where
 pub record UrnAccuracy (s : Shape) (table : List ℕ) (size : Size) : Type 0 where
   pub never-2-or-3 : (urn tape wires board : List ℕ) (r : Reason) → ranOnUrn s (listIn s size table) urn tape wires board .answer ≡ refused r → (r .number ≢ 2) × (r .number ≢ 3)
   -- with a sound urn of n ballots, a mask tape and buffers of the right lengths it is accepted, and answers the same G and C
-  pub runs : (urn tape wires board : List ℕ) → gradedJury s ≡ true → sound (s .candidates) (s .grades) urn ≡ true → ballotsIn (s .candidates) (s .grades) urn ≡ s .ballots
+  pub runs : (urn tape wires board : List ℕ) → gradedLimits s ≡ true → sound (s .candidates) (s .grades) urn ≡ true → ballotsIn (s .candidates) (s .grades) urn ≡ s .ballots
       → MaskTape (gatesOf (listIn s size table)) tape → length wires ≡ ballotBytes s + size .gates → length board ≡ size .conditional + s .candidates
       → ranOnUrn s (listIn s size table) urn tape wires board .answer ≡ accepted size
   -- an accepted run: its k closing bytes are the plain count's, and say who wins
@@ -68,10 +67,10 @@ pub record UrnAccuracy (s : Shape) (table : List ℕ) (size : Size) : Type 0 whe
       → closingBytes s (ranOnUrn s (listIn s size table) urn tape wires board .board) ≡ take (s .candidates) (plainClosing s (chainBallots (s .candidates) (s .grades) urn))
   pub winners : (urn tape wires board : List ℕ) (answer : Size) → ranOnUrn s (listIn s size table) urn tape wires board .answer ≡ accepted answer
       → (i : ℕ) → i < s .candidates
-      → (getD (closingBytes s (ranOnUrn s (listIn s size table) urn tape wires board .board)) i 0 ≡ 1) ↔ Wins (countsOf s (chainBallots (s .candidates) (s .grades) urn)) i
+      → (getD (closingBytes s (ranOnUrn s (listIn s size table) urn tape wires board .board)) i 0 ≡ 1) ↔ Wins s (chainBallots (s .candidates) (s .grades) urn) i
   pub losers : (urn tape wires board : List ℕ) (answer : Size) → ranOnUrn s (listIn s size table) urn tape wires board .answer ≡ accepted answer
       → (i : ℕ) → i < s .candidates
-      → (getD (closingBytes s (ranOnUrn s (listIn s size table) urn tape wires board .board)) i 0 ≡ 0) ↔ (¬ Wins (countsOf s (chainBallots (s .candidates) (s .grades) urn)) i)
+      → (getD (closingBytes s (ranOnUrn s (listIn s size table) urn tape wires board .board)) i 0 ≡ 0) ↔ (¬ Wins s (chainBallots (s .candidates) (s .grades) urn) i)
 
 -- Demand 3: what two runs of one shape and one list show of their urns one and other, for wire tables vs and ws and boards bs and ds of any earlier contents. The urns may have other lengths, jurors, free slots and chain orders.
 pub record UrnHidden (s : Shape) (table one other vs ws bs ds : List ℕ) : Type 0 where

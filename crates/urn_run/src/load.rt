@@ -5,7 +5,7 @@ ghost use mathlib.Core.List.{_++_};
 ghost use Prim.Native.Nat.{_≤_};
 ghost use lib.Dec.{T};
 ghost use lib.ListN.{length, drop};
-ghost use Rattle.jury.specs.Shape.{withinLimits};
+ghost use Rattle.jury.specs.Shape.{gradedLimits};
 ghost use Rattle.chains.specs.Sound.{juryOfOne, sound};
 ghost use Rattle.urn_run.specs.Run.{chainBallots};
 
@@ -18,7 +18,7 @@ fn wide(byte: u8) -> usize
 
 // Copies the ballots of a sound urn, slot after slot along its ballot chain, to the front of the wire table.
 pub(crate) fn load(k: usize, d: usize, urn: &[u8], wires: &mut [u8])
-    requires { ⌜ T (withinLimits (juryOfOne k d)) ⌝ }
+    requires { ⌜ T (gradedLimits (juryOfOne k d)) ⌝ }
     requires { ⌜ sound k d (now urn) ≡ true ⌝ }
     requires { ⌜ length (chainBallots k d (now urn)) ≤ length (now wires) ⌝ }
     ensures { λ _. ⌜ now (wires .exit) ≡ chainBallots k d (now (urn .entry)) ++ drop (length (chainBallots k d (now (urn .entry)))) (now (wires .entry)) ⌝ }

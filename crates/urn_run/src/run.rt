@@ -1,22 +1,15 @@
 // The entry point [urn-run].
 use crate::load;
+use chains::sound::Soundness;
 use jury::reason::Refusal;
 use jury::reason::Verdict;
 use jury::shape::Shape;
 use tally::answer::Answer;
-use chains::sound::Soundness;
 ghost use mathlib.Core.Path.{_≡_};
 ghost use Rattle.gates.specs.Gate.{gatesOf};
 ghost use Rattle.jury.specs.Reason.{firstOf};
 ghost use Rattle.tally.specs.Answer.{saidBy, said, sizeOf};
-ghost use Rattle.urn_run.specs.Run.{gradedJury, urnRunReasons, ranOnUrn};
-
-// Whether a shape is one of a jury that grades.
-fn is_graded(shape: Shape) -> bool
-    ensures { λ r. ⌜ r ≡ gradedJury shape ⌝ }
-{
-    Shape::LEAST_GRADES <= shape.grades && shape.is_within_limits()
-}
+ghost use Rattle.urn_run.specs.Run.{urnRunReasons, ranOnUrn};
 
 // Reasons 1, 13, 2, 3, 4, 7, 8, 9 and 10, in this order.
 fn test_run(
@@ -29,10 +22,11 @@ fn test_run(
 ) -> Answer
     ensures { λ r. ⌜ saidBy r ≡ said (firstOf (urnRunReasons shape (now (table .entry)) (now (urn .entry)) (now (tape .entry)) (now (wires .entry)) (now (board .entry)))) (sizeOf (gatesOf (now (table .entry)))) ⌝ }
 {
-    if !is_graded(shape) {
+    if !shape.is_within_graded_limits() {
         return Answer::Refused(Refusal::Shape);
     }
-    let Soundness::Sound { ballots } = chains::sound::test(shape.candidates, shape.grades, urn) else {
+    let Soundness::Sound { ballots } = chains::sound::test(shape.candidates, shape.grades, urn)
+    else {
         return Answer::Refused(Refusal::Urn);
     };
     let answer = tally::test::test(shape, table);

@@ -7,7 +7,7 @@ use Prim.Native.Nat.{ℕ}
 use borrow.Author.Needs.{needs}
 use borrow.Author.Tests.{not-true, not-false}
 use Rattle.gates.specs.Gate.{gatesOf}
-use Rattle.jury.specs.Shape.{withinLimits}
+use Rattle.jury.specs.Shape.{gradedLimits, withinLimits}
 use Rattle.jury.specs.Reason.{Reason, reasonAt, reasonOf, refusedFor, firstOf}
 use Rattle.jury.proofs.Flags.{true-T}
 use Rattle.tally.specs.Answer.{Size, refused, said, saidBy, sizeOf}
@@ -16,7 +16,7 @@ use Rattle.tally.specs.Run.{lentReasons}
 use Rattle.tally.proofs.TestReasons.{TestPassed, test-passed}
 use Rattle.chains.specs.Sound.{sound}
 use Rattle.chains.proofs.Judging.{soundness-sound, soundness-unsound}
-use Rattle.urn_run.specs.Run.{ballotsIn, gradedJury, urnRunReasons}
+use Rattle.urn_run.specs.Run.{ballotsIn, urnRunReasons}
 use Rattle.urn_run.proofs.Reasons.{one-T, whole-within, by-1, by-13, by-list, by-4, by-lent}
 use Rattle.urn_run.proofs.run.test_run.Statement.{statement}
 use Rattle.urn_run.proofs.run.test_run.Tie as tie
@@ -28,8 +28,8 @@ unfolding said
 refuses c r e = sym (ap (λ (o : Option Reason). said o (sizeOf (gatesOf (c .args .table .now)))) e)
 
 -- past the test of the shape
-graded : (c : tie.Else1) → gradedJury (c .before .before .before .before .before .before .before .args .shape) ≡ true
-graded c = sym (c .before .is-graded .ensures) ∙ not-false (c .before .is-graded .result) (c .if1 .left)
+graded : (c : tie.Else1) → gradedLimits (c .before .before .before .before .before .before .before .args .shape) ≡ true
+graded c = sym (c .before .is-within-graded-limits .ensures) ∙ not-false (c .before .is-within-graded-limits .result) (c .if1 .left)
 
 -- past the test of the urn
 sound-told : (c : tie.After-known-told) → let a = c .before .before .before .before .before .before .before .before .before .before .before .args in (sound (a .shape .candidates) (a .shape .grades) (a .urn .now) ≡ true) × (c .before .ballots .given .0 .0 ≡ ballotsIn (a .shape .candidates) (a .shape .grades) (a .urn .now))
@@ -46,8 +46,8 @@ passed c =
     let a = c .before .before .before .before .before .before .before .before .before .before .before .before .before .before .before .args in
     test-passed (a .shape) (a .table .now) (size c) (sym (c .before .before .before .test2 .ensures) ∙ ap saidBy (c .before .answer .given .1))
 
-is-graded-requires : tie.Need-is-graded-requires
-is-graded-requires c κs = search needs
+is-within-graded-limits-requires : tie.Need-is-within-graded-limits-requires
+is-within-graded-limits-requires c κs = search needs
 
 returns : tie.Need-returns
 unfolding saidBy reasonOf
@@ -56,7 +56,7 @@ returns c =
     let a = start .args in
     refuses start (reasonAt 1 0)
     (by-1 (a .shape) (a .table .now) (a .urn .now) (a .tape .now) (a .wires .now) (a .board .now)
-    (sym (c .before .is-graded .ensures) ∙ not-true (c .before .is-graded .result) (c .if1 .taken)))
+    (sym (c .before .is-within-graded-limits .ensures) ∙ not-true (c .before .is-within-graded-limits .result) (c .if1 .taken)))
 
 test-requires : tie.Need-test-requires
 test-requires c κs = one-T (c .before .before .before .before .before .before .before .args .shape) (graded c)
@@ -148,7 +148,7 @@ pub test-run-spec : {M : Type 1} → statement M
 test-run-spec =
     tie.close
     (tie.spec
-    is-graded-requires
+    is-within-graded-limits-requires
     returns
     test-requires
     enum-known-ballots
