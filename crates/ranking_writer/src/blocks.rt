@@ -33,15 +33,7 @@ fn order(w: Writer, table: &mut [u32], x: u32, y: u32, digits: u32) -> Writer
 }
 
 // Of two words the one at `high` where the word at x is the larger one, else the one at `low`.
-fn one_of(
-    w: Writer,
-    table: &mut [u32],
-    x: u32,
-    y: u32,
-    high: u32,
-    low: u32,
-    digits: u32,
-) -> Writer
+fn one_of(w: Writer, table: &mut [u32], x: u32, y: u32, high: u32, low: u32, digits: u32) -> Writer
     requires { ⌜ Room w (2 * digits + suc digits) ⌝ }
     requires { ⌜ (x + suc digits ≤ w .wire) × (y + suc digits ≤ w .wire) ⌝ }
     requires { ⌜ (high + suc digits ≤ w .wire) × (low + suc digits ≤ w .wire) ⌝ }

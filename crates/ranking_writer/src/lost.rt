@@ -1,7 +1,7 @@
 // Who is beaten, and the closing gates.
 use crate::entries::Ranks;
-use crate::places::link_wire;
 use crate::places::Places;
+use crate::places::link_wire;
 use gates::kind;
 use words::writer::Writer;
 ghost use mathlib.Core.Path.{_≡_};

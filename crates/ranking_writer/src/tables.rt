@@ -1,12 +1,12 @@
 // The tables: k rows of k blocks.
+use crate::entries::Ranks;
 use crate::entries::detour_block;
 use crate::entries::first_block;
 use crate::entries::links_block;
 use crate::entries::votes_block;
-use crate::entries::Ranks;
+use crate::places::Places;
 use crate::places::link_wire;
 use crate::places::place;
-use crate::places::Places;
 use words::writer::Writer;
 ghost use mathlib.Core.Path.{_≡_};
 ghost use Prim.Native.Nat.{ℕ, suc, _+_, _*_, _≤_, _<_};

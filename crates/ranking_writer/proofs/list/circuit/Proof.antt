@@ -135,9 +135,10 @@ rows-long c =
     length-blocks (suc (p .candidates - 2)) (lostRow b (p .candidates - 2)) (row-sized b (p .candidates - 2)) ((c .before .before .before .before .links-table) .result .wire) (p .candidates)
 
 closings-requires : tie.Need-closings-requires
-closings-requires c κs =
-    (room-behind ((c .before .before .before .before .before .before .before .links-table) .result) ((c .before .before .before .before .before .before .before .links-table) .last .1 .0) _ ((c .before .before .before .lost-rows) .last .1 .0) ((c .before .before .before .lost-rows) .result) _ _ _ ((c .before .before .before .lost-rows) .ensures) (rows-long (c .before .before .before)) (omega arith) (met-room (c .before .before .before .before .before .before .before)),
-    ((c .before .before .before .before .before .before .before .before .before .before .before .before .before .before .before .pre) .0 .k-least, (c .before .before .before .before .before .before .before .before .before .before .before .before .before .before .before .pre) .0 .k-most, omega (arith, met-room (c .before .before .before .before .before .before .before) .small)))
+closings-requires c κs = (
+  room-behind ((c .before .before .before .before .before .before .before .links-table) .result) ((c .before .before .before .before .before .before .before .links-table) .last .1 .0) _ ((c .before .before .before .lost-rows) .last .1 .0) ((c .before .before .before .lost-rows) .result) _ _ _ ((c .before .before .before .lost-rows) .ensures) (rows-long (c .before .before .before)) (omega arith) (met-room (c .before .before .before .before .before .before .before)),
+  ((c .before .before .before .before .before .before .before .before .before .before .before .before .before .before .before .pre) .0 .k-least, (c .before .before .before .before .before .before .before .before .before .before .before .before .before .before .before .pre) .0 .k-most, omega (arith, met-room (c .before .before .before .before .before .before .before) .small)),
+)
 
 returns : tie.Need-returns
 returns c =

@@ -57,8 +57,13 @@ counted-long : (c : tie.After-votes-table) → _≡_ {A = ℕ} ((c .votes-table)
 counted-long c =
     let a = (c .before .before .before .before .before .args) in
     let p = a .p in
-    omega (arith, behind (a .w) (a .table .now) _ ((c .votes-table) .last .1 .0) ((c .votes-table) .result) _ ((c .votes-table) .ensures)
-    (length-table (votesSize (p .ballots) (p .digits)) (p .candidates) (votesBlock (p .candidates) (p .ballots) (p .digits)) (votes-sized (p .candidates) (p .ballots) (p .digits)) (a .w .wire)), links-start (p .candidates) (p .ballots) (p .digits), (c .before .before .before .before .before .pre) .1 .1)
+    omega (
+      arith,
+      behind (a .w) (a .table .now) _ ((c .votes-table) .last .1 .0) ((c .votes-table) .result) _ ((c .votes-table) .ensures)
+          (length-table (votesSize (p .ballots) (p .digits)) (p .candidates) (votesBlock (p .candidates) (p .ballots) (p .digits)) (votes-sized (p .candidates) (p .ballots) (p .digits)) (a .w .wire)),
+      links-start (p .candidates) (p .ballots) (p .digits),
+      (c .before .before .before .before .before .pre) .1 .1,
+    )
 
 counted-room : (c : tie.After-votes-table) → Room ((c .votes-table) .result) ((c .before .before .before .before .before .args) .p .candidates * (c .before .before .before .before .before .args) .p .candidates * linksSize ((c .before .before .before .before .before .args) .p .digits) + (c .before .before .before .before .before .args) .p .candidates * (c .before .before .before .before .before .args) .p .candidates * firstSize ((c .before .before .before .before .before .args) .p .digits))
 counted-room c =
