@@ -73,17 +73,13 @@ link-low start w i j wire h g = go (ltb j i)
     go true = up-below (start i j + 3) (start i j + 1) w wire (omega arith) (omega arith)
     go false = down-below (start j i + 3) (start j i + 2) w wire (omega arith) (omega arith)
 
--- none of three tests holds
-pub none-of : (a b c : Bool) → (a || b || c) ≡ false → (a ≡ false) × (b ≡ false) × (c ≡ false)
-none-of true b c e = absurd (true-false e)
+-- neither of two tests holds
+pub neither : (a b : Bool) → (a || b) ≡ false → (a ≡ false) × (b ≡ false)
+neither true b e = absurd (true-false e)
   where
     true-false : true ≡ false → ⊥
     true-false e = let z : _≡_ {A = ℕ} 0 1 = cc in omega arith
-none-of false true c e = absurd (true-false e)
-  where
-    true-false : true ≡ false → ⊥
-    true-false e = let z : _≡_ {A = ℕ} 0 1 = cc in omega arith
-none-of false false c e = (refl, refl, e)
+neither false b e = (refl, e)
 
 detour-good : (paths : ℕ → ℕ → ℕ) (l w at i j : ℕ) → paths i j + suc w ≤ at → paths i l + suc w ≤ at → paths l j + suc w ≤ at → AllGood at (detourBlock paths l w at i j)
 unfolding detourBlock
@@ -99,18 +95,20 @@ first-good : (votes links paths : ℕ → ℕ → ℕ) (k w at i j : ℕ) → li
     AllGood at (firstBlock votes links paths w at i j)
 unfolding firstBlock
 first-good votes links paths k w at i j f h before hi hj =
-    either-good at (eqb i 0 || eqb j 0 || eqb i j) (constants 0 (firstPad w) ++ masked (links i j) (votes i j) (suc w))
-    (smaller at (paths i 0) (paths 0 j) w ++ largerIf (at + (2 * w + suc w)) (links i j) (votes i j) (at + 2 * w) w)
+    let link-only = constants 0 (firstPad w) ++ masked (links i j) (votes i j) (suc w) in
+    let link-or-way = smaller at (paths i 0) (paths 0 j) w ++ largerIf (at + (2 * w + suc w)) (links i j) (votes i j) (at + 2 * w) w in
+    either-good at (eqb i j) (constants 0 (firstPad w + suc w)) (cond (eqb i 0 || eqb j 0) link-only link-or-way) (constants-good at 0 (firstPad w + suc w))
+    (λ d. either-good at (eqb i 0 || eqb j 0) link-only link-or-way
     (good-behind at (firstPad w) (constants 0 (firstPad w)) (masked (links i j) (votes i j) (suc w)) (length-constants 0 (firstPad w)) (constants-good at 0 (firstPad w)) (masked-good (at + firstPad w) (links i j) (votes i j) (suc w) (omega arith) (omega arith)))
     (λ e.
-    let apart = none-of (eqb i 0) (eqb j 0) (eqb i j) e in
+    let apart = neither (eqb i 0) (eqb j 0) e in
     let i0 : i ≢ 0 = eqb-false i 0 (apart .0) in
     let j0 : j ≢ 0 = eqb-false j 0 (apart .1) in
     let rows : 1 * k ≤ i * k = mul-le-mul-right {m = 1} {n = i} k (omega arith) in
     let none : 0 * k ≡ 0 = zero-mul k in
     good-behind at (2 * w + suc w) (smaller at (paths i 0) (paths 0 j) w) (largerIf (at + (2 * w + suc w)) (links i j) (votes i j) (at + 2 * w) w) (length-smaller at (paths i 0) (paths 0 j) w)
     (smaller-good at (paths i 0) (paths 0 j) w (before i 0 (omega arith) (omega arith) (omega arith)) (before 0 j (omega arith) (omega arith) (omega arith)))
-    (larger-if-good (at + (2 * w + suc w)) (links i j) (votes i j) (at + 2 * w) w (omega arith) (omega arith) (omega arith)))
+    (larger-if-good (at + (2 * w + suc w)) (links i j) (votes i j) (at + 2 * w) w (omega arith) (omega arith) (omega arith))))
 
 module _ (k n w : ℕ) where
   -- where words and links end

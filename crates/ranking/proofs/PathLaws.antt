@@ -53,13 +53,18 @@ detour-sized paths l w at i j =
     ∙ omega (arith, length-smaller at (paths i l) (paths l j) w, length-larger (at + (2 * w + suc w)) (paths i j) (at + 2 * w) w))
 
 pub first-sized : (votes links paths : ℕ → ℕ → ℕ) (w at i j : ℕ) → length (firstBlock votes links paths w at i j) ≡ firstSize w
-unfolding firstBlock firstSize firstPad
+unfolding firstBlock firstSize
 first-sized votes links paths w at i j =
-    either-length (eqb i 0 || eqb j 0 || eqb i j) (constants 0 (2 * w + suc w + (2 * w + 1)) ++ masked (links i j) (votes i j) (suc w))
-    (smaller at (paths i 0) (paths 0 j) w ++ largerIf (at + (2 * w + suc w)) (links i j) (votes i j) (at + 2 * w) w) (2 * w + suc w + (2 * w + 1) + suc w)
-    (length-append (constants 0 (2 * w + suc w + (2 * w + 1))) (masked (links i j) (votes i j) (suc w)) ∙ omega (arith, length-constants 0 (2 * w + suc w + (2 * w + 1)), length-masked (links i j) (votes i j) (suc w)))
+    let link-only = constants 0 (firstPad w) ++ masked (links i j) (votes i j) (suc w) in
+    let link-or-way = smaller at (paths i 0) (paths 0 j) w ++ largerIf (at + (2 * w + suc w)) (links i j) (votes i j) (at + 2 * w) w in
+    either-length (eqb i j) (constants 0 (firstPad w + suc w)) (cond (eqb i 0 || eqb j 0) link-only link-or-way) (firstPad w + suc w) (length-constants 0 (firstPad w + suc w))
+    (either-length (eqb i 0 || eqb j 0) link-only link-or-way (firstPad w + suc w)
+    (length-append (constants 0 (firstPad w)) (masked (links i j) (votes i j) (suc w)) ∙ omega (arith, length-constants 0 (firstPad w), length-masked (links i j) (votes i j) (suc w)))
     (length-append (smaller at (paths i 0) (paths 0 j) w) (largerIf (at + (2 * w + suc w)) (links i j) (votes i j) (at + 2 * w) w)
-    ∙ omega (arith, length-smaller at (paths i 0) (paths 0 j) w, length-larger-if (at + (2 * w + suc w)) (links i j) (votes i j) (at + 2 * w) w))
+    ∙ omega (arith, length-smaller at (paths i 0) (paths 0 j) w, length-larger-if (at + (2 * w + suc w)) (links i j) (votes i j) (at + 2 * w) w, pad-is)))
+  where
+    pad-is : firstPad w ≡ 2 * w + suc w + (2 * w + 1)
+    pad-is = unfold firstPad in refl
 
 module _ (k n w : ℕ) where
   unfoldable pub votesTable : List Gate

@@ -113,11 +113,17 @@ module _ (W : ℕ → ℕ) (b : Binary W) where
   module _ (votes links paths v : ℕ → ℕ → ℕ) (k w : ℕ)
       (spelled : (i j : ℕ) → i < k → j < k → i ≢ j → number W (votes i j) 1 (suc w) ≡ v i j)
       (told : (i j : ℕ) → i < k → j < k → i ≢ j → (v j i < v i j → W (links i j) ≡ 1) × (v i j ≤ v j i → W (links i j) ≡ 0)) where
-    first-kept : (at i j : ℕ) → i < k → j < k → i ≢ j → (eqb i 0 || eqb j 0 || eqb i j) ≡ true → Holds W at (firstBlock votes links paths w at i j) → number W (at + firstPad w) 1 (suc w) ≡ link v i j
+    -- off the diagonal a block is one of two
+    apart : (at i j : ℕ) → i ≢ j → Holds W at (firstBlock votes links paths w at i j) →
+        Holds W at (cond (eqb i 0 || eqb j 0) (constants 0 (firstPad w) ++ masked (links i j) (votes i j) (suc w)) (smaller at (paths i 0) (paths 0 j) w ++ largerIf (at + (2 * w + suc w)) (links i j) (votes i j) (at + 2 * w) w))
     unfolding firstBlock
+    apart at i j ne h =
+        subst (λ (c : Bool). Holds W at (cond c (constants 0 (firstPad w + suc w)) (cond (eqb i 0 || eqb j 0) (constants 0 (firstPad w) ++ masked (links i j) (votes i j) (suc w)) (smaller at (paths i 0) (paths 0 j) w ++ largerIf (at + (2 * w + suc w)) (links i j) (votes i j) (at + 2 * w) w)))) (ne-eqb i j ne) h
+
+    first-kept : (at i j : ℕ) → i < k → j < k → i ≢ j → (eqb i 0 || eqb j 0) ≡ true → Holds W at (firstBlock votes links paths w at i j) → number W (at + firstPad w) 1 (suc w) ≡ link v i j
     first-kept at i j hi hj ne e h =
         let g : Holds W at (constants 0 (firstPad w) ++ masked (links i j) (votes i j) (suc w)) =
-        subst (λ (c : Bool). Holds W at (cond c (constants 0 (firstPad w) ++ masked (links i j) (votes i j) (suc w)) (smaller at (paths i 0) (paths 0 j) w ++ largerIf (at + (2 * w + suc w)) (links i j) (votes i j) (at + 2 * w) w))) e h in
+        subst (λ (c : Bool). Holds W at (cond c (constants 0 (firstPad w) ++ masked (links i j) (votes i j) (suc w)) (smaller at (paths i 0) (paths 0 j) w ++ largerIf (at + (2 * w + suc w)) (links i j) (votes i j) (at + 2 * w) w))) e (apart at i j ne h) in
         let m = behind-zeros at (firstPad w) (masked (links i j) (votes i j) (suc w)) g in
         ⊎-elim
         (λ (l : v j i < v i j). masked-one W b (at + firstPad w) (links i j) (votes i j) (suc w) (told i j hi hj ne .0 l) m ∙ spelled i j hi hj ne ∙ sym (link-won v i j l))
@@ -126,10 +132,10 @@ module _ (W : ℕ → ℕ) (b : Binary W) where
 
     first-over : (at i j : ℕ) → i < k → j < k → i ≢ 0 → j ≢ 0 → i ≢ j → number W (paths i 0) 1 (suc w) ≡ link v i 0 → number W (paths 0 j) 1 (suc w) ≡ link v 0 j →
         Holds W at (firstBlock votes links paths w at i j) → number W (at + firstPad w) 1 (suc w) ≡ max (link v i j) (min (link v i 0) (link v 0 j))
-    unfolding firstBlock firstPad
+    unfolding firstPad
     first-over at i j hi hj i0 j0 ne to from h =
         let g : Holds W at (smaller at (paths i 0) (paths 0 j) w ++ largerIf (at + (2 * w + suc w)) (links i j) (votes i j) (at + 2 * w) w) =
-        subst (λ (c : Bool). Holds W at (cond c (constants 0 (2 * w + suc w + (2 * w + 1)) ++ masked (links i j) (votes i j) (suc w)) (smaller at (paths i 0) (paths 0 j) w ++ largerIf (at + (2 * w + suc w)) (links i j) (votes i j) (at + 2 * w) w))) (none-equal) h in
+        subst (λ (c : Bool). Holds W at (cond c (constants 0 (2 * w + suc w + (2 * w + 1)) ++ masked (links i j) (votes i j) (suc w)) (smaller at (paths i 0) (paths 0 j) w ++ largerIf (at + (2 * w + suc w)) (links i j) (votes i j) (at + 2 * w) w))) none-equal (apart at i j ne h) in
         let p = behind-smaller at (paths i 0) (paths 0 j) w (largerIf (at + (2 * w + suc w)) (links i j) (votes i j) (at + 2 * w) w) g in
         let s = smaller-law W b at (paths i 0) (paths 0 j) w (p .0) in
         let e : at + (2 * w + suc w) + 2 * w + 1 ≡ at + (2 * w + suc w + (2 * w + 1)) = omega arith in
@@ -143,8 +149,8 @@ module _ (W : ℕ → ℕ) (b : Binary W) where
         omega (arith, r, s, to, from, link-lost v i j l))
         (below-or-not (v j i) (v i j))
       where
-        none-equal : (eqb i 0 || eqb j 0 || eqb i j) ≡ false
-        none-equal = rw (ne-eqb i 0 i0, ne-eqb j 0 j0, ne-eqb i j ne)
+        none-equal : (eqb i 0 || eqb j 0) ≡ false
+        none-equal = rw (ne-eqb i 0 i0, ne-eqb j 0 j0)
 
     -- the table of first paths spells the strengths after the detour over 0, where its words stand at `paths`
     pub first-law : (start : ℕ → ℕ → ℕ) → ((i j : ℕ) → paths i j ≡ start i j + firstPad w) →
@@ -152,20 +158,23 @@ module _ (W : ℕ → ℕ) (b : Binary W) where
         (i j : ℕ) → i < k → j < k → i ≢ j → number W (paths i j) 1 (suc w) ≡ detour 0 (link v) i j
     first-law start places held i j hi hj ne = ⊎-elim from (λ i0. ⊎-elim to (over i0) (same-or-not j 0)) (same-or-not i 0)
       where
-        edge : (a c : ℕ) → a < k → c < k → a ≢ c → (eqb a 0 || eqb c 0 || eqb a c) ≡ true → number W (paths a c) 1 (suc w) ≡ link v a c
+        edge : (a c : ℕ) → a < k → c < k → a ≢ c → (eqb a 0 || eqb c 0) ≡ true → number W (paths a c) 1 (suc w) ≡ link v a c
         edge a c ha hc n e = ap (λ (m : ℕ). number W m 1 (suc w)) (places a c) ∙ first-kept (start a c) a c ha hc n e (held a c ha hc)
 
-        row : (a c : ℕ) → a ≡ 0 → (eqb a 0 || eqb c 0 || eqb a c) ≡ true
-        row a c e = or-first (eqb a 0 || eqb c 0) (eqb a c) (or-first (eqb a 0) (eqb c 0) (eq-eqb a 0 e))
+        row : (a c : ℕ) → a ≡ 0 → (eqb a 0 || eqb c 0) ≡ true
+        row a c e = or-first (eqb a 0) (eqb c 0) (eq-eqb a 0 e)
 
-        column : (a c : ℕ) → c ≡ 0 → (eqb a 0 || eqb c 0 || eqb a c) ≡ true
-        column a c e = or-first (eqb a 0 || eqb c 0) (eqb a c) (or-second (eqb a 0) (eqb c 0) (eq-eqb c 0 e))
+        column : (a c : ℕ) → c ≡ 0 → (eqb a 0 || eqb c 0) ≡ true
+        column a c e = or-second (eqb a 0) (eqb c 0) (eq-eqb c 0 e)
+
+        stays : (eqb i 0 || eqb j 0) ≡ true → (eqb i 0 || eqb j 0 || eqb i j) ≡ true
+        stays e = or-first (eqb i 0 || eqb j 0) (eqb i j) e
 
         from : i ≡ 0 → number W (paths i j) 1 (suc w) ≡ detour 0 (link v) i j
-        from e = edge i j hi hj ne (row i j e) ∙ sym (detour-stays 0 (link v) i j (row i j e))
+        from e = edge i j hi hj ne (row i j e) ∙ sym (detour-stays 0 (link v) i j (stays (row i j e)))
 
         to : j ≡ 0 → number W (paths i j) 1 (suc w) ≡ detour 0 (link v) i j
-        to e = edge i j hi hj ne (column i j e) ∙ sym (detour-stays 0 (link v) i j (column i j e))
+        to e = edge i j hi hj ne (column i j e) ∙ sym (detour-stays 0 (link v) i j (stays (column i j e)))
 
         over : i ≢ 0 → j ≢ 0 → number W (paths i j) 1 (suc w) ≡ detour 0 (link v) i j
         over i0 j0 =

@@ -38,5 +38,6 @@ firstPad w = 2 * w + suc w + (2 * w + 1)
 -- Links and detours over candidate 0 in one: to and from 0 the link alone, else the stronger of the link, if there is one, and the way over 0. paths i j is where the words of this table stand.
 unfoldable pub firstBlock : (ℕ → ℕ → ℕ) → (ℕ → ℕ → ℕ) → (ℕ → ℕ → ℕ) → ℕ → ℕ → ℕ → ℕ → List Gate
 firstBlock votes links paths w at i j =
-    cond (eqb i 0 || eqb j 0 || eqb i j) (constants 0 (firstPad w) ++ masked (links i j) (votes i j) (suc w))
-    (smaller at (paths i 0) (paths 0 j) w ++ largerIf (at + (2 * w + suc w)) (links i j) (votes i j) (at + 2 * w) w)
+    cond (eqb i j) (constants 0 (firstPad w + suc w))
+    (cond (eqb i 0 || eqb j 0) (constants 0 (firstPad w) ++ masked (links i j) (votes i j) (suc w))
+    (smaller at (paths i 0) (paths 0 j) w ++ largerIf (at + (2 * w + suc w)) (links i j) (votes i j) (at + 2 * w) w))

@@ -1,8 +1,6 @@
 // The own list of a ranked tasting.
-use crate::entries::Ranks;
 use crate::lost::closings;
 use crate::lost::lost_rows;
-use crate::places::Places;
 use crate::tables::detour_table;
 use crate::tables::first_table;
 use crate::tables::links_table;
@@ -10,6 +8,8 @@ use crate::tables::votes_table;
 use counting::counter::counter;
 use gates::kind;
 use jury::width::width;
+use ranking_blocks::entries::Ranks;
+use ranking_blocks::places::Places;
 use words::writer::Writer;
 ghost use mathlib.Core.Path.{_≡_};
 ghost use Prim.Native.Nat.{suc, _+_, _-_, _*_, _≤_, _<_};
@@ -22,7 +22,7 @@ ghost use Rattle.ranking.specs.Stages.{detourPad, firstPad};
 ghost use Rattle.ranking.specs.Paths.{votesSize, firstSize, detourSize, firstFrom, detourFrom, pathFirst, pathSize, pathTables};
 ghost use Rattle.ranking.specs.RankedList.{rankedList, lostFrom};
 ghost use Rattle.ranking.specs.OwnRanking.{ownRanking};
-ghost use Rattle.ranking_writer.specs.Ranked.{Ranked};
+ghost use Rattle.ranking_blocks.specs.Ranked.{Ranked};
 
 // The numbers of ballots, the links, and the first paths.
 fn first_paths(w: Writer, table: &mut [u32], p: Ranks) -> Writer

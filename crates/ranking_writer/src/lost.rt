@@ -1,8 +1,8 @@
 // Who is beaten, and the closing gates.
-use crate::entries::Ranks;
-use crate::places::Places;
-use crate::places::link_wire;
 use gates::kind;
+use ranking_blocks::entries::Ranks;
+use ranking_blocks::places::Places;
+use ranking_blocks::places::link_wire;
 use words::writer::Writer;
 ghost use mathlib.Core.Path.{_≡_};
 ghost use mathlib.Core.List.{[], _∷_};
@@ -14,7 +14,7 @@ ghost use Rattle.ranking.specs.Table.{blocks, place};
 ghost use Rattle.ranking.specs.Stages.{linkWire};
 ghost use Rattle.ranking.specs.Paths.{linksSize};
 ghost use Rattle.ranking.specs.RankedList as spec;
-ghost use Rattle.ranking_writer.specs.Ranked.{Ranked};
+ghost use Rattle.ranking_blocks.specs.Ranked.{Ranked};
 
 // Number s of the candidates but i.
 fn other(i: u32, s: u32) -> u32

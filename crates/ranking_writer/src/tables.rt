@@ -1,12 +1,12 @@
 // The tables: k rows of k blocks.
-use crate::entries::Ranks;
-use crate::entries::detour_block;
-use crate::entries::first_block;
-use crate::entries::links_block;
-use crate::entries::votes_block;
-use crate::places::Places;
-use crate::places::link_wire;
-use crate::places::place;
+use ranking_blocks::entries::Ranks;
+use ranking_blocks::entries::detour_block;
+use ranking_blocks::entries::first_block;
+use ranking_blocks::entries::links_block;
+use ranking_blocks::entries::votes_block;
+use ranking_blocks::places::Places;
+use ranking_blocks::places::link_wire;
+use ranking_blocks::places::place;
 use words::writer::Writer;
 ghost use mathlib.Core.Path.{_≡_};
 ghost use Prim.Native.Nat.{ℕ, suc, _+_, _*_, _≤_, _<_};
@@ -16,7 +16,7 @@ ghost use Rattle.ranking.specs.Table.{place};
 ghost use Rattle.ranking.specs.Table as spec;
 ghost use Rattle.ranking.specs.Stages.{votesBlock, linksBlock, linkWire, detourBlock, firstBlock, firstPad};
 ghost use Rattle.ranking.specs.Paths.{votesSize, linksSize, firstSize, detourSize};
-ghost use Rattle.ranking_writer.specs.Ranked.{Ranked};
+ghost use Rattle.ranking_blocks.specs.Ranked.{Ranked};
 
 // The numbers of ballots.
 pub(crate) fn votes_table(w: Writer, table: &mut [u32], p: Ranks) -> Writer

@@ -19,7 +19,7 @@ use Rattle.ranking.proofs.TableLaws.{length-blocks, length-table, place-within}
 use Rattle.ranking.proofs.PathLaws.{links-sized, tables-end}
 use Rattle.ranking.proofs.GoodLaws.{path-end}
 use Rattle.ranking.proofs.Accuracy.{row-sized}
-use Rattle.ranking_writer.proofs.Filling.{wrote-two, behind, room-behind}
+use Rattle.ranking_blocks.proofs.Behind.{wrote-two, behind, room-behind}
 use Rattle.ranking_writer.proofs.ListWriters.{links-size, detour-size, one-of-many, detour-start, later-words, later-size, place-same, links-same, rows-same, closings-same, list-parts, list-long, lost-start}
 use Rattle.ranking_writer.proofs.list.circuit.Statement.{statement}
 use Rattle.ranking_writer.proofs.list.circuit.Tie as tie

@@ -15,7 +15,7 @@ use Rattle.ranking.specs.Paths.{votesSize, linksSize, firstSize, linksFrom, fir
 use Rattle.ranking.proofs.TableLaws.{length-table, place-within}
 use Rattle.ranking.proofs.PathLaws.{votes-sized, links-sized}
 use Rattle.ranking.proofs.GoodLaws.{votes-end}
-use Rattle.ranking_writer.proofs.Filling.{wrote-two, behind, room-behind}
+use Rattle.ranking_blocks.proofs.Behind.{wrote-two, behind, room-behind}
 use Rattle.ranking_writer.proofs.ListWriters.{links-size, first-size, first-pad, votes-parts, one-of-many, place-same, first-long, zero-size, votes-same, links-same, first-same}
 use Rattle.ranking_writer.proofs.list.first_paths.Statement.{statement}
 use Rattle.ranking_writer.proofs.list.first_paths.Tie as tie

@@ -12,8 +12,9 @@ use Rattle.ranking.specs.Table.{blocks, table, place}
 use Rattle.ranking.specs.Stages.{detourBlock}
 use Rattle.ranking.specs.Paths.{firstSize, detourSize, detourFrom, pathFirst, pathSize, pathTables}
 use Rattle.ranking.proofs.GoodLaws.{path-end}
-use Rattle.ranking_writer.specs.declared.entries.Ranks.{Ranks}
-use Rattle.ranking_writer.proofs.Filling.{behind, room-behind, Filled, fill-start, fill-wire, fill-next, fill-room, fill-end}
+use Rattle.ranking_blocks.specs.declared.entries.Ranks.{Ranks}
+use Rattle.ranking_blocks.proofs.Behind.{behind, room-behind}
+use Rattle.ranking_writer.proofs.Filling.{Filled, fill-start, fill-wire, fill-next, fill-room, fill-end}
 use Rattle.ranking_writer.proofs.ListWriters.{first-size, detour-size, first-end, detoursFrom, detoursBlock, detours-sized, tables-split, tables-long, detour-start, first-words, later-words, later-size, zero-size, detour-same, place-same}
 use Rattle.ranking_writer.proofs.list.path_tables.Statement.{statement}
 use Rattle.ranking_writer.proofs.list.path_tables.Tie as tie

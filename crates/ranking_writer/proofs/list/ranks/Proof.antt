@@ -16,7 +16,7 @@ use Rattle.jury.proofs.WidthLaws.{width-half, width-most}
 use Rattle.ranking.specs.Paths.{votesSize}
 use Rattle.ranking.proofs.GoodLaws.{below-stride}
 use Rattle.ranking.proofs.OwnRankingLaws.{ranking-countable}
-use Rattle.ranking_writer.proofs.Filling.{behind}
+use Rattle.ranking_blocks.proofs.Behind.{behind}
 use Rattle.ranking_writer.proofs.ListWriters.{votes-parts}
 use Rattle.ranking_writer.proofs.list.ranks.Statement.{statement}
 use Rattle.ranking_writer.proofs.list.ranks.Tie as tie
