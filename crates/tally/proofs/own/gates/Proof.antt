@@ -23,20 +23,20 @@ returns : tie.Need-returns
 returns c = search needs
 
 -- the candidates are graded
-grading : (c : tie.Else1) → isRanking (c .before .before .before .args .shape) ≡ false
+grading : (c : tie.Else1) → isRanking (c .before .before .args .shape) ≡ false
 grading c = sym (c .before .is-ranking .ensures) ∙ c .if1 .left
 
 gates-requires : tie.Need-gates-requires
 gates-requires c κs =
-    let start = c .before .before .before in
+    let start = c .before .before in
     let s = start .args .shape in
     true-T (gradedLimits s) (graded-kind s (T-true (withinLimits s) (start .pre)) (grading c))
 
 returns-2 : tie.Need-returns-2
 returns-2 c =
-    let told = c .before .before in
-    let s = told .before .before .before .args .shape in
-    c .before .gates .ensures ∙ sym (ap (λ (gs : List Gate). length gs) (own-graded s (grading told)))
+    let told = c .before in
+    let s = told .before .before .args .shape in
+    c .gates .ensures ∙ sym (ap (λ (gs : List Gate). length gs) (own-graded s (grading told)))
 
 pub gates-spec : {M : Type 1} → statement M
 gates-spec =
