@@ -1,6 +1,7 @@
 -- The memory demand holds of the urn.
 -- Assumes nothing.
-use mathlib.Core.Path.{_≡_, _∙_, refl, sym, ap}
+use mathlib.Core.Path.{_≡_, _∙_, refl, sym, ap, subst}
+use mathlib.Core.Bool.{Bool, true, false, cond}
 use mathlib.Core.Option.{Option, none, some}
 use mathlib.Core.List.{List, [], _∷_, _++_}
 use Prim.Native.Nat.{ℕ, _+_, _-_}
@@ -8,12 +9,14 @@ use lib.Dec.{T}
 use lib.ListN.{length}
 use Rattle.jury.specs.declared.shape.Shape.{Shape}
 use Rattle.jury.specs.Reason.{Reason, reasonAt, unless, firstOf}
-use Rattle.jury.specs.Ballots.{ballotReasons}
+use Rattle.jury.specs.Shape.{isRanking, gradedLimits}
+use Rattle.jury.specs.Ballots.{rankedReasons, gradedReasons, ballotReasons}
+use Rattle.jury.proofs.Limits.{within, graded-is}
 use Rattle.tally.specs.Answer.{Said, refused, accepted, said, hasNumberIn}
-use Rattle.tally.proofs.Numbering.{All, first-fine, both, unless-fine, found-fine, said-fine, refused-fine}
+use Rattle.tally.proofs.Numbering.{All, Fine, first-fine, both, unless-fine, found-fine, said-fine, refused-fine}
 use Rattle.chains.specs.Sound.{juryOfOne}
 use Rattle.urn.specs.declared.facts.Facts.{Facts}
-use Rattle.urn.specs.Facts.{factsOf, afterwards}
+use Rattle.urn.specs.Facts.{gradedShape, factsOf, afterwards}
 use Rattle.urn.specs.Admit.{admitReasons, admitSaid, admitted}
 use Rattle.urn.specs.Withdraw.{withdrawReasons, withdrawSaid, withdrawn}
 use Rattle.urn.specs.Empty.{emptyReasons, emptySaid, emptied}
@@ -26,18 +29,31 @@ use Rattle.urn.proofs.UrnTheorems.{urn-holds}
 admitting : List ℕ
 admitting = 1 ∷ 13 ∷ 14 ∷ 4 ∷ 5 ∷ 6 ∷ 15 ∷ []
 
-ballots-fine : (s : Shape) (xs : List ℕ) → All admitting (ballotReasons s xs)
-unfolding All ballotReasons hasNumberIn reasonAt admitting
-ballots-fine s xs = (unless-fine admitting _ 4 tt, (found-fine admitting 5 _ (λ i. tt), (found-fine admitting 6 _ (λ i. tt), tt)))
+-- of a jury that grades
+ballots-fine : (s : Shape) (xs : List ℕ) → isRanking s ≡ false → All admitting (ballotReasons s xs)
+unfolding All ballotReasons gradedReasons hasNumberIn reasonAt admitting
+ballots-fine s xs graded =
+    (unless-fine admitting _ 4 tt, (found-fine admitting 5 _ (λ i. tt), subst (λ (t : Bool). All admitting (cond t (rankedReasons s xs) (gradedReasons s xs))) (sym graded) (found-fine admitting 6 _ (λ i. tt), tt)))
 
-admit-fine : (k d : ℕ) (f : Facts) (j : ℕ) (x : List ℕ) → All admitting (admitReasons k d f j x)
-unfolding All admitReasons hasNumberIn reasonAt admitting
-admit-fine k d f j x =
-    (unless-fine admitting _ 1 tt, (unless-fine admitting _ 13 tt, (unless-fine admitting _ 14 tt, both admitting (ballotReasons (juryOfOne k d) x) _ (ballots-fine (juryOfOne k d) x) (unless-fine admitting _ 15 tt, tt))))
+admit-fine : (k d : ℕ) (f : Facts) (j : ℕ) (x : List ℕ) → gradedShape k d ≡ true → All admitting (admitReasons k d f j x)
+unfolding All admitReasons gradedShape hasNumberIn reasonAt admitting
+admit-fine k d f j x e =
+    (unless-fine admitting _ 1 tt, (unless-fine admitting _ 13 tt, (unless-fine admitting _ 14 tt,
+    both admitting (ballotReasons (juryOfOne k d) x) _ (ballots-fine (juryOfOne k d) x (graded-is (juryOfOne k d) (within (juryOfOne k d) e))) (unless-fine admitting _ 15 tt, tt))))
+
+-- any other is turned away for its shape, before all
+first-of : (t : Bool) (rest : List (Option Reason)) → t ≡ false → Fine admitting (firstOf (unless t 1 ∷ rest))
+unfolding Fine hasNumberIn reasonAt admitting unless firstOf
+first-of t rest e = subst (λ (t : Bool). Fine admitting (firstOf (unless t 1 ∷ rest))) (sym e) tt
+
+admit-first : (k d : ℕ) (f : Facts) (j : ℕ) (x : List ℕ) (t : Bool) → gradedShape k d ≡ t → Fine admitting (firstOf (admitReasons k d f j x))
+unfolding admitReasons
+admit-first k d f j x false e = first-of (gradedShape k d) _ e
+admit-first k d f j x true e = first-fine admitting (admitReasons k d f j x) (admit-fine k d f j x e)
 
 admit-numbered : (k d : ℕ) (f : Facts) (j : ℕ) (x : List ℕ) (r : Reason) → admitSaid k d f j x ≡ refused r → T (hasNumberIn (1 ∷ 13 ∷ 14 ∷ 4 ∷ 5 ∷ 6 ∷ 15 ∷ []) r)
 unfolding admitSaid admitting
-admit-numbered k d f j x r e = refused-fine admitting (admitSaid k d f j x) r (said-fine admitting _ _ (first-fine admitting (admitReasons k d f j x) (admit-fine k d f j x))) e
+admit-numbered k d f j x r e = refused-fine admitting (admitSaid k d f j x) r (said-fine admitting _ _ (admit-first k d f j x (gradedShape k d) refl)) e
 
 withdraw-numbered : (k d : ℕ) (f : Facts) (j : ℕ) (r : Reason) → withdrawSaid k d f j ≡ refused r → T (hasNumberIn (1 ∷ 13 ∷ 14 ∷ []) r)
 unfolding withdrawSaid withdrawReasons All hasNumberIn reasonAt
