@@ -1,9 +1,13 @@
 /* The counting core of tasting-jury units, for C. Link target/staticlib/libjugyvaros.a, which tools/library makes.
  *
- * Shape: candidates (k) 1 to 8, grades (d) 2 to 7, ballots (n) 1 to 255; other numbers are refused with reason 1.
+ * Shape: candidates (k) 1 to 8, grades (d) 2 to 7, or 0 where the candidates are ranked, ballots (n) 1 to 255; other numbers
+ * are refused with reason 1.
  *
- * Ballots: I = n k d bytes of 0 or 1. Each ballot has a row for each candidate in order, each row a byte for each grade, the best
+ * Graded ballots: I = n k d bytes of 0 or 1. Each ballot has a row for each candidate in order, each row a byte for each grade, the best
  * first; a row holds one 1. The byte of ballot b, candidate c and grade g is bytes[(b k + c) d + g].
+ *
+ * Ranked ballots (d = 0): I = n k k bytes of 0 or 1. The byte of ballot b, row i and column j, bytes[(b k + i) k + j], is 1
+ * where the juror puts candidate i strictly before candidate j, and 0 where i is behind j or level with it.
  *
  * Gates: four numbers each, kind, a, b, c; gate g stands at table[4 g] to table[4 g + 3]. The ballot bytes are wires
  * 0 to I - 1; wire I + g is made by gate g. Operands that a kind uses are earlier wires, the others are 0.
@@ -43,19 +47,21 @@
 extern "C" {
 #endif
 
-/* The reasons, with what their place counts. A call makes those tests that concern it, in the order 1, 13, 14, 2, 23, 3, 24, 4 to 6,
- * 15, 7 to 10. */
+/* The reasons, with what their place counts. A call makes those tests that concern it, in the order 1, 13, 14, 2, 23, 3, 24, 4, 5, 6
+ * of graded ballots or 11 and 12 of ranked ones, 15, 7 to 10. */
 #define JUGY_ACCEPTED 0
 #define JUGY_SHAPE 1          /* k, d or n is outside its limits */
 #define JUGY_TABLE 2          /* no room in the gate table to write, or no list of k to 1,048,576 whole gates */
 #define JUGY_GATE 3           /* a bad kind or operand; place: the gate */
 #define JUGY_BALLOTS_LENGTH 4 /* there are not I ballot bytes */
 #define JUGY_BALLOT_BYTE 5    /* a byte of a ballot is no bit; place: the byte */
-#define JUGY_BALLOT_ROW 6     /* a row with no 1 or several; place: the row, b k + c */
+#define JUGY_BALLOT_ROW 6     /* graded: a row with no 1 or several; place: the row, b k + c */
 #define JUGY_TAPE_LENGTH 7    /* the tape's length is not C */
 #define JUGY_TAPE_BYTE 8      /* a byte of the tape is no bit; place: the byte */
 #define JUGY_WIRES_LENGTH 9   /* the wire table's length is not I + G */
 #define JUGY_BOARD_LENGTH 10  /* the board's length is not C + k */
+#define JUGY_BALLOT_CLASH 11  /* ranked: a byte and its opposite, or one of the diagonal, are 1; place: the first such byte */
+#define JUGY_BALLOT_GAP 12    /* ranked: i is before j, a third neither behind i nor before j; place: the ballot */
 #define JUGY_URN 13           /* the urn is not sound */
 #define JUGY_JUROR 14         /* none of a juror's numbers, 1 to 255; or in already (admission), or not in (withdrawal) */
 #define JUGY_FULL_URN 15      /* no slot of the urn is free */
@@ -88,7 +94,7 @@ size_t jugy_write(size_t candidates, size_t grades, size_t ballots, uint32_t *ta
 size_t jugy_test(size_t candidates, size_t grades, size_t ballots, const uint32_t *table, size_t table_length,
                  size_t *answer, size_t answer_length);
 
-/* Runs a list on the ballots: answer[2] is G, answer[3] is C. Reasons 1 to 10.
+/* Runs a list on the ballots: answer[2] is G, answer[3] is C. Reasons 1 to 10, with 11 and 12 in place of 6 for rankings.
  *   table  4 G numbers, the list's own length. A longer table filled up with zeros is another list: constants 0
  *          stand where its closing gates should, so its closing bytes do not say who wins.
  *   bytes  I ballot bytes
@@ -98,14 +104,15 @@ size_t jugy_test(size_t candidates, size_t grades, size_t ballots, const uint32_
  *          they are all zero. Ballots, tape and list stay readable where the caller keeps them: whoever has tape and board
  *          can work out the shown wires, so wipe ballots and tape too.
  *   board  C + k bytes, whatever they held. Afterwards board[i], i below C, is wire a of conditional gate i, counted from 0 and
- *          masked by tape[i], and board[C + i], i below k, is candidate i's closing byte: 1 where it wins, by full majority
- *          judgment under the shape's own list, else 0; several may win. This may be published. */
+ *          masked by tape[i], and board[C + i], i below k, is candidate i's closing byte: 1 where it wins under the
+ *          shape's own list, by full majority judgment or, of rankings, by Schulze's rule, else 0; several may win. This may
+ *          be published. */
 size_t jugy_run(size_t candidates, size_t grades, size_t ballots, const uint32_t *table, size_t table_length,
                 const uint8_t *bytes, size_t bytes_length, const uint8_t *tape, size_t tape_length, uint8_t *wires,
                 size_t wires_length, uint8_t *board, size_t board_length, size_t *answer, size_t answer_length);
 
-/* Counts I ballot bytes plainly: answer[2 + i], i below 8, is candidate i's closing byte: 1 where it wins by full majority judgment, else 0, and 0
- * from place k on; several may win. Reasons 1, 4, 5 and 6. */
+/* Counts I ballot bytes plainly: answer[2 + i], i below 8, is candidate i's closing byte: 1 where it wins by full majority judgment
+ * or, of rankings, by Schulze's rule, else 0, and 0 from place k on; several may win. Reasons 1, 4, 5, and 6 or 11 and 12. */
 size_t jugy_count(size_t candidates, size_t grades, size_t ballots, const uint8_t *bytes, size_t bytes_length,
                   size_t *answer, size_t answer_length);
 

@@ -82,7 +82,7 @@ mod c {
 pub struct Shape {
     /// k, from 1 to 8.
     pub candidates: usize,
-    /// d, from 2 to 7.
+    /// d, from 2 to 7, or 0 where the candidates are ranked.
     pub grades: usize,
     /// n, from 1 to 255.
     pub ballots: usize,
@@ -97,11 +97,16 @@ pub enum Reason {
     Gate = 3,
     BallotsLength = 4,
     BallotByte = 5,
+    /// Of graded ballots.
     BallotRow = 6,
     TapeLength = 7,
     TapeByte = 8,
     WiresLength = 9,
     BoardLength = 10,
+    /// Of rankings, behind `BallotByte`.
+    BallotClash = 11,
+    /// Of rankings, behind `BallotClash`.
+    BallotGap = 12,
     /// Behind `Shape`.
     Urn = 13,
     /// Behind `Urn`.
@@ -115,7 +120,7 @@ pub enum Reason {
 }
 
 impl Reason {
-    const ALL: [Reason; 15] = [
+    const ALL: [Reason; 17] = [
         Reason::Shape,
         Reason::Table,
         Reason::Gate,
@@ -126,6 +131,8 @@ impl Reason {
         Reason::TapeByte,
         Reason::WiresLength,
         Reason::BoardLength,
+        Reason::BallotClash,
+        Reason::BallotGap,
         Reason::Urn,
         Reason::Juror,
         Reason::FullUrn,
@@ -155,6 +162,8 @@ impl Reason {
             Reason::TapeByte => "neither 0 nor 1 in tape byte",
             Reason::WiresLength => "the wire table has another length than ballots and gates together",
             Reason::BoardLength => "the board has another length than conditional gates and candidates together",
+            Reason::BallotClash => "a candidate before itself, or two before each other, at ballot byte",
+            Reason::BallotGap => "one before another and a third beside both, in ballot",
             Reason::Urn => "the urn is not sound",
             Reason::Juror => "none of a juror's numbers (1 to 255), or in already, or not in",
             Reason::FullUrn => "no slot of the urn is free",
@@ -165,7 +174,16 @@ impl Reason {
 
     /// Whether the place of this reason counts something.
     pub fn has_place(self) -> bool {
-        matches!(self, Reason::Gate | Reason::BallotByte | Reason::BallotRow | Reason::TapeByte | Reason::Line)
+        matches!(
+            self,
+            Reason::Gate
+                | Reason::BallotByte
+                | Reason::BallotRow
+                | Reason::BallotClash
+                | Reason::BallotGap
+                | Reason::TapeByte
+                | Reason::Line
+        )
     }
 }
 
