@@ -14,3 +14,4 @@ pub mod Finishing
 pub mod Laws
 pub mod Hiding
 pub mod Accepting
+pub mod Prefix
