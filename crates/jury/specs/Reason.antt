@@ -8,7 +8,7 @@ use Rattle.gates.specs.declared.place.Place.the-variants.{At, Nowhere}
 use Rattle.gates.specs.declared.list.Tested.{Tested}
 use Rattle.gates.specs.declared.list.Tested.the-variants as tested
 use Rattle.jury.specs.declared.reason.Refusal.{Refusal}
-use Rattle.jury.specs.declared.reason.Refusal.the-variants.{Shape, Table, Gate, BallotsLength, BallotByte, BallotRow, TapeLength, TapeByte, WiresLength, BoardLength, Urn, Juror, FullUrn}
+use Rattle.jury.specs.declared.reason.Refusal.the-variants.{Shape, Table, Gate, BallotsLength, BallotByte, BallotRow, TapeLength, TapeByte, WiresLength, BoardLength, Urn, Juror, FullUrn, Juries, GatesPerRound}
 use Rattle.jury.specs.declared.shape.Shaped.{Shaped}
 use Rattle.jury.specs.declared.shape.Shaped.the-variants.{Within, Outside}
 use Rattle.jury.specs.declared.reason.Verdict.{Verdict}
@@ -38,6 +38,8 @@ reasonOf BoardLength = reasonAt 10 0
 reasonOf Urn = reasonAt 13 0
 reasonOf Juror = reasonAt 14 0
 reasonOf FullUrn = reasonAt 15 0
+reasonOf Juries = reasonAt 19 0
+reasonOf GatesPerRound = reasonAt 20 0
 
 -- The reason of a verdict, where it is a refusal.
 unfoldable pub refusedFor : Verdict → Option Reason

@@ -2,7 +2,8 @@
 ghost use mathlib.Core.Path.{_≡_};
 ghost use Rattle.jury.specs.Reason.{reasonOf};
 
-// In document 01's order, 1 to 10, then those of the urn, 13 to 15. The number in a case is the place.
+// In document 01's order, 1 to 10, then those of the urn, 13 to 15, and of the dispatcher, 19 and 20. The number in a case is
+// the place.
 pub enum Refusal {
     Shape,
     Table,
@@ -17,6 +18,8 @@ pub enum Refusal {
     Urn,
     Juror,
     FullUrn,
+    Juries,
+    GatesPerRound,
 }
 
 // The outcome of a call that answers no number of its own.
@@ -44,6 +47,8 @@ impl Refusal {
             Refusal::Urn => 13,
             Refusal::Juror => 14,
             Refusal::FullUrn => 15,
+            Refusal::Juries => 19,
+            Refusal::GatesPerRound => 20,
         }
     }
 
@@ -65,6 +70,8 @@ impl Refusal {
             Refusal::Urn => 0,
             Refusal::Juror => 0,
             Refusal::FullUrn => 0,
+            Refusal::Juries => 0,
+            Refusal::GatesPerRound => 0,
         }
     }
 }

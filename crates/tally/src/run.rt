@@ -11,7 +11,7 @@ ghost use Rattle.tally.specs.Answer.{saidBy, said, sizeOf};
 ghost use Rattle.tally.specs.Run.{lentReasons, runReasons, ran};
 
 // Reasons 7 to 10, for a list of so many inputs, outputs, gates and conditional gates.
-fn test_lent(
+pub fn test_lent(
     inputs: usize,
     outputs: usize,
     gates: usize,

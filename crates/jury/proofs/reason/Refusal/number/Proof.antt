@@ -46,6 +46,12 @@ enum-told-12 c = search needs
 enum-told-13 : tie.Need-enum-told-13
 enum-told-13 c = search needs
 
+enum-told-14 : tie.Need-enum-told-14
+enum-told-14 c = search needs
+
+enum-told-15 : tie.Need-enum-told-15
+enum-told-15 c = search needs
+
 returns : tie.Need-returns
 unfolding reasonOf reasonAt
 returns c = ap (λ (t : Refusal). reasonOf t .number) (sym (c .enum-told .given .1))
@@ -98,6 +104,14 @@ returns-13 : tie.Need-returns-13
 unfolding reasonOf reasonAt
 returns-13 c = ap (λ (t : Refusal). reasonOf t .number) (sym (c .enum-told13 .given .1))
 
+returns-14 : tie.Need-returns-14
+unfolding reasonOf reasonAt
+returns-14 c = ap (λ (t : Refusal). reasonOf t .number) (sym (c .enum-told14 .given .1))
+
+returns-15 : tie.Need-returns-15
+unfolding reasonOf reasonAt
+returns-15 c = ap (λ (t : Refusal). reasonOf t .number) (sym (c .enum-told15 .given .1))
+
 pub number-spec : {M : Type 1} → statement M
 number-spec =
     tie.close
@@ -115,6 +129,8 @@ number-spec =
     enum-told-11
     enum-told-12
     enum-told-13
+    enum-told-14
+    enum-told-15
     returns
     returns-2
     returns-3
@@ -127,4 +143,6 @@ number-spec =
     returns-10
     returns-11
     returns-12
-    returns-13)
+    returns-13
+    returns-14
+    returns-15)

@@ -46,6 +46,12 @@ enum-told-8 c = search needs
 enum-told-9 : tie.Need-enum-told-9
 enum-told-9 c = search needs
 
+enum-told-10 : tie.Need-enum-told-10
+enum-told-10 c = search needs
+
+enum-told-11 : tie.Need-enum-told-11
+enum-told-11 c = search needs
+
 returns : tie.Need-returns
 unfolding reasonOf reasonAt
 returns c = ap (λ (t : Refusal). reasonOf t .place) (sym (c .before .self .given .1))
@@ -98,6 +104,14 @@ returns-13 : tie.Need-returns-13
 unfolding reasonOf reasonAt
 returns-13 c = ap (λ (t : Refusal). reasonOf t .place) (sym (c .enum-told9 .given .1))
 
+returns-14 : tie.Need-returns-14
+unfolding reasonOf reasonAt
+returns-14 c = ap (λ (t : Refusal). reasonOf t .place) (sym (c .enum-told10 .given .1))
+
+returns-15 : tie.Need-returns-15
+unfolding reasonOf reasonAt
+returns-15 c = ap (λ (t : Refusal). reasonOf t .place) (sym (c .enum-told11 .given .1))
+
 pub place-spec : {M : Type 1} → statement M
 place-spec =
     tie.close
@@ -115,6 +129,8 @@ place-spec =
     enum-told-7
     enum-told-8
     enum-told-9
+    enum-told-10
+    enum-told-11
     returns
     returns-2
     returns-3
@@ -127,4 +143,6 @@ place-spec =
     returns-10
     returns-11
     returns-12
-    returns-13)
+    returns-13
+    returns-14
+    returns-15)
