@@ -47,7 +47,16 @@ fn turn(
         gates::step::close(statement.candidates, wires, last, board);
         return last;
     }
-    gates::step::step(inputs, list, given, given + share, tape, shown, wires, board)
+    gates::step::step(
+        inputs,
+        list,
+        given,
+        given + share,
+        tape,
+        shown,
+        wires,
+        board,
+    )
 }
 
 // The round after so many gates were given to each jury that has them. conditional holds each jury's number of conditional gates,

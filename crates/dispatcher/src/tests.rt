@@ -132,7 +132,8 @@ pub(crate) fn test_juries(
         let Answer::Accepted {
             gates: _,
             conditional: marked,
-        } = answer else {
+        } = answer
+        else {
             return Tests {
                 outcome: outcome_of(answer, j),
                 conditional,

@@ -106,9 +106,9 @@ next c t =
     (left-cons (s .args .count) (l .j) (s .args .t2) blank (c .loop-test .taken) (enough s)) (u .1) in (
       behind x (u .0),
       subst (λ (left : List Statement). Upto (oneOf unknown) (oneOf (rate (s .args .share))) (padding ss) left (behind x (u .0)) (l .j + 1)
-      (set (l .rounds) (l .j) ((x .gates + (s .args .share - 1)) / s .args .share)) final)
-      (ap (λ (i : ℕ). drop i ss) (sym (add-one (l .j))))
-      (upto-set unknown (rate (s .args .share)) (padding ss) x (drop (suc (l .j)) ss) (u .0) (l .j) (l .rounds) final first ((x .gates + (s .args .share - 1)) / s .args .share) refl),
+          (set (l .rounds) (l .j) ((x .gates + (s .args .share - 1)) / s .args .share)) final)
+          (ap (λ (i : ℕ). drop i ss) (sym (add-one (l .j))))
+          (upto-set unknown (rate (s .args .share)) (padding ss) x (drop (suc (l .j)) ss) (u .0) (l .j) (l .rounds) final first ((x .gates + (s .args .share - 1)) / s .args .share) refl),
     )
 
 loop-again : tie.Need-loop-again Inv-loop μ-loop
@@ -124,9 +124,9 @@ returns c =
     let ss = take (s .args .count) (s .args .t2) in
     let none-left : drop (l .j) ss ≡ [] = drop-of-length-le ss {i = l .j} (omega (arith, length-take-le (s .args .count) (s .args .t2) (enough s), c .loop-test .left)) in
     λ (t : Tables).
-        let u = l .inv .1 t in
-        upto-end (oneOf unknown) (oneOf (rate (s .args .share))) (padding ss) (u .0) (l .j) (l .rounds) (eightOf (rate (s .args .share)) ss t)
-        (subst (λ (left : List Statement). Upto (oneOf unknown) (oneOf (rate (s .args .share))) (padding ss) left (u .0) (l .j) (l .rounds) (eightOf (rate (s .args .share)) ss t)) none-left (u .1))
+    let u = l .inv .1 t in
+    upto-end (oneOf unknown) (oneOf (rate (s .args .share))) (padding ss) (u .0) (l .j) (l .rounds) (eightOf (rate (s .args .share)) ss t)
+    (subst (λ (left : List Statement). Upto (oneOf unknown) (oneOf (rate (s .args .share))) (padding ss) left (u .0) (l .j) (l .rounds) (eightOf (rate (s .args .share)) ss t)) none-left (u .1))
 
 pub rounds-of-spec : {M : Type 1} → statement M
 rounds-of-spec =

@@ -334,8 +334,8 @@ returns c =
     let ss = take (s .args .count) (s .args .t2) in
     let none-left : drop (l .j) ss ≡ [] = drop-of-length-le ss {i = l .j} (omega (arith, length-take-le (s .args .count) (s .args .t2) (enough s), c .loop-test .left)) in
     λ (ws bs : List ℕ) st.
-        mid-end ss (lentTo s ws bs) (s .args .given) (s .args .given + s .args .share) (s .args .t3) (l .j) (l .at) (l .wires) (l .boards) (l .shown) (st .accepted) (st .conditionalAre)
-        (subst (λ (left : List Statement). Mid ss (lentTo s ws bs) (s .args .given) (s .args .given + s .args .share) (s .args .t3) (l .j) left (l .at) (l .wires) (l .boards) (l .shown)) none-left (l .inv .1 ws bs st))
+    mid-end ss (lentTo s ws bs) (s .args .given) (s .args .given + s .args .share) (s .args .t3) (l .j) (l .at) (l .wires) (l .boards) (l .shown) (st .accepted) (st .conditionalAre)
+    (subst (λ (left : List Statement). Mid ss (lentTo s ws bs) (s .args .given) (s .args .given + s .args .share) (s .args .t3) (l .j) left (l .at) (l .wires) (l .boards) (l .shown)) none-left (l .inv .1 ws bs st))
 
 pub round-spec : {M : Type 1} → statement M
 round-spec =

@@ -24,7 +24,7 @@ returns : tie.Need-returns
 returns c =
     let a = c .before .before .before .before .before .before .args in
     λ (ws bs : List ℕ) j.
-        turn-idle (a .statement) (lent (a .list .now) (a .ballots .now) (a .tape .now) ws bs) (a .given) (a .share) (a .wires .now) (a .board .now) (a .shown) (c .if1 .taken) j
+    turn-idle (a .statement) (lent (a .list .now) (a .ballots .now) (a .tape .now) ws bs) (a .given) (a .share) (a .wires .now) (a .board .now) (a .shown) (c .if1 .taken) j
 
 load-requires : tie.Need-load-requires
 load-requires c κs =
@@ -90,7 +90,7 @@ returns-2 c =
     let a = e .before .before .before .before .before .before .before .before .before .before .before .before .before .before .args in
     let past = e .before .before .before .if2 .taken in
     λ (ws bs : List ℕ) j.
-        turn-ends (a .statement) (lent (a .list .now) (a .ballots .now) (a .tape .now) ws bs) (j .run) (j .some-gate) (j .gates) (a .given + a .share) _ _ _ _ (omega arith) (finished e ws bs j) (c .before .before .close .ensures)
+    turn-ends (a .statement) (lent (a .list .now) (a .ballots .now) (a .tape .now) ws bs) (j .run) (j .some-gate) (j .gates) (a .given + a .share) _ _ _ _ (omega arith) (finished e ws bs j) (c .before .before .close .ensures)
 
 add-step : tie.Need-add-step
 add-step c = search needs
@@ -121,9 +121,9 @@ returns-3 c =
     let r = e .step2 in
     let share-least = s .pre .0 in
     λ (ws bs : List ℕ) j.
-        turn-goes-on (a .statement) (lent (a .list .now) (a .ballots .now) (a .tape .now) ws bs) (j .run) (j .some-gate) (j .gates) (a .given + a .share) _ _ _ (omega arith) (omega arith)
-        (step-stands (a .ballots .now) (a .list .now) (a .statement .candidates) (a .tape .now) ws bs (j .run) (a .given) (a .given + a .share) (omega arith) (omega (arith, j .gates))
-        _ (a .board .now) (a .shown) (begun l ws bs j) _ _ (r .result) (r .ensures .0) (r .ensures .1 .0) (r .ensures .1 .1))
+    turn-goes-on (a .statement) (lent (a .list .now) (a .ballots .now) (a .tape .now) ws bs) (j .run) (j .some-gate) (j .gates) (a .given + a .share) _ _ _ (omega arith) (omega arith)
+    (step-stands (a .ballots .now) (a .list .now) (a .statement .candidates) (a .tape .now) ws bs (j .run) (a .given) (a .given + a .share) (omega arith) (omega (arith, j .gates))
+    _ (a .board .now) (a .shown) (begun l ws bs j) _ _ (r .result) (r .ensures .0) (r .ensures .1 .0) (r .ensures .1 .1))
 
 pub turn-spec : {M : Type 1} → statement M
 turn-spec =

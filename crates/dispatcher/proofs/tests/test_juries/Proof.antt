@@ -25,6 +25,7 @@ use Rattle.dispatcher.proofs.tests.test_juries.Statement.{statement}
 use Rattle.dispatcher.proofs.tests.test_juries.Tie as tie
 use Rattle.dispatcher.proofs.tests.test_juries.Reads as reads
 use Rattle.dispatcher.proofs.tests.test_juries.Lts as lts
+
 abbrev Inv-loop : tie.InvT-loop
 Inv-loop count lists ballots tapes wires boards statements conditional₀ at₀ j₀ conditional at j =
     (j ≤ count) × TestedSoFar (take count statements) (lent lists ballots tapes wires boards) j (drop j (take count statements)) at conditional
