@@ -21,15 +21,16 @@ use Rattle.tally.specs.Answer.{Said, refused, accepted, said, Size, sizeOf, sai
 use Rattle.tally.specs.declared.answer.Answer.{Answer}
 use Rattle.tally.specs.declared.answer.Answer.the-variants as answer
 use Rattle.tally.proofs.TestReasons.{never, TestPassed}
-use Rattle.dispatcher.specs.declared.statement.Statement.{Statement}
-use Rattle.dispatcher.specs.Tables.{Tables, lent, shapeOf, fitting, pieceOf, listOf, conditionalIn, piecesOf, behind}
-use Rattle.dispatcher.specs.Reasons.{reasonsOf, atJury, juryReasons}
-use Rattle.dispatcher.specs.declared.statement.Places.{Places}
-use Rattle.dispatcher.specs.Rounds.{eightOf}
-use Rattle.dispatcher.specs.Inner.{refusalIn, placesAfter, wireBytes}
-use Rattle.dispatcher.proofs.Pieces.{Upto, upto-start, upto-end, oneOf, upto-set, eight-zeros}
-use Rattle.dispatcher.proofs.Passed.{jury-passed, list-fits}
-use Rattle.dispatcher.proofs.Rounding.{from, from-after, Inside, inside-next, marks, padding, start}
+use Rattle.rounds.specs.declared.statement.Statement.{Statement}
+use Rattle.rounds.specs.Tables.{Tables, lent, shapeOf, fitting, pieceOf, listOf, conditionalIn, piecesOf, behind}
+use Rattle.rounds.specs.Reasons.{reasonsOf, atJury, juryReasons}
+use Rattle.rounds.specs.declared.statement.Places.{Places}
+use Rattle.rounds.specs.Rounds.{eightOf}
+use Rattle.rounds.specs.Inner.{placesAfter}
+use Rattle.dispatcher.specs.Inner.{refusalIn, wireBytes}
+use Rattle.rounds.proofs.Pieces.{Upto, upto-start, upto-end, oneOf, upto-set, eight-zeros}
+use Rattle.rounds.proofs.Passed.{jury-passed, list-fits}
+use Rattle.rounds.proofs.Rounding.{from, from-after, Inside, inside-next, marks, padding, start}
 
 -- a piece is no longer than what is left
 pub fitting-most : (n m : ℕ) → fitting n m ≤ m

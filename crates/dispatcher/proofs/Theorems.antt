@@ -22,16 +22,17 @@ use Rattle.tally.specs.Hiding.{closingBytes, Hidden}
 use Rattle.tally.proofs.Hiding.{run-answer, run-board, board-tells-no-more}
 use Rattle.tally.proofs.RunReasons.{ran-by}
 use Rattle.tally.proofs.Demands.{three-demands}
-use Rattle.dispatcher.specs.declared.statement.Statement.{Statement}
-use Rattle.dispatcher.specs.Tables.{Tables, lent, shapeOf, pieceOf, listOf, conditionalIn, piecesOf, behind, through}
-use Rattle.dispatcher.specs.Reasons.{reasonsOf, atJury, juryReasons, dispatchReasons}
-use Rattle.dispatcher.specs.Rounds.{eightOf, roundsFor}
+use Rattle.rounds.specs.declared.statement.Statement.{Statement}
+use Rattle.rounds.specs.Tables.{Tables, lent, shapeOf, pieceOf, listOf, conditionalIn, piecesOf, behind, through}
+use Rattle.rounds.specs.Reasons.{reasonsOf, atJury, juryReasons}
+use Rattle.dispatcher.specs.Reasons.{dispatchReasons}
+use Rattle.rounds.specs.Rounds.{eightOf, roundsFor}
 use Rattle.dispatcher.specs.Dispatch.{Dispatch, ranBoard, dispatchedAfter, dispatched}
 use Rattle.dispatcher.specs.Inner.{wireBytes}
 use Rattle.dispatcher.specs.Theorems.{tablesFrom, juryAt, piecesAt, tablesAfter, RoundsExact, EachJury, SameJury, Refusals, Lengths, Dispatching}
-use Rattle.dispatcher.proofs.Pieces.{oneOf, piece-fits}
-use Rattle.dispatcher.proofs.Passed.{Passed, jury-passed, first-accepted}
-use Rattle.dispatcher.proofs.Rounding.{padding}
+use Rattle.rounds.proofs.Pieces.{oneOf, piece-fits}
+use Rattle.rounds.proofs.Passed.{Passed, jury-passed, first-accepted}
+use Rattle.rounds.proofs.Rounding.{padding}
 use Rattle.dispatcher.proofs.Whole.{dispatched-by, bad-count, bad-share, by-juries, wires-start, wires-emptied, wires-room}
 
 -- rounding up

@@ -18,15 +18,17 @@ use Rattle.jury.specs.Shape.{ballotBytes}
 use Rattle.jury.specs.Reason.{Reason, reasonAt, unless, firstOf}
 use Rattle.tally.specs.Run.{Ran, ran, ranAfter}
 use Rattle.tally.proofs.RunReasons.{ran-by}
-use Rattle.dispatcher.specs.declared.statement.Statement.{Statement}
-use Rattle.dispatcher.specs.Tables.{Tables, shapeOf, conditionalIn, piecesOf, behind, through}
-use Rattle.dispatcher.specs.Reasons.{reasonsOf, juryReasons, dispatchReasons}
-use Rattle.dispatcher.specs.Rounds.{boardAfter, juryWires, juryBoard, juryShown, wiresGiven, boardsGiven, eightOf}
+use Rattle.rounds.specs.declared.statement.Statement.{Statement}
+use Rattle.rounds.specs.Tables.{Tables, shapeOf, conditionalIn, piecesOf, behind, through}
+use Rattle.rounds.specs.Reasons.{reasonsOf, juryReasons}
+use Rattle.dispatcher.specs.Reasons.{dispatchReasons}
+use Rattle.rounds.specs.Rounds.{boardAfter, juryWires, juryBoard, juryShown, wiresGiven, boardsGiven, eightOf}
 use Rattle.dispatcher.specs.Dispatch.{Dispatch, ranBoard, dispatchedAfter, dispatched}
-use Rattle.dispatcher.specs.Inner.{BoardsLong, Stand, wireBytes, mostGates}
-use Rattle.dispatcher.proofs.Pieces.{eight-zeros}
-use Rattle.dispatcher.proofs.Passed.{Passed, jury-passed, first-accepted}
-use Rattle.dispatcher.proofs.Turning.{after-all, jury-wires-long, wires-before, board-before}
+use Rattle.rounds.specs.Inner.{BoardsLong, Stand}
+use Rattle.dispatcher.specs.Inner.{wireBytes, mostGates}
+use Rattle.rounds.proofs.Pieces.{eight-zeros}
+use Rattle.rounds.proofs.Passed.{Passed, jury-passed, first-accepted}
+use Rattle.rounds.proofs.Turning.{after-all, jury-wires-long, wires-before, board-before}
 
 abbrev wiresLeft : Tables → List ℕ
 wiresLeft t = t .wires

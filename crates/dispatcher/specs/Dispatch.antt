@@ -5,10 +5,10 @@ use Prim.Native.Nat.{ℕ, _+_}
 use lib.ListN.{length, take, replicate}
 use Rattle.jury.specs.Reason.{Reason, firstOf}
 use Rattle.tally.specs.Run.{ran}
-use Rattle.dispatcher.specs.declared.statement.Statement.{Statement}
-use Rattle.dispatcher.specs.Tables.{Tables, shapeOf, through}
+use Rattle.rounds.specs.declared.statement.Statement.{Statement}
+use Rattle.rounds.specs.Tables.{Tables, shapeOf, through}
 use Rattle.dispatcher.specs.Reasons.{dispatchReasons}
-use Rattle.dispatcher.specs.Rounds.{eightOf, roundsFor}
+use Rattle.rounds.specs.Rounds.{eightOf, roundsFor}
 
 -- The board that an undivided run leaves on a jury's pieces.
 unfoldable pub ranBoard : Statement → Tables → List ℕ

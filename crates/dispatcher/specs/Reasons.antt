@@ -1,31 +1,16 @@
 -- The reasons to turn a call of the dispatcher away, in checking order (request 2.8).
 use mathlib.Core.Bool.{_&&_}
 use mathlib.Core.Option.{Option, none, some}
-use mathlib.Core.List.{List, [], _∷_}
-use Prim.Native.Nat.{ℕ, suc}
+use mathlib.Core.List.{List, _∷_}
+use Prim.Native.Nat.{ℕ}
 use lib.Dec.{leb}
 use lib.ListN.{take}
-use Rattle.jury.specs.Reason.{Reason, reasonAt, reasonOf, unless, firstOf}
-use Rattle.tally.specs.Run.{runReasons}
-use Rattle.dispatcher.specs.declared.statement.Statement.{Statement}
-use Rattle.dispatcher.specs.declared.statement.Outcome.{Outcome}
-use Rattle.dispatcher.specs.declared.statement.Outcome.the-variants.{Accepted, Refused}
-use Rattle.dispatcher.specs.Tables.{Tables, shapeOf, piecesOf, behind}
-
--- The first jury's reasons are those of a run on its pieces.
-unfoldable pub reasonsOf : Statement → Tables → List (Option Reason)
-reasonsOf s t =
-    runReasons (shapeOf s) (piecesOf s t .lists) (piecesOf s t .ballots) (piecesOf s t .tapes) (piecesOf s t .wires) (piecesOf s t .boards)
-
--- A jury's reason keeps its number; its place is the jury.
-unfoldable pub atJury : ℕ → Option Reason → Option Reason
-atJury j none = none
-atJury j (some r) = some (reasonAt (r .number) j)
-
--- Jury after jury, each with the first of all its reasons before the next one is looked at. The first of these is jury j.
-unfoldable pub juryReasons : ℕ → List Statement → Tables → List (Option Reason)
-juryReasons j [] t = []
-juryReasons j (s ∷ ss) t = atJury j (firstOf (reasonsOf s t)) ∷ juryReasons (suc j) ss (behind s t)
+use Rattle.jury.specs.Reason.{Reason, reasonAt, reasonOf, unless}
+use Rattle.rounds.specs.declared.statement.Statement.{Statement}
+use Rattle.rounds.specs.Tables.{Tables}
+use Rattle.rounds.specs.Reasons.{juryReasons}
+use Rattle.dispatcher.specs.declared.outcome.Outcome.{Outcome}
+use Rattle.dispatcher.specs.declared.outcome.Outcome.the-variants.{Accepted, Refused}
 
 -- All of them: 19 for the number of juries, 20 for the gates of a round, then those of the juries. Statements past the number are not looked at.
 unfoldable pub dispatchReasons : ℕ → List Statement → ℕ → Tables → List (Option Reason)

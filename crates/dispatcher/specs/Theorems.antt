@@ -10,9 +10,9 @@ use Rattle.jury.specs.Reason.{Reason, reasonAt}
 use Rattle.tally.specs.Answer.{refused, accepted, sizeOf}
 use Rattle.tally.specs.Run.{ran}
 use Rattle.tally.specs.Hiding.{closingBytes, Hidden}
-use Rattle.dispatcher.specs.declared.statement.Statement.{Statement}
-use Rattle.dispatcher.specs.Tables.{Tables, lent, shapeOf, piecesOf, behind}
-use Rattle.dispatcher.specs.Rounds.{roundsFor}
+use Rattle.rounds.specs.declared.statement.Statement.{Statement}
+use Rattle.rounds.specs.Tables.{Tables, lent, shapeOf, piecesOf, behind}
+use Rattle.rounds.specs.Rounds.{roundsFor}
 use Rattle.dispatcher.specs.Dispatch.{Dispatch, ranBoard, dispatched}
 
 -- The tables without the pieces of the first j juries.

@@ -1,17 +1,17 @@
 // The entry point of the dispatcher.
-use crate::round::round;
-use crate::statement::Outcome;
-use crate::statement::Statement;
+use crate::outcome::Outcome;
 use crate::tests::test_juries;
 use jury::reason::Refusal;
+use rounds::round::round;
+use rounds::statement::Statement;
 ghost use mathlib.Core.Path.{_≡_};
 ghost use mathlib.Core.Bool.{_&&_};
 ghost use Prim.Native.Nat.{_≤_, max};
 ghost use lib.Dec.{leb};
 ghost use lib.ListN.{take};
-ghost use Rattle.dispatcher.specs.Tables.{Tables, lent};
+ghost use Rattle.rounds.specs.Tables.{Tables, lent};
 ghost use Rattle.dispatcher.specs.Reasons.{outcomeReason};
-ghost use Rattle.dispatcher.specs.Rounds.{eightOf, roundsFor};
+ghost use Rattle.rounds.specs.Rounds.{eightOf, roundsFor};
 ghost use Rattle.dispatcher.specs.Dispatch.{dispatched};
 ghost use Rattle.dispatcher.specs.Inner.{Ready, Finished, mostGates};
 

@@ -1,10 +1,10 @@
 // The tests of all juries, before the first gate.
-use crate::statement::Outcome;
-use crate::statement::Places;
-use crate::statement::Statement;
-use crate::statement::Tests;
+use crate::outcome::Outcome;
+use crate::outcome::Tests;
 use jury::reason::Verdict;
 use jury::shape::Shape;
+use rounds::statement::Places;
+use rounds::statement::Statement;
 use tally::answer::Answer;
 ghost use mathlib.Core.Path.{_≡_};
 ghost use Prim.Native.Nat.{_+_, _*_, _≤_};
@@ -12,8 +12,9 @@ ghost use lib.ListN.{take};
 ghost use Rattle.gates.specs.Gate.{gatesOf};
 ghost use Rattle.jury.specs.Reason.{firstOf};
 ghost use Rattle.tally.specs.Answer.{saidBy, said, sizeOf};
-ghost use Rattle.dispatcher.specs.Tables.{lent, fitting, listOf};
-ghost use Rattle.dispatcher.specs.Reasons.{reasonsOf, atJury, outcomeReason};
+ghost use Rattle.rounds.specs.Tables.{lent, fitting, listOf};
+ghost use Rattle.rounds.specs.Reasons.{reasonsOf, atJury};
+ghost use Rattle.dispatcher.specs.Reasons.{outcomeReason};
 ghost use Rattle.dispatcher.specs.Inner.{refusalIn, TestsFound};
 
 // The length of a piece of first and second bytes together, where so many are left. The sum is formed only where it fits.

@@ -13,10 +13,11 @@ use borrow.Author.Needs.{needs}
 use borrow.Author.Tests.{leb-true, not-true, not-false}
 use Rattle.jury.specs.Reason.{Reason, reasonAt, reasonOf, firstOf}
 use Rattle.jury.proofs.Flags.{and-first, and-second}
-use Rattle.dispatcher.specs.declared.statement.Statement.{Statement}
-use Rattle.dispatcher.specs.declared.statement.Outcome.{Outcome}
-use Rattle.dispatcher.specs.Tables.{Tables, lent}
-use Rattle.dispatcher.specs.Reasons.{juryReasons, outcomeReason}
+use Rattle.rounds.specs.declared.statement.Statement.{Statement}
+use Rattle.dispatcher.specs.declared.outcome.Outcome.{Outcome}
+use Rattle.rounds.specs.Tables.{Tables, lent}
+use Rattle.rounds.specs.Reasons.{juryReasons}
+use Rattle.dispatcher.specs.Reasons.{outcomeReason}
 use Rattle.dispatcher.specs.Dispatch.{Dispatch, dispatchedAfter, dispatched}
 use Rattle.dispatcher.specs.Inner.{Ready, Finished, wireBytes}
 use Rattle.dispatcher.proofs.Whole.{bad-count, bad-share, by-juries, dispatched-by, few-gates, wires-room, boards-end, emptied}

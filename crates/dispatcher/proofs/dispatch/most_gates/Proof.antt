@@ -8,9 +8,9 @@ use native.Mathlib.Omega.{arith}
 use lib.ListN.{length, getD, take, drop, drop-of-length-le}
 use lib.Seq.{length-take-le}
 use borrow.Author.Needs.{needs}
-use Rattle.dispatcher.specs.declared.statement.Statement.{Statement}
+use Rattle.rounds.specs.declared.statement.Statement.{Statement}
 use Rattle.dispatcher.specs.Inner.{mostGates}
-use Rattle.dispatcher.proofs.Rounding.{left-cons}
+use Rattle.rounds.proofs.Rounding.{left-cons}
 use Rattle.dispatcher.proofs.Whole.{most-first, most-none}
 use Rattle.dispatcher.proofs.dispatch.most_gates.Statement.{statement}
 use Rattle.dispatcher.proofs.dispatch.most_gates.Tie as tie

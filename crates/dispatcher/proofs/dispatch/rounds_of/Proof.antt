@@ -8,12 +8,12 @@ use native.Mathlib.Omega.{arith}
 use lib.ListN.{length, getD, set, take, drop, replicate, drop-of-length-le}
 use lib.Seq.{length-take-le}
 use borrow.Author.Needs.{needs}
-use Rattle.dispatcher.specs.declared.statement.Statement.{Statement}
-use Rattle.dispatcher.specs.Tables.{Tables, behind}
-use Rattle.dispatcher.specs.Rounds.{eightOf, roundsFor}
+use Rattle.rounds.specs.declared.statement.Statement.{Statement}
+use Rattle.rounds.specs.Tables.{Tables, behind}
+use Rattle.rounds.specs.Rounds.{eightOf, roundsFor}
 use Rattle.dispatcher.specs.Inner.{mostGates}
-use Rattle.dispatcher.proofs.Pieces.{Upto, upto-start, upto-end, oneOf, upto-set, eight-zeros}
-use Rattle.dispatcher.proofs.Rounding.{left-cons, padding}
+use Rattle.rounds.proofs.Pieces.{Upto, upto-start, upto-end, oneOf, upto-set, eight-zeros}
+use Rattle.rounds.proofs.Rounding.{left-cons, padding}
 use Rattle.dispatcher.proofs.Whole.{most-left, most-first}
 use Rattle.dispatcher.proofs.dispatch.rounds_of.Statement.{statement}
 use Rattle.dispatcher.proofs.dispatch.rounds_of.Tie as tie

@@ -6,8 +6,9 @@ use Prim.Native.Nat.{ℕ, _+_, _-_, _≤_}
 use native.Mathlib.Omega.{arith}
 use lib.ListN.{length, take, replicate, length-take}
 use borrow.Author.Needs.{needs}
-use Rattle.dispatcher.specs.Tables.{Tables, lent}
-use Rattle.dispatcher.specs.Inner.{Stand, mostGates}
+use Rattle.rounds.specs.Tables.{Tables, lent}
+use Rattle.rounds.specs.Inner.{Stand}
+use Rattle.dispatcher.specs.Inner.{mostGates}
 use Rattle.dispatcher.proofs.Whole.{stand-start, few-gates}
 use Rattle.dispatcher.proofs.dispatch.run_rounds.Statement.{statement}
 use Rattle.dispatcher.proofs.dispatch.run_rounds.Tie as tie

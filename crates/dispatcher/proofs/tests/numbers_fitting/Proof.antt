@@ -4,7 +4,7 @@ use Prim.Native.Nat.{_*_}
 use native.Mathlib.Omega.{arith}
 use borrow.Author.Needs.{needs}
 use borrow.Author.Tests.{le-leb, lt-leb}
-use Rattle.dispatcher.specs.Tables.{fitting}
+use Rattle.rounds.specs.Tables.{fitting}
 use Rattle.dispatcher.proofs.tests.numbers_fitting.Statement.{statement}
 use Rattle.dispatcher.proofs.tests.numbers_fitting.Tie as tie
 

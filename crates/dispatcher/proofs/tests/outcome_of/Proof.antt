@@ -4,7 +4,8 @@ use mathlib.Core.Path.{sym, ap}
 use borrow.Author.Needs.{needs}
 use Rattle.jury.specs.Reason.{reasonAt}
 use Rattle.tally.specs.declared.answer.Answer.{Answer}
-use Rattle.dispatcher.specs.Reasons.{atJury, outcomeReason}
+use Rattle.rounds.specs.Reasons.{atJury}
+use Rattle.dispatcher.specs.Reasons.{outcomeReason}
 use Rattle.dispatcher.specs.Inner.{refusalIn}
 use Rattle.dispatcher.proofs.tests.outcome_of.Statement.{statement}
 use Rattle.dispatcher.proofs.tests.outcome_of.Tie as tie

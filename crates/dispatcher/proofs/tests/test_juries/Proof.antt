@@ -13,13 +13,15 @@ use Rattle.gates.specs.Gate.{gatesOf}
 use Rattle.jury.specs.Reason.{Reason, reasonOf, firstOf}
 use Rattle.tally.specs.Answer.{said, saidBy, sizeOf}
 use Rattle.tally.specs.declared.answer.Answer.{Answer}
-use Rattle.dispatcher.specs.declared.statement.Statement.{Statement}
-use Rattle.dispatcher.specs.declared.statement.Places.{Places}
-use Rattle.dispatcher.specs.Tables.{Tables, lent, listOf, conditionalIn}
-use Rattle.dispatcher.specs.Reasons.{reasonsOf, atJury, outcomeReason}
-use Rattle.dispatcher.specs.Inner.{placesAfter, refusalIn}
-use Rattle.dispatcher.proofs.Passed.{Passed, jury-passed}
-use Rattle.dispatcher.proofs.Rounding.{from, Inside, inside-next, left-cons}
+use Rattle.rounds.specs.declared.statement.Statement.{Statement}
+use Rattle.rounds.specs.declared.statement.Places.{Places}
+use Rattle.rounds.specs.Tables.{Tables, lent, listOf, conditionalIn}
+use Rattle.rounds.specs.Reasons.{reasonsOf, atJury}
+use Rattle.dispatcher.specs.Reasons.{outcomeReason}
+use Rattle.rounds.specs.Inner.{placesAfter}
+use Rattle.dispatcher.specs.Inner.{refusalIn}
+use Rattle.rounds.proofs.Passed.{Passed, jury-passed}
+use Rattle.rounds.proofs.Rounding.{from, Inside, inside-next, left-cons}
 use Rattle.dispatcher.proofs.Testing.{TestedSoFar, tested-start, tested-next, tested-end, tested-as, rest-is, lent-same, bad-jury, refusal-is, at-jury-some, accepted-mark}
 use Rattle.dispatcher.proofs.tests.test_juries.Statement.{statement}
 use Rattle.dispatcher.proofs.tests.test_juries.Tie as tie

@@ -18,9 +18,9 @@ use Rattle.tally.specs.Test.{testReasons, testSaid}
 use Rattle.tally.specs.Run.{lentReasons}
 use Rattle.tally.proofs.TestReasons.{TestPassed, test-passed}
 use Rattle.tally.proofs.RunReasons.{by-test, by-ballots, by-lent}
-use Rattle.dispatcher.specs.declared.statement.Statement.{Statement}
-use Rattle.dispatcher.specs.Tables.{Tables, lent, shapeOf, listOf, piecesOf}
-use Rattle.dispatcher.specs.Reasons.{reasonsOf}
+use Rattle.rounds.specs.declared.statement.Statement.{Statement}
+use Rattle.rounds.specs.Tables.{Tables, lent, shapeOf, listOf, piecesOf}
+use Rattle.rounds.specs.Reasons.{reasonsOf}
 use Rattle.dispatcher.proofs.Testing.{fitting-most, list-piece, ballots-piece, tape-piece, wires-piece, board-piece, stated-size}
 use Rattle.dispatcher.proofs.tests.test_jury.Statement.{statement}
 use Rattle.dispatcher.proofs.tests.test_jury.Tie as tie

@@ -7,8 +7,8 @@ ghost use mathlib.Core.List.{List, _++_};
 ghost use Prim.Native.Nat.{ℕ, _+_, _≤_};
 ghost use lib.Dec.{eqb};
 ghost use lib.ListN.{length, take, drop};
-ghost use Rattle.dispatcher.specs.Tables.{lent};
-ghost use Rattle.dispatcher.specs.Inner.{JuryStands, Stand};
+ghost use Rattle.rounds.specs.Tables.{lent};
+ghost use Rattle.rounds.specs.Inner.{JuryStands, Stand};
 
 // Puts a jury's ballots in its wire table with its first gate.
 fn load(given: usize, ballots: &[u8], wires: &mut [u8])
@@ -61,7 +61,7 @@ fn turn(
 
 // The round after so many gates were given to each jury that has them. conditional holds each jury's number of conditional gates,
 // before its number of shown bits; the answer is the latter's successor.
-pub(crate) fn round(
+pub fn round(
     count: usize,
     statements: [Statement; 8],
     conditional: [usize; 8],

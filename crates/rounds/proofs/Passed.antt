@@ -20,10 +20,10 @@ use Rattle.jury.proofs.Flags.{true-T}
 use Rattle.tally.specs.Answer.{sizeOf}
 use Rattle.tally.specs.Run.{runReasons}
 use Rattle.tally.proofs.RunReasons.{RunPassed, run-passed, run-ready}
-use Rattle.dispatcher.specs.declared.statement.Statement.{Statement}
-use Rattle.dispatcher.specs.Tables.{Tables, lent, shapeOf, pieceOf, listOf, conditionalIn, piecesOf, behind}
-use Rattle.dispatcher.specs.Reasons.{reasonsOf, atJury, juryReasons}
-use Rattle.dispatcher.proofs.Pieces.{piece-fits, full-fits, some-fits}
+use Rattle.rounds.specs.declared.statement.Statement.{Statement}
+use Rattle.rounds.specs.Tables.{Tables, lent, shapeOf, pieceOf, listOf, conditionalIn, piecesOf, behind}
+use Rattle.rounds.specs.Reasons.{reasonsOf, atJury, juryReasons}
+use Rattle.rounds.proofs.Pieces.{piece-fits, full-fits, some-fits}
 
 -- no jury is bad: not the first, and none behind it
 pub first-accepted : (j : ℕ) (s : Statement) (ss : List Statement) (t : Tables) → firstOf (juryReasons j (s ∷ ss) t) ≡ none

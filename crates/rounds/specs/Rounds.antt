@@ -7,8 +7,8 @@ use lib.ListN.{length, take, drop, replicate}
 use Rattle.gates.specs.Gate.{Gate, gatesOf}
 use Rattle.gates.specs.Wires.{wiresOf}
 use Rattle.gates.specs.Board.{conditionalCount, shownBits, boardOf}
-use Rattle.dispatcher.specs.declared.statement.Statement.{Statement}
-use Rattle.dispatcher.specs.Tables.{Tables, through}
+use Rattle.rounds.specs.declared.statement.Statement.{Statement}
+use Rattle.rounds.specs.Tables.{Tables, through}
 
 -- A jury's wire table after its first m gates: the ballots, the wires of these gates, and behind them what was lent. The ballots come with the first gate.
 unfoldable pub wiresAfter : List ℕ → List Gate → ℕ → List ℕ → List ℕ

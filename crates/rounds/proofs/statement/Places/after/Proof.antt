@@ -1,12 +1,12 @@
--- `dispatcher::statement::Places::after` meets its contract: each place is moved by the length of its piece.
+-- `rounds::statement::Places::after` meets its contract: each place is moved by the length of its piece.
 -- Assumes nothing.
 use mathlib.Core.Path.{ap}
 use Prim.Native.Nat.{ℕ, _+_, _*_}
 use borrow.Author.Needs.{needs}
-use Rattle.dispatcher.specs.declared.statement.Statement.{Statement}
-use Rattle.dispatcher.specs.declared.statement.Places.{Places}
-use Rattle.dispatcher.proofs.statement.Places.after.Statement.{statement}
-use Rattle.dispatcher.proofs.statement.Places.after.Tie as tie
+use Rattle.rounds.specs.declared.statement.Statement.{Statement}
+use Rattle.rounds.specs.declared.statement.Places.{Places}
+use Rattle.rounds.proofs.statement.Places.after.Statement.{statement}
+use Rattle.rounds.proofs.statement.Places.after.Tie as tie
 
 -- the places behind a jury of so many ballot bytes
 abbrev made : Places → Statement → ℕ → ℕ → Places

@@ -1,4 +1,4 @@
--- `dispatcher::round::round` meets its contract: after each turn the juries passed have had their part of the round, and those ahead stand as before it.
+-- `rounds::round::round` meets its contract: after each turn the juries passed have had their part of the round, and those ahead stand as before it.
 -- Assumes nothing.
 use mathlib.Core.Path.{_≡_, _∙_, refl, sym, ap, subst}
 use mathlib.Core.List.{List, [], _∷_, _++_}
@@ -9,19 +9,19 @@ use lib.ListN.{length, getD, set, take, drop, length-take, drop-of-length-le}
 use lib.Seq.{length-take-le}
 use borrow.Author.Needs.{needs}
 use Rattle.jury.specs.Shape.{ballotBytes}
-use Rattle.dispatcher.specs.declared.statement.Statement.{Statement}
-use Rattle.dispatcher.specs.declared.statement.Places.{Places}
-use Rattle.dispatcher.specs.Tables.{Tables, lent, shapeOf, conditionalIn, piecesOf}
-use Rattle.dispatcher.specs.Rounds.{juryWires, juryBoard, juryShown}
-use Rattle.dispatcher.specs.Inner.{placesAfter, JuryStands, Stand}
-use Rattle.dispatcher.proofs.Passed.{Passed}
-use Rattle.dispatcher.proofs.Rounding.{from, Inside, inside-next, Mid, left-cons, mid-start, mid-end, mid-passed, mid-mark, mid-wires, mid-wires-room, mid-boards, mid-boards-room, mid-shown, mid-stands, mid-next, slice-is, part-long, spliced-long, jury-as, jury-back, mid-as}
-use Rattle.dispatcher.proofs.round.round.Statement.{statement}
-use Rattle.dispatcher.proofs.round.round.Tie as tie
-use Rattle.dispatcher.proofs.round.round.Reads as reads
-use Rattle.dispatcher.proofs.round.round.Lts as lts
-use Rattle.dispatcher.proofs.round.turn.Reads as turn-reads
-use Rattle.dispatcher.proofs.statement.Places.after.Reads as after-reads
+use Rattle.rounds.specs.declared.statement.Statement.{Statement}
+use Rattle.rounds.specs.declared.statement.Places.{Places}
+use Rattle.rounds.specs.Tables.{Tables, lent, shapeOf, conditionalIn, piecesOf}
+use Rattle.rounds.specs.Rounds.{juryWires, juryBoard, juryShown}
+use Rattle.rounds.specs.Inner.{placesAfter, JuryStands, Stand}
+use Rattle.rounds.proofs.Passed.{Passed}
+use Rattle.rounds.proofs.Rounding.{from, Inside, inside-next, Mid, left-cons, mid-start, mid-end, mid-passed, mid-mark, mid-wires, mid-wires-room, mid-boards, mid-boards-room, mid-shown, mid-stands, mid-next, slice-is, part-long, spliced-long, jury-as, jury-back, mid-as}
+use Rattle.rounds.proofs.round.round.Statement.{statement}
+use Rattle.rounds.proofs.round.round.Tie as tie
+use Rattle.rounds.proofs.round.round.Reads as reads
+use Rattle.rounds.proofs.round.round.Lts as lts
+use Rattle.rounds.proofs.round.turn.Reads as turn-reads
+use Rattle.rounds.proofs.statement.Places.after.Reads as after-reads
 
 abbrev Inv-loop : tie.InvT-loop
 Inv-loop count given share lists ballots tapes wires₀ boards₀ statements conditional shown₀ at₀ j₀ wires boards shown at j =

@@ -1,4 +1,4 @@
--- `dispatcher::round::turn` meets its contract: a finished jury stands as it is, and any other is led on by a step, and closed with its last gate.
+-- `rounds::round::turn` meets its contract: a finished jury stands as it is, and any other is led on by a step, and closed with its last gate.
 -- Assumes nothing.
 use mathlib.Core.Path.{_≡_, sym, ap, subst}
 use mathlib.Core.List.{List}
@@ -8,11 +8,11 @@ use lib.ListN.{length}
 use borrow.Author.Needs.{needs}
 use Rattle.gates.specs.Gate.{gatesOf}
 use Rattle.gates.proofs.Prefix.{Stands, can-step, step-stands, can-close}
-use Rattle.dispatcher.specs.Tables.{lent}
-use Rattle.dispatcher.specs.Inner.{JuryStands}
-use Rattle.dispatcher.proofs.Turning.{turn-begins, turn-goes-on, turn-ends, turn-idle, jury-wires-long}
-use Rattle.dispatcher.proofs.round.turn.Statement.{statement}
-use Rattle.dispatcher.proofs.round.turn.Tie as tie
+use Rattle.rounds.specs.Tables.{lent}
+use Rattle.rounds.specs.Inner.{JuryStands}
+use Rattle.rounds.proofs.Turning.{turn-begins, turn-goes-on, turn-ends, turn-idle, jury-wires-long}
+use Rattle.rounds.proofs.round.turn.Statement.{statement}
+use Rattle.rounds.proofs.round.turn.Tie as tie
 
 -- the jury at entry
 abbrev Entry : tie.Start → List ℕ → List ℕ → Type 0

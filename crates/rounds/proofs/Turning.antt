@@ -16,10 +16,10 @@ use Rattle.gates.specs.Board.{conditionalCount, shownBits, boardOf}
 use Rattle.gates.specs.Step.{RunReady}
 use Rattle.gates.proofs.WireLaws.{length-wires}
 use Rattle.gates.proofs.Prefix.{Stands, stands-first, closed-board}
-use Rattle.dispatcher.specs.declared.statement.Statement.{Statement}
-use Rattle.dispatcher.specs.Tables.{Tables, lent}
-use Rattle.dispatcher.specs.Rounds.{wiresAfter, boardAfter, juryWires, juryBoard, juryShown}
-use Rattle.dispatcher.specs.Inner.{JuryStands}
+use Rattle.rounds.specs.declared.statement.Statement.{Statement}
+use Rattle.rounds.specs.Tables.{Tables, lent}
+use Rattle.rounds.specs.Rounds.{wiresAfter, boardAfter, juryWires, juryBoard, juryShown}
+use Rattle.rounds.specs.Inner.{JuryStands}
 
 -- the definitions, by how many gates are done
 after-wires : (b : List ℕ) (gs : List Gate) (m : ℕ) (ws : List ℕ) → 1 ≤ m → wiresAfter b gs m ws ≡ wiresOf b (take m gs) ++ drop (length b + m) ws

@@ -8,7 +8,7 @@ use Rattle.gates.specs.Gate.{gatesOf}
 use Rattle.gates.specs.Board.{conditionalCount}
 use Rattle.jury.specs.declared.shape.Shape.{Shape}
 use Rattle.jury.specs.Shape.{ballotBytes}
-use Rattle.dispatcher.specs.declared.statement.Statement.{Statement}
+use Rattle.rounds.specs.declared.statement.Statement.{Statement}
 
 pub record Tables : Type 0 where
   pub lists : List ℕ

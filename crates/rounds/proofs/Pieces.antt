@@ -9,9 +9,9 @@ use lib.Dec.{leb}
 use lib.ListN.{length, getD, set, take, drop, replicate, length-append, replicate-append-replicate}
 use lib.Seq.{length-take-le, take-at, drop-at, getD-at, set-at, append-snoc}
 use borrow.Author.Tests.{leb-true, le-leb}
-use Rattle.dispatcher.specs.declared.statement.Statement.{Statement}
-use Rattle.dispatcher.specs.Tables.{Tables, fitting, pieceOf, piecesOf, behind, through}
-use Rattle.dispatcher.specs.Rounds.{eightOf}
+use Rattle.rounds.specs.declared.statement.Statement.{Statement}
+use Rattle.rounds.specs.Tables.{Tables, fitting, pieceOf, piecesOf, behind, through}
+use Rattle.rounds.specs.Rounds.{eightOf}
 
 -- a piece that fits
 pub piece-fits : (n : ℕ) (xs : List ℕ) → n ≤ length xs → pieceOf n xs ≡ take n xs

@@ -12,15 +12,15 @@ use Rattle.gates.specs.Gate.{gatesOf}
 use Rattle.gates.specs.Board.{conditionalCount}
 use Rattle.jury.specs.Shape.{ballotBytes}
 use Rattle.jury.specs.Reason.{firstOf}
-use Rattle.dispatcher.specs.declared.statement.Statement.{Statement}
-use Rattle.dispatcher.specs.declared.statement.Places.{Places}
-use Rattle.dispatcher.specs.Tables.{Tables, lent, shapeOf, conditionalIn, piecesOf, behind, through}
-use Rattle.dispatcher.specs.Reasons.{juryReasons}
-use Rattle.dispatcher.specs.Rounds.{juryWires, juryBoard, juryShown, wiresGiven, boardsGiven, eightOf}
-use Rattle.dispatcher.specs.Inner.{placesAfter, JuryStands, BoardsLong, Stand}
-use Rattle.dispatcher.proofs.Pieces.{Upto, upto-start, upto-end, upto-part, upto-room, upto-next, oneOf, upto-read, upto-set}
-use Rattle.dispatcher.proofs.Passed.{Passed, jury-passed, first-accepted}
-use Rattle.dispatcher.proofs.Turning.{jury-wires-long}
+use Rattle.rounds.specs.declared.statement.Statement.{Statement}
+use Rattle.rounds.specs.declared.statement.Places.{Places}
+use Rattle.rounds.specs.Tables.{Tables, lent, shapeOf, conditionalIn, piecesOf, behind, through}
+use Rattle.rounds.specs.Reasons.{juryReasons}
+use Rattle.rounds.specs.Rounds.{juryWires, juryBoard, juryShown, wiresGiven, boardsGiven, eightOf}
+use Rattle.rounds.specs.Inner.{placesAfter, JuryStands, BoardsLong, Stand}
+use Rattle.rounds.proofs.Pieces.{Upto, upto-start, upto-end, upto-part, upto-room, upto-next, oneOf, upto-read, upto-set}
+use Rattle.rounds.proofs.Passed.{Passed, jury-passed, first-accepted}
+use Rattle.rounds.proofs.Turning.{jury-wires-long}
 
 -- the tables from these places on
 abbrev pub from : Places → Tables → Tables

@@ -1,4 +1,4 @@
--- `dispatcher::round::load` meets its contract: the ballots are copied where no gate was given yet.
+-- `rounds::round::load` meets its contract: the ballots are copied where no gate was given yet.
 -- Assumes nothing.
 use mathlib.Core.Path.{_≡_, _∙_, sym, ap}
 use mathlib.Core.Bool.{Bool, cond}
@@ -7,8 +7,8 @@ use Prim.Native.Nat.{ℕ}
 use lib.ListN.{length, take, drop}
 use borrow.Author.Needs.{needs}
 use borrow.Author.Tests.{eq-eqb, ne-eqb}
-use Rattle.dispatcher.proofs.round.load.Statement.{statement}
-use Rattle.dispatcher.proofs.round.load.Tie as tie
+use Rattle.rounds.proofs.round.load.Statement.{statement}
+use Rattle.rounds.proofs.round.load.Tie as tie
 
 -- the wire table with the ballots
 abbrev loaded : List ℕ → List ℕ → List ℕ
