@@ -15,3 +15,4 @@ pub mod Whole
 pub mod Laws
 pub mod Hiding
 pub mod Accepting
+pub mod Prefix

@@ -59,7 +59,7 @@ wires-turn inputs t g to ws h l m good =
     ∙ sym (ap (λ (l : List Gate). wiresOf (take own ws) l ++ drop (inputs + to) ws) (range-from t g to h l))
 
 -- a conditional gate uses wire a
-uses-a : (k : ℕ) → k < 8 → conditionalOf k ≡ true → 0 < operandsOf k
+pub uses-a : (k : ℕ) → k < 8 → conditionalOf k ≡ true → 0 < operandsOf k
 unfolding conditionalOf operandsOf
 uses-a k h e =
     each-kind (λ (k : ℕ). conditionalOf k ≡ true → 0 < operandsOf k)

@@ -80,7 +80,7 @@ pub fn step(
 }
 
 // Puts the outputs behind the shown bits.
-fn close(outputs: usize, wires: &[u8], shown: usize, board: &mut [u8])
+pub fn close(outputs: usize, wires: &[u8], shown: usize, board: &mut [u8])
     requires { ⌜ outputs ≤ length (now wires) ⌝ }
     requires { ⌜ length (now board) ≡ shown + outputs ⌝ }
     ensures { λ _. ⌜ now (board .exit) ≡ take shown (now (board .entry)) ++ outputsOf outputs (now (wires .entry)) ⌝ }

@@ -1,0 +1,4 @@
+pub mod Reasons
+pub mod Dispatch
+pub mod Inner
+pub mod Theorems

@@ -1,0 +1,89 @@
+-- What holds of every call of the dispatcher (request 2.8), over the definition that its contract equates with the answer and with all that is lent.
+use mathlib.Core.Path.{_≡_}
+use mathlib.Core.Logic.{_↔_, _⊎_}
+use mathlib.Core.Option.{none, some}
+use mathlib.Core.List.{List, [], _∷_}
+use Prim.Native.Nat.{ℕ, zero, suc, _*_, _≤_, _<_, min}
+use lib.ListN.{length, getD, take, replicate}
+use Rattle.gates.specs.Gate.{gatesOf}
+use Rattle.jury.specs.Reason.{Reason, reasonAt}
+use Rattle.tally.specs.Answer.{refused, accepted, sizeOf}
+use Rattle.tally.specs.Run.{ran}
+use Rattle.tally.specs.Hiding.{closingBytes, Hidden}
+use Rattle.rounds.specs.declared.statement.Statement.{Statement}
+use Rattle.rounds.specs.Tables.{Tables, lent, shapeOf, piecesOf, behind}
+use Rattle.rounds.specs.Rounds.{roundsFor}
+use Rattle.dispatcher.specs.Dispatch.{Dispatch, ranBoard, dispatched}
+
+-- The tables without the pieces of the first j juries.
+unfoldable pub tablesFrom : ℕ → List Statement → Tables → Tables
+tablesFrom zero ss t = t
+tablesFrom (suc j) [] t = t
+tablesFrom (suc j) (s ∷ ss) t = tablesFrom j ss (behind s t)
+
+-- What jury j stated, and its pieces.
+abbrev pub juryAt : ℕ → List Statement → Statement
+juryAt j ss = getD ss j (record { candidates = 0; grades = 0; ballots = 0; gates = 0 })
+
+abbrev pub piecesAt : ℕ → List Statement → Tables → Tables
+piecesAt j ss t = piecesOf (juryAt j ss) (tablesFrom j ss t)
+
+-- The tables after a call: lists, ballots and tapes are only read.
+abbrev pub tablesAfter : ℕ → List Statement → ℕ → Tables → Tables
+tablesAfter count ss share t = lent (t .lists) (t .ballots) (t .tapes) (dispatched count ss share t .wires) (dispatched count ss share t .boards)
+
+-- The number of rounds: after r of them a jury has all its gates exactly where r is at least that number, and the next round gives it a gate exactly where r is below it.
+pub record RoundsExact : Type 0 where
+  pub finished : (gates share r : ℕ) → 1 ≤ share → (min (r * share) gates ≡ gates) ↔ (roundsFor gates share ≤ r)
+  pub given : (gates share r : ℕ) → 1 ≤ share → (min (r * share) gates < min (suc r * share) gates) ↔ (r < roundsFor gates share)
+
+-- Jury j of an accepted call, whatever the other juries are.
+pub record EachJury (count : ℕ) (ss : List Statement) (share : ℕ) (t : Tables) (j : ℕ) : Type 0 where
+  pub rounds : getD (dispatched count ss share t .rounds) j 0 ≡ roundsFor (juryAt j (take count ss) .gates) share
+  -- an undivided run on its pieces is accepted, and leaves the board that the call leaves it
+  pub runs : let p = piecesAt j (take count ss) t in
+      ran (shapeOf (juryAt j (take count ss))) (p .lists) (p .ballots) (p .tapes) (p .wires) (p .boards) .answer ≡ accepted (sizeOf (gatesOf (p .lists)))
+  pub board : piecesAt j (take count ss) (tablesAfter count ss share t) .boards ≡ ranBoard (juryAt j (take count ss)) (piecesAt j (take count ss) t)
+
+-- Jury j of one accepted call and jury i of another, which agree in shape and G and in list, ballots and tape, have the same board, whatever else is lent and whatever the two shares are; for equal shares they take as many rounds.
+pub record SameJury (count count′ : ℕ) (ss ss′ : List Statement) (share share′ : ℕ) (t t′ : Tables) (j i : ℕ) : Type 0 where
+  pub board : piecesAt j (take count ss) (tablesAfter count ss share t) .boards ≡ piecesAt i (take count′ ss′) (tablesAfter count′ ss′ share′ t′) .boards
+  pub rounds : share ≡ share′ → getD (dispatched count ss share t .rounds) j 0 ≡ getD (dispatched count′ ss′ share′ t′ .rounds) i 0
+
+-- A refusal is 19 or 20 at place 0, or has the number for which a run on the pieces of the jury at its place is turned away. It alters nothing and answers no rounds.
+pub record Refusals : Type 0 where
+  pub named : (count : ℕ) (ss : List Statement) (share : ℕ) (t : Tables) (r : Reason) → dispatched count ss share t .reason ≡ some r
+      → (r ≡ reasonAt 19 0) ⊎ (r ≡ reasonAt 20 0)
+      ⊎ ((q : Reason) × (r .number ≡ q .number)
+      × (let p = piecesAt (r .place) (take count ss) t in ran (shapeOf (juryAt (r .place) (take count ss))) (p .lists) (p .ballots) (p .tapes) (p .wires) (p .boards) .answer ≡ refused q))
+  pub unaltered : (count : ℕ) (ss : List Statement) (share : ℕ) (t : Tables) (r : Reason) → dispatched count ss share t .reason ≡ some r
+      → (dispatched count ss share t .wires ≡ t .wires) × (dispatched count ss share t .boards ≡ t .boards) × (dispatched count ss share t .rounds ≡ replicate 8 0)
+
+-- No call changes the length of a table.
+pub record Lengths : Type 0 where
+  pub same : (count : ℕ) (ss : List Statement) (share : ℕ) (t : Tables)
+      → (length (dispatched count ss share t .wires) ≡ length (t .wires)) × (length (dispatched count ss share t .boards) ≡ length (t .boards))
+
+pub record Dispatching : Type 0 where
+  pub exact : RoundsExact
+  pub lengths : Lengths
+  pub refusals : Refusals
+  pub each : (count : ℕ) (ss : List Statement) (share : ℕ) (t : Tables) (j : ℕ) → dispatched count ss share t .reason ≡ none → j < length (take count ss) → EachJury count ss share t j
+  pub same : (count count′ : ℕ) (ss ss′ : List Statement) (share share′ : ℕ) (t t′ : Tables) (j i : ℕ)
+      → dispatched count ss share t .reason ≡ none → j < length (take count ss)
+      → dispatched count′ ss′ share′ t′ .reason ≡ none → i < length (take count′ ss′)
+      → juryAt j (take count ss) ≡ juryAt i (take count′ ss′)
+      → piecesAt j (take count ss) t .lists ≡ piecesAt i (take count′ ss′) t′ .lists
+      → piecesAt j (take count ss) t .ballots ≡ piecesAt i (take count′ ss′) t′ .ballots
+      → piecesAt j (take count ss) t .tapes ≡ piecesAt i (take count′ ss′) t′ .tapes
+      → SameJury count count′ ss ss′ share share′ t t′ j i
+  -- demand 3 for the juries of two accepted calls, of one shape and one list, whose boards end with the same closing bytes
+  pub hiding : (count count′ : ℕ) (ss ss′ : List Statement) (share share′ : ℕ) (t t′ : Tables) (j i : ℕ)
+      → dispatched count ss share t .reason ≡ none → j < length (take count ss)
+      → dispatched count′ ss′ share′ t′ .reason ≡ none → i < length (take count′ ss′)
+      → juryAt j (take count ss) ≡ juryAt i (take count′ ss′)
+      → piecesAt j (take count ss) t .lists ≡ piecesAt i (take count′ ss′) t′ .lists
+      → closingBytes (shapeOf (juryAt j (take count ss))) (piecesAt j (take count ss) (tablesAfter count ss share t) .boards)
+      ≡ closingBytes (shapeOf (juryAt j (take count ss))) (piecesAt i (take count′ ss′) (tablesAfter count′ ss′ share′ t′) .boards)
+      → let p = piecesAt j (take count ss) t in let q = piecesAt i (take count′ ss′) t′ in
+      Hidden (shapeOf (juryAt j (take count ss))) (p .lists) (p .ballots) (q .ballots) (p .wires) (q .wires) (p .boards) (q .boards)

@@ -1,0 +1,116 @@
+// A round: each jury that is not finished gets up to so many gates, in jury order.
+use crate::statement::Places;
+use crate::statement::Statement;
+ghost use mathlib.Core.Path.{_≡_};
+ghost use mathlib.Core.Bool.{cond};
+ghost use mathlib.Core.List.{List, _++_};
+ghost use Prim.Native.Nat.{ℕ, _+_, _≤_};
+ghost use lib.Dec.{eqb};
+ghost use lib.ListN.{length, take, drop};
+ghost use Rattle.rounds.specs.Tables.{lent};
+ghost use Rattle.rounds.specs.Inner.{JuryStands, Stand};
+
+// Puts a jury's ballots in its wire table with its first gate.
+fn load(given: usize, ballots: &[u8], wires: &mut [u8])
+    requires { ⌜ length (now ballots) ≤ length (now wires) ⌝ }
+    ensures { λ _. ⌜ now (wires .exit) ≡ cond (eqb given 0) (take (length (now (ballots .entry))) (now (ballots .entry)) ++ drop (length (now (ballots .entry))) (now (wires .entry))) (now (wires .entry)) ⌝ }
+{
+    if given == 0 {
+        bytes::copy(ballots, wires);
+    }
+}
+
+// One jury's part of a round, on its own pieces: its next gates after those that it was given, at most share of them. With the last
+// gate the closing bytes are put on the board. Answers the number of shown bits.
+fn turn(
+    statement: Statement,
+    given: usize,
+    share: usize,
+    shown: usize,
+    list: &[u32],
+    ballots: &[u8],
+    tape: &[u8],
+    wires: &mut [u8],
+    board: &mut [u8],
+) -> usize
+    requires { ⌜ (1 ≤ share) × (share ≤ 65536) × ((ws : List ℕ) × (bs : List ℕ) × JuryStands given statement (lent (now list) (now ballots) (now tape) ws bs) (now wires) (now board) shown) ⌝ }
+    ensures { λ r. ⌜ ((ws bs : List ℕ) → JuryStands given statement (lent (now (list .entry)) (now (ballots .entry)) (now (tape .entry)) ws bs) (now (wires .entry)) (now (board .entry)) shown → JuryStands (given + share) statement (lent (now (list .entry)) (now (ballots .entry)) (now (tape .entry)) ws bs) (now (wires .exit)) (now (board .exit)) r) ⌝ }
+{
+    let gates = statement.gates;
+    if gates <= given {
+        return shown;
+    }
+    load(given, ballots, wires);
+    let inputs = ballots.len();
+    if gates - given <= share {
+        let last = gates::step::step(inputs, list, given, gates, tape, shown, wires, board);
+        gates::step::close(statement.candidates, wires, last, board);
+        return last;
+    }
+    gates::step::step(
+        inputs,
+        list,
+        given,
+        given + share,
+        tape,
+        shown,
+        wires,
+        board,
+    )
+}
+
+// The round after so many gates were given to each jury that has them. conditional holds each jury's number of conditional gates,
+// before its number of shown bits; the answer is the latter's successor.
+pub fn round(
+    count: usize,
+    statements: [Statement; 8],
+    conditional: [usize; 8],
+    given: usize,
+    share: usize,
+    before: [usize; 8],
+    lists: &[u32],
+    ballots: &[u8],
+    tapes: &[u8],
+    wires: &mut [u8],
+    boards: &mut [u8],
+) -> [usize; 8]
+    requires { ⌜ (count ≤ 8) × (1 ≤ share) × (share ≤ 65536) × ((ws : List ℕ) × (bs : List ℕ) × Stand given (take count statements) (lent (now lists) (now ballots) (now tapes) ws bs) conditional (now wires) (now boards) before) ⌝ }
+    ensures { λ r. ⌜ ((ws bs : List ℕ) → Stand given (take count statements) (lent (now (lists .entry)) (now (ballots .entry)) (now (tapes .entry)) ws bs) conditional (now (wires .entry)) (now (boards .entry)) before → Stand (given + share) (take count statements) (lent (now (lists .entry)) (now (ballots .entry)) (now (tapes .entry)) ws bs) conditional (now (wires .exit)) (now (boards .exit)) r) ⌝ }
+{
+    let mut shown = before;
+    let mut at = Places {
+        lists: 0,
+        ballots: 0,
+        tapes: 0,
+        wires: 0,
+        boards: 0,
+    };
+    let mut j = 0;
+    while j < count {
+        let statement = statements[j];
+        let l = at.lists;
+        let b = at.ballots;
+        let t = at.tapes;
+        let w = at.wires;
+        let o = at.boards;
+        at = at.after(statement, conditional[j]);
+        let l_end = at.lists;
+        let b_end = at.ballots;
+        let t_end = at.tapes;
+        let w_end = at.wires;
+        let o_end = at.boards;
+        shown[j] = turn(
+            statement,
+            given,
+            share,
+            shown[j],
+            &lists[l..l_end],
+            &ballots[b..b_end],
+            &tapes[t..t_end],
+            &mut wires[w..w_end],
+            &mut boards[o..o_end],
+        );
+        j += 1;
+    }
+    shown
+}
