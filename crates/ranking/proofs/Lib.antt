@@ -8,3 +8,4 @@ pub mod Columns
 pub mod GoodLaws
 pub mod SizeLaws
 pub mod OwnRankingLaws
+pub mod CostLaws
