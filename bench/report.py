@@ -3,20 +3,23 @@ import os
 import pathlib
 import platform
 import re
+import statistics
 import sys
 
 HERE = pathlib.Path(__file__).parent
 OPS = ["write", "test", "run", "count"]
-# The most that a time ratio should be. The core writes a list in two passes, the first to measure it, and C in one.
+# The most that a time ratio should be. Before the core writes a list it counts the gates of one candidate and of the levels.
 GOALS = {"write": 2.0, "test": 1.1, "run": 1.1, "count": 1.1}
 
 
 def read_times(path):
-    rows = {}
+    """Of the lines of one call, one for each place of the code: its gates, the least times and the middle ratio."""
+    lines = {}
     for line in path.read_text().splitlines():
         op, k, d, n, gates, core, c, ratio = line.split()
-        rows[op, (int(k), int(d), int(n))] = (int(gates), float(core), float(c), float(ratio))
-    return rows
+        lines.setdefault((op, (int(k), int(d), int(n))), []).append((int(gates), float(core), float(c), float(ratio)))
+    return {call: (rows[0][0], min(row[1] for row in rows), min(row[2] for row in rows), statistics.median(row[3] for row in rows))
+            for call, rows in lines.items()}
 
 
 def read_counts(folder):
@@ -147,8 +150,10 @@ def main():
         "- A time is the processor time of one call, the least over 201 short rounds of many calls each.\n"
         "- The time ratio is the middle one of the rounds' ratios: core and C take turns round by round, so that a slow stretch\n"
         "  of the machine meets both. It may differ a little from the quotient of the two least times.\n"
-        "- The goal is the most that the time ratio should be. Writing may take twice the time of C, since the core measures the\n"
-        "  list in a first pass by the same program, while C has a formula for it.\n"
+        "- All of this is done at four places of the library's code, 16 bytes apart, since a loop's time depends on where it stands:\n"
+        "  the times are the least, the ratio lies in the middle of the four.\n"
+        "- The goal is the most that the time ratio should be. Writing may take twice the time of C: by the program that\n"
+        "  writes, the core first counts the gates of one candidate and of the levels, while C has a formula for the number.\n"
         "- Instructions are those of one call, counted by callgrind, and repeat.\n\n"
         f"{text}\n\n![ratios](result.svg)\n\n"
         "## The urn\n\n"
