@@ -3,3 +3,5 @@ pub mod Answering
 pub mod Statuses
 pub mod Lengths
 pub mod UrnStatuses
+pub mod Tallying
+pub mod TrusteesStatus

@@ -28,7 +28,7 @@ use Rattle.jugyvaros.proofs.Answering.{short-status, room-status}
 
 module _ (last : ℕ) where
   -- each of these numbers is at most the last
-  Most : List ℕ → Type 0
+  unfoldable pub Most : List ℕ → Type 0
   Most [] = Unit {0}
   Most (n ∷ ns) = (n ≤ last) × Most ns
 
@@ -37,13 +37,13 @@ module _ (last : ℕ) where
   either n ns r true e m rest h = let same = eqb-true (r .number) n e in omega arith
   either n ns r false e m rest h = rest h
 
-  most : (ns : List ℕ) (r : Reason) → Most ns → T (hasNumberIn ns r) → r .number ≤ last
+  pub most : (ns : List ℕ) (r : Reason) → Most ns → T (hasNumberIn ns r) → r .number ≤ last
   unfolding Most hasNumberIn
   most [] r m h = absurd h
   most (n ∷ ns) r m h = either n ns r (eqb (r .number) n) refl (m .0) (λ p. most ns r (m .1) p) h
 
   -- the status of a refusal is its number, and of an accepted call 0
-  size-most : (said : Said Size) → ((r : Reason) → said ≡ refused r → r .number ≤ last) → statusOf (sizeNumbers said) ≤ last
+  pub size-most : (said : Said Size) → ((r : Reason) → said ≡ refused r → r .number ≤ last) → statusOf (sizeNumbers said) ≤ last
   unfolding statusOf sizeNumbers
   size-most (refused r) h = h r refl
   size-most (accepted size) h = omega arith
@@ -64,7 +64,7 @@ module _ (last : ℕ) where
   count-most none closing h = omega arith
 
   -- so a status tells which it is
-  tells : last < shortAnswer → (needed : ℕ) (numbers answer : List ℕ) → statusOf numbers ≤ last → Tells last needed numbers answer
+  pub tells : last < shortAnswer → (needed : ℕ) (numbers answer : List ℕ) → statusOf numbers ≤ last → Tells last needed numbers answer
   tells few needed numbers answer h =
       record {
         short = (λ e. by-length (ltb (length answer) needed) refl e, λ l. short-status needed answer l numbers);

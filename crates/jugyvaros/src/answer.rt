@@ -71,7 +71,7 @@ pub(crate) fn put_measures(said: Measured, answer: &mut [usize]) -> usize
     }
 }
 
-fn wide(byte: u8) -> usize
+pub(crate) fn wide(byte: u8) -> usize
     ensures { λ r. ⌜ r ≡ byte ⌝ }
 {
     byte as usize

@@ -55,7 +55,7 @@ module _ (s : Shape) (table ballots : List ℕ) (t : ℕ) (d : Dealing) (wirePar
       (both numbers (testReasons s table) (ballotReasons s ballots) (test-all s table) (ballots-all s ballots))
       (parts-all (s .candidates) (sizeOf (gatesOf table)) ballots t d wireParts published)
 
-  number : (r : Reason) → shared s table ballots t d wireParts published .answer ≡ refused r → T (hasNumberIn (1 ∷ 2 ∷ 3 ∷ 4 ∷ 5 ∷ 6 ∷ 16 ∷ 17 ∷ 18 ∷ []) r)
+  pub number : (r : Reason) → shared s table ballots t d wireParts published .answer ≡ refused r → T (hasNumberIn (1 ∷ 2 ∷ 3 ∷ 4 ∷ 5 ∷ 6 ∷ 16 ∷ 17 ∷ 18 ∷ []) r)
   unfolding shared numbers
   number r e =
       refused-fine numbers (shared s table ballots t d wireParts published .answer) r
