@@ -47,8 +47,8 @@
 extern "C" {
 #endif
 
-/* The reasons, with what their place counts. A call makes those tests that concern it, in the order 1, 13, 14, 2, 23, 3, 24, 4, 5, 6
- * of graded ballots or 11 and 12 of ranked ones, 15, 7 to 10. */
+/* The reasons, with what their place counts. A call makes those tests that concern it, in the order 19, 20, 1, 13, 14, 2, 23, 3, 24, 4, 5,
+ * 6 of graded ballots or 11 and 12 of ranked ones, 15, 16 to 18, 7 to 10. */
 #define JUGY_ACCEPTED 0
 #define JUGY_SHAPE 1          /* k, d or n is outside its limits */
 #define JUGY_TABLE 2          /* no room in the gate table to write, or no list of k to 1,048,576 whole gates */
@@ -65,6 +65,9 @@ extern "C" {
 #define JUGY_URN 13           /* the urn is not sound */
 #define JUGY_JUROR 14         /* none of a juror's numbers, 1 to 255; or in already (admission), or not in (withdrawal) */
 #define JUGY_FULL_URN 15      /* no slot of the urn is free */
+#define JUGY_TRUSTEES 16      /* there are fewer than 2 or more than 5 trustees */
+#define JUGY_PART_TABLES 17   /* one of the trustees' four tables has a wrong length */
+#define JUGY_DEALING 18       /* a ballot or dealer part is no bit, or parts sum up to something else than their ballot byte or product */
 #define JUGY_LINE 23          /* a line of text of another form, of a kind that is none, or with a number of 2^32 or more; place: the line */
 #define JUGY_OUTPUT 24        /* the lent output is too short */
 
@@ -79,6 +82,7 @@ extern "C" {
 #define JUGY_COUNT_ANSWER 10
 #define JUGY_TEXT_ANSWER 3
 #define JUGY_URN_ANSWER 3
+#define JUGY_TRUSTEES_ANSWER 12
 
 /* Measures the shape's own list: answer[2] is G, its gates, answer[3] is C, the conditional ones, answer[4] is I, the
  * ballot bytes. Reason 1. */
@@ -170,6 +174,26 @@ size_t jugy_preview_withdraw(size_t candidates, size_t grades, const uint8_t *by
 size_t jugy_run_urn(size_t candidates, size_t grades, size_t ballots, const uint32_t *table, size_t table_length,
                     const uint8_t *bytes, size_t bytes_length, const uint8_t *tape, size_t tape_length, uint8_t *wires,
                     size_t wires_length, uint8_t *board, size_t board_length, size_t *answer, size_t answer_length);
+
+/* Trustees, t of them, who each hold one bit of every wire: their sum modulo 2 is the wire. The four tables go trustee after
+ * trustee, t pieces of one size; I, G and C as elsewhere.
+ *   parts      t I bytes: a trustee's piece holds its bit of each ballot byte
+ *   dealt      t 3 C bytes: for each conditional gate in order its bits of u, of v and of the product u v, where u and v are
+ *              fresh, secret random bits of a dealer
+ *   wires      t (I + G) bytes, whatever they held: each trustee's bits of all wires, ballots first, while the function runs;
+ *              afterwards they are all zero
+ *   published  t (2 C + k) bytes, whatever they held: for each conditional gate in order a trustee's bits of the first
+ *              factor plus u and of the second plus v, then its bits of the k closing wires. This may be published
+ * Each byte of parts and dealt is 0 or 1. Whoever sees all but one trustee's bits, and all that is published, learns of the ballots
+ * what the closing bytes tell and no more. A dealing, parts and dealt, serves one call only. */
+
+/* Runs a list on ballots that trustees hold in parts: answer[2] is G, answer[3] is C, answer[4 + i], i below 8, is the sum of the closing bits of
+ * candidate i, which is the closing byte of a plain run, and 0 from place k on. Reasons 1 to 5, 6 of graded
+ * ballots or 11 and 12 of ranked ones, 16, 17, 18. */
+size_t jugy_trustees(size_t candidates, size_t grades, size_t ballots, const uint32_t *table, size_t table_length,
+                     const uint8_t *bytes, size_t bytes_length, size_t trustees, const uint8_t *parts, size_t parts_length,
+                     const uint8_t *dealt, size_t dealt_length, uint8_t *wires, size_t wires_length, uint8_t *published,
+                     size_t published_length, size_t *answer, size_t answer_length);
 
 #ifdef __cplusplus
 }

@@ -2,6 +2,7 @@
 //!
 //! Each function answers what the entry point of that name answers, or its refusal, in which case nothing lent is altered.
 
+pub mod trustees;
 pub mod urn;
 pub mod urn_run;
 
@@ -113,6 +114,9 @@ pub enum Reason {
     Juror = 14,
     /// Behind the ballot's reasons.
     FullUrn = 15,
+    Trustees = 16,
+    PartTables = 17,
+    Dealing = 18,
     /// Since request 2.10, between `Table` and `Gate`.
     Line = 23,
     /// Since request 2.10, behind `Gate`.
@@ -120,7 +124,7 @@ pub enum Reason {
 }
 
 impl Reason {
-    const ALL: [Reason; 17] = [
+    const ALL: [Reason; 20] = [
         Reason::Shape,
         Reason::Table,
         Reason::Gate,
@@ -136,6 +140,9 @@ impl Reason {
         Reason::Urn,
         Reason::Juror,
         Reason::FullUrn,
+        Reason::Trustees,
+        Reason::PartTables,
+        Reason::Dealing,
         Reason::Line,
         Reason::Output,
     ];
@@ -167,6 +174,9 @@ impl Reason {
             Reason::Urn => "the urn is not sound",
             Reason::Juror => "none of a juror's numbers (1 to 255), or in already, or not in",
             Reason::FullUrn => "no slot of the urn is free",
+            Reason::Trustees => "there are fewer than 2 or more than 5 trustees",
+            Reason::PartTables => "a table of the trustees has another length than list and shape need",
+            Reason::Dealing => "a part is neither 0 nor 1, or the parts do not add up",
             Reason::Line => "another form than a gate's, or a number that is too large, in line",
             Reason::Output => "the lent output is too short",
         }

@@ -1,9 +1,9 @@
 -- The tests of a dealing say what a good dealing is.
 -- Assumes nothing.
-use mathlib.Core.Path.{_≡_, _∙_, refl, sym, ap}
+use mathlib.Core.Path.{_≡_, refl, sym}
 use mathlib.Core.Bool.{Bool, true, false, _&&_}
 use mathlib.Core.List.{List}
-use Prim.Native.Nat.{ℕ, _+_, _*_, _≤_, _<_}
+use Prim.Native.Nat.{ℕ, _*_, _≤_}
 use native.Mathlib.Omega.{arith}
 use lib.Dec.{eqb, leb, ltb}
 use lib.ListN.{length, getD, List·getD-eq-default}
@@ -12,7 +12,7 @@ use Rattle.gates.specs.Gate.{Gate}
 use Rattle.gates.specs.Board.{conditionalCount, Bits}
 use Rattle.shares.specs.Shares.{opened, part, uOf, vOf, productOf}
 use Rattle.shares.specs.Views.{piece, Dealing, ballotsOf, dealtOf, GoodDealing}
-use Rattle.sharing.specs.Dealing.{allBelow, onlyBits, addsUp, productAddsUp, productsAddUp, dealtWell}
+use Rattle.sharing.specs.Dealing.{onlyBits, addsUp, productAddsUp, productsAddUp, dealtWell}
 use Rattle.sharing.proofs.Tests.{each-passes, all-pass}
 
 and-both : (a b : Bool) → (a && b) ≡ true → (a ≡ true) × (b ≡ true)

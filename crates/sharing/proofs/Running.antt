@@ -3,12 +3,12 @@
 use mathlib.Core.Path.{_≡_, _∙_, refl, sym, ap, subst}
 use mathlib.Core.Bool.{Bool, true, false, cond}
 use mathlib.Core.List.{List, [], _∷_, _++_}
-use Prim.Native.Nat.{ℕ, zero, suc, _+_, _*_, _%_, _≤_, _<_}
+use Prim.Native.Nat.{ℕ, suc, _+_, _*_, _≤_, _<_}
 use native.Mathlib.Nat.{add-zero, add-suc}
 use native.Mathlib.Omega.{arith}
-use lib.Dec.{T, eqb, ltb}
-use lib.ListN.{length, getD, take, drop, set, length-append, length-drop, drop-of-length-le}
-use lib.Seq.{getD-take, take-all, length-take-le, take-suc-set, sets, length-sets}
+use lib.Dec.{T, ltb}
+use lib.ListN.{length, take, drop, set, length-append, drop-of-length-le}
+use lib.Seq.{getD-take, take-all, length-take-le, take-suc-set, sets}
 use borrow.Author.Tests.{ltb-true}
 use Rattle.gates.specs.Kind.{operandsOf, conditionalOf}
 use Rattle.gates.specs.Gate.{Gate, gatesOf}
@@ -16,12 +16,12 @@ use Rattle.gates.specs.Board.{conditionalCount}
 use Rattle.gates.specs.Step.{gateAt}
 use Rattle.gates.specs.Test.{goodGate, firstBad}
 use Rattle.gates.specs.declared.place.Place.the-variants.{Nowhere}
-use Rattle.gates.proofs.Table.{gates-from, length-gates}
+use Rattle.gates.proofs.Table.{gates-from}
 use Rattle.gates.proofs.Goodness.{good-gate}
 use Rattle.gates.proofs.Reading.{good-unused}
 use Rattle.gates.proofs.Counting.{count-most}
 use Rattle.gates.proofs.Laws.{AllGood, all-good}
-use Rattle.shares.specs.Shares.{opened, part, uOf, vOf, firstFactor, secondFactor, maskedFirst, maskedSecond, Held, openedFirst, openedSecond, newPart, markOf, partsOf}
+use Rattle.shares.specs.Shares.{part, firstFactor, secondFactor, maskedFirst, maskedSecond, Held, openedFirst, openedSecond, newPart, markOf, partsOf}
 use Rattle.shares.specs.Views.{piece, joined, maskedFactors}
 use Rattle.shares.proofs.Accuracy.{opened-same, part-before, count-mark, mark-one}
 use Rattle.shares.proofs.Tables.{length-piece, whole-table, joined-cong}

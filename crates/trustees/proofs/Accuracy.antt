@@ -2,39 +2,31 @@
 -- Assumes nothing.
 use mathlib.Core.Path.{_≡_, _∙_, refl, sym, ap, subst}
 use mathlib.Core.Option.{Option, none, some}
-use mathlib.Core.Logic.{_↔_}
 use mathlib.Core.List.{List}
-use Prim.Native.Nat.{ℕ, zero, _+_, _-_, _*_, _≤_, _<_}
+use Prim.Native.Nat.{ℕ, _+_, _-_, _≤_, _<_}
 use native.Mathlib.Nat.{add-zero}
 use native.Mathlib.Omega.{arith}
-use lib.ListN.{length, getD, drop}
+use lib.ListN.{length, getD}
 use lib.Seq.{getD-drop}
 use Rattle.gates.specs.Gate.{Gate, gatesOf}
 use Rattle.gates.specs.Wires.{wire, wiresOf, outputsOf}
-use Rattle.gates.specs.Board.{conditionalCount, Bits}
+use Rattle.gates.specs.Board.{Bits}
 use Rattle.gates.proofs.Laws.{AllGood, all-good, wires-hold, wires-start, wires-bits, wire-bit, output-is, length-outputs}
 use Rattle.gates.proofs.WireLaws.{length-wires}
 use Rattle.jury.specs.declared.shape.Shape.{Shape}
 use Rattle.jury.specs.Reason.{Reason, firstOf}
-use Rattle.jury.specs.Counts.{tabulate, countsOf}
 use Rattle.jury.specs.Gauge.{eightBytes}
 use Rattle.jury.proofs.Tabulate.{tabulate-cong, tabulate-getD}
-use Rattle.judgment.specs.Judgment.{judgmentOf}
-use Rattle.judgment.specs.Winner.{Wins}
-use Rattle.circuit.specs.OwnList.{ownList}
 use Rattle.circuit.proofs.Accuracy.{own-list-is-accurate}
 use Rattle.tally.specs.Answer.{accepted, Size, sizeOf}
 use Rattle.tally.specs.Count.{plainClosing}
-use Rattle.tally.specs.Run.{ran}
-use Rattle.tally.specs.Hiding.{closingBytes}
-use Rattle.tally.specs.Write.{writeSaid}
 use Rattle.tally.specs.Demands.{listIn}
 use Rattle.tally.proofs.TestReasons.{never}
 use Rattle.tally.proofs.RunReasons.{run-passed}
 use Rattle.tally.proofs.Hiding.{ran-accepted, run-closing}
 use Rattle.tally.proofs.PlainFacts.{plain-accepted, plain-one}
 use Rattle.tally.proofs.Writing as writing
-use Rattle.shares.specs.Shares.{opened, part, Held, partsOf}
+use Rattle.shares.specs.Shares.{opened, part}
 use Rattle.shares.specs.Views.{Dealing, GoodDealing, ballotsOf, dealtOf, wirePartsOf, closingParts}
 use Rattle.shares.proofs.Accuracy.{Split, opened-same, parts-split}
 use Rattle.shares.proofs.Tables.{length-piece}

@@ -4,7 +4,6 @@ use mathlib.Core.Path.{_≡_, _∙_, refl, sym, ap}
 use mathlib.Core.Option.{Option, none, some}
 use mathlib.Core.List.{List, [], _∷_, _++_}
 use Prim.Native.Nat.{ℕ, _+_, _*_}
-use native.Mathlib.Omega.{arith}
 use lib.Dec.{T}
 use lib.ListN.{length, replicate, length-replicate}
 use Rattle.gates.specs.Gate.{Gate, gatesOf}
@@ -21,7 +20,7 @@ use Rattle.shares.specs.Views.{Dealing, publishedOf}
 use Rattle.shares.proofs.Tables.{length-joined}
 use Rattle.trustees.specs.Shared.{partReasons, Shared, sharedReasons, sharedAfter, shared}
 use Rattle.trustees.specs.Demands.{Memory, Demands}
-use Rattle.trustees.proofs.Reasons.{CallPassed, call-passed, shared-by}
+use Rattle.trustees.proofs.Reasons.{call-passed, shared-by}
 use Rattle.trustees.proofs.Sums.{call-ready, published-long}
 use Rattle.trustees.proofs.Accuracy.{call-accepted, accuracy, own-list}
 use Rattle.trustees.proofs.Hiding.{views-tell-no-more}
@@ -56,7 +55,7 @@ module _ (s : Shape) (table ballots : List ℕ) (t : ℕ) (d : Dealing) (wirePar
       (both numbers (testReasons s table) (ballotReasons s ballots) (test-all s table) (ballots-all s ballots))
       (parts-all (s .candidates) (sizeOf (gatesOf table)) ballots t d wireParts published)
 
-  number : (r : Reason) → shared s table ballots t d wireParts published .answer ≡ refused r → T (hasNumberIn (1 ∷ 2 ∷ 3 ∷ 4 ∷ 5 ∷ 6 ∷ 16 ∷ 17 ∷ 18 ∷ []) r)
+  pub number : (r : Reason) → shared s table ballots t d wireParts published .answer ≡ refused r → T (hasNumberIn (1 ∷ 2 ∷ 3 ∷ 4 ∷ 5 ∷ 6 ∷ 16 ∷ 17 ∷ 18 ∷ []) r)
   unfolding shared numbers
   number r e =
       refused-fine numbers (shared s table ballots t d wireParts published .answer) r

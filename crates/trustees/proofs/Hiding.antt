@@ -3,23 +3,21 @@
 use mathlib.Core.Path.{_≡_, _∙_, refl, sym, ap}
 use mathlib.Core.Option.{none}
 use mathlib.Core.List.{List}
-use Prim.Native.Nat.{ℕ, _+_, _≤_, _<_}
+use Prim.Native.Nat.{ℕ, _≤_}
 use native.Mathlib.Omega.{arith}
 use lib.ListN.{length, getD}
 use lib.Seq.{ext-getD}
-use Rattle.gates.specs.Gate.{Gate, gatesOf}
+use Rattle.gates.specs.Gate.{gatesOf}
 use Rattle.gates.specs.Wires.{wiresOf, outputsOf}
-use Rattle.gates.specs.Hiding.{ExactlyOne}
 use Rattle.gates.proofs.Laws.{length-outputs}
 use Rattle.gates.proofs.WireLaws.{length-wires}
 use Rattle.jury.specs.declared.shape.Shape.{Shape}
-use Rattle.jury.specs.Reason.{firstOf}
 use Rattle.jury.specs.Gauge.{eightBytes}
 use Rattle.jury.proofs.Rows.{eight-at}
 use Rattle.tally.specs.Answer.{accepted, sizeOf}
-use Rattle.shares.specs.Views.{Dealing, GoodDealing, View, viewOf, joined, publishedOf}
+use Rattle.shares.specs.Views.{Dealing, GoodDealing, viewOf}
 use Rattle.shares.proofs.Hiding.{views-hide-inputs}
-use Rattle.trustees.specs.Shared.{Shared, sharedReasons, sharedAfter, shared}
+use Rattle.trustees.specs.Shared.{Shared, sharedAfter, shared}
 use Rattle.trustees.specs.Demands.{ViewsTellNoMore}
 use Rattle.trustees.proofs.Reasons.{CallPassed, call-passed, call-passed-back, shared-by, passed-dealing, other-dealing}
 use Rattle.trustees.proofs.Sums.{Ready, call-ready}

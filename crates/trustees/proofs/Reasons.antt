@@ -4,13 +4,12 @@ use mathlib.Core.Path.{_≡_, _∙_, refl, sym, ap}
 use mathlib.Core.Bool.{Bool, true, false, _&&_}
 use mathlib.Core.Option.{Option, none, some}
 use mathlib.Core.List.{List, [], _∷_, _++_}
-use Prim.Native.Nat.{ℕ, _+_, _*_, _≤_, _<_}
+use Prim.Native.Nat.{ℕ, _+_, _*_, _≤_}
 use native.Mathlib.Omega.{arith}
 use lib.Dec.{eqb, leb}
 use lib.ListN.{length}
 use borrow.Author.Tests.{eqb-true, eq-eqb, leb-true, le-leb}
 use Rattle.gates.specs.Gate.{gatesOf}
-use Rattle.gates.specs.Board.{conditionalCount}
 use Rattle.gates.proofs.Counting.{count-most}
 use Rattle.gates.proofs.Evaluating.{accepted-list}
 use Rattle.jury.specs.declared.shape.Shape.{Shape}
@@ -22,7 +21,7 @@ use Rattle.jury.proofs.AcceptedLaws as ballots-laws
 use Rattle.jury.proofs.Limits.{within, bytes-are, bytes-bound}
 use Rattle.tally.specs.Answer.{refused, accepted, said, Size, sizeOf}
 use Rattle.tally.specs.Test.{testReasons, testSaid}
-use Rattle.tally.proofs.TestReasons.{orElse, first-append, never, TestPassed, test-passed}
+use Rattle.tally.proofs.TestReasons.{orElse, first-append, TestPassed, test-passed}
 use Rattle.tally.proofs.RunReasons.{firstOfThree, said-refused}
 use Rattle.shares.specs.Views.{Dealing, GoodDealing}
 use Rattle.sharing.specs.Dealing.{dealtWell}

@@ -1,7 +1,7 @@
 -- What inner functions ask: no entry point's contract needs it.
 use mathlib.Core.Path.{_≡_}
 use mathlib.Core.List.{List}
-use Prim.Native.Nat.{ℕ, _*_, _≤_, _<_}
+use Prim.Native.Nat.{ℕ, _*_, _≤_}
 use lib.ListN.{length}
 
 -- Sizes of an accepted list and of accepted ballots, so small that no product with the number of trustees wraps.

@@ -49,13 +49,12 @@ pub fn run(
     ensures { λ _. ⌜ now (wires .exit) ≡ (shared shape (now (table .entry)) (now (ballots .entry)) t (record { ballotParts = now (parts .entry); dealerParts = now (dealt .entry) }) (now (wires .entry)) (now (published .entry))) .wireParts ⌝ }
     ensures { λ _. ⌜ now (published .exit) ≡ (shared shape (now (table .entry)) (now (ballots .entry)) t (record { ballotParts = now (parts .entry); dealerParts = now (dealt .entry) }) (now (wires .entry)) (now (published .entry))) .published ⌝ }
 {
-    let answer = crate::test::test(
-        shape, table, ballots, t, parts, dealt, wires, published,
-    );
+    let answer = crate::test::test(shape, table, ballots, t, parts, dealt, wires, published);
     let Answer::Accepted {
         gates: _,
         conditional,
-    } = answer else {
+    } = answer
+    else {
         return Tallied {
             answer,
             closing: [0u8; 8],

@@ -1,9 +1,8 @@
 -- `sharing::bits::enter_once` meets its contract: the first trustee enters the bit, any other enters 0.
 -- Assumes nothing.
-use mathlib.Core.Path.{_≡_, _∙_, refl, sym, ap}
-use Prim.Native.Nat.{ℕ, zero, suc, _+_, _-_, _*_, _%_, _≤_, _<_}
+use mathlib.Core.Path.{_≡_, refl}
+use Prim.Native.Nat.{ℕ, zero, suc, _<_}
 use native.Mathlib.Omega.{arith}
-use borrow.Author.Tests.{eqb-true, eqb-false}
 use Rattle.shares.specs.Shares.{entered}
 use Rattle.sharing.proofs.bits.enter_once.Statement.{statement}
 use Rattle.sharing.proofs.bits.enter_once.Tie as tie

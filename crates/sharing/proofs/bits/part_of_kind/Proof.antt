@@ -1,12 +1,12 @@
 -- `sharing::bits::part_of_kind` meets its contract: each arm is its kind's entry in the list of bits.
 -- Assumes nothing.
 use borrow.Author.Needs.{needs}
-use mathlib.Core.Path.{_≡_, _∙_, refl, sym, ap}
+use mathlib.Core.Path.{_≡_, sym}
 use mathlib.Core.Logic.{_≢_}
 use mathlib.Core.List.{[], _∷_}
-use Prim.Native.Nat.{ℕ, zero, suc, _+_, _-_, _*_, _%_, _≤_, _<_}
+use Prim.Native.Nat.{ℕ, _+_, _%_, _≤_}
 use native.Mathlib.Omega.{arith}
-use lib.ListN.{getD, List·getD-eq-default}
+use lib.ListN.{List·getD-eq-default}
 use Rattle.shares.specs.Shares.{entered, partOfKind}
 use Rattle.sharing.proofs.Parity.{three-mods}
 use Rattle.sharing.proofs.bits.part_of_kind.Statement.{statement}

@@ -1,9 +1,7 @@
 -- `sharing::bits::product_bit` meets its contract: sums modulo 2 may be taken one after the other.
 -- Assumes nothing.
 use borrow.Author.Needs.{needs}
-use mathlib.Core.Path.{_≡_, _∙_, refl, sym, ap}
-use Prim.Native.Nat.{ℕ, zero, suc, _+_, _-_, _*_, _%_, _≤_, _<_}
-use native.Mathlib.Omega.{arith}
+use Prim.Native.Nat.{_*_}
 use Rattle.sharing.proofs.Parity.{product-sum}
 use Rattle.sharing.proofs.bits.product_bit.Statement.{statement}
 use Rattle.sharing.proofs.bits.product_bit.Tie as tie

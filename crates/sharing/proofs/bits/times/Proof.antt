@@ -1,7 +1,5 @@
 -- `sharing::bits::times` meets its contract, by the parity of the first factor.
 -- Assumes nothing.
-use mathlib.Core.Path.{_≡_, _∙_, refl, sym, ap}
-use Prim.Native.Nat.{ℕ, zero, suc, _+_, _-_, _*_, _%_, _≤_, _<_}
 use native.Mathlib.Omega.{arith}
 use Rattle.sharing.proofs.Parity.{times-even, times-odd}
 use Rattle.sharing.proofs.bits.times.Statement.{statement}

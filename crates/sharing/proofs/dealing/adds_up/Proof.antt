@@ -1,8 +1,8 @@
 -- `sharing::dealing::adds_up` meets its contract: the parts of the bytes before x add up.
 -- Assumes nothing.
-use mathlib.Core.Path.{_≡_, _∙_, refl, sym, ap}
-use mathlib.Core.Bool.{true, false, Bool}
-use Prim.Native.Nat.{ℕ, zero, suc, _+_, _-_, _*_, _/_, _%_, _≤_, _<_}
+use mathlib.Core.Path.{_≡_, _∙_, sym, ap}
+use mathlib.Core.Bool.{true, Bool}
+use Prim.Native.Nat.{ℕ, _-_, _≤_}
 use native.Mathlib.Numerals.{add-one}
 use native.Mathlib.Omega.{arith}
 use lib.Dec.{eqb}
@@ -50,9 +50,11 @@ loop-less c = omega arith
 loop-again : tie.Need-loop-again Inv-loop μ-loop
 loop-again c =
     let l = c .before .before .before .before .loop in
-    let a = c .before .before .before .before .before .before .before .args in
-    (omega arith, all-more (passes (a .t) (a .ballots .now) (a .parts .now)) (l .x) (l .inv .1) (eq-eqb _ _ (sym (c .before .before .«open» .ensures) ∙ c .if1 .left))
-    ∙ ap (λ (n : ℕ). allBelow n (passes (a .t) (a .ballots .now) (a .parts .now))) (sym (add-one (l .x))))
+    let a = c .before .before .before .before .before .before .before .args in (
+      omega arith,
+      all-more (passes (a .t) (a .ballots .now) (a .parts .now)) (l .x) (l .inv .1) (eq-eqb _ _ (sym (c .before .before .«open» .ensures) ∙ c .if1 .left))
+          ∙ ap (λ (n : ℕ). allBelow n (passes (a .t) (a .ballots .now) (a .parts .now))) (sym (add-one (l .x))),
+    )
 
 returns-2 : tie.Need-returns-2 Inv-loop μ-loop
 unfolding addsUp

@@ -1,8 +1,8 @@
 -- `sharing::dealing::products_add_up` meets its contract: the parts of the products before i add up.
 -- Assumes nothing.
-use mathlib.Core.Path.{_≡_, _∙_, refl, sym, ap}
-use mathlib.Core.Bool.{true, false}
-use Prim.Native.Nat.{ℕ, zero, suc, _+_, _-_, _*_, _/_, _%_, _≤_, _<_}
+use mathlib.Core.Path.{_≡_, _∙_, sym, ap}
+use mathlib.Core.Bool.{true}
+use Prim.Native.Nat.{ℕ, _-_, _*_, _≤_}
 use native.Mathlib.Numerals.{add-one}
 use native.Mathlib.Omega.{arith}
 use borrow.Author.Tests.{not-true, not-false}
@@ -43,9 +43,11 @@ loop-less c = omega arith
 loop-again : tie.Need-loop-again Inv-loop μ-loop
 loop-again c =
     let l = c .before .before .before .loop in
-    let a = c .before .before .before .before .before .args in
-    (omega arith, all-more (productAddsUp (a .t) (piece (3 * a .conditional) (a .dealt .now))) (l .i) (l .inv .1) (sym (c .before .product-adds-up .ensures) ∙ not-false _ (c .if1 .left))
-    ∙ ap (λ (n : ℕ). allBelow n (productAddsUp (a .t) (piece (3 * a .conditional) (a .dealt .now)))) (sym (add-one (l .i))))
+    let a = c .before .before .before .before .before .args in (
+      omega arith,
+      all-more (productAddsUp (a .t) (piece (3 * a .conditional) (a .dealt .now))) (l .i) (l .inv .1) (sym (c .before .product-adds-up .ensures) ∙ not-false _ (c .if1 .left))
+          ∙ ap (λ (n : ℕ). allBelow n (productAddsUp (a .t) (piece (3 * a .conditional) (a .dealt .now)))) (sym (add-one (l .i))),
+    )
 
 returns-2 : tie.Need-returns-2 Inv-loop μ-loop
 unfolding productsAddUp

@@ -2,12 +2,10 @@
 -- Assumes nothing.
 use borrow.Author.Needs.{needs}
 use mathlib.Core.Path.{_≡_, _∙_, refl, sym, ap}
-use mathlib.Core.List.{List, [], _∷_}
-use Prim.Native.Nat.{ℕ, zero, suc, _+_, _-_, _*_, _/_, _%_, _≤_, _<_}
+use Prim.Native.Nat.{ℕ, _+_, _*_, _/_, _≤_, _<_}
 use native.Mathlib.Omega.{arith}
-use lib.ListN.{length, take, drop}
+use lib.ListN.{length}
 use Rattle.gates.specs.Gate.{gatesOf}
-use Rattle.gates.specs.Board.{conditionalCount}
 use Rattle.gates.proofs.Table.{length-gates}
 use Rattle.gates.proofs.Counting.{count-most}
 use Rattle.shares.specs.Views.{Dealing}

@@ -1,11 +1,9 @@
 -- `sharing::evaluate::numbers_at` meets its contract: a gate is its four numbers.
 -- Assumes nothing.
 use borrow.Author.Needs.{needs}
-use mathlib.Core.Path.{_≡_, _∙_, refl, sym, ap}
-use Prim.Native.Nat.{ℕ, zero, suc, _+_, _-_, _*_, _%_, _≤_, _<_}
+use mathlib.Core.Path.{sym}
+use Prim.Native.Nat.{_+_, _*_}
 use native.Mathlib.Omega.{arith}
-use lib.ListN.{getD}
-use Rattle.gates.specs.Step.{gateAt}
 use Rattle.gates.proofs.Reading.{gate-numbers}
 use Rattle.sharing.proofs.evaluate.numbers_at.Statement.{statement}
 use Rattle.sharing.proofs.evaluate.numbers_at.Tie as tie

@@ -1,16 +1,15 @@
 -- `sharing::gate::enter_free` meets its contract: the first p trustees have entered their parts, each from its own piece.
 -- Assumes nothing.
-use mathlib.Core.Path.{_≡_, _∙_, refl, sym, ap}
+use mathlib.Core.Path.{_≡_, _∙_, refl, ap}
 use mathlib.Core.List.{List, [], _∷_}
-use Prim.Native.Nat.{ℕ, zero, suc, _+_, _-_, _*_, _%_, _≤_, _<_}
-use native.Mathlib.Numerals.{add-one}
+use Prim.Native.Nat.{ℕ, _+_, _-_, _*_, _≤_, _<_}
 use native.Mathlib.Omega.{arith}
 use lib.ListN.{length, length-set}
 use Rattle.shares.specs.Shares.{part, partOfKind}
 use Rattle.shares.specs.Views.{piece}
 use Rattle.sharing.specs.declared.gate.Numbers.{Numbers}
 use Rattle.sharing.specs.Tables.{eachPuts}
-use Rattle.sharing.proofs.Puts.{reaches, length-puts, puts-one, own-piece}
+use Rattle.sharing.proofs.Puts.{reaches, puts-one, own-piece}
 use Rattle.sharing.proofs.gate.enter_free.Statement.{statement}
 use Rattle.sharing.proofs.gate.enter_free.Tie as tie
 

@@ -1,9 +1,7 @@
 -- `sharing::gate::masked_first` meets its contract.
 -- Assumes nothing.
 use borrow.Author.Needs.{needs}
-use mathlib.Core.Path.{_≡_, _∙_, refl, sym, ap}
-use Prim.Native.Nat.{ℕ, zero, suc, _+_, _-_, _*_, _%_, _≤_, _<_}
-use native.Mathlib.Omega.{arith}
+use mathlib.Core.Path.{sym}
 use Rattle.shares.specs.Shares.{uOf, part, firstFactor, maskedFirst}
 use Rattle.sharing.proofs.gate.masked_first.Statement.{statement}
 use Rattle.sharing.proofs.gate.masked_first.Tie as tie

@@ -1,9 +1,7 @@
 -- `sharing::gate::masked_second` meets its contract.
 -- Assumes nothing.
 use borrow.Author.Needs.{needs}
-use mathlib.Core.Path.{_≡_, _∙_, refl, sym, ap}
-use Prim.Native.Nat.{ℕ, zero, suc, _+_, _-_, _*_, _%_, _≤_, _<_}
-use native.Mathlib.Omega.{arith}
+use mathlib.Core.Path.{sym}
 use Rattle.shares.specs.Shares.{vOf, part, maskedSecond}
 use Rattle.sharing.proofs.gate.masked_second.Statement.{statement}
 use Rattle.sharing.proofs.gate.masked_second.Tie as tie

@@ -1,10 +1,7 @@
 -- `sharing::gate::new_part` meets its contract.
 -- Assumes nothing.
 use borrow.Author.Needs.{needs}
-use mathlib.Core.Path.{_≡_, _∙_, refl, sym, ap}
-use Prim.Native.Nat.{ℕ, zero, suc, _+_, _-_, _*_, _%_, _≤_, _<_}
-use native.Mathlib.Omega.{arith}
-use Rattle.shares.specs.Shares.{part, partOfKind}
+use mathlib.Core.Path.{sym}
 use Rattle.sharing.proofs.gate.new_part.Statement.{statement}
 use Rattle.sharing.proofs.gate.new_part.Tie as tie
 
@@ -21,7 +18,7 @@ part-of-kind-requires : tie.Need-part-of-kind-requires
 part-of-kind-requires c κs = search needs
 
 returns : tie.Need-returns
-returns c =     rw (sym (c .before .before .before .entry .ensures), sym (c .before .before .entry2 .ensures), sym (c .before .entry3 .ensures)) (c .part-of-kind .ensures)
+returns c = rw (sym (c .before .before .before .entry .ensures), sym (c .before .before .entry2 .ensures), sym (c .before .entry3 .ensures)) (c .part-of-kind .ensures)
 
 pub new-part-spec : {M : Type 1} → statement M
 new-part-spec =

@@ -1,9 +1,7 @@
 -- `sharing::gate::product_part` meets its contract.
 -- Assumes nothing.
 use borrow.Author.Needs.{needs}
-use mathlib.Core.Path.{_≡_, _∙_, refl, sym, ap}
-use Prim.Native.Nat.{ℕ, zero, suc, _+_, _-_, _*_, _%_, _≤_, _<_}
-use native.Mathlib.Omega.{arith}
+use mathlib.Core.Path.{sym}
 use Rattle.shares.specs.Shares.{part, uOf, vOf, productOf, productPart}
 use Rattle.sharing.proofs.gate.product_part.Statement.{statement}
 use Rattle.sharing.proofs.gate.product_part.Tie as tie
@@ -37,7 +35,7 @@ product-bit-requires c κs = search needs
 
 returns : tie.Need-returns
 unfolding productPart uOf vOf productOf part
-returns c =     rw (sym (c .before .before .before .entry .ensures), sym (c .before .before .entry2 .ensures), sym (c .before .entry3 .ensures)) (c .product-bit .ensures)
+returns c = rw (sym (c .before .before .before .entry .ensures), sym (c .before .before .entry2 .ensures), sym (c .before .entry3 .ensures)) (c .product-bit .ensures)
 
 pub product-part-spec : {M : Type 1} → statement M
 product-part-spec =

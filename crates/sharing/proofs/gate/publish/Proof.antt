@@ -3,11 +3,10 @@
 use borrow.Author.Needs.{needs}
 use mathlib.Core.Path.{_≡_, _∙_, refl, sym, ap}
 use mathlib.Core.List.{List, [], _∷_}
-use Prim.Native.Nat.{ℕ, zero, suc, _+_, _-_, _*_, _%_, _≤_, _<_}
+use Prim.Native.Nat.{ℕ, _+_, _-_, _*_, _≤_, _<_}
 use native.Mathlib.Numerals.{add-one}
 use native.Mathlib.Omega.{arith}
 use lib.ListN.{length, set, length-set}
-use Rattle.gates.specs.Gate.{Gate}
 use Rattle.shares.specs.Shares.{opened, maskedFirst, maskedSecond, openedFirst, openedSecond}
 use Rattle.shares.specs.Views.{piece}
 use Rattle.sharing.specs.declared.gate.Numbers.{Numbers}

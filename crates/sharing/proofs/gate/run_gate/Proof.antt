@@ -1,13 +1,13 @@
 -- `sharing::gate::run_gate` meets its contract: a conditional gate is published, opened and entered, a free one entered.
 -- Assumes nothing.
 use borrow.Author.Needs.{needs}
-use mathlib.Core.Path.{_≡_, _∙_, refl, sym, ap}
+use mathlib.Core.Path.{_≡_, _∙_, sym, ap}
 use mathlib.Core.Bool.{Bool, true, false, cond}
 use mathlib.Core.List.{List, [], _∷_}
-use Prim.Native.Nat.{ℕ, zero, suc, _+_, _-_, _*_, _/_, _%_, _≤_, _<_}
+use Prim.Native.Nat.{ℕ, _+_, _*_}
 use native.Mathlib.Omega.{arith}
 use Rattle.gates.specs.Kind.{conditionalOf}
-use Rattle.shares.specs.Shares.{maskedFirst, maskedSecond, markOf}
+use Rattle.shares.specs.Shares.{maskedFirst, maskedSecond}
 use Rattle.shares.specs.Views.{piece}
 use Rattle.shares.proofs.Accuracy.{mark-one}
 use Rattle.sharing.specs.Tables.{eachPuts}
@@ -68,8 +68,10 @@ returns c =
     let is = taken then in
     let X : Bool → List ℕ = λ b. cond b (eachPuts (a .t) (a .pieces .published) (2 * a .i) (λ p. maskedFirst (piece (a .pieces .wires) (a .wires .now) p) (piece (a .pieces .dealt) (a .dealt .now) p) (a .i) (gateOf (a .gate)) ∷ maskedSecond (piece (a .pieces .wires) (a .wires .now) p) (piece (a .pieces .dealt) (a .dealt .now) p) (a .i) (gateOf (a .gate)) ∷ []) (a .published .now)) (a .published .now) in (
       sym (ap (λ (n : ℕ). a .i + n) (mark-one (gateOf (a .gate)) is)),
-      (products-entered (a .t) (a .pieces .wires) (a .own) (a .i) (gateOf (a .gate)) (piece (a .pieces .dealt) (a .dealt .now)) (a .wires .now) _ _ _ (shown .publish .ensures .0) (shown .publish .ensures .1 .0) (entered .enter-products .ensures),
-      shown .publish .ensures .1 .1 ∙ sym (ap X is)),
+      (
+        products-entered (a .t) (a .pieces .wires) (a .own) (a .i) (gateOf (a .gate)) (piece (a .pieces .dealt) (a .dealt .now)) (a .wires .now) _ _ _ (shown .publish .ensures .0) (shown .publish .ensures .1 .0) (entered .enter-products .ensures),
+        shown .publish .ensures .1 .1 ∙ sym (ap X is),
+      ),
     )
 
 enter-free-requires : tie.Need-enter-free-requires

@@ -1,13 +1,9 @@
 -- `sharing::gate::second_factor` meets its contract, by the kind.
 -- Assumes nothing.
 use borrow.Author.Needs.{needs}
-use mathlib.Core.Path.{_≡_, _∙_, refl, sym, ap}
-use mathlib.Core.Bool.{Bool, true, false, cond}
-use Prim.Native.Nat.{ℕ, zero, suc, _+_, _-_, _*_, _%_, _≤_, _<_}
-use native.Mathlib.Omega.{arith}
-use lib.Dec.{eqb}
+use mathlib.Core.Path.{sym}
 use borrow.Author.Tests.{eq-eqb, ne-eqb}
-use Rattle.shares.specs.Shares.{part, secondFactor}
+use Rattle.shares.specs.Shares.{secondFactor}
 use Rattle.sharing.proofs.gate.second_factor.Statement.{statement}
 use Rattle.sharing.proofs.gate.second_factor.Tie as tie
 

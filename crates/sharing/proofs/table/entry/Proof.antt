@@ -1,9 +1,7 @@
 -- `sharing::table::entry` meets its contract.
 -- Assumes nothing.
 use borrow.Author.Needs.{needs}
-use mathlib.Core.Path.{_≡_, _∙_, refl, sym, ap}
-use Prim.Native.Nat.{ℕ, zero, suc, _+_, _-_, _*_, _%_, _≤_, _<_}
-use native.Mathlib.Omega.{arith}
+use mathlib.Core.Path.{sym}
 use Rattle.sharing.proofs.Puts.{part-piece}
 use Rattle.sharing.proofs.table.entry.Statement.{statement}
 use Rattle.sharing.proofs.table.entry.Tie as tie

@@ -1,11 +1,10 @@
 -- `sharing::table::open` meets its contract: after p turns the entries of the first p trustees are added.
 -- Assumes nothing.
 use borrow.Author.Needs.{needs}
-use mathlib.Core.Path.{_≡_, _∙_, refl, sym, ap}
-use Prim.Native.Nat.{ℕ, zero, suc, _+_, _-_, _*_, _%_, _≤_, _<_}
+use mathlib.Core.Path.{_≡_, _∙_, sym, ap}
+use Prim.Native.Nat.{ℕ, _-_, _≤_}
 use native.Mathlib.Numerals.{add-one}
 use native.Mathlib.Omega.{arith}
-use lib.ListN.{length}
 use Rattle.shares.specs.Shares.{opened, part}
 use Rattle.shares.specs.Views.{piece}
 use Rattle.sharing.proofs.Puts.{reaches}
@@ -40,9 +39,11 @@ loop-less c = omega arith
 loop-again : tie.Need-loop-again Inv-loop μ-loop
 loop-again c =
     let l = c .before .before .before .loop in
-    let a = c .before .before .before .before .before .args in
-    (omega arith, opened-more (l .p) (λ q. part (piece (a .size) (a .table .now) q) (a .index)) (l .sum) (c .before .entry .result) (c .plus .result) (l .inv .1) (c .before .entry .ensures) (c .plus .ensures)
-    ∙ ap (λ (n : ℕ). opened n (λ q. part (piece (a .size) (a .table .now) q) (a .index))) (sym (add-one (l .p))))
+    let a = c .before .before .before .before .before .args in (
+      omega arith,
+      opened-more (l .p) (λ q. part (piece (a .size) (a .table .now) q) (a .index)) (l .sum) (c .before .entry .result) (c .plus .result) (l .inv .1) (c .before .entry .ensures) (c .plus .ensures)
+          ∙ ap (λ (n : ℕ). opened n (λ q. part (piece (a .size) (a .table .now) q) (a .index))) (sym (add-one (l .p))),
+    )
 
 returns : tie.Need-returns Inv-loop μ-loop
 returns c =

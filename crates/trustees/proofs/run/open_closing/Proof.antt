@@ -1,13 +1,12 @@
 -- `trustees::run::open_closing` meets its contract: below j the bytes are the opened bits, and from j on they are 0.
 -- Assumes nothing.
-use mathlib.Core.Path.{_≡_, _∙_, refl, sym, ap}
-use mathlib.Core.List.{List, [], _∷_}
-use Prim.Native.Nat.{ℕ, zero, suc, _+_, _-_, _*_, _/_, _%_, _≤_, _<_}
+use mathlib.Core.Path.{_≡_, _∙_, sym, ap}
+use mathlib.Core.List.{List}
+use Prim.Native.Nat.{ℕ, _+_, _-_, _≤_}
 use native.Mathlib.Numerals.{add-one}
 use native.Mathlib.Omega.{arith}
-use lib.ListN.{length, set}
+use lib.ListN.{set}
 use Rattle.jury.specs.Counts.{tabulate}
-use Rattle.jury.specs.Gauge.{eightBytes}
 use Rattle.jury.proofs.Tabulate.{upTo, fill-start, fill-step}
 use Rattle.shares.specs.Shares.{opened, part}
 use Rattle.shares.specs.Views.{piece}

@@ -1,12 +1,11 @@
 -- `trustees::run::run` meets its contract: where the tests pass, the evaluation fills both tables, the closing bits are opened and the wire parts emptied, and else nothing is touched.
 -- Assumes nothing.
 use borrow.Author.Needs.{needs}
-use mathlib.Core.Path.{_≡_, _∙_, refl, sym, ap}
+use mathlib.Core.Path.{_≡_, _∙_, sym, ap}
 use mathlib.Core.Option.{Option, none, some}
-use mathlib.Core.List.{List}
-use Prim.Native.Nat.{ℕ, zero, suc, _+_, _-_, _*_, _/_, _%_, _≤_, _<_}
+use Prim.Native.Nat.{ℕ}
 use native.Mathlib.Omega.{arith}
-use lib.ListN.{length, replicate}
+use lib.ListN.{replicate}
 use Rattle.gates.specs.Gate.{gatesOf}
 use Rattle.jury.specs.Reason.{Reason, reasonOf, firstOf}
 use Rattle.jury.specs.Gauge.{eightBytes}
@@ -14,7 +13,7 @@ use Rattle.tally.specs.Answer.{Size, accepted, said, saidBy, sizeOf}
 use Rattle.tally.proofs.RunReasons.{said-refused, said-accepted}
 use Rattle.shares.specs.Views.{Dealing}
 use Rattle.trustees.specs.Shared.{Shared, sharedReasons, sharedAfter}
-use Rattle.trustees.proofs.Reasons.{CallPassed, call-passed, shared-by}
+use Rattle.trustees.proofs.Reasons.{call-passed, shared-by}
 use Rattle.trustees.proofs.Sums.{Ready, call-ready, opened-closing}
 use Rattle.trustees.proofs.run.run.Statement.{statement}
 use Rattle.trustees.proofs.run.run.Tie as tie
@@ -115,8 +114,10 @@ returns-2 c =
     let e = shared-by (a .shape) (a .table .now) (a .ballots .now) (a .t) (dealing start) (a .wires .now) (a .published .now) none (no-reason told) in
     let same = done .evaluate .kept .1 .1 .1 .1 .1 .1 .1 .0 in (
       sym (ap saidBy (told .before .answer .given .1)) ∙ told .before .before .before .test .ensures ∙ ap (λ (o : Option Reason). said o (sizeOf (gatesOf (a .table .now)))) (no-reason told) ∙ sym (ap (λ (q : Shared). q .answer) e),
-      (opened .open-closing .ensures ∙ opened-closing (a .shape) (a .table .now) (a .ballots .now) (a .t) (dealing start) (a .wires .now) (a .published .now) (size told) (ready told) _ (done .evaluate .ensures .1) ∙ sym (ap (λ (q : Shared). q .closing) e),
-      (emptied .empty .ensures ∙ ap (λ (n : ℕ). replicate n 0) same ∙ sym (ap (λ (q : Shared). q .wireParts) e), done .evaluate .ensures .1 ∙ sym (ap (λ (q : Shared). q .published) e))),
+      (
+        opened .open-closing .ensures ∙ opened-closing (a .shape) (a .table .now) (a .ballots .now) (a .t) (dealing start) (a .wires .now) (a .published .now) (size told) (ready told) _ (done .evaluate .ensures .1) ∙ sym (ap (λ (q : Shared). q .closing) e),
+        (emptied .empty .ensures ∙ ap (λ (n : ℕ). replicate n 0) same ∙ sym (ap (λ (q : Shared). q .wireParts) e), done .evaluate .ensures .1 ∙ sym (ap (λ (q : Shared). q .published) e)),
+      ),
     )
 
 pub run-spec : {M : Type 1} → statement M

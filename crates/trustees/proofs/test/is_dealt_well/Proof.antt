@@ -1,12 +1,11 @@
 -- `trustees::test::is_dealt_well` meets its contract: one test after the other.
 -- Assumes nothing.
 use borrow.Author.Needs.{needs}
-use mathlib.Core.Path.{_≡_, _∙_, refl, sym, ap}
-use mathlib.Core.Bool.{Bool, true, false, _&&_}
-use Prim.Native.Nat.{ℕ, zero, suc, _+_, _-_, _*_, _/_, _%_, _≤_, _<_}
+use mathlib.Core.Path.{_≡_, _∙_, sym}
+use mathlib.Core.Bool.{true}
 use native.Mathlib.Omega.{arith}
 use borrow.Author.Tests.{not-true, not-false}
-use Rattle.sharing.specs.Dealing.{onlyBits, addsUp, dealtWell}
+use Rattle.sharing.specs.Dealing.{onlyBits, dealtWell}
 use Rattle.trustees.proofs.test.is_dealt_well.Statement.{statement}
 use Rattle.trustees.proofs.test.is_dealt_well.Tie as tie
 

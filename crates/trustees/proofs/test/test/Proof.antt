@@ -1,27 +1,19 @@
 -- `trustees::test::test` meets its contract: the list is tested first, then the ballots, then the parts.
 -- Assumes nothing.
 use borrow.Author.Needs.{needs}
-use mathlib.Core.Path.{_≡_, _∙_, refl, sym, ap}
-use mathlib.Core.Bool.{true}
+use mathlib.Core.Path.{_≡_, _∙_, sym, ap}
 use mathlib.Core.Option.{Option, none, some}
-use Prim.Native.Nat.{ℕ, zero, suc, _+_, _-_, _*_, _/_, _%_, _≤_, _<_}
-use native.Mathlib.Omega.{arith}
-use lib.ListN.{length}
 use Rattle.gates.specs.Gate.{gatesOf}
-use Rattle.gates.specs.Board.{conditionalCount}
-use Rattle.gates.proofs.Counting.{count-most}
-use Rattle.gates.proofs.Evaluating.{accepted-list}
-use Rattle.jury.specs.Shape.{withinLimits, ballotBytes}
+use Rattle.jury.specs.Shape.{withinLimits}
 use Rattle.jury.specs.Reason.{Reason, reasonOf, refusedFor, firstOf}
 use Rattle.jury.specs.Ballots.{ballotReasons}
 use Rattle.jury.proofs.Flags.{true-T}
 use Rattle.jury.proofs.AcceptedLaws as ballots-laws
 use Rattle.tally.specs.Answer.{Size, refused, said, saidBy, sizeOf}
-use Rattle.tally.specs.Test.{testReasons, testSaid}
+use Rattle.tally.specs.Test.{testSaid}
 use Rattle.tally.proofs.TestReasons.{TestPassed, test-passed}
 use Rattle.shares.specs.Views.{Dealing}
 use Rattle.trustees.specs.Shared.{sharedReasons}
-use Rattle.trustees.specs.Inner.{SmallSizes}
 use Rattle.trustees.proofs.Reasons.{by-test, by-ballots, by-parts, small-sizes}
 use Rattle.trustees.proofs.test.test.Statement.{statement}
 use Rattle.trustees.proofs.test.test.Tie as tie

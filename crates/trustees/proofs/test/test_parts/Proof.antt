@@ -1,10 +1,8 @@
 -- `trustees::test::test_parts` meets its contract: each answer is the definition's at the outcomes of the tests that led there.
 -- Assumes nothing.
 use borrow.Author.Needs.{needs}
-use mathlib.Core.Path.{_≡_, _∙_, refl, sym, ap}
-use mathlib.Core.Bool.{Bool, true, false, _&&_}
-use Prim.Native.Nat.{ℕ, zero, suc, _+_, _-_, _*_, _/_, _%_, _≤_, _<_}
-use native.Mathlib.Omega.{arith}
+use mathlib.Core.Path.{_≡_, _∙_, refl, sym}
+use mathlib.Core.Bool.{true, false, _&&_}
 use lib.Dec.{leb}
 use lib.ListN.{length}
 use borrow.Author.Tests.{not-true, not-false}
@@ -12,7 +10,7 @@ use Rattle.jury.specs.Reason.{reasonOf, refusedFor, unless, firstOf}
 use Rattle.tally.specs.Answer.{Size}
 use Rattle.shares.specs.Views.{Dealing}
 use Rattle.trustees.specs.Shared.{tablesFit}
-use Rattle.trustees.proofs.Reasons.{partFound, part-by, Tables, tables-fit, trustees-most}
+use Rattle.trustees.proofs.Reasons.{partFound, part-by, tables-fit, trustees-most}
 use Rattle.trustees.proofs.test.test_parts.Statement.{statement}
 use Rattle.trustees.proofs.test.test_parts.Tie as tie
 

@@ -1,0 +1,78 @@
+// The tally by trustees, as a C program calls it.
+use crate::answer::SHORT_ANSWER;
+use crate::answer::put_size;
+use crate::answer::wide;
+use jury::shape::Shape;
+use trustees::run::Tallied;
+ghost use mathlib.Core.Path.{_≡_};
+ghost use mathlib.Core.List.{_++_};
+ghost use Prim.Native.Nat.{_≤_};
+ghost use lib.ListN.{length, drop};
+ghost use lib.Seq.{sets};
+ghost use Rattle.tally.specs.Answer.{saidBy};
+ghost use Rattle.trustees.specs.Shared.{shared};
+ghost use Rattle.jugyvaros.specs.Numbers.{shapeOf, statusOf, status, answered, altered};
+ghost use Rattle.jugyvaros.specs.Trustees.{tallyNumbers};
+
+// How many numbers an answer has: reason, place, G, C and the eight bytes.
+const NUMBERS: usize = 12;
+
+// The eight bytes, behind reason, place, G and C. That there are eight is what their type says.
+fn put_closing(closing: [u8; 8], answer: &mut [usize])
+    requires { ⌜ 12 ≤ length (now answer) ⌝ }
+    ensures { λ _. ⌜ now (answer .exit) ≡ sets (now (answer .entry)) 4 closing ⌝ }
+    ensures { λ _. ⌜ length closing ≡ 8 ⌝ }
+{
+    let mut i = 0;
+    while i < 8 {
+        answer[4 + i] = wide(closing[i]);
+        i += 1;
+    }
+}
+
+// The whole answer, and its status.
+fn put_tally(said: Tallied, answer: &mut [usize]) -> usize
+    requires { ⌜ 12 ≤ length (now answer) ⌝ }
+    ensures { λ r. ⌜ r ≡ statusOf (tallyNumbers (saidBy (said .answer)) (said .closing)) ⌝ }
+    ensures { λ _. ⌜ now (answer .exit) ≡ tallyNumbers (saidBy (said .answer)) (said .closing) ++ drop 12 (now (answer .entry)) ⌝ }
+{
+    let size = said.answer;
+    let closing = said.closing;
+    let status = put_size(size, answer);
+    put_closing(closing, answer);
+    status
+}
+
+// Tallies ballots that trustees hold in parts: reason, place, G, C and the opened closing bits as eight bytes.
+#[no_mangle]
+pub extern "C" fn jugy_trustees(
+    candidates: usize,
+    grades: usize,
+    ballots: usize,
+    table: &[u32],
+    bytes: &[u8],
+    trustees: usize,
+    parts: &[u8],
+    dealt: &[u8],
+    wires: &mut [u8],
+    published: &mut [u8],
+    answer: &mut [usize],
+) -> usize
+    ensures { λ r. ⌜ r ≡ status 12 (tallyNumbers ((shared (shapeOf candidates grades ballots) (now (table .entry)) (now (bytes .entry)) trustees (record { ballotParts = now (parts .entry); dealerParts = now (dealt .entry) }) (now (wires .entry)) (now (published .entry))) .answer) ((shared (shapeOf candidates grades ballots) (now (table .entry)) (now (bytes .entry)) trustees (record { ballotParts = now (parts .entry); dealerParts = now (dealt .entry) }) (now (wires .entry)) (now (published .entry))) .closing)) (now (answer .entry)) ⌝ }
+    ensures { λ _. ⌜ now (answer .exit) ≡ answered 12 (tallyNumbers ((shared (shapeOf candidates grades ballots) (now (table .entry)) (now (bytes .entry)) trustees (record { ballotParts = now (parts .entry); dealerParts = now (dealt .entry) }) (now (wires .entry)) (now (published .entry))) .answer) ((shared (shapeOf candidates grades ballots) (now (table .entry)) (now (bytes .entry)) trustees (record { ballotParts = now (parts .entry); dealerParts = now (dealt .entry) }) (now (wires .entry)) (now (published .entry))) .closing)) (now (answer .entry)) ⌝ }
+    ensures { λ _. ⌜ now (wires .exit) ≡ altered 12 (now (answer .entry)) ((shared (shapeOf candidates grades ballots) (now (table .entry)) (now (bytes .entry)) trustees (record { ballotParts = now (parts .entry); dealerParts = now (dealt .entry) }) (now (wires .entry)) (now (published .entry))) .wireParts) (now (wires .entry)) ⌝ }
+    ensures { λ _. ⌜ now (published .exit) ≡ altered 12 (now (answer .entry)) ((shared (shapeOf candidates grades ballots) (now (table .entry)) (now (bytes .entry)) trustees (record { ballotParts = now (parts .entry); dealerParts = now (dealt .entry) }) (now (wires .entry)) (now (published .entry))) .published) (now (published .entry)) ⌝ }
+{
+    if answer.len() < NUMBERS {
+        return SHORT_ANSWER;
+    }
+    let shape = Shape {
+        candidates,
+        grades,
+        ballots,
+    };
+    let said = trustees::run::run(
+        shape, table, bytes, trustees, parts, dealt, wires, published,
+    );
+    put_tally(said, answer)
+}

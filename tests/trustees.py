@@ -1,0 +1,354 @@
+"""The tally by trustees, through the library, against a model written apart.
+
+    python3 tests/trustees.py    prints how many calls there were, by answer
+
+Small lists with every dealing counted: for whichever trustee is left out, each dealing of one election has exactly one
+counterpart in another with the same closing bytes. Random elections on own and on strangers' lists, every reason at its
+edges, all pairs of faults, and old contents of both tables that are written.
+"""
+
+import collections
+import ctypes
+import itertools
+import random
+
+import document01 as doc
+from core import Core, Lent, bytes_of, numbers
+from running import flat, random_gates
+
+ANSWER = 12
+ONE, AND, OR, XOR, CHOICE = 1, 4, 5, 6, 7
+CONDITIONAL = (AND, OR, CHOICE)
+
+
+class House:
+    """A trustee: it knows its number, its own bits, and what was opened."""
+
+    def __init__(self, number, ballot_bits, triples):
+        self.first = number == 0
+        self.held = list(ballot_bits)
+        self.triples = [tuple(triples[i : i + 3]) for i in range(0, len(triples), 3)]
+        self.said = []
+
+    def factors(self, gate):
+        kind, a, b, c = gate
+        return self.held[a], self.held[b] ^ self.held[c] if kind == CHOICE else self.held[b]
+
+    def publish(self, gate, i):
+        u, v, _ = self.triples[i]
+        x, y = self.factors(gate)
+        self.said += [x ^ u, y ^ v]
+        return x ^ u, y ^ v
+
+    def product(self, i, e, f):
+        u, v, w = self.triples[i]
+        bit = w
+        if e:
+            bit ^= v
+        if f:
+            bit ^= u
+        return bit ^ 1 if e and f and self.first else bit
+
+    def add(self, gate, z):
+        kind, a, b, c = gate
+        mine = int(self.first)
+        self.held.append({
+            0: lambda: 0,
+            1: lambda: mine,
+            2: lambda: self.held[a],
+            3: lambda: self.held[a] ^ mine,
+            4: lambda: z,
+            5: lambda: self.held[a] ^ self.held[b] ^ z,
+            6: lambda: self.held[a] ^ self.held[b],
+            7: lambda: self.held[c] ^ z,
+        }[kind]())
+
+
+def parity(bits):
+    return sum(bits) % 2
+
+
+def protocol(gates, inputs, k, t, parts, dealt):
+    """The houses after a run of the list."""
+    count = sum(g[0] in CONDITIONAL for g in gates)
+    houses = [House(p, parts[p * inputs : (p + 1) * inputs], dealt[3 * count * p : 3 * count * (p + 1)]) for p in range(t)]
+    i = 0
+    for gate in gates:
+        if gate[0] in CONDITIONAL:
+            shown = [house.publish(gate, i) for house in houses]
+            e, f = parity(x for x, _ in shown), parity(y for _, y in shown)
+            for house in houses:
+                house.add(gate, house.product(i, e, f))
+            i += 1
+        else:
+            for house in houses:
+                house.add(gate, None)
+    for house in houses:
+        house.said += house.held[len(house.held) - k :]
+    return houses
+
+
+class Call:
+    """A call with all that it lends. Tables that are written are given by their lengths."""
+
+    def __init__(self, shape, gates, ballots, t, parts, dealt, old=9):
+        count = sum(g[0] in CONDITIONAL for g in gates)
+        self.shape, self.table, self.ballots, self.t = tuple(shape), flat(gates), list(ballots), t
+        self.parts, self.dealt, self.old = list(parts), list(dealt), old
+        self.wires = t * (len(ballots) + len(gates))
+        self.published = t * (2 * count + shape[0])
+
+    def but(self, **changes):
+        other = Call.__new__(Call)
+        other.__dict__.update(self.__dict__)
+        for name, value in changes.items():
+            assert name in other.__dict__, name
+            other.__dict__[name] = value
+        return other
+
+    def gates(self):
+        return [tuple(self.table[i : i + 4]) for i in range(0, len(self.table) // 4 * 4, 4)]
+
+    def fault(self):
+        """Reason and place by the model, or none."""
+        k, d, n = self.shape
+        fault = doc.test_fault(k, d, n, self.table) or doc.ballots_fault(k, d, n, self.ballots)
+        if fault:
+            return tuple(fault)
+        if not 2 <= self.t <= 5:
+            return 16, 0
+        gates, inputs, t = self.gates(), len(self.ballots), self.t
+        count = sum(g[0] in CONDITIONAL for g in gates)
+        needed = (t * inputs, t * 3 * count, t * (inputs + len(gates)), t * (2 * count + k))
+        if (len(self.parts), len(self.dealt), self.wires, self.published) != needed:
+            return 17, 0
+        if any(bit not in (0, 1) for bit in self.parts + self.dealt):
+            return 18, 0
+        if any(parity(self.parts[x::inputs]) != self.ballots[x] for x in range(inputs)):
+            return 18, 0
+        for i in range(count):
+            u, v, w = (parity(self.dealt[3 * i + j :: 3 * count]) for j in range(3))
+            if w != u * v:
+                return 18, 0
+        return None
+
+
+class Trustees(Core):
+    def __init__(self):
+        super().__init__()
+        self.library.jugy_trustees.restype = ctypes.c_size_t
+        self.seen = collections.Counter()
+
+    def tally(self, call, needed=ANSWER, answer_length=ANSWER + 2):
+        """Status, answer array, wire parts and published bits; what is only read is held to stay."""
+        self.calls += 1
+        read = [numbers(call.table), bytes_of(call.ballots)], [bytes_of(call.parts), bytes_of(call.dealt)]
+        written = [bytes_of([call.old] * call.wires), bytes_of([call.old] * call.published)]
+        answer = Lent("L", [77] * answer_length)
+        arguments = list(map(ctypes.c_size_t, call.shape))
+        for lent in read[0]:
+            arguments += lent.arguments()
+        arguments.append(ctypes.c_size_t(call.t))
+        for lent in (*read[1], *written, answer):
+            arguments += lent.arguments()
+        status = self.library.jugy_trustees(*arguments)
+        assert all(lent.is_as_before() for lent in read[0] + read[1])
+        assert all(lent.has_its_guards() for lent in (*written, answer))
+        return status, answer.items(), written[0].items(), written[1].items()
+
+    def check(self, call):
+        status, answer, wires, published = self.tally(call)
+        fault = call.fault()
+        self.seen[fault[0] if fault else 0] += 1
+        assert answer[ANSWER:] == [77, 77]
+        if fault:
+            assert (status, answer[:ANSWER]) == (fault[0], [*fault] + [0] * 10), (fault, answer, call.shape)
+            assert wires == [call.old] * call.wires and published == [call.old] * call.published
+            return None
+        gates, k = call.gates(), call.shape[0]
+        houses = protocol(gates, len(call.ballots), k, call.t, call.parts, call.dealt)
+        plain = doc.run_gates(call.ballots, gates, [0] * sum(g[0] in CONDITIONAL for g in gates))[0]
+        for x, wire in enumerate(plain):
+            assert parity(house.held[x] for house in houses) == wire
+        closing = plain[len(plain) - k :]
+        count = sum(g[0] in CONDITIONAL for g in gates)
+        assert (status, answer[:ANSWER]) == (0, [0, 0, len(gates), count, *closing] + [0] * (8 - k)), (answer, closing)
+        assert wires == [0] * call.wires
+        assert published == [bit for house in houses for bit in house.said]
+        return houses
+
+
+def dealings(rng, ballots, count, t):
+    """A random dealing: ballot parts and dealer parts."""
+    parts = [[rng.randrange(2) for _ in ballots] for _ in range(t - 1)]
+    parts.append([x ^ parity(column) for x, column in zip(ballots, zip(*parts))])
+    triples = []
+    for _ in range(count):
+        u, v = ([rng.randrange(2) for _ in range(t)] for _ in range(2))
+        w = [rng.randrange(2) for _ in range(t - 1)]
+        w.append(parity(w) ^ (parity(u) & parity(v)))
+        triples.append((u, v, w))
+    dealt = [bit for p in range(t) for u, v, w in triples for bit in (u[p], v[p], w[p])]
+    return [bit for house in parts for bit in house], dealt
+
+
+def all_dealings(ballots, count, t):
+    inputs = len(ballots)
+    for parts in itertools.product((0, 1), repeat=t * inputs):
+        if any(parity(parts[x::inputs]) != ballots[x] for x in range(inputs)):
+            continue
+        for dealt in itertools.product((0, 1), repeat=3 * count * t):
+            if all(parity(dealt[3 * i + 2 :: 3 * count]) == parity(dealt[3 * i :: 3 * count]) * parity(dealt[3 * i + 1 :: 3 * count]) for i in range(count)):
+                yield parts, dealt
+
+
+def view(call, houses, published, q):
+    inputs, count = len(call.ballots), len(call.dealt) // 3 // call.t
+    others = [p for p in range(call.t) if p != q]
+    return (
+        tuple(tuple(call.parts[p * inputs : (p + 1) * inputs]) for p in others),
+        tuple(tuple(call.dealt[3 * count * p : 3 * count * (p + 1)]) for p in others),
+        tuple(tuple(houses[p].held) for p in others),
+        tuple(published),
+    )
+
+
+def count_counterparts(core, shape, gates, t):
+    """All dealings of all elections of a shape: those of two elections with equal closing bytes have the same views."""
+    k, d, n = shape
+    rows = [[int(i == j) for j in range(d)] for i in range(d)]
+    count = sum(g[0] in CONDITIONAL for g in gates)
+    views = collections.defaultdict(list)
+    for ballots in itertools.product(rows, repeat=n * k):
+        ballots = [bit for row in ballots for bit in row]
+        seen = [collections.Counter() for _ in range(t)]
+        for parts, dealt in all_dealings(ballots, count, t):
+            call = Call(shape, gates, ballots, t, parts, dealt)
+            houses = core.check(call)
+            for q in range(t):
+                seen[q][view(call, houses, [b for h in houses for b in h.said], q)] += 1
+        for q in range(t):
+            # exactly one dealing for a view, so that counterparts are unique
+            assert set(seen[q].values()) == {1}
+        closing = tuple(doc.run_gates(ballots, gates, [0] * count)[0][-k:])
+        views[closing].append([frozenset(s) for s in seen])
+    pairs = 0
+    for elections in views.values():
+        for one, other in itertools.combinations(elections, 2):
+            assert one == other
+            pairs += 1
+    return pairs
+
+
+def valid_call(rng, core, shape, t, gates=None):
+    k, d, n = shape
+    if gates is None:
+        table = core.own_list(shape)
+        gates = [tuple(table[i : i + 4]) for i in range(0, len(table), 4)]
+    ballots = []
+    for _ in range(n * k):
+        best = rng.randrange(d)
+        ballots += [int(i == best) for i in range(d)]
+    parts, dealt = dealings(rng, ballots, sum(g[0] in CONDITIONAL for g in gates), t)
+    return Call(shape, gates, ballots, t, parts, dealt, old=rng.randrange(256))
+
+
+def changed(items, place, value):
+    items = list(items)
+    items[place] = value
+    return items
+
+
+def faults(call):
+    """Changes of an accepted call, each with one fault."""
+    k, d, n = call.shape
+    last = len(call.dealt) - 1
+    two = [p * len(call.ballots) for p in range(2)]
+    return {
+        "shape": {"shape": (9, d, n)},
+        "table": {"table": call.table[:-1]},
+        "gate": {"table": changed(call.table, 0, 8)},
+        "ballots": {"ballots": call.ballots + [0]},
+        "byte": {"ballots": changed(call.ballots, len(call.ballots) - 1, 2)},
+        "row": {"ballots": changed(call.ballots, call.ballots.index(1), 0)},
+        "no trustee": {"t": 0},
+        "one trustee": {"t": 1},
+        "six": {"t": 6},
+        "many": {"t": 2 ** 60},
+        "parts": {"parts": call.parts[:-1]},
+        "more parts": {"parts": call.parts + [0]},
+        "dealt": {"dealt": call.dealt[:-1]},
+        "more dealt": {"dealt": call.dealt + [0]},
+        "wires": {"wires": call.wires - 1},
+        "more wires": {"wires": call.wires + 1},
+        "published": {"published": call.published - 1},
+        "more published": {"published": call.published + 1},
+        "no parts": {"parts": []},
+        "ballot part 2": {"parts": changed(call.parts, len(call.parts) - 1, call.parts[-1] + 2)},
+        "ballot part 255": {"parts": changed(call.parts, 0, 255)},
+        "ballot part": {"parts": changed(call.parts, 0, 1 - call.parts[0])},
+        "dealer part": {"dealt": changed(call.dealt, 0, call.dealt[0] + 2)},
+        "product": {"dealt": changed(call.dealt, last, 1 - call.dealt[last])},
+        "two parts exchanged": {"parts": changed(changed(call.parts, two[0], 3), two[1], call.parts[two[0]] ^ call.parts[two[1]] ^ 1)},
+    }
+
+
+def main():
+    rng = random.Random(7)
+    core = Trustees()
+
+    # every dealing of tiny lists: free gates, each conditional kind, operands that coincide
+    tiny = (1, 2, 1)
+    lists = [
+        ([(2, 0, 0, 0)], (2, 3)),
+        ([(3, 1, 0, 0), (6, 0, 2, 0)], (2, 3)),
+        ([(AND, 0, 1, 0)], (2,)),
+        ([(OR, 0, 1, 0)], (2,)),
+        ([(CHOICE, 0, 1, 0)], (2,)),
+        ([(CHOICE, 1, 1, 1)], (2,)),
+    ]
+    pairs = sum(count_counterparts(core, tiny, gates, t) for gates, counts in lists for t in counts)
+    assert pairs
+
+    # random elections: own lists and strangers'
+    for shape in ((1, 2, 1), (2, 3, 3), (3, 2, 4), (8, 7, 2), (2, 2, 9)):
+        for t in range(2, 6):
+            core.check(valid_call(rng, core, shape, t))
+    for _ in range(300):
+        shape = rng.randrange(1, 5), rng.randrange(2, 5), rng.randrange(1, 4)
+        inputs = shape[0] * shape[1] * shape[2]
+        gates = random_gates(rng, inputs, rng.randrange(shape[0], 40))
+        core.check(valid_call(rng, core, shape, rng.randrange(2, 6), gates))
+
+    # each fault, and all pairs
+    call = valid_call(rng, core, (2, 3, 2), 3)
+    single = faults(call)
+    for one in single.values():
+        assert core.check(call.but(**one)) is None
+    for one, other in itertools.combinations(single.values(), 2):
+        if not set(one) & set(other):
+            assert core.check(call.but(**one, **other)) is None
+    # every part is looked at
+    for place in range(len(call.parts)):
+        assert core.check(call.but(parts=changed(call.parts, place, call.parts[place] + 2))) is None
+        assert core.check(call.but(parts=changed(call.parts, place, 1 - call.parts[place]))) is None
+    for place in rng.sample(range(len(call.dealt)), 60):
+        assert core.check(call.but(dealt=changed(call.dealt, place, call.dealt[place] + 2))) is None
+    # an answer array that is too short
+    for length in range(ANSWER):
+        status, answer, wires, published = core.tally(call, answer_length=length)
+        assert status == 255 and answer == [77] * length
+        assert wires == [call.old] * call.wires and published == [call.old] * call.published
+    # C = 0, and old contents of both tables
+    gates = [(XOR, 0, 1, 0), (ONE, 0, 0, 0), (3, 4, 0, 0)]
+    free = valid_call(rng, core, (2, 2, 1), 5, gates)
+    assert not free.dealt
+    for old in (0, 1, 255):
+        core.check(free.but(old=old))
+        core.check(call.but(old=old))
+    told = ", ".join(f"{reason}: {count}" for reason, count in sorted(core.seen.items()))
+    print(f"tests/trustees.py: ok, {core.calls} calls, {pairs} pairs of elections, by reason {told}")
+
+
+if __name__ == "__main__":
+    main()
