@@ -1,0 +1,31 @@
+-- What each layer proved.
+-- Assumes nothing.
+use Rattle.tally.proofs.Demands.{three-demands}
+use Rattle.tally.proofs.Monotone.{monotone-on-gates}
+use Rattle.text.proofs.RoundTrip.{round-trip, text-memory}
+use Rattle.season.proofs.Reasons.{sheet-memory}
+use Rattle.urn.proofs.UrnMemory.{urn-memory}
+use Rattle.urn.proofs.UrnTheorems.{urn-holds, previews-tell}
+use Rattle.urn_run.proofs.Theorems.{urn-run-holds}
+use Rattle.trustees.proofs.Demands as trustees
+use Rattle.dispatcher.proofs.Theorems.{dispatching}
+use Rattle.batch.proofs.Theorems.{each-as-alone, batch-memory, batch-accuracy, batch-hiding}
+use Rattle.demands.specs.Demands.{AllDemands}
+
+pub all-demands : AllDemands
+all-demands =
+    record {
+      memory = record { base = three-demands .memory; text = text-memory; sheet = sheet-memory; urn = urn-memory };
+      base = three-demands;
+      paper = round-trip;
+      monotone = monotone-on-gates;
+      urn = urn-holds;
+      previews = previews-tell;
+      urn-run = urn-run-holds;
+      by-trustees = trustees.demands;
+      dispatcher = dispatching;
+      lanes-alone = each-as-alone;
+      lanes-memory = batch-memory;
+      lanes-accuracy = batch-accuracy;
+      lanes-hiding = batch-hiding;
+    }

@@ -1,0 +1,41 @@
+-- The demands on every call of the core, side by side: each layer states its part over the definitions that its contracts equate with the program's answers and with all that is lent. That every call ends, and reads and writes lent memory only inside its length, is part of what is proved of every function.
+use Rattle.tally.specs.Demands as run
+use Rattle.tally.specs.Monotone.{MonotoneOnGates}
+use Rattle.text.specs.RoundTrip.{RoundTrip, TextMemory}
+use Rattle.season.specs.Season.{SheetMemory}
+use Rattle.urn.specs.Memory.{UrnMemory}
+use Rattle.urn.specs.Theorems.{UrnHolds, PreviewsTell}
+use Rattle.urn_run.specs.Theorems.{UrnRunHolds}
+use Rattle.trustees.specs.Demands as trustees
+use Rattle.dispatcher.specs.Theorems.{Dispatching}
+use Rattle.batch.specs.Theorems.{EachAsAlone, BatchMemory, BatchAccuracy, BatchHiding}
+
+-- The demand [memory], for each table that a call is lent: gate table, ballots, tape, wire table and board; a text and its output; the bytes of a season; an urn. Those of a run on an urn, of trustees, of a dispatched call and of 64 juries stand with the other demands below.
+pub record Memory : Type 0 where
+  pub base : run.Memory
+  pub text : TextMemory
+  pub sheet : SheetMemory
+  pub urn : UrnMemory
+
+-- All of it: the three demands on a run, and what each request adds.
+pub record AllDemands : Type 0 where
+  pub memory : Memory
+  pub base : run.ThreeDemands
+  -- [text]
+  pub paper : RoundTrip
+  -- [monotone]
+  pub monotone : MonotoneOnGates
+  -- [urn], [preview]
+  pub urn : UrnHolds
+  pub previews : PreviewsTell
+  -- [urn-run]: memory, accuracy, hiding
+  pub urn-run : UrnRunHolds
+  -- [trustees]: memory, accuracy, and that views tell no more than the closing bytes
+  pub by-trustees : trustees.Demands
+  -- [dispatcher]: rounds, lengths, refusals, each jury as alone
+  pub dispatcher : Dispatching
+  -- [lanes]: each jury as alone, memory, accuracy, hiding
+  pub lanes-alone : EachAsAlone
+  pub lanes-memory : BatchMemory
+  pub lanes-accuracy : BatchAccuracy
+  pub lanes-hiding : BatchHiding
