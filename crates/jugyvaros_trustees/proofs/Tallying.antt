@@ -1,4 +1,4 @@
--- The answer of the trustees' call in its array, and what its status tells.
+-- The answer of the trustees' call in its array, and its status.
 -- Assumes nothing.
 use mathlib.Core.Path.{_≡_, _∙_, refl, sym, ap}
 use mathlib.Core.List.{List, [], _∷_, _++_}
@@ -7,8 +7,8 @@ use native.Mathlib.Omega.{arith}
 use lib.ListN.{length, getD, set, take, drop, length-append, length-drop, drop-of-length-le}
 use lib.Seq.{sets, sets-eq, take-at, drop-cons, drop-drop, drop-append-add}
 use Rattle.tally.specs.Answer.{Said, refused, accepted, Size}
-use Rattle.jugyvaros.specs.Numbers.{sizeNumbers, statusOf}
-use Rattle.jugyvaros.specs.Trustees.{tallyNumbers}
+use Rattle.answers.specs.Numbers.{sizeNumbers, statusOf}
+use Rattle.jugyvaros_trustees.specs.Numbers.{tallyNumbers, tallyAnswer}
 
 -- the bytes that are left to copy
 pub bytes-further : (a closing : List ℕ) (i : ℕ) → i < length closing
@@ -27,14 +27,14 @@ size-long (refused r) = refl
 size-long (accepted size) = refl
 
 -- four numbers and the bytes behind them
-pub all-put : (said : Said Size) (closing answer answer₁ answer₂ : List ℕ) → length closing ≡ 8 → 12 ≤ length answer → answer₁ ≡ sizeNumbers said ++ drop 4 answer → answer₂ ≡ sets answer₁ 4 closing
-    → answer₂ ≡ tallyNumbers said closing ++ drop 12 answer
+pub all-put : (said : Said Size) (closing answer answer₁ answer₂ : List ℕ) → length closing ≡ 8 → tallyAnswer ≤ length answer → answer₁ ≡ sizeNumbers said ++ drop 4 answer → answer₂ ≡ sets answer₁ 4 closing
+    → answer₂ ≡ tallyNumbers said closing ++ drop tallyAnswer answer
 unfolding tallyNumbers
 all-put said closing answer answer₁ answer₂ l h e f =
     let n = sizeNumbers said in
     let long = size-long said in
     let whole : length answer₁ ≡ length answer = ap length e ∙ omega (arith, length-append n (drop 4 answer), length-drop 4 answer) in
-    let rest : drop (4 + length closing) answer₁ ≡ drop 12 answer =
+    let rest : drop (4 + length closing) answer₁ ≡ drop tallyAnswer answer =
     ap (λ (m : ℕ). drop (m + length closing) answer₁) (sym long) ∙ ap (drop (length n + length closing)) e ∙ drop-append-add n (drop 4 answer) (length closing)
     ∙ drop-drop (length closing) 4 answer ∙ ap (λ (m : ℕ). drop (4 + m) answer) l in
     f ∙ sets-eq closing answer₁ 4 (omega arith)

@@ -1,7 +1,7 @@
 // The tally by trustees, as a C program calls it.
-use crate::answer::SHORT_ANSWER;
-use crate::answer::put_size;
-use crate::answer::wide;
+use answers::array::SHORT_ANSWER;
+use answers::size::SIZE_ANSWER;
+use answers::size::put_size;
 use jury::shape::Shape;
 use trustees::run::Tallied;
 ghost use mathlib.Core.Path.{_≡_};
@@ -11,30 +11,39 @@ ghost use lib.ListN.{length, drop};
 ghost use lib.Seq.{sets};
 ghost use Rattle.tally.specs.Answer.{saidBy};
 ghost use Rattle.trustees.specs.Shared.{shared};
-ghost use Rattle.jugyvaros.specs.Numbers.{shapeOf, statusOf, status, answered, altered};
-ghost use Rattle.jugyvaros.specs.Trustees.{tallyNumbers};
+ghost use Rattle.answers.specs.Numbers.{sizeAnswer, shapeOf, statusOf, status, answered, altered};
+ghost use Rattle.jugyvaros_trustees.specs.Numbers.{tallyNumbers, tallyAnswer};
 
 // How many numbers an answer has: reason, place, G, C and the eight bytes.
-const NUMBERS: usize = 12;
+const TALLY_ANSWER: usize = 12;
+
+// The closing bytes, one for each candidate there may be.
+const CLOSING_BYTES: usize = 8;
+
+fn wide(byte: u8) -> usize
+    ensures { λ r. ⌜ r ≡ byte ⌝ }
+{
+    byte as usize
+}
 
 // The eight bytes, behind reason, place, G and C. That there are eight is what their type says.
 fn put_closing(closing: [u8; 8], answer: &mut [usize])
-    requires { ⌜ 12 ≤ length (now answer) ⌝ }
-    ensures { λ _. ⌜ now (answer .exit) ≡ sets (now (answer .entry)) 4 closing ⌝ }
+    requires { ⌜ tallyAnswer ≤ length (now answer) ⌝ }
+    ensures { λ _. ⌜ now (answer .exit) ≡ sets (now (answer .entry)) sizeAnswer closing ⌝ }
     ensures { λ _. ⌜ length closing ≡ 8 ⌝ }
 {
     let mut i = 0;
-    while i < 8 {
-        answer[4 + i] = wide(closing[i]);
+    while i < CLOSING_BYTES {
+        answer[SIZE_ANSWER + i] = wide(closing[i]);
         i += 1;
     }
 }
 
 // The whole answer, and its status.
 fn put_tally(said: Tallied, answer: &mut [usize]) -> usize
-    requires { ⌜ 12 ≤ length (now answer) ⌝ }
+    requires { ⌜ tallyAnswer ≤ length (now answer) ⌝ }
     ensures { λ r. ⌜ r ≡ statusOf (tallyNumbers (saidBy (said .answer)) (said .closing)) ⌝ }
-    ensures { λ _. ⌜ now (answer .exit) ≡ tallyNumbers (saidBy (said .answer)) (said .closing) ++ drop 12 (now (answer .entry)) ⌝ }
+    ensures { λ _. ⌜ now (answer .exit) ≡ tallyNumbers (saidBy (said .answer)) (said .closing) ++ drop tallyAnswer (now (answer .entry)) ⌝ }
 {
     let size = said.answer;
     let closing = said.closing;
@@ -58,12 +67,12 @@ pub extern "C" fn jugy_trustees(
     published: &mut [u8],
     answer: &mut [usize],
 ) -> usize
-    ensures { λ r. ⌜ r ≡ status 12 (tallyNumbers ((shared (shapeOf candidates grades ballots) (now (table .entry)) (now (bytes .entry)) trustees (record { ballotParts = now (parts .entry); dealerParts = now (dealt .entry) }) (now (wires .entry)) (now (published .entry))) .answer) ((shared (shapeOf candidates grades ballots) (now (table .entry)) (now (bytes .entry)) trustees (record { ballotParts = now (parts .entry); dealerParts = now (dealt .entry) }) (now (wires .entry)) (now (published .entry))) .closing)) (now (answer .entry)) ⌝ }
-    ensures { λ _. ⌜ now (answer .exit) ≡ answered 12 (tallyNumbers ((shared (shapeOf candidates grades ballots) (now (table .entry)) (now (bytes .entry)) trustees (record { ballotParts = now (parts .entry); dealerParts = now (dealt .entry) }) (now (wires .entry)) (now (published .entry))) .answer) ((shared (shapeOf candidates grades ballots) (now (table .entry)) (now (bytes .entry)) trustees (record { ballotParts = now (parts .entry); dealerParts = now (dealt .entry) }) (now (wires .entry)) (now (published .entry))) .closing)) (now (answer .entry)) ⌝ }
-    ensures { λ _. ⌜ now (wires .exit) ≡ altered 12 (now (answer .entry)) ((shared (shapeOf candidates grades ballots) (now (table .entry)) (now (bytes .entry)) trustees (record { ballotParts = now (parts .entry); dealerParts = now (dealt .entry) }) (now (wires .entry)) (now (published .entry))) .wireParts) (now (wires .entry)) ⌝ }
-    ensures { λ _. ⌜ now (published .exit) ≡ altered 12 (now (answer .entry)) ((shared (shapeOf candidates grades ballots) (now (table .entry)) (now (bytes .entry)) trustees (record { ballotParts = now (parts .entry); dealerParts = now (dealt .entry) }) (now (wires .entry)) (now (published .entry))) .published) (now (published .entry)) ⌝ }
+    ensures { λ r. ⌜ r ≡ status tallyAnswer (tallyNumbers ((shared (shapeOf candidates grades ballots) (now (table .entry)) (now (bytes .entry)) trustees (record { ballotParts = now (parts .entry); dealerParts = now (dealt .entry) }) (now (wires .entry)) (now (published .entry))) .answer) ((shared (shapeOf candidates grades ballots) (now (table .entry)) (now (bytes .entry)) trustees (record { ballotParts = now (parts .entry); dealerParts = now (dealt .entry) }) (now (wires .entry)) (now (published .entry))) .closing)) (now (answer .entry)) ⌝ }
+    ensures { λ _. ⌜ now (answer .exit) ≡ answered tallyAnswer (tallyNumbers ((shared (shapeOf candidates grades ballots) (now (table .entry)) (now (bytes .entry)) trustees (record { ballotParts = now (parts .entry); dealerParts = now (dealt .entry) }) (now (wires .entry)) (now (published .entry))) .answer) ((shared (shapeOf candidates grades ballots) (now (table .entry)) (now (bytes .entry)) trustees (record { ballotParts = now (parts .entry); dealerParts = now (dealt .entry) }) (now (wires .entry)) (now (published .entry))) .closing)) (now (answer .entry)) ⌝ }
+    ensures { λ _. ⌜ now (wires .exit) ≡ altered tallyAnswer (now (answer .entry)) ((shared (shapeOf candidates grades ballots) (now (table .entry)) (now (bytes .entry)) trustees (record { ballotParts = now (parts .entry); dealerParts = now (dealt .entry) }) (now (wires .entry)) (now (published .entry))) .wireParts) (now (wires .entry)) ⌝ }
+    ensures { λ _. ⌜ now (published .exit) ≡ altered tallyAnswer (now (answer .entry)) ((shared (shapeOf candidates grades ballots) (now (table .entry)) (now (bytes .entry)) trustees (record { ballotParts = now (parts .entry); dealerParts = now (dealt .entry) }) (now (wires .entry)) (now (published .entry))) .published) (now (published .entry)) ⌝ }
 {
-    if answer.len() < NUMBERS {
+    if answer.len() < TALLY_ANSWER {
         return SHORT_ANSWER;
     }
     let shape = Shape {

@@ -17,7 +17,6 @@ use Rattle.jury.specs.declared.shape.Shape.{Shape}
 use Rattle.jury.specs.Reason.{Reason, firstOf}
 use Rattle.jury.specs.Gauge.{eightBytes}
 use Rattle.jury.proofs.Tabulate.{tabulate-cong, tabulate-getD}
-use Rattle.circuit.proofs.Accuracy.{own-list-is-accurate}
 use Rattle.tally.specs.Answer.{accepted, Size, sizeOf}
 use Rattle.tally.specs.Count.{plainClosing}
 use Rattle.tally.specs.Demands.{listIn}
@@ -25,6 +24,7 @@ use Rattle.tally.proofs.TestReasons.{never}
 use Rattle.tally.proofs.RunReasons.{run-passed}
 use Rattle.tally.proofs.Hiding.{ran-accepted, run-closing}
 use Rattle.tally.proofs.PlainFacts.{plain-accepted, plain-one}
+use Rattle.tally.proofs.OwnList.{own-list-holds}
 use Rattle.tally.proofs.Writing as writing
 use Rattle.shares.specs.Shares.{opened, part}
 use Rattle.shares.specs.Views.{Dealing, GoodDealing, ballotsOf, dealtOf, wirePartsOf, closingParts}
@@ -128,7 +128,7 @@ module _ (s : Shape) (table : List ℕ) (size : Size) (w : writing.WritePassed s
   count ballots t d wireParts published p =
       closing-is s (listIn s size table) ballots t d wireParts published p
       ∙ ap (λ (gs : List Gate). eightBytes (outputsOf (s .candidates) (wiresOf ballots gs))) (writing.gates-in s table size w)
-      ∙ ap eightBytes (own-list-is-accurate s ballots (p .ballotsPassed)) ∙ sym (plain-accepted s ballots (p .ballotsPassed))
+      ∙ ap eightBytes (own-list-holds s (w .within) .closing ballots (p .ballotsPassed)) ∙ sym (plain-accepted s ballots (p .ballotsPassed))
 
   pub own-list : OwnList s table size
   own-list =

@@ -8,13 +8,14 @@ use lib.Dec.{T}
 use lib.ListN.{length, replicate, length-replicate}
 use Rattle.gates.specs.Gate.{Gate, gatesOf}
 use Rattle.jury.specs.declared.shape.Shape.{Shape}
+use Rattle.jury.specs.Shape.{isRanking}
 use Rattle.jury.specs.Reason.{Reason, reasonAt, firstOf}
 use Rattle.jury.specs.Ballots.{ballotReasons}
 use Rattle.jury.specs.Gauge.{eightBytes}
 use Rattle.tally.specs.Answer.{refused, accepted, hasNumberIn, Size, sizeOf}
 use Rattle.tally.specs.Test.{testReasons}
 use Rattle.tally.proofs.TestReasons.{never}
-use Rattle.tally.proofs.Numbering.{Fine, All, FineSaid, first-fine, both, unless-fine, found-fine, list-fine, refused-fine}
+use Rattle.tally.proofs.Numbering.{Fine, All, FineSaid, first-fine, both, unless-fine, found-fine, list-fine, kind-fine, refused-fine}
 use Rattle.tally.proofs.Writing as writing
 use Rattle.shares.specs.Views.{Dealing, publishedOf}
 use Rattle.shares.proofs.Tables.{length-joined}
@@ -27,7 +28,7 @@ use Rattle.trustees.proofs.Hiding.{views-tell-no-more}
 
 -- the numbers of all reasons of the call
 numbers : List ℕ
-numbers = 1 ∷ 2 ∷ 3 ∷ 4 ∷ 5 ∷ 6 ∷ 16 ∷ 17 ∷ 18 ∷ []
+numbers = 1 ∷ 2 ∷ 3 ∷ 4 ∷ 5 ∷ 6 ∷ 11 ∷ 12 ∷ 16 ∷ 17 ∷ 18 ∷ []
 
 test-all : (s : Shape) (table : List ℕ) → All numbers (testReasons s table)
 unfolding All testReasons hasNumberIn reasonAt numbers
@@ -35,7 +36,7 @@ test-all s table = (unless-fine numbers _ 1 tt, (list-fine numbers _ tt (λ g. t
 
 ballots-all : (s : Shape) (xs : List ℕ) → All numbers (ballotReasons s xs)
 unfolding All ballotReasons hasNumberIn reasonAt numbers
-ballots-all s xs = (unless-fine numbers _ 4 tt, (found-fine numbers 5 _ (λ i. tt), (found-fine numbers 6 _ (λ i. tt), tt)))
+ballots-all s xs = (unless-fine numbers _ 4 tt, (found-fine numbers 5 _ (λ i. tt), kind-fine numbers s xs (isRanking s) (λ i. tt) (λ i. tt) (λ b. tt)))
 
 parts-all : (k : ℕ) (size : Size) (ballots : List ℕ) (t : ℕ) (d : Dealing) (wireParts published : List ℕ) → All numbers (partReasons k size ballots t d wireParts published)
 unfolding All partReasons hasNumberIn reasonAt numbers
@@ -55,7 +56,7 @@ module _ (s : Shape) (table ballots : List ℕ) (t : ℕ) (d : Dealing) (wirePar
       (both numbers (testReasons s table) (ballotReasons s ballots) (test-all s table) (ballots-all s ballots))
       (parts-all (s .candidates) (sizeOf (gatesOf table)) ballots t d wireParts published)
 
-  pub number : (r : Reason) → shared s table ballots t d wireParts published .answer ≡ refused r → T (hasNumberIn (1 ∷ 2 ∷ 3 ∷ 4 ∷ 5 ∷ 6 ∷ 16 ∷ 17 ∷ 18 ∷ []) r)
+  pub number : (r : Reason) → shared s table ballots t d wireParts published .answer ≡ refused r → T (hasNumberIn (1 ∷ 2 ∷ 3 ∷ 4 ∷ 5 ∷ 6 ∷ 11 ∷ 12 ∷ 16 ∷ 17 ∷ 18 ∷ []) r)
   unfolding shared numbers
   number r e =
       refused-fine numbers (shared s table ballots t d wireParts published .answer) r

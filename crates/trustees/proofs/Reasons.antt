@@ -18,7 +18,7 @@ use Rattle.jury.specs.Reason.{Reason, unless, firstOf}
 use Rattle.jury.specs.Ballots.{ballotReasons}
 use Rattle.jury.specs.Accepted.{AcceptedBallots}
 use Rattle.jury.proofs.AcceptedLaws as ballots-laws
-use Rattle.jury.proofs.Limits.{within, bytes-are, bytes-bound}
+use Rattle.jury.proofs.Limits.{bounds, inputs-bound}
 use Rattle.tally.specs.Answer.{refused, accepted, said, Size, sizeOf}
 use Rattle.tally.specs.Test.{testReasons, testSaid}
 use Rattle.tally.proofs.TestReasons.{orElse, first-append, TestPassed, test-passed}
@@ -45,10 +45,10 @@ pub small-sizes : (s : Shape) (table ballots : List ℕ) (size : Size) → TestP
     → SmallSizes (length ballots) (s .candidates) (size .gates) (size .conditional)
 small-sizes s table ballots size p e =
     let f = accepted-list (ballotBytes s) (s .candidates) table (size .gates) (size .conditional) (p .tests) in
-    let w = within s (p .within) in
+    let w = bounds s (p .within) in
     let a = ballots-laws.accepted s ballots (p .within) e in
     record {
-      inputs-most = omega (arith, a .size, bytes-are s, bytes-bound s w);
+      inputs-most = omega (arith, a .size, inputs-bound s w);
       outputs-most = w .k-most;
       gates-most = omega (arith, f .few, f .gates-are);
       conditional-most = omega (arith, f .few, f .conditional-are, count-most (gatesOf table));

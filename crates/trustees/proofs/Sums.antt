@@ -1,6 +1,7 @@
 -- The opened closing bits, and what the evaluation asks in an accepted call.
 -- Assumes nothing.
 use mathlib.Core.Path.{_≡_, _∙_, refl, sym, ap}
+use mathlib.Core.Bool.{true}
 use mathlib.Core.Logic.{⊎-elim}
 use mathlib.Core.List.{List, _++_}
 use Prim.Native.Nat.{ℕ, _+_, _-_, _*_, _≤_, _<_}
@@ -14,11 +15,11 @@ use Rattle.gates.specs.Test.{firstBad}
 use Rattle.gates.proofs.Counting.{count-most}
 use Rattle.gates.proofs.Evaluating.{accepted-list}
 use Rattle.jury.specs.declared.shape.Shape.{Shape}
-use Rattle.jury.specs.Shape.{ballotBytes}
+use Rattle.jury.specs.Shape.{gradedLimits, rankedLimits, withinLimits, ballotBytes}
 use Rattle.jury.specs.Counts.{tabulate}
 use Rattle.jury.specs.Gauge.{eightBytes}
 use Rattle.jury.proofs.Cases.{below-or-not}
-use Rattle.jury.proofs.Limits.{Within, within, bytes-are, bytes-bound}
+use Rattle.jury.proofs.Limits.{within, bytes-are, ranked, ranked-bytes, kinds, bounds, inputs-bound}
 use Rattle.jury.proofs.Rows.{eight-at, eight-length}
 use Rattle.jury.proofs.Tabulate.{length-tabulate, getD-tabulate, tabulate-cong, upTo, upTo-new, upTo-old}
 use Rattle.tally.specs.Answer.{Size, sizeOf}
@@ -46,13 +47,24 @@ eight-tabulated k f =
     at : (j : ℕ) → j < 8 → getD (tabulate 8 (upTo k f (λ i. 0))) j 0 ≡ getD (eightBytes (tabulate k f)) j 0
     at j l = getD-tabulate 8 j (upTo k f (λ i. 0)) 0 l ∙ entry j ∙ sym (eight-at (tabulate k f) j l)
 
--- a shape within its limits has ballot bytes
-some-bytes : (s : Shape) → Within s → 1 ≤ ballotBytes s
-some-bytes s w =
-    let rows : 0 < s .ballots * s .candidates = mul-pos (w .n-least) (w .k-least) in
-    let d : 0 < s .grades = omega (arith, w .d-least) in
-    let all : 0 < s .ballots * s .candidates * s .grades = mul-pos rows d in
-    omega (arith, bytes-are s)
+-- a shape within its limits has ballot bytes, of whichever kind it is
+some-bytes : (s : Shape) → withinLimits s ≡ true → 1 ≤ ballotBytes s
+some-bytes s e = ⊎-elim graded rank (kinds s e)
+  where
+    graded : gradedLimits s ≡ true → 1 ≤ ballotBytes s
+    graded g =
+        let w = within s g in
+        let rows : 0 < s .ballots * s .candidates = mul-pos (w .n-least) (w .k-least) in
+        let d : 0 < s .grades = omega (arith, w .d-least) in
+        let all : 0 < s .ballots * s .candidates * s .grades = mul-pos rows d in
+        omega (arith, bytes-are s w)
+
+    rank : rankedLimits s ≡ true → 1 ≤ ballotBytes s
+    rank r =
+        let w = ranked s r in
+        let rows : 0 < s .ballots * s .candidates = mul-pos (w .n-least) (w .k-least) in
+        let all : 0 < s .ballots * s .candidates * s .candidates = mul-pos rows (w .k-least) in
+        omega (arith, ranked-bytes s (w .ranking))
 
 -- what is known of an accepted call
 pub record Ready (s : Shape) (table ballots : List ℕ) (t : ℕ) (d : Dealing) (wireParts published : List ℕ) (size : Size) : Type 0 where
@@ -66,7 +78,7 @@ module _ (s : Shape) (table ballots : List ℕ) (t : ℕ) (d : Dealing) (wirePar
   unfolding sizeOf
   ready-own p =
       let f = accepted-list (ballotBytes s) (s .candidates) table (length (gatesOf table)) (conditionalCount (gatesOf table)) (p .test .tests) in
-      let w = within s (p .test .within) in
+      let w = bounds s (p .test .within) in
       let n = p .ballotsPassed .size in
       let l = p .parts .tables in
       record {
@@ -74,8 +86,8 @@ module _ (s : Shape) (table ballots : List ℕ) (t : ℕ) (d : Dealing) (wirePar
         k-most = w .k-most;
         published-length = l .published-length;
         evaluate = record {
-          some-input = omega (arith, some-bytes s w);
-          few = omega (arith, f .few, bytes-are s, bytes-bound s w);
+          some-input = omega (arith, some-bytes s (p .test .within));
+          few = omega (arith, f .few, inputs-bound s w);
           good = ap (λ (i : ℕ). firstBad i 0 (gatesOf table)) n ∙ f .good;
           enough = f .enough;
           conditional-is = refl;

@@ -10,10 +10,9 @@ use Rattle.gates.specs.Wires.{wire, wiresOf, outputsOf}
 use Rattle.gates.specs.Hiding.{ExactlyOne}
 use Rattle.jury.specs.declared.shape.Shape.{Shape}
 use Rattle.jury.specs.Reason.{Reason}
-use Rattle.jury.specs.Counts.{countsOf}
 use Rattle.jury.specs.Gauge.{eightBytes}
-use Rattle.judgment.specs.Winner.{Wins}
 use Rattle.tally.specs.Answer.{refused, accepted, hasNumberIn, Size, sizeOf}
+use Rattle.tally.specs.Rule.{Wins}
 use Rattle.tally.specs.Count.{plainClosing}
 use Rattle.tally.specs.Run.{ran}
 use Rattle.tally.specs.Hiding.{closingBytes}
@@ -26,7 +25,7 @@ use Rattle.trustees.specs.Shared.{shared}
 -- Demand 1: a refusal's number is that of a reason which concerns the call, a refusal alters no lent byte and answers zeros, an accepted call leaves wire parts of zeros, and no call changes a length.
 pub record Memory : Type 0 where
   pub number : (s : Shape) (table ballots : List ℕ) (t : ℕ) (d : Dealing) (wireParts published : List ℕ) (r : Reason) → shared s table ballots t d wireParts published .answer ≡ refused r
-      → T (hasNumberIn (1 ∷ 2 ∷ 3 ∷ 4 ∷ 5 ∷ 6 ∷ 16 ∷ 17 ∷ 18 ∷ []) r)
+      → T (hasNumberIn (1 ∷ 2 ∷ 3 ∷ 4 ∷ 5 ∷ 6 ∷ 11 ∷ 12 ∷ 16 ∷ 17 ∷ 18 ∷ []) r)
   pub refusal : (s : Shape) (table ballots : List ℕ) (t : ℕ) (d : Dealing) (wireParts published : List ℕ) (r : Reason) → shared s table ballots t d wireParts published .answer ≡ refused r
       → (shared s table ballots t d wireParts published .wireParts ≡ wireParts) × (shared s table ballots t d wireParts published .published ≡ published)
       × (shared s table ballots t d wireParts published .closing ≡ replicate 8 0)
@@ -44,12 +43,12 @@ pub record Accuracy (s : Shape) (table ballots : List ℕ) (t : ℕ) (d : Dealin
   pub plain-run : (tape wires board : List ℕ) (run : Size) → ran s table ballots tape wires board .answer ≡ accepted run
       → shared s table ballots t d wireParts published .closing ≡ eightBytes (closingBytes s (ran s table ballots tape wires board .board))
 
--- Under the list that the core writes for a shape, the sums are the plain count's bytes, and tell who wins.
+-- Under the list that the core writes for a shape, the sums are the plain count's bytes, and tell who wins by the rule of the shape's kind.
 pub record OwnList (s : Shape) (table : List ℕ) (size : Size) : Type 0 where
   pub plain-count : (ballots : List ℕ) (t : ℕ) (d : Dealing) (wireParts published : List ℕ) (answer : Size) → shared s (listIn s size table) ballots t d wireParts published .answer ≡ accepted answer
       → shared s (listIn s size table) ballots t d wireParts published .closing ≡ plainClosing s ballots
   pub winners : (ballots : List ℕ) (t : ℕ) (d : Dealing) (wireParts published : List ℕ) (answer : Size) → shared s (listIn s size table) ballots t d wireParts published .answer ≡ accepted answer
-      → (i : ℕ) → i < s .candidates → (getD (shared s (listIn s size table) ballots t d wireParts published .closing) i 0 ≡ 1) ↔ Wins (countsOf s ballots) i
+      → (i : ℕ) → i < s .candidates → (getD (shared s (listIn s size table) ballots t d wireParts published .closing) i 0 ≡ 1) ↔ Wins s ballots i
 
 -- Demand 3 for trustees. Two accepted elections xs and ys of one t, shape and list whose closing bytes are equal: whichever trustee q is left out, each accepted dealing d of the first has exactly one accepted dealing e of the second under which all that the others hold and see is the same. What a view holds of published bits is the table that the call leaves.
 pub record Hidden (s : Shape) (table xs ys : List ℕ) (t : ℕ) (vs ws bs ds : List ℕ) : Type 0 where

@@ -1,4 +1,4 @@
-// Reasons 1 to 6 and 16 to 18.
+// Reasons 1 to 6, 11 and 12 of rankings, and 16 to 18.
 use jury::reason::Refusal;
 use jury::reason::Verdict;
 use jury::shape::Shape;

@@ -1,4 +1,4 @@
--- `jugyvaros::by_trustees::jugy_trustees` meets its contract: where the answer array is long enough, it says what the entry point says.
+-- `jugyvaros_trustees::by_trustees::jugy_trustees` meets its contract: where the answer array is long enough, it says what the entry point says.
 -- Assumes nothing.
 use borrow.Author.Needs.{needs}
 use mathlib.Core.Path.{_≡_, _∙_, sym, ap}
@@ -7,12 +7,12 @@ use Prim.Native.Nat.{ℕ}
 use lib.ListN.{drop}
 use Rattle.shares.specs.Views.{Dealing}
 use Rattle.trustees.specs.Shared.{Shared, shared}
-use Rattle.jugyvaros.specs.Numbers.{shapeOf, statusOf}
-use Rattle.jugyvaros.specs.Trustees.{tallyNumbers}
-use Rattle.jugyvaros.proofs.Answering.{short-status, short-answered, short-altered, room-status, room-answered, room-altered}
-use Rattle.jugyvaros.proofs.Tallying.{tallied}
-use Rattle.jugyvaros.proofs.by_trustees.jugy_trustees.Statement.{statement}
-use Rattle.jugyvaros.proofs.by_trustees.jugy_trustees.Tie as tie
+use Rattle.answers.specs.Numbers.{shapeOf, statusOf}
+use Rattle.jugyvaros_trustees.specs.Numbers.{tallyNumbers, tallyAnswer}
+use Rattle.answers.proofs.Answering.{short-status, short-answered, short-altered, room-status, room-answered, room-altered}
+use Rattle.jugyvaros_trustees.proofs.Tallying.{tallied}
+use Rattle.jugyvaros_trustees.proofs.by_trustees.jugy_trustees.Statement.{statement}
+use Rattle.jugyvaros_trustees.proofs.by_trustees.jugy_trustees.Tie as tie
 
 returns : tie.Need-returns
 unfolding shapeOf
@@ -20,7 +20,7 @@ returns c =
     let a = c .before .before .before .before .before .before .before .before .args in
     let r : Shared = (shared (shapeOf (a .candidates) (a .grades) (a .ballots)) (a .table .now) (a .bytes .now) (a .trustees) (record { ballotParts = a .parts .now; dealerParts = a .dealt .now }) (a .wires .now) (a .published .now)) in
     let numbers = tallyNumbers (r .answer) (r .closing) in
-    (sym (short-status 12 (a .answer .now) (c .if1 .taken) numbers), (sym (short-answered 12 (a .answer .now) (c .if1 .taken) numbers), (sym (short-altered 12 (a .answer .now) (c .if1 .taken) (r .wireParts) (a .wires .now)), sym (short-altered 12 (a .answer .now) (c .if1 .taken) (r .published) (a .published .now)))))
+    (sym (short-status tallyAnswer (a .answer .now) (c .if1 .taken) numbers), (sym (short-answered tallyAnswer (a .answer .now) (c .if1 .taken) numbers), (sym (short-altered tallyAnswer (a .answer .now) (c .if1 .taken) (r .wireParts) (a .wires .now)), sym (short-altered tallyAnswer (a .answer .now) (c .if1 .taken) (r .published) (a .published .now)))))
 
 run-requires : tie.Need-run-requires
 run-requires c κs = search needs
@@ -47,7 +47,7 @@ returns-2 c =
     let r : Shared = (shared (shapeOf (a .candidates) (a .grades) (a .ballots)) (a .table .now) (a .bytes .now) (a .trustees) (record { ballotParts = a .parts .now; dealerParts = a .dealt .now }) (a .wires .now) (a .published .now)) in
     let numbers = tallyNumbers (r .answer) (r .closing) in
     let e = tallied _ _ _ _ (said .run .ensures .0) (said .run .ensures .1 .0) in
-    (put .put-tally .ensures .0 ∙ ap statusOf e ∙ sym (room-status 12 (a .answer .now) (long .if1 .left) numbers), (put .put-tally .ensures .1 ∙ ap (λ (l : List ℕ). l ++ drop 12 (a .answer .now)) e ∙ sym (room-answered 12 (a .answer .now) (long .if1 .left) numbers), (said .run .ensures .1 .1 .0 ∙ sym (room-altered 12 (a .answer .now) (long .if1 .left) (r .wireParts) (a .wires .now)), said .run .ensures .1 .1 .1 ∙ sym (room-altered 12 (a .answer .now) (long .if1 .left) (r .published) (a .published .now)))))
+    (put .put-tally .ensures .0 ∙ ap statusOf e ∙ sym (room-status tallyAnswer (a .answer .now) (long .if1 .left) numbers), (put .put-tally .ensures .1 ∙ ap (λ (l : List ℕ). l ++ drop tallyAnswer (a .answer .now)) e ∙ sym (room-answered tallyAnswer (a .answer .now) (long .if1 .left) numbers), (said .run .ensures .1 .1 .0 ∙ sym (room-altered tallyAnswer (a .answer .now) (long .if1 .left) (r .wireParts) (a .wires .now)), said .run .ensures .1 .1 .1 ∙ sym (room-altered tallyAnswer (a .answer .now) (long .if1 .left) (r .published) (a .published .now)))))
 
 pub jugy-trustees-spec : {M : Type 1} → statement M
 jugy-trustees-spec =

@@ -1,4 +1,4 @@
--- `jugyvaros::by_trustees::put_closing` meets its contract: what is left to copy gives what all of it gives.
+-- `jugyvaros_trustees::by_trustees::put_closing` meets its contract: what is left to copy gives what all of it gives.
 -- Assumes nothing.
 use borrow.Author.Needs.{needs}
 use mathlib.Core.Path.{_≡_, _∙_, refl, sym, ap}
@@ -6,9 +6,9 @@ use Prim.Native.Nat.{ℕ, _+_, _-_, _≤_}
 use native.Mathlib.Omega.{arith}
 use lib.ListN.{length, drop, set, length-set}
 use lib.Seq.{sets}
-use Rattle.jugyvaros.proofs.Tallying.{bytes-further, bytes-end}
-use Rattle.jugyvaros.proofs.by_trustees.put_closing.Statement.{statement}
-use Rattle.jugyvaros.proofs.by_trustees.put_closing.Tie as tie
+use Rattle.jugyvaros_trustees.proofs.Tallying.{bytes-further, bytes-end}
+use Rattle.jugyvaros_trustees.proofs.by_trustees.put_closing.Statement.{statement}
+use Rattle.jugyvaros_trustees.proofs.by_trustees.put_closing.Tie as tie
 
 abbrev Inv-loop : tie.InvT-loop
 Inv-loop answer₀ closing i₀ answer i = (i ≤ 8) × (length answer ≡ length answer₀) × (sets answer (4 + i) (drop i closing) ≡ sets answer₀ 4 closing)

@@ -1,11 +1,11 @@
--- `jugyvaros::by_trustees::put_tally` meets its contract: four numbers, and the eight bytes behind them.
+-- `jugyvaros_trustees::by_trustees::put_tally` meets its contract: four numbers, and the eight bytes behind them.
 -- Assumes nothing.
 use borrow.Author.Needs.{needs}
 use mathlib.Core.Path.{_∙_}
 use Rattle.tally.specs.Answer.{saidBy}
-use Rattle.jugyvaros.proofs.Tallying.{all-put, tally-status}
-use Rattle.jugyvaros.proofs.by_trustees.put_tally.Statement.{statement}
-use Rattle.jugyvaros.proofs.by_trustees.put_tally.Tie as tie
+use Rattle.jugyvaros_trustees.proofs.Tallying.{all-put, tally-status}
+use Rattle.jugyvaros_trustees.proofs.by_trustees.put_tally.Statement.{statement}
+use Rattle.jugyvaros_trustees.proofs.by_trustees.put_tally.Tie as tie
 
 put-size-requires : tie.Need-put-size-requires
 put-size-requires c κs = search needs
