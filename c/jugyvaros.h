@@ -68,6 +68,8 @@ extern "C" {
 #define JUGY_TRUSTEES 16      /* there are fewer than 2 or more than 5 trustees */
 #define JUGY_PART_TABLES 17   /* one of the trustees' four tables has a wrong length */
 #define JUGY_DEALING 18       /* a ballot or dealer part is no bit, or parts sum up to something else than their ballot byte or product */
+#define JUGY_JURIES 19        /* the number of juries is outside 1 to 8 */
+#define JUGY_GATES_PER_ROUND 20 /* the share of a round is outside 1 to 65,536 gates */
 #define JUGY_LINE 23          /* a line of text of another form, of a kind that is none, or with a number of 2^32 or more; place: the line */
 #define JUGY_OUTPUT 24        /* the lent output is too short */
 
@@ -83,6 +85,7 @@ extern "C" {
 #define JUGY_TEXT_ANSWER 3
 #define JUGY_URN_ANSWER 3
 #define JUGY_TRUSTEES_ANSWER 12
+#define JUGY_DISPATCH_ANSWER 10
 
 /* Measures the shape's own list: answer[2] is G, its gates, answer[3] is C, the conditional ones, answer[4] is I, the
  * ballot bytes. Reason 1. */
@@ -194,6 +197,28 @@ size_t jugy_trustees(size_t candidates, size_t grades, size_t ballots, const uin
                      const uint8_t *bytes, size_t bytes_length, size_t trustees, const uint8_t *parts, size_t parts_length,
                      const uint8_t *dealt, size_t dealt_length, uint8_t *wires, size_t wires_length, uint8_t *published,
                      size_t published_length, size_t *answer, size_t answer_length);
+
+/* Up to eight juries in rounds: in each round every jury that is not finished gets up to `share` of its gates, in jury order.
+ *   statements  4 numbers a jury: candidates k, grades d, 0 where they are ranked, ballots n and gates G. What the array lacks
+ *               counts as 0, and what stands behind the statements of `juries` juries is not looked at
+ * The juries' pieces follow each other in each of the five tables, in jury order with nothing between. I is n k d, or n k k where
+ * candidates are ranked, and C is a list's own number of conditional gates. Of m juries, 0 to m - 1:
+ *
+ *   lists    | 4 G_0     | 4 G_1     | .. |  length 4 (G_0 + .. + G_(m-1)) or more, of numbers; operands count
+ *                                            from the jury's own wire 0
+ *   ballots  | I_0       | I_1       | .. |  length I_0 + .. + I_(m-1) or more
+ *   tapes    | C_0       | C_1       | .. |  length C_0 + .. + C_(m-1) or more
+ *   wires    | I_0 + G_0 | I_1 + G_1 | .. |  length (I_0 + G_0) + .. + (I_(m-1) + G_(m-1)) or more
+ *   boards   | C_0 + k_0 | C_1 + k_1 | .. |  length (C_0 + k_0) + .. + (C_(m-1) + k_(m-1)) or more
+ *
+ * What stands behind the last piece is not touched. answer[2 + j], j below 8, is jury j's number of rounds, G_j divided by share
+ * and rounded up, 0 past the last jury. Each jury's board is that of jugy_run on its pieces, and its wires are zero.
+ * Reasons 19 and 20, then those of a run, jury after jury and each to its end before the next is looked at: the place is the
+ * jury. A piece that does not fit is cut where its table ends, which gives 2, 4, 7, 9 or 10. */
+size_t jugy_dispatch(size_t juries, size_t share, const size_t *statements, size_t statements_length, const uint32_t *lists,
+                     size_t lists_length, const uint8_t *ballots, size_t ballots_length, const uint8_t *tapes,
+                     size_t tapes_length, uint8_t *wires, size_t wires_length, uint8_t *boards, size_t boards_length,
+                     size_t *answer, size_t answer_length);
 
 #ifdef __cplusplus
 }

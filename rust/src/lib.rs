@@ -2,6 +2,7 @@
 //!
 //! Each function answers what the entry point of that name answers, or its refusal, in which case nothing lent is altered.
 
+pub mod dispatch;
 pub mod trustees;
 pub mod urn;
 pub mod urn_run;
@@ -117,6 +118,10 @@ pub enum Reason {
     Trustees = 16,
     PartTables = 17,
     Dealing = 18,
+    /// Of the dispatcher, before all others.
+    Juries = 19,
+    /// Behind `Juries`.
+    GatesPerRound = 20,
     /// Since request 2.10, between `Table` and `Gate`.
     Line = 23,
     /// Since request 2.10, behind `Gate`.
@@ -124,7 +129,7 @@ pub enum Reason {
 }
 
 impl Reason {
-    const ALL: [Reason; 20] = [
+    const ALL: [Reason; 22] = [
         Reason::Shape,
         Reason::Table,
         Reason::Gate,
@@ -143,6 +148,8 @@ impl Reason {
         Reason::Trustees,
         Reason::PartTables,
         Reason::Dealing,
+        Reason::Juries,
+        Reason::GatesPerRound,
         Reason::Line,
         Reason::Output,
     ];
@@ -177,6 +184,8 @@ impl Reason {
             Reason::Trustees => "there are fewer than 2 or more than 5 trustees",
             Reason::PartTables => "a table of the trustees has another length than list and shape need",
             Reason::Dealing => "a part is neither 0 nor 1, or the parts do not add up",
+            Reason::Juries => "the number of juries is outside 1 to 8",
+            Reason::GatesPerRound => "the gates of a round are outside 1 to 65,536",
             Reason::Line => "another form than a gate's, or a number that is too large, in line",
             Reason::Output => "the lent output is too short",
         }

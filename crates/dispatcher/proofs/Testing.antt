@@ -15,7 +15,7 @@ use Rattle.gates.specs.Gate.{Gate, gatesOf}
 use Rattle.gates.specs.Board.{conditionalCount}
 use Rattle.gates.proofs.Evaluating.{accepted-list}
 use Rattle.jury.specs.Shape.{ballotBytes}
-use Rattle.jury.proofs.Limits.{within}
+use Rattle.jury.proofs.Limits.{bounds}
 use Rattle.jury.specs.Reason.{Reason, reasonOf, firstOf}
 use Rattle.tally.specs.Answer.{Said, refused, accepted, said, Size, sizeOf, saidBy}
 use Rattle.tally.specs.declared.answer.Answer.{Answer}
@@ -158,5 +158,5 @@ pub stated-size : (s : Statement) (t : Tables) (size : Size) → TestPassed (sha
 unfolding piecesOf conditionalIn sizeOf
 stated-size s t size k =
     let list = accepted-list (ballotBytes (shapeOf s)) (s .candidates) (listOf s t) (size .gates) (size .conditional) (k .tests) in
-    let limits = within (shapeOf s) (k .within) in
+    let limits = bounds (shapeOf s) (k .within) in
     (list .gates-are ∙ list-fits s t (omega (arith, list .enough, limits .k-least)) .1, list .conditional-are)

@@ -15,7 +15,7 @@ use Rattle.gates.proofs.Table.{length-gates}
 use Rattle.gates.proofs.Evaluating.{accepted-list}
 use Rattle.jury.specs.Shape.{withinLimits, ballotBytes}
 use Rattle.jury.specs.Reason.{Reason, firstOf}
-use Rattle.jury.proofs.Limits.{within}
+use Rattle.jury.proofs.Limits.{bounds}
 use Rattle.jury.proofs.Flags.{true-T}
 use Rattle.tally.specs.Answer.{sizeOf}
 use Rattle.tally.specs.Run.{runReasons}
@@ -75,7 +75,7 @@ jury-passed s t e =
     let k = run-passed (shapeOf s) (p .lists) (p .ballots) (p .tapes) (p .wires) (p .boards) e in
     let size = sizeOf (gatesOf (p .lists)) in
     let list = accepted-list (ballotBytes (shapeOf s)) (s .candidates) (p .lists) (size .gates) (size .conditional) (k .test .tests) in
-    let limits = within (shapeOf s) (k .test .within) in
+    let limits = bounds (shapeOf s) (k .test .within) in
     let some : 1 ≤ length (gatesOf (listOf s t)) = omega (arith, list .enough, limits .k-least) in
     let fits = list-fits s t some in
     let i = ballotBytes (shapeOf s) in

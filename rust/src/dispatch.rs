@@ -1,0 +1,92 @@
+//! Up to eight juries in rounds. `c/jugyvaros.h` draws the tables, which are made here from a list of juries.
+
+use crate::{checked, Refusal, Shape};
+
+mod c {
+    extern "C" {
+        pub fn jugy_dispatch(
+            juries: usize,
+            share: usize,
+            statements: *const usize,
+            statements_length: usize,
+            lists: *const u32,
+            lists_length: usize,
+            ballots: *const u8,
+            ballots_length: usize,
+            tapes: *const u8,
+            tapes_length: usize,
+            wires: *mut u8,
+            wires_length: usize,
+            boards: *mut u8,
+            boards_length: usize,
+            answer: *mut usize,
+            answer_length: usize,
+        ) -> usize;
+    }
+}
+
+/// One jury of a call: its shape, its list of gates, its ballots and a fresh, secret tape.
+#[derive(Clone, Copy, Debug)]
+pub struct Jury<'a> {
+    pub shape: Shape,
+    pub table: &'a [u32],
+    pub ballots: &'a [u8],
+    pub tape: &'a [u8],
+}
+
+/// What a jury got: the number of rounds in which it was given a gate, and its finished board.
+#[derive(Clone, Debug, PartialEq, Eq)]
+pub struct Finished {
+    pub rounds: usize,
+    pub board: Vec<u8>,
+}
+
+/// Runs the juries in rounds of up to `share` gates each. The place of a refusal is the jury, 0 for the reasons 19 and 20.
+pub fn dispatch(juries: &[Jury], share: usize) -> Result<Vec<Finished>, Refusal> {
+    let statements: Vec<usize> = juries
+        .iter()
+        .flat_map(|jury| {
+            let shape = jury.shape;
+            [shape.candidates, shape.grades, shape.ballots, jury.table.len() / 4]
+        })
+        .collect();
+    let lists: Vec<u32> = juries.iter().flat_map(|jury| jury.table).copied().collect();
+    let ballots: Vec<u8> = juries.iter().flat_map(|jury| jury.ballots).copied().collect();
+    let tapes: Vec<u8> = juries.iter().flat_map(|jury| jury.tape).copied().collect();
+    let sizes: Vec<usize> = juries.iter().map(|jury| jury.tape.len() + jury.shape.candidates).collect();
+    let mut wires = vec![0; ballots.len() + lists.len() / 4];
+    let mut boards = vec![0; sizes.iter().sum()];
+    let mut answer = [0; 10];
+    // SAFETY: every pointer comes from a vector or an array and is handed over with its length; what is written is borrowed mutably.
+    let status = unsafe {
+        c::jugy_dispatch(
+            juries.len(),
+            share,
+            statements.as_ptr(),
+            statements.len(),
+            lists.as_ptr(),
+            lists.len(),
+            ballots.as_ptr(),
+            ballots.len(),
+            tapes.as_ptr(),
+            tapes.len(),
+            wires.as_mut_ptr(),
+            wires.len(),
+            boards.as_mut_ptr(),
+            boards.len(),
+            answer.as_mut_ptr(),
+            answer.len(),
+        )
+    };
+    checked(status, &answer)?;
+    let mut left = boards.as_slice();
+    Ok(sizes
+        .iter()
+        .zip(&answer[2..])
+        .map(|(&size, &rounds)| {
+            let (board, rest) = left.split_at(size);
+            left = rest;
+            Finished { rounds, board: board.to_vec() }
+        })
+        .collect())
+}
