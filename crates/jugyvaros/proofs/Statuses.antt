@@ -18,6 +18,8 @@ use Rattle.tally.specs.Run.{ran}
 use Rattle.tally.specs.Test.{testSaid}
 use Rattle.tally.specs.Write.{writeSaid}
 use Rattle.tally.proofs.Numbering as numbering
+use Rattle.batch.specs.Run.{batchRan}
+use Rattle.batch.proofs.Theorems.{batch-memory}
 use Rattle.text.specs.Write.{textSaid}
 use Rattle.text.specs.Read.{readSaid}
 use Rattle.text.proofs.Numbering.{text-number, read-number}
@@ -84,6 +86,8 @@ status-tells =
       test = λ s table answer. tells 10 (omega arith) 4 _ answer (size-most 10 (testSaid s table) (λ r e. most 10 _ r (omega arith, (omega arith, (omega arith, tt))) (numbering.test-number s table r e)));
       run = λ s table ballots tape wires board answer.
           tells 10 (omega arith) 4 _ answer (size-most 10 (ran s table ballots tape wires board .answer) (λ r e. most 10 _ r ten (numbering.run-number s table ballots tape wires board r e)));
+      runBatch = λ s table ballots tape wires board answer.
+          tells 10 (omega arith) 4 _ answer (size-most 10 (batchRan s table ballots tape wires board .answer) (λ r e. most 10 _ r eight (batch-memory .number s table ballots tape wires board r e)));
       count = λ s ballots answer.
           tells 10 (omega arith) 10 _ answer (count-most 10 (countReason s ballots) (plainClosing s ballots) (λ r e. most 10 _ r (omega arith, (omega arith, (omega arith, (omega arith, tt)))) (numbering.count-number s ballots r e)));
       writeText = λ s table output answer. tells 24 (omega arith) 3 _ answer (length-most 24 (textSaid s table output) (λ r e. most 24 _ r paper (text-number s table output r e)));
@@ -92,6 +96,9 @@ status-tells =
   where
     ten : Most 10 (1 ∷ 2 ∷ 3 ∷ 4 ∷ 5 ∷ 6 ∷ 7 ∷ 8 ∷ 9 ∷ 10 ∷ [])
     ten = unfold Most in (omega arith, (omega arith, (omega arith, (omega arith, (omega arith, (omega arith, (omega arith, (omega arith, (omega arith, (omega arith, tt))))))))))
+
+    eight : Most 10 (1 ∷ 2 ∷ 3 ∷ 4 ∷ 6 ∷ 7 ∷ 9 ∷ 10 ∷ [])
+    eight = unfold Most in (omega arith, (omega arith, (omega arith, (omega arith, (omega arith, (omega arith, (omega arith, (omega arith, tt))))))))
 
     paper : Most 24 (1 ∷ 2 ∷ 3 ∷ 23 ∷ 24 ∷ [])
     paper = unfold Most in (omega arith, (omega arith, (omega arith, (omega arith, (omega arith, tt)))))

@@ -11,6 +11,7 @@ use Rattle.tally.specs.Measure.{measureSaid}
 use Rattle.tally.specs.Run.{ran}
 use Rattle.tally.specs.Test.{testSaid}
 use Rattle.tally.specs.Write.{writeSaid}
+use Rattle.batch.specs.Run.{batchRan}
 use Rattle.text.specs.Write.{textSaid}
 use Rattle.text.specs.Read.{readSaid}
 use Rattle.jugyvaros.specs.Numbers.{sizeNumbers, measureNumbers, countNumbers, shortAnswer, status}
@@ -27,6 +28,7 @@ pub record StatusTells : Type 0 where
   pub write : (s : Shape) (table answer : List ℕ) → Tells 10 4 (sizeNumbers (writeSaid s table)) answer
   pub test : (s : Shape) (table answer : List ℕ) → Tells 10 4 (sizeNumbers (testSaid s table)) answer
   pub run : (s : Shape) (table ballots tape wires board answer : List ℕ) → Tells 10 4 (sizeNumbers (ran s table ballots tape wires board .answer)) answer
+  pub runBatch : (s : Shape) (table ballots tape wires board answer : List ℕ) → Tells 10 4 (sizeNumbers (batchRan s table ballots tape wires board .answer)) answer
   pub count : (s : Shape) (ballots answer : List ℕ) → Tells 10 10 (countNumbers (countReason s ballots) (plainClosing s ballots)) answer
   pub writeText : (s : Shape) (table output answer : List ℕ) → Tells 24 3 (lengthNumbers (textSaid s table output)) answer
   pub readText : (s : Shape) (text output answer : List ℕ) → Tells 24 3 (lengthNumbers (readSaid s text output)) answer
