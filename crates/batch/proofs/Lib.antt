@@ -3,3 +3,4 @@ pub mod JuryLaws
 pub mod Reasons
 pub mod Outside
 pub mod Theorems
+pub mod Refusals

@@ -84,7 +84,7 @@ ballots-outcome true Nowhere e = (refl, refl)
 abbrev pub badRow : Shape → List ℕ → Place
 badRow s xs = firstBadRow 0 (rowsOf (s .grades) (s .ballots * s .candidates) xs)
 
-in-no-jury : (j : ℕ) (p : Place) → inJury j p ≡ Nowhere → p ≡ Nowhere
+pub in-no-jury : (j : ℕ) (p : Place) → inJury j p ≡ Nowhere → p ≡ Nowhere
 unfolding inJury
 in-no-jury j (At i) e = let z : _≡_ {A = ℕ} 0 1 = cc in absurd (omega arith)
 in-no-jury j Nowhere e = refl

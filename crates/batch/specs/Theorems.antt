@@ -37,6 +37,20 @@ AcceptedAsAll =
     (s : Shape) (table ballots tape wires board : List ℕ) (size : Size) → ((j : ℕ) → j < laneCount → ranAlone j s table ballots tape wires board .answer ≡ accepted size)
     → batchRan s table ballots tape wires board .answer ≡ accepted size
 
+-- A call that is refused for another reason than 6 is refused as every single run is.
+abbrev pub RefusedAsAlone : Type 0
+RefusedAsAlone =
+    (s : Shape) (table ballots tape wires board : List ℕ) (r : Reason) → batchRan s table ballots tape wires board .answer ≡ refused r → r .number ≢ 6 → (j : ℕ) → j < laneCount
+    → ranAlone j s table ballots tape wires board .answer ≡ refused r
+
+-- One that is refused for 6 has as its place a jury whose single run is refused for 6, and no jury before it is.
+abbrev pub RowFaultAsAlone : Type 0
+RowFaultAsAlone =
+    (s : Shape) (table ballots tape wires board : List ℕ) (r : Reason) → batchRan s table ballots tape wires board .answer ≡ refused r → r .number ≡ 6
+    → (r .place < laneCount)
+    × ((row : ℕ) × (ranAlone (r .place) s table ballots tape wires board .answer ≡ refused (reasonAt 6 row)))
+    × ((j row : ℕ) → j < r .place → ranAlone j s table ballots tape wires board .answer ≡ refused (reasonAt 6 row) → ⊥)
+
 -- Demand 1: a refusal has the number of a reason that concerns the call and alters no lent word, an accepted call leaves a wire table of zeros, and no call changes a length.
 pub record BatchMemory : Type 0 where
   pub number : (s : Shape) (table ballots tape wires board : List ℕ) (r : Reason) → batchRan s table ballots tape wires board .answer ≡ refused r
