@@ -4,3 +4,4 @@ pub mod Reasons
 pub mod Outside
 pub mod Theorems
 pub mod Refusals
+pub mod RankLaws
