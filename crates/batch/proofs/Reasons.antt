@@ -23,7 +23,6 @@ use Rattle.jury.specs.Ballots.{rowsOf, firstBadRow}
 use Rattle.jury.proofs.Searches.{none-first, first-none}
 use Rattle.tally.specs.Answer.{refused, said, Size, sizeOf}
 use Rattle.tally.specs.Test.{testReasons, testSaid}
-use Rattle.tally.specs.Run.{Ran}
 use Rattle.tally.proofs.TestReasons.{orElse, first-append, TestPassed, test-passed}
 use Rattle.tally.proofs.RunReasons.{firstOfThree, said-refused}
 use Rattle.lanes.specs.Lane.{laneCount, laneOf}

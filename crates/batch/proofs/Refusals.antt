@@ -4,7 +4,7 @@ use mathlib.Core.Path.{_≡_, _∙_, refl, sym, ap, subst}
 use mathlib.Core.Bool.{Bool, true, false, _||_}
 use mathlib.Core.Logic.{_≢_}
 use mathlib.Core.Option.{Option, none, some}
-use mathlib.Core.List.{List, [], _∷_}
+use mathlib.Core.List.{List}
 use Prim.Native.Nat.{ℕ, zero, suc, _+_, _<_}
 use native.Mathlib.Omega.{arith}
 use lib.Dec.{T, eqb}
@@ -16,13 +16,12 @@ use Rattle.gates.proofs.Hiding.{none-above}
 use Rattle.jury.specs.declared.shape.Shape.{Shape}
 use Rattle.jury.specs.Shape.{ballotBytes}
 use Rattle.jury.specs.Reason.{Reason, reasonAt, unless, foundAt, firstOf}
-use Rattle.jury.specs.Ballots.{ballotReasons}
 use Rattle.jury.specs.Rankings.{firstOver, orElse}
 use Rattle.jury.proofs.BallotLaws.{judged, judged-by}
 use Rattle.jury.proofs.Searches.{none-first}
-use Rattle.tally.specs.Answer.{refused, accepted, said, hasNumberIn, Size, sizeOf}
+use Rattle.tally.specs.Answer.{refused, said, hasNumberIn, sizeOf}
 use Rattle.tally.specs.Test.{testReasons, testSaid}
-use Rattle.tally.specs.Run.{Ran, lentReasons, runReasons, ranAfter, ran}
+use Rattle.tally.specs.Run.{Ran, lentReasons, runReasons, ranAfter}
 use Rattle.tally.proofs.TestReasons as test
 use Rattle.tally.proofs.RunReasons as single
 use Rattle.tally.proofs.Numbering as numbering

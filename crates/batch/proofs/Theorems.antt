@@ -4,14 +4,14 @@ use mathlib.Core.Path.{_≡_, _∙_, refl, sym, ap, subst}
 use mathlib.Core.Option.{Option, none, some}
 use mathlib.Core.Logic.{⊎-elim}
 use mathlib.Core.List.{List, [], _∷_, _++_}
-use Prim.Native.Nat.{ℕ, zero, suc, _+_, _-_, _*_, _%_, _≤_, _<_}
+use Prim.Native.Nat.{ℕ, _+_, _-_, _*_, _%_, _≤_, _<_}
 use native.Mathlib.Nat.{add-zero, mod-lt, zero-lt-suc}
 use native.Mathlib.Omega.{arith}
-use lib.ListN.{length, getD, take, drop, replicate, length-replicate}
+use lib.ListN.{length, getD, replicate, length-replicate}
 use lib.Seq.{getD-drop}
 use Rattle.gates.specs.Gate.{Gate, gatesOf}
-use Rattle.gates.specs.Wires.{wire, wiresOf, outputsOf}
-use Rattle.gates.specs.Board.{conditionalCount, boardOf, Bits, MaskTape}
+use Rattle.gates.specs.Wires.{wire, wiresOf}
+use Rattle.gates.specs.Board.{conditionalCount, boardOf, Bits}
 use Rattle.gates.specs.Hiding.{Finished}
 use Rattle.gates.proofs.WireLaws.{length-wires}
 use Rattle.gates.proofs.Evaluating.{accepted-list}
@@ -20,14 +20,13 @@ use Rattle.gates.proofs.Hiding.{board-finished}
 use Rattle.jury.specs.declared.shape.Shape.{Shape}
 use Rattle.jury.specs.Shape.{ballotBytes}
 use Rattle.jury.specs.Reason.{Reason, reasonAt, firstOf}
-use Rattle.jury.specs.Accepted.{AcceptedBallots}
 use Rattle.jury.proofs.AcceptedLaws.{all-rows, all-rows-back}
 use Rattle.jury.proofs.Cases.{below-or-not}
-use Rattle.tally.specs.Answer.{Said, refused, accepted, hasNumberIn, Size, sizeOf}
+use Rattle.tally.specs.Answer.{refused, accepted, hasNumberIn, Size, sizeOf}
 use Rattle.tally.specs.Test.{testReasons}
-use Rattle.tally.specs.Run.{Ran, ran}
+use Rattle.tally.specs.Run.{Ran}
 use Rattle.tally.specs.Hiding.{closingBytes}
-use Rattle.tally.specs.Demands.{Accuracy, listIn}
+use Rattle.tally.specs.Demands.{listIn}
 use Rattle.tally.proofs.TestReasons.{never}
 use Rattle.tally.proofs.RunReasons.{RunPassed, run-passed}
 use Rattle.tally.proofs.Hiding.{ran-accepted, run-answer, run-wires, run-board, board-tells-no-more}

@@ -5,12 +5,11 @@ use mathlib.Core.List.{List, [], _∷_}
 use Prim.Native.Nat.{ℕ, _<_}
 use lib.Dec.{T}
 use lib.ListN.{length, getD, take, replicate}
-use Rattle.gates.specs.Gate.{gatesOf}
 use Rattle.jury.specs.declared.shape.Shape.{Shape}
 use Rattle.jury.specs.Reason.{Reason, reasonAt}
 use Rattle.jury.specs.Counts.{countsOf}
 use Rattle.judgment.specs.Winner.{Wins}
-use Rattle.tally.specs.Answer.{refused, accepted, hasNumberIn, Size, sizeOf}
+use Rattle.tally.specs.Answer.{refused, accepted, hasNumberIn, Size}
 use Rattle.tally.specs.Count.{plainClosing}
 use Rattle.tally.specs.Write.{writeSaid}
 use Rattle.tally.specs.Run.{Ran, ran}

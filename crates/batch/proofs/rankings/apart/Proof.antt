@@ -1,17 +1,13 @@
 -- `batch::rankings::apart` meets its contract: in each lane, the word says whether a candidate below l is neither after i nor before j.
 -- Assumes nothing.
 use mathlib.Core.Path.{_≡_, _∙_, ap}
-use mathlib.Core.Bool.{Bool, cond, not, _&&_}
-use mathlib.Core.List.{List}
+use mathlib.Core.Bool.{not, _&&_}
 use Prim.Native.Nat.{ℕ, _-_, _≤_, _<_}
 use native.Mathlib.Omega.{arith}
 use borrow.Author.Needs.{needs}
-use Rattle.gates.specs.declared.place.Place.{Place}
-use Rattle.jury.specs.Rankings.{before, firstOver, someBelow, apart}
-use Rattle.jury.proofs.Searches.{ballot-within}
+use Rattle.jury.specs.Rankings.{before, someBelow, apart}
 use Rattle.lanes.specs.Lane.{laneCount, lane, laneOf}
-use Rattle.batch.specs.Ballots.{foundBit}
-use Rattle.batch.proofs.RankLaws.{bit, both-lane, clash-lane, not-lane, test-found, found-none, found-more, some-none, some-more}
+use Rattle.batch.proofs.RankLaws.{bit, both-lane, not-lane, some-none, some-more}
 use Rattle.batch.proofs.rankings.apart.Statement.{statement}
 use Rattle.batch.proofs.rankings.apart.Tie as tie
 

@@ -1,17 +1,13 @@
 -- `batch::rankings::clashes` meets its contract: in each lane, the word says whether a ballot before b has a byte that clashes.
 -- Assumes nothing.
 use mathlib.Core.Path.{_≡_, _∙_, ap}
-use mathlib.Core.Bool.{Bool, cond, not, _&&_}
-use mathlib.Core.List.{List}
 use Prim.Native.Nat.{ℕ, _-_, _≤_, _<_}
 use native.Mathlib.Omega.{arith}
-use borrow.Author.Needs.{needs}
-use Rattle.gates.specs.declared.place.Place.{Place}
-use Rattle.jury.specs.Rankings.{before, firstOver, someBelow, clashInBallot, firstClash}
+use Rattle.jury.specs.Rankings.{before, firstOver, clashInBallot, firstClash}
 use Rattle.jury.proofs.Searches.{ballot-within}
 use Rattle.lanes.specs.Lane.{laneCount, lane, laneOf}
 use Rattle.batch.specs.Ballots.{foundBit}
-use Rattle.batch.proofs.RankLaws.{bit, both-lane, clash-lane, not-lane, test-found, found-none, found-more, some-none, some-more}
+use Rattle.batch.proofs.RankLaws.{found-none, found-more}
 use Rattle.batch.proofs.rankings.clashes.Statement.{statement}
 use Rattle.batch.proofs.rankings.clashes.Tie as tie
 

@@ -1,17 +1,13 @@
 -- `batch::rankings::clashes_in_ballot` meets its contract: in each lane, the word says whether a row before i has a byte that clashes.
 -- Assumes nothing.
 use mathlib.Core.Path.{_≡_, _∙_, ap}
-use mathlib.Core.Bool.{Bool, cond, not, _&&_}
-use mathlib.Core.List.{List}
 use Prim.Native.Nat.{ℕ, _-_, _≤_, _<_}
 use native.Mathlib.Omega.{arith}
 use borrow.Author.Needs.{needs}
-use Rattle.gates.specs.declared.place.Place.{Place}
-use Rattle.jury.specs.Rankings.{before, firstOver, someBelow, clashInRow, clashInBallot}
-use Rattle.jury.proofs.Searches.{ballot-within}
+use Rattle.jury.specs.Rankings.{before, firstOver, clashInRow, clashInBallot}
 use Rattle.lanes.specs.Lane.{laneCount, lane, laneOf}
 use Rattle.batch.specs.Ballots.{foundBit}
-use Rattle.batch.proofs.RankLaws.{bit, both-lane, clash-lane, not-lane, test-found, found-none, found-more, some-none, some-more}
+use Rattle.batch.proofs.RankLaws.{found-none, found-more}
 use Rattle.batch.proofs.rankings.clashes_in_ballot.Statement.{statement}
 use Rattle.batch.proofs.rankings.clashes_in_ballot.Tie as tie
 

@@ -1,17 +1,15 @@
 -- `batch::rankings::gaps` meets its contract: in each lane, the word says whether a ballot before b has a gap.
 -- Assumes nothing.
 use mathlib.Core.Path.{_≡_, _∙_, ap}
-use mathlib.Core.Bool.{Bool, cond, not, _&&_}
-use mathlib.Core.List.{List}
+use mathlib.Core.Bool.{cond}
 use Prim.Native.Nat.{ℕ, _-_, _≤_, _<_}
 use native.Mathlib.Omega.{arith}
-use borrow.Author.Needs.{needs}
 use Rattle.gates.specs.declared.place.Place.the-variants.{At, Nowhere}
-use Rattle.jury.specs.Rankings.{before, firstOver, someBelow, gap, firstGap}
+use Rattle.jury.specs.Rankings.{before, firstOver, gap, firstGap}
 use Rattle.jury.proofs.Searches.{ballot-within}
 use Rattle.lanes.specs.Lane.{laneCount, lane, laneOf}
 use Rattle.batch.specs.Ballots.{foundBit}
-use Rattle.batch.proofs.RankLaws.{bit, both-lane, clash-lane, not-lane, test-found, found-none, found-more, some-none, some-more}
+use Rattle.batch.proofs.RankLaws.{test-found, found-none, found-more}
 use Rattle.batch.proofs.rankings.gaps.Statement.{statement}
 use Rattle.batch.proofs.rankings.gaps.Tie as tie
 
