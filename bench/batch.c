@@ -1,4 +1,5 @@
-/* Times a run for 64 juries beside 64 single runs by the same library, each with its own tests and emptying, in one run.
+/* Times a run for 64 juries beside as many calls of jugy_run, one a jury, in one process. Every call makes all its tests and
+ * empties its wire table.
  *   batch    K D N GATES BATCH_NS SINGLES_NS RATIO a line; the ratio says how many times faster the batch is
  * The boards are compared first. A time is processor time; the two take turns, and the ratio is the middle one of the rounds'
  * ratios, so that a slow stretch of the machine meets both. */

@@ -104,7 +104,7 @@ size_t jugy_run(size_t candidates, size_t grades, size_t ballots, const uint32_t
                 const uint8_t *bytes, size_t bytes_length, const uint8_t *tape, size_t tape_length, uint8_t *wires,
                 size_t wires_length, uint8_t *board, size_t board_length, size_t *answer, size_t answer_length);
 
-/* Runs a list on 64 juries of one shape at once. Bit j of each 64-bit number, the lowest being bit 0, belongs to jury j, and
+/* Runs a list for 64 juries at once, all of this shape. Bit j of each 64-bit number, the lowest being bit 0, belongs to jury j, and
  * jury j's bits are what jugy_run makes of its own: answer[2] is G, answer[3] is C, as for a single run. Lengths count
  * numbers, not bytes.
  *   table  4 G numbers, the list's own length, as for jugy_run

@@ -117,7 +117,7 @@ class Tester:
             self.check(shape, table, ballot, [0] * 3)
 
     def bad_rows(self):
-        """A row of zeros and a row of two ones in each jury alone, in the first and in the last row; then in two juries."""
+        """An empty row, and rows with two and three ones, in each jury alone, first row and last; then in two juries."""
         shape, table = (2, 3, 2), flat([(4, 0, 1, 0)] * 2)
         good, tape = self.juries(shape), self.tape(table)
         for j in range(JURIES):
