@@ -33,7 +33,7 @@ pub fn test(shape: Shape, ballots: &[u64]) -> Verdict
     }
 }
 
-// The juries in which one of so many rows of d words does not hold exactly one 1.
+// The juries that have, among so many rows of d words, a row without a 1 or with several.
 fn bad_rows(words: &[u64], d: usize, rows: usize) -> u64
     requires { ⌜ length (now words) ≡ rows * d ⌝ }
     ensures { λ r. ⌜ ((j : ℕ) → j < laneCount → lane j r ≡ foundBit (firstBadRow 0 (rowsOf d rows (laneOf j (now (words .entry)))))) ⌝ }
@@ -50,7 +50,7 @@ fn bad_rows(words: &[u64], d: usize, rows: usize) -> u64
     faults
 }
 
-// The juries in which a row does not hold exactly one 1: those that had no 1, and those that had a second one.
+// The juries to which this row is a fault: those that had no 1 in it, and those that had a second one.
 fn bad_row(words: &[u64]) -> u64
     ensures { λ r. ⌜ ((j : ℕ) → j < laneCount → lane j r ≡ cond (eqb (ones (laneOf j (now (words .entry)))) 1) 0 1) ⌝ }
 {

@@ -98,7 +98,7 @@ fn gaps_after(words: &[u64], k: usize, b: usize, i: usize) -> u64
     faults
 }
 
-// The juries in which some candidate is neither after i nor before j.
+// The juries in which i is not put before some candidate that is not put before j either.
 fn apart(words: &[u64], k: usize, b: usize, i: usize, j: usize) -> u64
     requires { ⌜ ((b + 1) * k * k ≤ length (now words)) × (i < k) × (j < k) ⌝ }
     ensures { λ r. ⌜ ((u : ℕ) → u < laneCount → lane u r ≡ cond (spec.apart k (laneOf u (now (words .entry))) b i j) 1 0) ⌝ }

@@ -1,4 +1,4 @@
--- `batch::rankings::apart` meets its contract: in each lane, the word says whether a candidate below l is neither after i nor before j.
+-- `batch::rankings::apart` meets its contract: in each lane, the word says whether some candidate below l keeps i and j apart.
 -- Assumes nothing.
 use mathlib.Core.Path.{_≡_, _∙_, ap}
 use mathlib.Core.Bool.{not, _&&_}
