@@ -56,6 +56,18 @@ def missed(times):
     return "Time ratios above their goal: " + (", ".join(found) if found else "none") + "."
 
 
+def batch_table(path):
+    """A run for 64 juries beside 64 single runs of the same library: how many times faster it is."""
+    lines = [
+        "| shape | gates | 64 juries at once, µs | 64 single runs, µs | times faster | asked |",
+        "|---|--:|--:|--:|--:|--:|",
+    ]
+    for line in path.read_text().splitlines():
+        k, d, n, gates, batch, singles, ratio = line.split()
+        lines.append(f"| {k} {d} {n} | {gates} | {float(batch) / 1000:.2f} | {float(singles) / 1000:.2f} | {ratio} | 8 |")
+    return "\n".join(lines)
+
+
 def plot(times, counts):
     """Bars of the time ratios, with a mark for the ratio of instructions, by call and shape."""
     shapes = sorted({shape for _, shape in times}, key=lambda s: s[0] * s[1] * s[2])
@@ -143,7 +155,7 @@ def main():
     times, counts = read_times(folder / "times"), read_counts(folder)
     text = f"{table(times, counts)}\n\n{missed(times)}"
     urn, urn_run = urn_table(folder / "urn"), urn_run_table(folder / "urn_run_times")
-    print(text, urn, urn_run, sep="\n\n")
+    print(text, urn, urn_run, batch_table(folder / "batch_times"), sep="\n\n")
     (HERE / "RESULT.md").write_text(
         "# The core against the same work in C\n\n"
         f"Made by `bench/run` on {machine()}. C is `bench/core.c` by `gcc -O2`, with the same tests made.\n\n"

@@ -118,6 +118,20 @@ size_t jugy_run(size_t candidates, size_t grades, size_t ballots, const uint32_t
                 const uint8_t *bytes, size_t bytes_length, const uint8_t *tape, size_t tape_length, uint8_t *wires,
                 size_t wires_length, uint8_t *board, size_t board_length, size_t *answer, size_t answer_length);
 
+/* Runs a list for 64 juries at once, all of this shape. Bit j of each 64-bit number, the lowest being bit 0, belongs to jury j, and
+ * jury j's bits are what jugy_run makes of its own: answer[2] is G, answer[3] is C, as for a single run. Lengths count
+ * numbers, not bytes.
+ *   table  4 G numbers, the list's own length, as for jugy_run
+ *   words  I = n k d numbers: bit j of words[i] is ballot byte i of jury j
+ *   tape   C numbers, any: bit j of tape[i] masks the i-th conditional gate of jury j. Each bit is to be fresh, secret and random
+ *   wires  I + G numbers, whatever they held; all zero afterwards
+ *   board  C + k numbers, whatever they held: bit j of board[C + i] is candidate i's closing byte in jury j
+ * Reasons 1, 2, 3, 4, 6, 7, 9 and 10, in this order; the place of 6 is the first jury, 0 to 63, that has a bad row. Reasons 5
+ * and 8 do not concern these numbers. All 64 juries are tested and run: whoever has fewer fills the others up with copies. */
+size_t jugy_run_batch(size_t candidates, size_t grades, size_t ballots, const uint32_t *table, size_t table_length,
+                      const uint64_t *words, size_t words_length, const uint64_t *tape, size_t tape_length, uint64_t *wires,
+                      size_t wires_length, uint64_t *board, size_t board_length, size_t *answer, size_t answer_length);
+
 /* Counts I ballot bytes plainly: answer[2 + i], i below 8, is candidate i's closing byte: 1 where it wins by full majority judgment
  * or, of rankings, by Schulze's rule, else 0, and 0 from place k on; several may win. Reasons 1, 4, 5, and 6 or 11 and 12. */
 size_t jugy_count(size_t candidates, size_t grades, size_t ballots, const uint8_t *bytes, size_t bytes_length,

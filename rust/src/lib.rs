@@ -2,6 +2,7 @@
 //!
 //! Each function answers what the entry point of that name answers, or its refusal, in which case nothing lent is altered.
 
+pub mod batch;
 pub mod dispatch;
 pub mod trustees;
 pub mod urn;

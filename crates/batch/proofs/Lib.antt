@@ -1,5 +1,6 @@
 pub mod RowLaws
 pub mod JuryLaws
 pub mod Reasons
-pub mod Outside
 pub mod Theorems
+pub mod Refusals
+pub mod RankLaws

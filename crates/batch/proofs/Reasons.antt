@@ -1,7 +1,7 @@
 -- The reasons of a run for 64 juries: what their order answers, and what is known where none applies.
 -- Assumes nothing.
 use mathlib.Core.Path.{_≡_, _∙_, refl, sym, ap}
-use mathlib.Core.Bool.{Bool, true, false}
+use mathlib.Core.Bool.{Bool, true, false, cond}
 use mathlib.Core.Option.{Option, none, some}
 use mathlib.Core.List.{List, [], _∷_, _++_}
 use Prim.Native.Nat.{ℕ, _+_, _*_, _<_}
@@ -17,17 +17,18 @@ use Rattle.gates.specs.declared.place.Place.{Place}
 use Rattle.gates.specs.declared.place.Place.the-variants.{At, Nowhere}
 use Rattle.gates.proofs.Evaluating.{accepted-list}
 use Rattle.jury.specs.declared.shape.Shape.{Shape}
-use Rattle.jury.specs.Shape.{ballotBytes}
+use Rattle.jury.specs.Shape.{isRanking, ballotBytes}
 use Rattle.jury.specs.Reason.{Reason, unless, foundAt, firstOf}
-use Rattle.jury.specs.Ballots.{rowsOf, firstBadRow}
+use Rattle.jury.specs.Ballots.{rowsOf, firstBadRow, gradedReasons, rankedReasons}
+use Rattle.jury.specs.Rankings.{firstOver, firstClash, firstGap}
+use Rattle.jury.proofs.BallotLaws.{kindReason}
 use Rattle.jury.proofs.Searches.{none-first, first-none}
 use Rattle.tally.specs.Answer.{refused, said, Size, sizeOf}
 use Rattle.tally.specs.Test.{testReasons, testSaid}
-use Rattle.tally.specs.Run.{Ran}
 use Rattle.tally.proofs.TestReasons.{orElse, first-append, TestPassed, test-passed}
 use Rattle.tally.proofs.RunReasons.{firstOfThree, said-refused}
 use Rattle.lanes.specs.Lane.{laneCount, laneOf}
-use Rattle.batch.specs.Ballots.{inJury, firstJury, wordBallotReasons}
+use Rattle.batch.specs.Ballots.{inJury, firstJury, wordGradedReasons, wordRankedReasons, wordBallotReasons}
 use Rattle.batch.specs.Run.{wordLentReasons, batchReasons, batchAfter, batchRan}
 
 -- the tests 7, 9 and 10, from their outcomes
@@ -70,21 +71,43 @@ module _ (i k : ℕ) (size : Size) (tape wires board : List ℕ) where
       lent-by true true true (eq-eqb (length tape) (size .conditional) (l .tapeLength)) (eq-eqb (length wires) (i + size .gates) (l .wiresLength))
       (eq-eqb (length board) (size .conditional + k) (l .boardLength))
 
--- the tests 4 and 6, from their outcomes
-unfoldable pub ballotsFound : Bool → Place → Option Reason
-ballotsFound size row = firstOf (unless size 4 ∷ foundAt 6 row ∷ [])
-
-ballots-outcome : (t : Bool) (p : Place) → ballotsFound t p ≡ none → (t ≡ true) × (p ≡ Nowhere)
-unfolding ballotsFound unless foundAt firstOf
-ballots-outcome false p e = let z : _≡_ {A = ℕ} 0 1 = cc in absurd (omega arith)
-ballots-outcome true (At j) e = let z : _≡_ {A = ℕ} 0 1 = cc in absurd (omega arith)
-ballots-outcome true Nowhere e = (refl, refl)
-
--- the test 6 of one jury
+-- the tests of one jury
 abbrev pub badRow : Shape → List ℕ → Place
 badRow s xs = firstBadRow 0 (rowsOf (s .grades) (s .ballots * s .candidates) xs)
 
-in-no-jury : (j : ℕ) (p : Place) → inJury j p ≡ Nowhere → p ≡ Nowhere
+abbrev pub clash : Shape → List ℕ → Place
+clash s = firstClash (s .candidates) (s .ballots)
+
+abbrev pub gap : Shape → List ℕ → Place
+gap s = firstGap (s .candidates) (s .ballots)
+
+-- the tests of the kind of the shape, from their outcomes
+unfoldable pub kindFound : Bool → Place → Place → Place → Option Reason
+kindFound ranking row clash gap = firstOf (cond ranking (foundAt 11 clash ∷ foundAt 12 gap ∷ []) (foundAt 6 row ∷ []))
+
+-- those of them that are made find nothing
+unfoldable pub Clear : Bool → Place → Place → Place → Type 0
+Clear true row clash gap = (clash ≡ Nowhere) × (gap ≡ Nowhere)
+Clear false row clash gap = row ≡ Nowhere
+
+kind-clear : (t : Bool) (p c g : Place) → kindFound t p c g ≡ none → Clear t p c g
+unfolding kindFound Clear foundAt firstOf
+kind-clear true p (At i) g e = let z : _≡_ {A = ℕ} 0 1 = cc in absurd (omega arith)
+kind-clear true p Nowhere (At i) e = let z : _≡_ {A = ℕ} 0 1 = cc in absurd (omega arith)
+kind-clear true p Nowhere Nowhere e = (refl, refl)
+kind-clear false (At i) c g e = let z : _≡_ {A = ℕ} 0 1 = cc in absurd (omega arith)
+kind-clear false Nowhere c g e = refl
+
+clear-kind : (t : Bool) (p c g : Place) → Clear t p c g → kindFound t p c g ≡ none
+unfolding kindFound Clear foundAt firstOf
+clear-kind true p c g h = ap (λ (q : Place). kindFound true p q g) (h .0) ∙ ap (kindFound true p Nowhere) (h .1)
+clear-kind false p c g h = ap (λ (q : Place). kindFound false q c g) h
+
+-- the first jury of a search
+abbrev pub over : (ℕ → Place) → Place
+over f = firstOver laneCount (λ j. inJury j (f j))
+
+pub in-no-jury : (j : ℕ) (p : Place) → inJury j p ≡ Nowhere → p ≡ Nowhere
 unfolding inJury
 in-no-jury j (At i) e = let z : _≡_ {A = ℕ} 0 1 = cc in absurd (omega arith)
 in-no-jury j Nowhere e = refl
@@ -93,30 +116,101 @@ not-in-jury : (j : ℕ) (p : Place) → p ≡ Nowhere → inJury j p ≡ Nowhere
 unfolding inJury
 not-in-jury j p e = ap (inJury j) e
 
+pub none-over : (f : ℕ → Place) → over f ≡ Nowhere → (j : ℕ) → j < laneCount → f j ≡ Nowhere
+none-over f e j h = in-no-jury j (f j) (none-first (λ j. inJury j (f j)) laneCount e j h)
+
+over-none : (f : ℕ → Place) → ((j : ℕ) → j < laneCount → f j ≡ Nowhere) → over f ≡ Nowhere
+over-none f e = first-none (λ j. inJury j (f j)) laneCount (λ j h. not-in-jury j (f j) (e j h))
+
+-- the tests over all juries find nothing where those of each jury find nothing
+pub none-in-juries : (t : Bool) (p c g : ℕ → Place) → kindFound t (over p) (over c) (over g) ≡ none → (j : ℕ) → j < laneCount → kindFound t (p j) (c j) (g j) ≡ none
+unfolding Clear
+none-in-juries t p c g e j h = clear-kind t (p j) (c j) (g j) (each t (kind-clear t (over p) (over c) (over g) e))
+  where
+    each : (t : Bool) → Clear t (over p) (over c) (over g) → Clear t (p j) (c j) (g j)
+    each true q = (none-over c (q .0) j h, none-over g (q .1) j h)
+    each false q = none-over p q j h
+
+juries-none : (t : Bool) (p c g : ℕ → Place) → ((j : ℕ) → j < laneCount → kindFound t (p j) (c j) (g j) ≡ none) → kindFound t (over p) (over c) (over g) ≡ none
+unfolding Clear
+juries-none t p c g e = clear-kind t (over p) (over c) (over g) (all t (λ j h. kind-clear t (p j) (c j) (g j) (e j h)))
+  where
+    all : (t : Bool) → ((j : ℕ) → j < laneCount → Clear t (p j) (c j) (g j)) → Clear t (over p) (over c) (over g)
+    all true q = (over-none c (λ j h. q j h .0), over-none g (λ j h. q j h .1))
+    all false q = over-none p q
+
+-- the test 4 and those of the kind, from their outcomes
+unfoldable pub ballotsFound : Bool → Option Reason → Option Reason
+ballotsFound size kind = firstOf (unless size 4 ∷ kind ∷ [])
+
+ballots-outcome : (t : Bool) (k : Option Reason) → ballotsFound t k ≡ none → (t ≡ true) × (k ≡ none)
+unfolding ballotsFound unless firstOf
+ballots-outcome false k e = let z : _≡_ {A = ℕ} 0 1 = cc in absurd (omega arith)
+ballots-outcome true (some r) e = let z : _≡_ {A = ℕ} 0 1 = cc in absurd (omega arith)
+ballots-outcome true none e = (refl, refl)
+
+pub found-kind : (k : Option Reason) → ballotsFound true k ≡ k
+unfolding ballotsFound unless firstOf
+found-kind none = refl
+found-kind (some r) = refl
+
+first-last : (t : Bool) (os : List (Option Reason)) → firstOf (unless t 4 ∷ os) ≡ ballotsFound t (firstOf os)
+unfolding ballotsFound unless firstOf
+first-last false os = refl
+first-last true [] = refl
+first-last true (none ∷ os) = first-last true os
+first-last true (some r ∷ os) = refl
+
+-- what the tests of one jury answer
+pub alone-kind : (s : Shape) (xs : List ℕ) → kindReason s xs ≡ kindFound (isRanking s) (badRow s xs) (clash s xs) (gap s xs)
+unfolding kindReason kindFound gradedReasons rankedReasons
+alone-kind s xs = refl
+
 module _ (s : Shape) (words : List ℕ) where
-  pub ballots-by : (t : Bool) (p : Place) → eqb (length words) (ballotBytes s) ≡ t → firstJury (badRow s) words ≡ p → firstOf (wordBallotReasons s words) ≡ ballotsFound t p
-  unfolding wordBallotReasons ballotsFound
-  ballots-by t p e f = ap (λ (b : Bool). firstOf (unless b 4 ∷ foundAt 6 (firstJury (badRow s) words) ∷ [])) e ∙ ap (λ (q : Place). firstOf (unless t 4 ∷ foundAt 6 q ∷ [])) f
+  -- what the tests of the kind answer, over all juries
+  pub wordKind : Option Reason
+  wordKind = firstOf (cond (isRanking s) (wordRankedReasons s words) (wordGradedReasons s words))
+
+  pub word-kind : wordKind ≡ kindFound (isRanking s) (over (λ j. badRow s (laneOf j words))) (over (λ j. clash s (laneOf j words))) (over (λ j. gap s (laneOf j words)))
+  unfolding wordKind kindFound wordGradedReasons wordRankedReasons firstJury
+  word-kind = refl
+
+  pub graded-kind : isRanking s ≡ false → wordKind ≡ firstOf (wordGradedReasons s words)
+  unfolding wordKind
+  graded-kind e = ap (λ (t : Bool). firstOf (cond t (wordRankedReasons s words) (wordGradedReasons s words))) e
+
+  pub ranked-kind : isRanking s ≡ true → wordKind ≡ firstOf (wordRankedReasons s words)
+  unfolding wordKind
+  ranked-kind e = ap (λ (t : Bool). firstOf (cond t (wordRankedReasons s words) (wordGradedReasons s words))) e
+
+  pub ballots-by : (t : Bool) → eqb (length words) (ballotBytes s) ≡ t → firstOf (wordBallotReasons s words) ≡ ballotsFound t wordKind
+  unfolding wordBallotReasons wordKind
+  ballots-by t e =
+      first-last (eqb (length words) (ballotBytes s)) (cond (isRanking s) (wordRankedReasons s words) (wordGradedReasons s words))
+      ∙ ap (λ (b : Bool). ballotsFound b (firstOf (cond (isRanking s) (wordRankedReasons s words) (wordGradedReasons s words)))) e
 
   pub record BallotsPassed : Type 0 where
     pub size : length words ≡ ballotBytes s
-    pub rows : (j : ℕ) → j < laneCount → badRow s (laneOf j words) ≡ Nowhere
+    pub kinds : (j : ℕ) → j < laneCount → kindReason s (laneOf j words) ≡ none
 
   ballots-passed : firstOf (wordBallotReasons s words) ≡ none → BallotsPassed
-  unfolding firstJury
   ballots-passed e =
       let t = eqb (length words) (ballotBytes s) in
-      let q = ballots-outcome t (firstJury (badRow s) words) (sym (ballots-by t (firstJury (badRow s) words) refl refl) ∙ e) in
+      let q = ballots-outcome t wordKind (sym (ballots-by t refl) ∙ e) in
       record {
         size = eqb-true (length words) (ballotBytes s) (q .0);
-        rows = λ j h. in-no-jury j (badRow s (laneOf j words)) (none-first (λ j. inJury j (badRow s (laneOf j words))) laneCount (q .1) j h);
+        kinds = λ j h.
+            alone-kind s (laneOf j words)
+            ∙ none-in-juries (isRanking s) (λ j. badRow s (laneOf j words)) (λ j. clash s (laneOf j words)) (λ j. gap s (laneOf j words)) (sym word-kind ∙ q .1) j h;
       }
 
   ballots-passed-back : BallotsPassed → firstOf (wordBallotReasons s words) ≡ none
-  unfolding firstJury ballotsFound unless foundAt firstOf
+  unfolding ballotsFound unless firstOf
   ballots-passed-back b =
-      ballots-by true Nowhere (eq-eqb (length words) (ballotBytes s) (b .size))
-      (first-none (λ j. inJury j (badRow s (laneOf j words))) laneCount (λ j h. not-in-jury j (badRow s (laneOf j words)) (b .rows j h)))
+      ballots-by true (eq-eqb (length words) (ballotBytes s) (b .size))
+      ∙ ap (ballotsFound true)
+      (word-kind
+      ∙ juries-none (isRanking s) (λ j. badRow s (laneOf j words)) (λ j. clash s (laneOf j words)) (λ j. gap s (laneOf j words)) (λ j h. sym (alone-kind s (laneOf j words)) ∙ b .kinds j h))
 
 three-passed : (a b c : Option Reason) → firstOfThree a b c ≡ none → (a ≡ none) × (b ≡ none) × (c ≡ none)
 unfolding firstOfThree orElse

@@ -1,33 +1,38 @@
 -- Each jury of a run for 64 has its single run, and with it the three demands.
 -- Assumes nothing.
 use mathlib.Core.Path.{_≡_, _∙_, refl, sym, ap, subst}
+use mathlib.Core.Bool.{Bool, true, false, cond}
 use mathlib.Core.Option.{Option, none, some}
 use mathlib.Core.Logic.{⊎-elim}
 use mathlib.Core.List.{List, [], _∷_, _++_}
-use Prim.Native.Nat.{ℕ, zero, suc, _+_, _-_, _*_, _%_, _≤_, _<_}
+use Prim.Native.Nat.{ℕ, _+_, _-_, _%_, _≤_, _<_}
 use native.Mathlib.Nat.{add-zero, mod-lt, zero-lt-suc}
 use native.Mathlib.Omega.{arith}
-use lib.ListN.{length, getD, take, drop, replicate, length-replicate}
+use lib.ListN.{length, getD, replicate, length-replicate}
 use lib.Seq.{getD-drop}
+use borrow.Author.Tests.{eq-eqb}
 use Rattle.gates.specs.Gate.{Gate, gatesOf}
-use Rattle.gates.specs.Wires.{wire, wiresOf, outputsOf}
-use Rattle.gates.specs.Board.{conditionalCount, boardOf, Bits, MaskTape}
+use Rattle.gates.specs.Wires.{wire, wiresOf}
+use Rattle.gates.specs.Board.{conditionalCount, boardOf, Bits}
 use Rattle.gates.specs.Hiding.{Finished}
 use Rattle.gates.proofs.WireLaws.{length-wires}
 use Rattle.gates.proofs.Evaluating.{accepted-list}
 use Rattle.gates.proofs.Laws.{AllGood, all-good, wires-bits, wire-bit, output-is}
-use Rattle.gates.proofs.Hiding.{board-finished}
+use Rattle.gates.specs.declared.place.Place.the-variants.{Nowhere}
+use Rattle.gates.proofs.Hiding.{board-finished, none-above}
 use Rattle.jury.specs.declared.shape.Shape.{Shape}
-use Rattle.jury.specs.Shape.{ballotBytes}
+use Rattle.jury.specs.Shape.{isRanking, ballotBytes}
 use Rattle.jury.specs.Reason.{Reason, reasonAt, firstOf}
-use Rattle.jury.specs.Accepted.{AcceptedBallots}
-use Rattle.jury.proofs.AcceptedLaws.{all-rows, all-rows-back}
+use Rattle.jury.specs.Ballots.{ballotReasons}
+use Rattle.jury.proofs.BallotLaws.{kindReason, judged-by, judged-kind}
+use Rattle.jury.proofs.AcceptedLaws.{accepted-back}
+use Rattle.jury.proofs.AcceptedLaws as ballots-laws
 use Rattle.jury.proofs.Cases.{below-or-not}
-use Rattle.tally.specs.Answer.{Said, refused, accepted, hasNumberIn, Size, sizeOf}
+use Rattle.tally.specs.Answer.{refused, accepted, hasNumberIn, Size, sizeOf}
 use Rattle.tally.specs.Test.{testReasons}
-use Rattle.tally.specs.Run.{Ran, ran}
+use Rattle.tally.specs.Run.{Ran}
 use Rattle.tally.specs.Hiding.{closingBytes}
-use Rattle.tally.specs.Demands.{Accuracy, listIn}
+use Rattle.tally.specs.Demands.{listIn}
 use Rattle.tally.proofs.TestReasons.{never}
 use Rattle.tally.proofs.RunReasons.{RunPassed, run-passed}
 use Rattle.tally.proofs.Hiding.{ran-accepted, run-answer, run-wires, run-board, board-tells-no-more}
@@ -35,7 +40,7 @@ use Rattle.tally.proofs.Demands.{three-demands}
 use Rattle.tally.proofs.Numbering.{Fine, All, FineSaid, first-fine, both, unless-fine, found-fine, list-fine, refused-fine}
 use Rattle.lanes.specs.Lane.{laneCount, laneOf, wordsOf}
 use Rattle.lanes.proofs.ListLaws.{lanes-length, lanes-bits, lanes-zeros, lanes-of-words, length-words}
-use Rattle.batch.specs.Ballots.{wordBallotReasons}
+use Rattle.batch.specs.Ballots.{wordGradedReasons, wordRankedReasons, wordBallotReasons}
 use Rattle.batch.specs.Run.{wordLentReasons, batchReasons, batchAfter, batchRan}
 use Rattle.batch.specs.Theorems.{ranAlone, EachAsAlone, AcceptedAsAll, BatchMemory, BatchAccuracy, BatchHiding}
 use Rattle.batch.proofs.Reasons.{BatchPassed, batch-passed, batch-passed-back, batch-by}
@@ -68,6 +73,11 @@ board-bits ws gs k tape good bits enough l x = ⊎-elim shown closing (below-or-
         ∙ output-is k (wiresOf ws gs) (x - c) in
         omega (arith, e, wire-bit (wiresOf ws gs) (wires-bits ws gs good bits) (length (wiresOf ws gs) - k + (x - c)))
 
+-- of bits of the right length, only the tests of the kind decide
+by-kind : (s : Shape) (xs : List ℕ) → length xs ≡ ballotBytes s → ((i : ℕ) → getD xs i 0 ≤ 1) → firstOf (ballotReasons s xs) ≡ kindReason s xs
+by-kind s xs size bits =
+    judged-by s xs true Nowhere (kindReason s xs) (eq-eqb (length xs) (ballotBytes s) size) (none-above 0 xs bits) refl ∙ judged-kind (kindReason s xs)
+
 module _ (s : Shape) (table ballots tape wires board : List ℕ) where
   -- a call that answers G and C is one to which no reason applies, and these are the list's own
   answered : (size : Size) (o : Option Reason) → firstOf (batchReasons s table ballots tape wires board) ≡ o
@@ -89,12 +99,8 @@ module _ (s : Shape) (table ballots tape wires board : List ℕ) where
     alone-passed j h =
         record {
           test = p .test;
-          ballotsPassed = record {
-            within = p .test .within;
-            size = lanes-length j ballots ∙ p .ballotsPassed .size;
-            bits = lanes-bits j ballots;
-            rows = all-rows (s .grades) (s .ballots * s .candidates) (laneOf j ballots) 0 (p .ballotsPassed .rows j h);
-          };
+          ballotsPassed = ballots-laws.accepted s (laneOf j ballots) (p .test .within)
+              (by-kind s (laneOf j ballots) (lanes-length j ballots ∙ p .ballotsPassed .size) (lanes-bits j ballots) ∙ p .ballotsPassed .kinds j h);
           mask = record { size = lanes-length j tape ∙ p .tapeLength; bits = lanes-bits j tape };
           wiresLength = lanes-length j wires ∙ p .wiresLength;
           boardLength = lanes-length j board ∙ p .boardLength;
@@ -170,7 +176,9 @@ accepted-as-all s table ballots tape wires board size e =
           test = q .test;
           ballotsPassed = record {
             size = sym (lanes-length 0 ballots) ∙ q .ballotsPassed .size;
-            rows = λ j h. all-rows-back (s .grades) (s .ballots * s .candidates) (laneOf j ballots) 0 (alone j h .ballotsPassed .rows);
+            kinds = λ j h.
+                let b = alone j h .ballotsPassed in
+                sym (by-kind s (laneOf j ballots) (b .size) (b .bits)) ∙ accepted-back s (laneOf j ballots) b;
           };
           tapeLength = sym (lanes-length 0 tape) ∙ q .mask .size;
           wiresLength = sym (lanes-length 0 wires) ∙ q .wiresLength;
@@ -179,7 +187,12 @@ accepted-as-all s table ballots tape wires board size e =
 
 -- the numbers of the reasons that concern the call
 concerned : List ℕ
-concerned = 1 ∷ 2 ∷ 3 ∷ 4 ∷ 6 ∷ 7 ∷ 9 ∷ 10 ∷ []
+concerned = 1 ∷ 2 ∷ 3 ∷ 4 ∷ 6 ∷ 11 ∷ 12 ∷ 7 ∷ 9 ∷ 10 ∷ []
+
+kinds-concern : (s : Shape) (words : List ℕ) (ranking : Bool) → All concerned (cond ranking (wordRankedReasons s words) (wordGradedReasons s words))
+unfolding All wordRankedReasons wordGradedReasons hasNumberIn reasonAt concerned
+kinds-concern s words true = (found-fine concerned 11 _ (λ i. tt), (found-fine concerned 12 _ (λ i. tt), tt))
+kinds-concern s words false = (found-fine concerned 6 _ (λ i. tt), tt)
 
 all-concern : (s : Shape) (table ballots tape wires board : List ℕ) → All concerned (batchReasons s table ballots tape wires board)
 unfolding batchReasons All testReasons wordBallotReasons wordLentReasons hasNumberIn reasonAt concerned
@@ -187,7 +200,7 @@ all-concern s table ballots tape wires board =
     both concerned (testReasons s table ++ wordBallotReasons s ballots) (wordLentReasons (ballotBytes s) (s .candidates) (sizeOf (gatesOf table)) tape wires board)
     (both concerned (testReasons s table) (wordBallotReasons s ballots)
     (unless-fine concerned _ 1 tt, (list-fine concerned _ tt (λ g. tt), tt))
-    (unless-fine concerned _ 4 tt, (found-fine concerned 6 _ (λ i. tt), tt)))
+    (unless-fine concerned _ 4 tt, kinds-concern s ballots (isRanking s)))
     (unless-fine concerned _ 7 tt, (unless-fine concerned _ 9 tt, (unless-fine concerned _ 10 tt, tt)))
 
 after-fine : (o : Option Reason) (s : Shape) (gs : List Gate) (ballots tape wires board : List ℕ) → Fine concerned o → FineSaid concerned (batchAfter o s gs ballots tape wires board .answer)

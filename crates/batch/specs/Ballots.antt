@@ -8,10 +8,10 @@ use lib.ListN.{length}
 use Rattle.gates.specs.declared.place.Place.{Place}
 use Rattle.gates.specs.declared.place.Place.the-variants.{At, Nowhere}
 use Rattle.jury.specs.declared.shape.Shape.{Shape}
-use Rattle.jury.specs.Shape.{ballotBytes}
+use Rattle.jury.specs.Shape.{isRanking, ballotBytes}
 use Rattle.jury.specs.Reason.{Reason, unless, foundAt}
 use Rattle.jury.specs.Ballots.{rowsOf, firstBadRow}
-use Rattle.jury.specs.Rankings.{firstOver}
+use Rattle.jury.specs.Rankings.{firstOver, firstClash, firstGap}
 use Rattle.lanes.specs.Lane.{laneCount, lane, laneOf}
 
 -- The jury in place of what was found in it.
@@ -23,12 +23,19 @@ inJury j Nowhere = Nowhere
 unfoldable pub firstJury : (List ℕ → Place) → List ℕ → Place
 firstJury search words = firstOver laneCount (λ j. inJury j (search (laneOf j words)))
 
--- The tests of the ballots in checking order: 4, which counts words, and then, over all juries, the test 6 of a single run. A bit is never above 1, so 5 does not concern words (request 2.11).
+-- What graded ballots must say, over all juries: 6.
+unfoldable pub wordGradedReasons : Shape → List ℕ → List (Option Reason)
+wordGradedReasons s words = foundAt 6 (firstJury (λ xs. firstBadRow 0 (rowsOf (s .grades) (s .ballots * s .candidates) xs)) words) ∷ []
+
+-- What rankings must say: 11 over all juries, then 12.
+unfoldable pub wordRankedReasons : Shape → List ℕ → List (Option Reason)
+wordRankedReasons s words = foundAt 11 (firstJury (firstClash (s .candidates) (s .ballots)) words) ∷ foundAt 12 (firstJury (firstGap (s .candidates) (s .ballots)) words) ∷ []
+
+-- The tests of the ballots in checking order: 4, which counts words, and then those of the kind of the shape. A bit is never above 1, so 5 does not concern words (request 2.11).
 unfoldable pub wordBallotReasons : Shape → List ℕ → List (Option Reason)
 wordBallotReasons s words =
     unless (eqb (length words) (ballotBytes s)) 4
-    ∷ foundAt 6 (firstJury (λ xs. firstBadRow 0 (rowsOf (s .grades) (s .ballots * s .candidates) xs)) words)
-    ∷ []
+    ∷ cond (isRanking s) (wordRankedReasons s words) (wordGradedReasons s words)
 
 -- For the inner functions: whether something was found, as a bit, and the first lane of a word that is 1.
 unfoldable pub foundBit : Place → ℕ

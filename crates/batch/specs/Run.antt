@@ -24,7 +24,7 @@ wordLentReasons i k size tape wires board =
     ∷ unless (eqb (length board) (size .conditional + k)) 10
     ∷ []
 
--- All reasons in checking order: 1, 2, 3, 4, 6, 7, 9, 10.
+-- All reasons in checking order: 1, 2, 3, 4, then 6 or, of rankings, 11 and 12, then 7, 9, 10.
 unfoldable pub batchReasons : Shape → List ℕ → List ℕ → List ℕ → List ℕ → List ℕ → List (Option Reason)
 batchReasons s table ballots tape wires board =
     testReasons s table ++ wordBallotReasons s ballots ++ wordLentReasons (ballotBytes s) (s .candidates) (sizeOf (gatesOf table)) tape wires board

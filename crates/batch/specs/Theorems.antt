@@ -1,16 +1,15 @@
 -- What holds of a run for 64 juries: each jury has its single run, so the three demands hold jury by jury.
 use mathlib.Core.Path.{_≡_}
-use mathlib.Core.Logic.{_≢_, _↔_}
+use mathlib.Core.Bool.{Bool, true, false}
+use mathlib.Core.Logic.{_↔_}
 use mathlib.Core.List.{List, [], _∷_}
 use Prim.Native.Nat.{ℕ, _<_}
 use lib.Dec.{T}
 use lib.ListN.{length, getD, take, replicate}
-use Rattle.gates.specs.Gate.{gatesOf}
 use Rattle.jury.specs.declared.shape.Shape.{Shape}
 use Rattle.jury.specs.Reason.{Reason, reasonAt}
-use Rattle.jury.specs.Counts.{countsOf}
-use Rattle.judgment.specs.Winner.{Wins}
-use Rattle.tally.specs.Answer.{refused, accepted, hasNumberIn, Size, sizeOf}
+use Rattle.tally.specs.Answer.{refused, accepted, hasNumberIn, Size}
+use Rattle.tally.specs.Rule.{Wins}
 use Rattle.tally.specs.Count.{plainClosing}
 use Rattle.tally.specs.Write.{writeSaid}
 use Rattle.tally.specs.Run.{Ran, ran}
@@ -37,10 +36,28 @@ AcceptedAsAll =
     (s : Shape) (table ballots tape wires board : List ℕ) (size : Size) → ((j : ℕ) → j < laneCount → ranAlone j s table ballots tape wires board .answer ≡ accepted size)
     → batchRan s table ballots tape wires board .answer ≡ accepted size
 
+-- The reasons that look at what the ballots say: their place is a jury.
+unfoldable pub isOfBallots : Reason → Bool
+isOfBallots = hasNumberIn (6 ∷ 11 ∷ 12 ∷ [])
+
+-- A call that is refused for another reason than these is refused as every single run is.
+abbrev pub RefusedAsAlone : Type 0
+RefusedAsAlone =
+    (s : Shape) (table ballots tape wires board : List ℕ) (r : Reason) → batchRan s table ballots tape wires board .answer ≡ refused r → isOfBallots r ≡ false → (j : ℕ) → j < laneCount
+    → ranAlone j s table ballots tape wires board .answer ≡ refused r
+
+-- One that is refused for one of them has as its place a jury whose single run is refused for the same reason, and no jury before it is.
+abbrev pub FaultAsAlone : Type 0
+FaultAsAlone =
+    (s : Shape) (table ballots tape wires board : List ℕ) (r : Reason) → batchRan s table ballots tape wires board .answer ≡ refused r → isOfBallots r ≡ true
+    → (r .place < laneCount)
+    × ((place : ℕ) × (ranAlone (r .place) s table ballots tape wires board .answer ≡ refused (reasonAt (r .number) place)))
+    × ((j place : ℕ) → j < r .place → ranAlone j s table ballots tape wires board .answer ≡ refused (reasonAt (r .number) place) → ⊥)
+
 -- Demand 1: a refusal has the number of a reason that concerns the call and alters no lent word, an accepted call leaves a wire table of zeros, and no call changes a length.
 pub record BatchMemory : Type 0 where
   pub number : (s : Shape) (table ballots tape wires board : List ℕ) (r : Reason) → batchRan s table ballots tape wires board .answer ≡ refused r
-      → T (hasNumberIn (1 ∷ 2 ∷ 3 ∷ 4 ∷ 6 ∷ 7 ∷ 9 ∷ 10 ∷ []) r)
+      → T (hasNumberIn (1 ∷ 2 ∷ 3 ∷ 4 ∷ 6 ∷ 11 ∷ 12 ∷ 7 ∷ 9 ∷ 10 ∷ []) r)
   pub refusal : (s : Shape) (table ballots tape wires board : List ℕ) (r : Reason) → batchRan s table ballots tape wires board .answer ≡ refused r
       → (batchRan s table ballots tape wires board .wires ≡ wires) × (batchRan s table ballots tape wires board .board ≡ board)
   pub empties : (s : Shape) (table ballots tape wires board : List ℕ) (size : Size) → batchRan s table ballots tape wires board .answer ≡ accepted size
@@ -48,13 +65,13 @@ pub record BatchMemory : Type 0 where
   pub lengths : (s : Shape) (table ballots tape wires board : List ℕ)
       → (length (batchRan s table ballots tape wires board .wires) ≡ length wires) × (length (batchRan s table ballots tape wires board .board) ≡ length board)
 
--- Demand 2: with the list that the core writes for a shape, a jury's closing bytes are those of its plain count, and say who wins in that jury.
+-- Demand 2: with the list that the core writes for a shape, a jury's closing bytes are those of its plain count, and say who wins in that jury by the rule of the shape's kind.
 abbrev pub BatchAccuracy : Type 0
 BatchAccuracy =
     (s : Shape) (table : List ℕ) (size : Size) → writeSaid s table ≡ accepted size
     → (ballots tape wires board : List ℕ) (answer : Size) → batchRan s (listIn s size table) ballots tape wires board .answer ≡ accepted answer → (j : ℕ) → j < laneCount
     → (closingBytes s (laneOf j (batchRan s (listIn s size table) ballots tape wires board .board)) ≡ take (s .candidates) (plainClosing s (laneOf j ballots)))
-    × ((i : ℕ) → i < s .candidates → (getD (closingBytes s (laneOf j (batchRan s (listIn s size table) ballots tape wires board .board))) i 0 ≡ 1) ↔ Wins (countsOf s (laneOf j ballots)) i)
+    × ((i : ℕ) → i < s .candidates → (getD (closingBytes s (laneOf j (batchRan s (listIn s size table) ballots tape wires board .board))) i 0 ≡ 1) ↔ Wins s (laneOf j ballots) i)
 
 -- Demand 3: any jury i of one accepted call and any jury j of another, of one shape and one list, that end with the same closing bytes show the same of their ballots; the calls may be the same.
 abbrev pub BatchHiding : Type 0

@@ -9,16 +9,16 @@ ghost use mathlib.Core.Bool.{cond};
 ghost use Prim.Native.Nat.{ℕ, _*_, _<_};
 ghost use lib.Dec.{T, eqb};
 ghost use lib.ListN.{length};
-ghost use Rattle.jury.specs.Shape.{withinLimits};
+ghost use Rattle.jury.specs.Shape.{gradedLimits, withinLimits};
 ghost use Rattle.jury.specs.Reason.{refusedFor, firstOf};
 ghost use Rattle.jury.specs.Ballots.{ones, rowsOf, firstBadRow};
 ghost use Rattle.lanes.specs.Lane.{laneCount, lane, laneOf};
-ghost use Rattle.batch.specs.Ballots.{foundBit, firstSet, wordBallotReasons};
+ghost use Rattle.batch.specs.Ballots.{foundBit, firstSet, wordGradedReasons, wordRankedReasons, wordBallotReasons};
 
 // How many juries a word serves.
 const JURIES: u32 = 64;
 
-// Reasons 4 and 6, in this order. What a shape asks of its rows is chosen here and nowhere else.
+// Reason 4, then those of the kind of the shape.
 pub fn test(shape: Shape, ballots: &[u64]) -> Verdict
     requires { ⌜ T (withinLimits shape) ⌝ }
     ensures { λ r. ⌜ refusedFor r ≡ firstOf (wordBallotReasons shape (now (ballots .entry))) ⌝ }
@@ -26,6 +26,18 @@ pub fn test(shape: Shape, ballots: &[u64]) -> Verdict
     if ballots.len() != shape.ballot_bytes() {
         return Verdict::Refused(Refusal::BallotsLength);
     }
+    if shape.is_ranking() {
+        test_rankings(shape, ballots)
+    } else {
+        test_grades(shape, ballots)
+    }
+}
+
+// Reason 6.
+fn test_grades(shape: Shape, ballots: &[u64]) -> Verdict
+    requires { ⌜ T (gradedLimits shape) × (length (now ballots) ≡ shape .ballots * shape .candidates * shape .grades) ⌝ }
+    ensures { λ r. ⌜ refusedFor r ≡ firstOf (wordGradedReasons shape (now (ballots .entry))) ⌝ }
+{
     let faults = bad_rows(ballots, shape.grades, shape.ballots * shape.candidates);
     match first_jury(faults) {
         Place::At(j) => Verdict::Refused(Refusal::BallotRow(j)),
@@ -33,7 +45,23 @@ pub fn test(shape: Shape, ballots: &[u64]) -> Verdict
     }
 }
 
-// The juries in which one of so many rows of d words does not hold exactly one 1.
+// Reasons 11 and 12: 11 looks at all juries before 12 begins.
+fn test_rankings(shape: Shape, ballots: &[u64]) -> Verdict
+    requires { ⌜ length (now ballots) ≡ shape .ballots * shape .candidates * shape .candidates ⌝ }
+    ensures { λ r. ⌜ refusedFor r ≡ firstOf (wordRankedReasons shape (now (ballots .entry))) ⌝ }
+{
+    let clashes = crate::rankings::clashes(ballots, shape.candidates, shape.ballots);
+    if let Place::At(j) = first_jury(clashes) {
+        return Verdict::Refused(Refusal::BallotClash(j));
+    }
+    let gaps = crate::rankings::gaps(ballots, shape.candidates, shape.ballots);
+    match first_jury(gaps) {
+        Place::At(j) => Verdict::Refused(Refusal::BallotGap(j)),
+        Place::Nowhere => Verdict::Accepted,
+    }
+}
+
+// The juries that have, among so many rows of d words, a row without a 1 or with several.
 fn bad_rows(words: &[u64], d: usize, rows: usize) -> u64
     requires { ⌜ length (now words) ≡ rows * d ⌝ }
     ensures { λ r. ⌜ ((j : ℕ) → j < laneCount → lane j r ≡ foundBit (firstBadRow 0 (rowsOf d rows (laneOf j (now (words .entry)))))) ⌝ }
@@ -50,7 +78,7 @@ fn bad_rows(words: &[u64], d: usize, rows: usize) -> u64
     faults
 }
 
-// The juries in which a row does not hold exactly one 1: those that had no 1, and those that had a second one.
+// The juries to which this row is a fault: those that had no 1 in it, and those that had a second one.
 fn bad_row(words: &[u64]) -> u64
     ensures { λ r. ⌜ ((j : ℕ) → j < laneCount → lane j r ≡ cond (eqb (ones (laneOf j (now (words .entry)))) 1) 0 1) ⌝ }
 {

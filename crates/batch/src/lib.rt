@@ -1,3 +1,4 @@
-// The entry point that runs one list on 64 juries of one shape at once.
+// The entry point that serves 64 juries of a shape in one call.
 pub mod ballots;
+pub mod rankings;
 pub mod run;

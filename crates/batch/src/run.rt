@@ -34,7 +34,7 @@ fn test_lent(
     Verdict::Accepted
 }
 
-// Reasons 1, 2, 3, 4, 6, 7, 9 and 10.
+// Reasons 1, 2, 3, 4, then 6 or 11 and 12, then 7, 9 and 10.
 fn test_run(
     shape: Shape,
     table: &[u32],

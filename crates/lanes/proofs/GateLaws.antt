@@ -1,9 +1,9 @@
 -- One gate in all lanes: what its word does to the lanes of the wire table, and its shown word to those of the board.
 -- Assumes nothing.
-use mathlib.Core.Path.{_≡_, _∙_, refl, sym, ap, subst}
+use mathlib.Core.Path.{_≡_, _∙_, sym, ap, subst}
 use mathlib.Core.Bool.{Bool, true, false, cond}
 use mathlib.Core.List.{List, [], _∷_}
-use Prim.Native.Nat.{ℕ, _+_, _*_, _%_}
+use Prim.Native.Nat.{ℕ, _+_, _*_}
 use lib.Bits.{bitXor}
 use lib.Dec.{T}
 use lib.ListN.{getD, set}

@@ -1,13 +1,12 @@
 -- The step over words: in every lane, what is left of the range makes what the whole range makes there.
 -- Assumes nothing.
-use mathlib.Core.Path.{_≡_, _∙_, sym}
+use mathlib.Core.Path.{_≡_, _∙_}
 use mathlib.Core.Bool.{cond}
 use mathlib.Core.List.{List, [], _∷_}
 use Prim.Native.Nat.{ℕ, suc, _+_, _≤_, _<_}
 use native.Mathlib.Omega.{arith}
 use lib.ListN.{length, getD, set}
 use Rattle.gates.specs.Kind.{conditionalOf}
-use Rattle.gates.specs.Gate.{gatesOf}
 use Rattle.gates.specs.Wires.{value}
 use Rattle.gates.specs.Board.{conditionalCount, shownBit}
 use Rattle.gates.specs.Step.{StepReady, GateReady, rangeOf, stepWires, stepBoard, gateAt}

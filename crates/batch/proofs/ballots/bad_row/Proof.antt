@@ -1,11 +1,11 @@
 -- `batch::ballots::bad_row` meets its contract: after i words, `once` and `twice` say of each lane whether it had a 1 and whether it had a second one.
 -- Assumes nothing.
-use mathlib.Core.Path.{_≡_, _∙_, sym, ap, subst}
-use Prim.Native.Nat.{ℕ, _+_, _-_, _≤_, _<_}
+use mathlib.Core.Path.{sym, ap, subst}
+use Prim.Native.Nat.{ℕ, _-_, _≤_, _<_}
 use native.Mathlib.Numerals.{add-one}
 use native.Mathlib.Omega.{arith}
 use lib.Bits.{bitAnd, bitOr}
-use lib.ListN.{length, getD, drop, drop-of-length-le}
+use lib.ListN.{length, getD, drop-of-length-le}
 use Rattle.jury.specs.Ballots.{ones}
 use Rattle.lanes.specs.Lane.{laneCount, laneOf}
 use Rattle.lanes.proofs.ListLaws.{lanes-length}

@@ -80,10 +80,10 @@ row-says c =
     let at = c .before .before .before in
     let a = at .before .before .args in
     λ j h.
-        c .bad-row .ensures j h
-        ∙ ap (λ (l : List ℕ). cond {A = ℕ} (eqb (ones l) 1) 0 1)
-        (ap (λ (n : ℕ). laneOf j (take n (drop (at .loop .at) (a .words .now)))) (add-sub-cancel-left (at .loop .at) (a .d))
-        ∙ lanes-take j (a .d) (drop (at .loop .at) (a .words .now)) ∙ ap (take (a .d)) (lanes-drop j (at .loop .at) (a .words .now)))
+    c .bad-row .ensures j h
+    ∙ ap (λ (l : List ℕ). cond {A = ℕ} (eqb (ones l) 1) 0 1)
+    (ap (λ (n : ℕ). laneOf j (take n (drop (at .loop .at) (a .words .now)))) (add-sub-cancel-left (at .loop .at) (a .d))
+    ∙ lanes-take j (a .d) (drop (at .loop .at) (a .words .now)) ∙ ap (take (a .d)) (lanes-drop j (at .loop .at) (a .words .now)))
 
 loop-again : tie.Need-loop-again Inv-loop μ-loop
 loop-again c =
@@ -110,10 +110,10 @@ returns c =
     let at = c .before in
     let start = at .before .before in
     λ j h.
-        sym (max-zero (lane j (at .loop .faults)))
-        ∙ ap (λ (p : Place). max (lane j (at .loop .faults)) (foundBit p))
-        (sym (bad-end (start .args .d) (at .loop .row) (start .args .rows) (drop (at .loop .at) (laneOf j (start .args .words .now))) (omega arith)))
-        ∙ at .loop .inv .2 j h
+    sym (max-zero (lane j (at .loop .faults)))
+    ∙ ap (λ (p : Place). max (lane j (at .loop .faults)) (foundBit p))
+    (sym (bad-end (start .args .d) (at .loop .row) (start .args .rows) (drop (at .loop .at) (laneOf j (start .args .words .now))) (omega arith)))
+    ∙ at .loop .inv .2 j h
 
 pub bad-rows-spec : {M : Type 1} → statement M
 bad-rows-spec =

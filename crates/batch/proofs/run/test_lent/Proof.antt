@@ -1,8 +1,8 @@
 -- `batch::run::test_lent` meets its contract: each answer is the definition's at the outcomes of the tests that led there.
 -- Assumes nothing.
 use mathlib.Core.Path.{_≡_, _∙_, refl, sym, ap}
-use mathlib.Core.Bool.{Bool, true, false}
-use Prim.Native.Nat.{ℕ, _+_}
+use mathlib.Core.Bool.{true, false}
+use Prim.Native.Nat.{_+_}
 use native.Mathlib.Nat.{add-zero}
 use lib.Dec.{eqb}
 use lib.ListN.{length}

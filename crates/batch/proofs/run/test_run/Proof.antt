@@ -1,7 +1,6 @@
 -- `batch::run::test_run` meets its contract: the list is tested first, then the ballots, then what else is lent.
 -- Assumes nothing.
 use mathlib.Core.Path.{_≡_, _∙_, sym, ap}
-use mathlib.Core.Bool.{true}
 use mathlib.Core.Option.{Option, none, some}
 use Prim.Native.Nat.{ℕ}
 use borrow.Author.Needs.{needs}
@@ -11,7 +10,7 @@ use Rattle.jury.specs.Reason.{Reason, reasonOf, refusedFor, firstOf}
 use Rattle.batch.specs.Ballots.{wordBallotReasons}
 use Rattle.jury.proofs.Flags.{true-T}
 use Rattle.tally.specs.Answer.{Size, refused, said, saidBy, sizeOf}
-use Rattle.tally.specs.Test.{testReasons, testSaid}
+use Rattle.tally.specs.Test.{testSaid}
 use Rattle.batch.specs.Run.{wordLentReasons, batchReasons}
 use Rattle.tally.proofs.TestReasons.{TestPassed, test-passed}
 use Rattle.batch.proofs.Reasons.{by-test, by-ballots, by-lent}

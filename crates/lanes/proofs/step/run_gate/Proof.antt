@@ -1,11 +1,11 @@
 -- `lanes::step::run_gate` meets its contract: the gate's operands are wires that there are, and its mark says whether it shows a word.
 -- Assumes nothing.
-use mathlib.Core.Path.{_≡_, _∙_, refl, sym, ap}
-use mathlib.Core.Bool.{Bool, true, false, cond}
-use mathlib.Core.List.{List, [], _∷_}
+use mathlib.Core.Path.{_≡_, _∙_, ap}
+use mathlib.Core.Bool.{Bool, cond}
+use mathlib.Core.List.{[], _∷_}
 use Prim.Native.Nat.{ℕ, _+_, _*_}
 use native.Mathlib.Omega.{arith}
-use lib.ListN.{getD, set}
+use lib.ListN.{getD}
 use borrow.Author.Needs.{needs}
 use Rattle.gates.specs.Board.{conditionalCount}
 use Rattle.gates.specs.Step.{gateAt}

@@ -1,7 +1,7 @@
 -- `lanes::step::step` meets its contract: after each gate, what is left makes in every lane what the whole range makes there.
 -- Assumes nothing.
 use mathlib.Core.Path.{refl}
-use Prim.Native.Nat.{_+_, _-_}
+use Prim.Native.Nat.{_-_}
 use native.Mathlib.Numerals.{add-one}
 use native.Mathlib.Omega.{arith}
 use Rattle.lanes.proofs.Turning.{LanesLeft, lanes-start, gate-ready, lanes-turn, lanes-end}

@@ -1,0 +1,309 @@
+-- A refused call for 64 juries beside their single runs.
+-- Assumes nothing.
+use mathlib.Core.Path.{_≡_, _∙_, refl, sym, ap, subst}
+use mathlib.Core.Bool.{Bool, true, false, _||_, true≢false}
+use mathlib.Core.Logic.{_≢_}
+use mathlib.Core.Option.{Option, none, some}
+use mathlib.Core.List.{List}
+use Prim.Native.Nat.{ℕ, zero, suc, _+_, _<_}
+use native.Mathlib.Omega.{arith}
+use lib.Dec.{T, eqb}
+use lib.ListN.{length}
+use borrow.Author.Tests.{eqb-true}
+use Rattle.gates.specs.Gate.{gatesOf}
+use Rattle.gates.specs.declared.place.Place.{Place}
+use Rattle.gates.specs.declared.place.Place.the-variants.{At, Nowhere}
+use Rattle.gates.proofs.Hiding.{none-above}
+use Rattle.jury.specs.declared.shape.Shape.{Shape}
+use Rattle.jury.specs.Shape.{isRanking, ballotBytes}
+use Rattle.jury.specs.Reason.{Reason, reasonAt, unless, foundAt, firstOf}
+use Rattle.jury.specs.Rankings.{firstOver, orElse}
+use Rattle.jury.proofs.BallotLaws.{judged, kindReason, judged-by}
+use Rattle.jury.proofs.Searches.{none-first}
+use Rattle.tally.specs.Answer.{refused, said, hasNumberIn, sizeOf}
+use Rattle.tally.specs.Test.{testReasons, testSaid}
+use Rattle.tally.specs.Run.{Ran, lentReasons, runReasons, ranAfter}
+use Rattle.tally.proofs.TestReasons as test
+use Rattle.tally.proofs.RunReasons as single
+use Rattle.tally.proofs.Numbering as numbering
+use Rattle.lanes.specs.Lane.{laneCount, laneOf}
+use Rattle.lanes.proofs.ListLaws.{lanes-length, lanes-bits}
+use Rattle.batch.specs.Ballots.{inJury}
+use Rattle.batch.specs.Run.{wordLentReasons, batchReasons, batchAfter, batchRan}
+use Rattle.batch.specs.Theorems.{ranAlone, isOfBallots, RefusedAsAlone, FaultAsAlone}
+use Rattle.batch.proofs.Reasons.{in-no-jury, none-over, over, lentFound, lent-by, badRow, clash, gap, kindFound, none-in-juries, ballotsFound, alone-kind, wordKind, word-kind, ballots-by, batch-first, batch-by}
+
+-- the tests of what is lent, where no tape byte is above 1
+lent-bits : (t u v : Bool) → single.lentFound t Nowhere u v ≡ lentFound t u v
+unfolding single.lentFound lentFound unless foundAt firstOf
+lent-bits true u v = refl
+lent-bits false u v = refl
+
+-- the number of a reason that is there
+number-is : (n place : ℕ) (r : Reason) → some (reasonAt n place) ≡ some r → n ≡ r .number
+unfolding reasonAt
+number-is n place r e = let same : reasonAt n place ≡ r = cc in ap (λ (x : Reason). x .number) same
+
+place-is : (n place : ℕ) (r : Reason) → some (reasonAt n place) ≡ some r → At place ≡ At (r .place)
+unfolding reasonAt
+place-is n place r e = let same : reasonAt n place ≡ r = cc in ap (λ (x : Reason). At (x .place)) same
+
+-- no test of what is lent, and no test of a list, looks at what ballots say
+other : (n place : ℕ) (r : Reason) → isOfBallots (reasonAt n 0) ≡ false → some (reasonAt n place) ≡ some r → isOfBallots r ≡ false
+unfolding isOfBallots hasNumberIn reasonAt
+other n place r f e = ap (λ (m : ℕ). eqb m 6 || (eqb m 11 || (eqb m 12 || false))) (sym (number-is n place r e)) ∙ f
+
+lent-other : (t u v : Bool) (r : Reason) → lentFound t u v ≡ some r → isOfBallots r ≡ false
+unfolding lentFound unless firstOf isOfBallots hasNumberIn reasonAt
+lent-other false u v r e = other 7 0 r refl e
+lent-other true false v r e = other 9 0 r refl e
+lent-other true true false r e = other 10 0 r refl e
+lent-other true true true r e = let z : _≡_ {A = ℕ} 0 1 = cc in absurd (omega arith)
+
+abbrev OneToThree : ℕ → Type 0
+OneToThree m = T (eqb m 1 || (eqb m 2 || (eqb m 3 || false)))
+
+small-other : (m : ℕ) (a b c : Bool) → eqb m 6 ≡ a → eqb m 11 ≡ b → eqb m 12 ≡ c → OneToThree m → (a || (b || (c || false))) ≡ false
+small-other m true b c e f g h = absurd (subst (λ (m : ℕ). OneToThree m) (eqb-true m 6 e) h)
+small-other m false true c e f g h = absurd (subst (λ (m : ℕ). OneToThree m) (eqb-true m 11 f) h)
+small-other m false false true e f g h = absurd (subst (λ (m : ℕ). OneToThree m) (eqb-true m 12 g) h)
+small-other m false false false e f g h = refl
+
+test-other : (s : Shape) (table : List ℕ) (r : Reason) → firstOf (testReasons s table) ≡ some r → isOfBallots r ≡ false
+unfolding testSaid said isOfBallots hasNumberIn
+test-other s table r e =
+    small-other (r .number) (eqb (r .number) 6) (eqb (r .number) 11) (eqb (r .number) 12) refl refl refl
+    (numbering.test-number s table r (ap (λ (o : Option Reason). said o (sizeOf (gatesOf table))) e))
+
+-- what the first jury in which something is found tells
+abbrev Found : ℕ → ℕ → (ℕ → Place) → Type 0
+Found m p f = (p < m) × ((row : ℕ) × (f p ≡ At row)) × ((j : ℕ) → j < p → f j ≡ Nowhere)
+
+found-here : (m p : ℕ) (f : ℕ → Place) (q : Place) → f m ≡ q → inJury m q ≡ At p → ((j : ℕ) → j < m → f j ≡ Nowhere) → Found (suc m) p f
+unfolding inJury
+found-here m p f (At row) q e before =
+    let same : m ≡ p = cc in
+    (omega arith, (row, ap f (sym same) ∙ q), λ j h. before j (omega arith))
+found-here m p f Nowhere q e before = let z : _≡_ {A = ℕ} 0 1 = cc in absurd (omega arith)
+
+found-by : (m p : ℕ) (f : ℕ → Place) (q : Place) → firstOver m (λ j. inJury j (f j)) ≡ q → (q ≡ At p → Found m p f) → orElse q (inJury m (f m)) ≡ At p → Found (suc m) p f
+unfolding orElse
+found-by m p f (At x) q rest e = let r = rest e in (omega (arith, r .0), r .1, r .2)
+found-by m p f Nowhere q rest e = found-here m p f (f m) refl e (λ j h. in-no-jury j (f j) (none-first (λ j. inJury j (f j)) m q j h))
+
+first-found : (m p : ℕ) (f : ℕ → Place) → firstOver m (λ j. inJury j (f j)) ≡ At p → Found m p f
+unfolding firstOver
+first-found zero p f e = let z : _≡_ {A = ℕ} 0 1 = cc in absurd (omega arith)
+first-found (suc m) p f e = found-by m p f (firstOver m (λ j. inJury j (f j))) refl (first-found m p f) e
+
+-- the first reason of a call and of a single run, by the same outcomes: they part at what ballots say only
+same-otherwise : (t : Option Reason) (sz : Bool) (k q l : Option Reason) (r : Reason) → (k ≡ none → q ≡ none) → (k ≡ some r → ⊥)
+    → single.firstOfThree t (ballotsFound sz k) l ≡ some r → single.firstOfThree t (ballotsFound sz q) l ≡ some r
+unfolding single.firstOfThree test.orElse ballotsFound unless firstOf
+same-otherwise (some x) sz k q l r n h e = e
+same-otherwise none false k q l r n h e = e
+same-otherwise none true (some x) q l r n h e = absurd (h e)
+same-otherwise none true none q l r n h e = ap (λ (x : Option Reason). single.firstOfThree none (ballotsFound true x) l) (n refl) ∙ e
+
+-- a reason that is none of the others' is that of the kind
+is-of-kind : (t : Option Reason) (sz : Bool) (k l : Option Reason) (r : Reason) → (t ≡ some r → ⊥) → (l ≡ some r → ⊥) → r .number ≢ 4
+    → single.firstOfThree t (ballotsFound sz k) l ≡ some r → (t ≡ none) × (sz ≡ true) × (k ≡ some r)
+unfolding single.firstOfThree test.orElse ballotsFound unless firstOf
+is-of-kind (some x) sz k l r ht hl n e = absurd (ht e)
+is-of-kind none false k l r ht hl n e = absurd (n (sym (number-is 4 0 r e)))
+is-of-kind none true (some x) l r ht hl n e = (refl, refl, e)
+is-of-kind none true none l r ht hl n e = absurd (hl e)
+
+kind-alone : (k l : Option Reason) (r : Reason) → k ≡ some r → single.firstOfThree none (ballotsFound true k) l ≡ some r
+unfolding single.firstOfThree test.orElse ballotsFound unless firstOf
+kind-alone k l r e = ap (λ (x : Option Reason). single.firstOfThree none (ballotsFound true x) l) e
+
+-- the tests of the kind look at what ballots say
+kind-number : (t : Bool) (p c g : Place) (r : Reason) → kindFound t p c g ≡ some r → isOfBallots r ≡ true
+unfolding kindFound foundAt firstOf isOfBallots hasNumberIn
+kind-number true p (At i) g r e = ap (λ (m : ℕ). eqb m 6 || (eqb m 11 || (eqb m 12 || false))) (sym (number-is 11 i r e))
+kind-number true p Nowhere (At i) r e = ap (λ (m : ℕ). eqb m 6 || (eqb m 11 || (eqb m 12 || false))) (sym (number-is 12 i r e))
+kind-number true p Nowhere Nowhere r e = let z : _≡_ {A = ℕ} 0 1 = cc in absurd (omega arith)
+kind-number false (At i) c g r e = ap (λ (m : ℕ). eqb m 6 || (eqb m 11 || (eqb m 12 || false))) (sym (number-is 6 i r e))
+kind-number false Nowhere c g r e = let z : _≡_ {A = ℕ} 0 1 = cc in absurd (omega arith)
+
+-- a fault over all juries is that of its jury, and no jury before has one of the same number
+abbrev Faulty : Bool → (ℕ → Place) → (ℕ → Place) → (ℕ → Place) → ℕ → ℕ → Type 0
+Faulty t p c g n j₀ =
+    (j₀ < laneCount) × ((place : ℕ) × (kindFound t (p j₀) (c j₀) (g j₀) ≡ some (reasonAt n place)))
+    × ((j place : ℕ) → j < j₀ → kindFound t (p j) (c j) (g j) ≡ some (reasonAt n place) → ⊥)
+
+-- the kinds' answers at an outcome
+row-at : (p c g : Place) (i : ℕ) → p ≡ At i → kindFound false p c g ≡ some (reasonAt 6 i)
+unfolding kindFound foundAt firstOf
+row-at p c g i e = ap (λ (x : Place). kindFound false x c g) e
+
+row-not : (p c g : Place) (r : Reason) → p ≡ Nowhere → kindFound false p c g ≡ some r → ⊥
+unfolding kindFound foundAt firstOf
+row-not p c g r e f = let h = sym (ap (λ (x : Place). kindFound false x c g) e) ∙ f in let z : _≡_ {A = ℕ} 0 1 = cc in omega arith
+
+clash-at : (p c g : Place) (i : ℕ) → c ≡ At i → kindFound true p c g ≡ some (reasonAt 11 i)
+unfolding kindFound foundAt firstOf
+clash-at p c g i e = ap (λ (x : Place). kindFound true p x g) e
+
+clash-not : (p c g : Place) (i : ℕ) → c ≡ Nowhere → kindFound true p c g ≡ some (reasonAt 11 i) → ⊥
+unfolding kindFound foundAt firstOf reasonAt
+clash-not p c g i e f = only g (sym (ap (λ (x : Place). kindFound true p x g) e) ∙ f)
+  where
+    only : (g : Place) → kindFound true p Nowhere g ≡ some (reasonAt 11 i) → ⊥
+    only (At x) f = let z = number-is 12 x (reasonAt 11 i) f in omega arith
+    only Nowhere f = let z : _≡_ {A = ℕ} 0 1 = cc in omega arith
+
+gap-at : (p c g : Place) (i : ℕ) → c ≡ Nowhere → g ≡ At i → kindFound true p c g ≡ some (reasonAt 12 i)
+unfolding kindFound foundAt firstOf
+gap-at p c g i e f = ap (λ (x : Place). kindFound true p x g) e ∙ ap (kindFound true p Nowhere) f
+
+gap-not : (p c g : Place) (r : Reason) → c ≡ Nowhere → g ≡ Nowhere → kindFound true p c g ≡ some r → ⊥
+unfolding kindFound foundAt firstOf
+gap-not p c g r e f h =
+    let k = sym (ap (λ (x : Place). kindFound true p x g) e ∙ ap (kindFound true p Nowhere) f) ∙ h in
+    let z : _≡_ {A = ℕ} 0 1 = cc in omega arith
+
+faulty : (t : Bool) (p c g : ℕ → Place) (x y z : Place) (r : Reason) → over p ≡ x → over c ≡ y → over g ≡ z → kindFound t x y z ≡ some r → Faulty t p c g (r .number) (r .place)
+unfolding kindFound foundAt firstOf
+faulty false p c g (At i) y z r ep ec eg e =
+    let f = first-found laneCount (r .place) p (ep ∙ place-is 6 i r e) in
+    subst (λ (n : ℕ). Faulty false p c g n (r .place)) (number-is 6 i r e)
+    (f .0, (f .1 .0, row-at (p (r .place)) (c (r .place)) (g (r .place)) (f .1 .0) (f .1 .1)), λ j place h. row-not (p j) (c j) (g j) (reasonAt 6 place) (f .2 j h))
+faulty false p c g Nowhere y z r ep ec eg e = let o : _≡_ {A = ℕ} 0 1 = cc in absurd (omega arith)
+faulty true p c g x (At i) z r ep ec eg e =
+    let f = first-found laneCount (r .place) c (ec ∙ place-is 11 i r e) in
+    subst (λ (n : ℕ). Faulty true p c g n (r .place)) (number-is 11 i r e)
+    (f .0, (f .1 .0, clash-at (p (r .place)) (c (r .place)) (g (r .place)) (f .1 .0) (f .1 .1)), λ j place h. clash-not (p j) (c j) (g j) place (f .2 j h))
+faulty true p c g x Nowhere (At i) r ep ec eg e =
+    let f = first-found laneCount (r .place) g (eg ∙ place-is 12 i r e) in
+    subst (λ (n : ℕ). Faulty true p c g n (r .place)) (number-is 12 i r e) (
+      f .0,
+      (f .1 .0, gap-at (p (r .place)) (c (r .place)) (g (r .place)) (f .1 .0) (none-over c ec (r .place) (f .0)) (f .1 .1)),
+      λ j place h. gap-not (p j) (c j) (g j) (reasonAt 12 place) (none-over c ec j (omega (arith, f .0))) (f .2 j h),
+    )
+faulty true p c g x Nowhere Nowhere r ep ec eg e = let o : _≡_ {A = ℕ} 0 1 = cc in absurd (omega arith)
+
+-- where bytes are bits, 5 does not part the two
+judged-bits : (sz : Bool) (k : Option Reason) → judged sz Nowhere k ≡ ballotsFound sz k
+unfolding judged ballotsFound unless foundAt firstOf
+judged-bits true k = refl
+judged-bits false k = refl
+
+module _ (s : Shape) (table ballots tape wires board : List ℕ) where
+  abbrev sizeRight : Bool
+  sizeRight = eqb (length ballots) (ballotBytes s)
+
+  abbrev tapeRight : Bool
+  tapeRight = eqb (length tape) (sizeOf (gatesOf table) .conditional)
+
+  abbrev wiresRight : Bool
+  wiresRight = eqb (length wires) (ballotBytes s + sizeOf (gatesOf table) .gates)
+
+  abbrev boardRight : Bool
+  boardRight = eqb (length board) (sizeOf (gatesOf table) .conditional + s .candidates)
+
+  batch-reason : firstOf (batchReasons s table ballots tape wires board)
+      ≡ single.firstOfThree (firstOf (testReasons s table)) (ballotsFound sizeRight (wordKind s ballots)) (lentFound tapeRight wiresRight boardRight)
+  batch-reason =
+      batch-first s table ballots tape wires board
+      ∙ ap (λ (o : Option Reason). single.firstOfThree (firstOf (testReasons s table)) o (firstOf (wordLentReasons (ballotBytes s) (s .candidates) (sizeOf (gatesOf table)) tape wires board)))
+      (ballots-by s ballots sizeRight refl)
+      ∙ ap (single.firstOfThree (firstOf (testReasons s table)) (ballotsFound sizeRight (wordKind s ballots)))
+      (lent-by (ballotBytes s) (s .candidates) (sizeOf (gatesOf table)) tape wires board tapeRight wiresRight boardRight refl refl refl)
+
+  alone-reason : (j : ℕ) → firstOf (runReasons s table (laneOf j ballots) (laneOf j tape) (laneOf j wires) (laneOf j board))
+      ≡ single.firstOfThree (firstOf (testReasons s table)) (ballotsFound sizeRight (kindReason s (laneOf j ballots))) (lentFound tapeRight wiresRight boardRight)
+  alone-reason j =
+      single.run-first s table (laneOf j ballots) (laneOf j tape) (laneOf j wires) (laneOf j board)
+      ∙ ap (λ (o : Option Reason). single.firstOfThree (firstOf (testReasons s table)) o (firstOf (lentReasons (ballotBytes s) (s .candidates) (sizeOf (gatesOf table)) (laneOf j tape) (laneOf j wires) (laneOf j board))))
+      (judged-by s (laneOf j ballots) sizeRight Nowhere (kindReason s (laneOf j ballots)) (ap (λ (n : ℕ). eqb n (ballotBytes s)) (lanes-length j ballots)) (none-above 0 (laneOf j ballots) (lanes-bits j ballots)) refl
+      ∙ judged-bits sizeRight (kindReason s (laneOf j ballots)))
+      ∙ ap (single.firstOfThree (firstOf (testReasons s table)) (ballotsFound sizeRight (kindReason s (laneOf j ballots))))
+      (single.lent-by (ballotBytes s) (s .candidates) (sizeOf (gatesOf table)) (laneOf j tape) (laneOf j wires) (laneOf j board) tapeRight Nowhere wiresRight boardRight
+      (ap (λ (n : ℕ). eqb n (sizeOf (gatesOf table) .conditional)) (lanes-length j tape)) (none-above 0 (laneOf j tape) (lanes-bits j tape))
+      (ap (λ (n : ℕ). eqb n (ballotBytes s + sizeOf (gatesOf table) .gates)) (lanes-length j wires))
+      (ap (λ (n : ℕ). eqb n (sizeOf (gatesOf table) .conditional + s .candidates)) (lanes-length j board))
+      ∙ lent-bits tapeRight wiresRight boardRight)
+
+  -- the reason of a refused call, and of a refused single run
+  batch-after : (o : Option Reason) (r : Reason) → batchAfter o s (gatesOf table) ballots tape wires board .answer ≡ refused r → o ≡ some r
+  unfolding batchAfter
+  batch-after none r e = test.never (sizeOf (gatesOf table)) r (sym e)
+  batch-after (some q) r e = let same : q ≡ r = cc in ap some same
+
+  batch-refused : (r : Reason) → batchRan s table ballots tape wires board .answer ≡ refused r → firstOf (batchReasons s table ballots tape wires board) ≡ some r
+  batch-refused r e =
+      let o = firstOf (batchReasons s table ballots tape wires board) in
+      batch-after o r (sym (ap (λ (z : Ran). z .answer) (batch-by s table ballots tape wires board o refl)) ∙ e)
+
+  module _ (j : ℕ) where
+    alone-after : (o : Option Reason) (r : Reason) → ranAfter o s (gatesOf table) (laneOf j ballots) (laneOf j tape) (laneOf j wires) (laneOf j board) .answer ≡ refused r → o ≡ some r
+    unfolding ranAfter
+    alone-after none r e = test.never (sizeOf (gatesOf table)) r (sym e)
+    alone-after (some q) r e = let same : q ≡ r = cc in ap some same
+
+    alone-refused : (r : Reason) → ranAlone j s table ballots tape wires board .answer ≡ refused r
+        → firstOf (runReasons s table (laneOf j ballots) (laneOf j tape) (laneOf j wires) (laneOf j board)) ≡ some r
+    alone-refused r e =
+        let o = firstOf (runReasons s table (laneOf j ballots) (laneOf j tape) (laneOf j wires) (laneOf j board)) in
+        alone-after o r (sym (ap (λ (z : Ran). z .answer) (single.ran-by s table (laneOf j ballots) (laneOf j tape) (laneOf j wires) (laneOf j board) o refl)) ∙ e)
+
+    refused-alone : (r : Reason) → firstOf (runReasons s table (laneOf j ballots) (laneOf j tape) (laneOf j wires) (laneOf j board)) ≡ some r
+        → ranAlone j s table ballots tape wires board .answer ≡ refused r
+    unfolding ranAfter
+    refused-alone r e = ap (λ (z : Ran). z .answer) (single.ran-by s table (laneOf j ballots) (laneOf j tape) (laneOf j wires) (laneOf j board) (some r) e)
+
+-- the three searches of a shape, by juries
+abbrev rows : Shape → List ℕ → ℕ → Place
+rows s ballots j = badRow s (laneOf j ballots)
+
+abbrev clashes : Shape → List ℕ → ℕ → Place
+clashes s ballots j = clash s (laneOf j ballots)
+
+abbrev gaps : Shape → List ℕ → ℕ → Place
+gaps s ballots j = gap s (laneOf j ballots)
+
+pub refused-as-alone : RefusedAsAlone
+refused-as-alone s table ballots tape wires board r e n j h =
+    refused-alone s table ballots tape wires board j r
+    (alone-reason s table ballots tape wires board j
+    ∙ same-otherwise (firstOf (testReasons s table)) _ (wordKind s ballots) (kindReason s (laneOf j ballots)) _ r
+    (λ none. alone-kind s (laneOf j ballots) ∙ none-in-juries (isRanking s) (rows s ballots) (clashes s ballots) (gaps s ballots) (sym (word-kind s ballots) ∙ none) j h)
+    (λ k. true≢false (sym (kind-number (isRanking s) (over (rows s ballots)) (over (clashes s ballots)) (over (gaps s ballots)) r (sym (word-kind s ballots) ∙ k)) ∙ n))
+    (sym (batch-reason s table ballots tape wires board) ∙ batch-refused s table ballots tape wires board r e))
+
+no-reason : (q : Reason) → none ≡ some q → ⊥
+no-reason q z = let o : _≡_ {A = ℕ} 0 1 = cc in omega arith
+
+not-4 : (q : Reason) → isOfBallots q ≡ true → q .number ≢ 4
+unfolding isOfBallots hasNumberIn
+not-4 q h m = true≢false (sym h ∙ ap (λ (m : ℕ). eqb m 6 || (eqb m 11 || (eqb m 12 || false))) m)
+
+same-number : (r : Reason) (place : ℕ) → isOfBallots r ≡ true → isOfBallots (reasonAt (r .number) place) ≡ true
+unfolding isOfBallots hasNumberIn reasonAt
+same-number r place n = n
+
+pub fault-as-alone : FaultAsAlone
+fault-as-alone s table ballots tape wires board r e n =
+    let l = lentFound (tapeRight s table ballots tape wires board) (wiresRight s table ballots tape wires board) (boardRight s table ballots tape wires board) in
+    let o = is-of-kind (firstOf (testReasons s table)) (sizeRight s table ballots tape wires board) (wordKind s ballots) l r (λ t. true≢false (sym n ∙ test-other s table r t))
+    (λ t. true≢false (sym n ∙ lent-other _ _ _ r t)) (not-4 r n) (sym (batch-reason s table ballots tape wires board) ∙ batch-refused s table ballots tape wires board r e) in
+    let f = faulty (isRanking s) (rows s ballots) (clashes s ballots) (gaps s ballots) (over (rows s ballots)) (over (clashes s ballots)) (over (gaps s ballots)) r refl refl refl (sym (word-kind s ballots) ∙ o .2) in (
+      f .0,
+      (
+        f .1 .0,
+        refused-alone s table ballots tape wires board (r .place) (reasonAt (r .number) (f .1 .0))
+            (passed (o .0) (o .1) (r .place) ∙ kind-alone (kindReason s (laneOf (r .place) ballots)) l (reasonAt (r .number) (f .1 .0)) (alone-kind s (laneOf (r .place) ballots) ∙ f .1 .1)),
+      ),
+      λ j place h x.
+          f .2 j place h
+          (sym (alone-kind s (laneOf j ballots))
+          ∙ is-of-kind none true (kindReason s (laneOf j ballots)) l (reasonAt (r .number) place) (λ z. no-reason (reasonAt (r .number) place) z) (λ t. true≢false (sym (same-number r place n) ∙ lent-other _ _ _ (reasonAt (r .number) place) t)) (not-4 (reasonAt (r .number) place) (same-number r place n))
+          (sym (passed (o .0) (o .1) j) ∙ alone-refused s table ballots tape wires board j (reasonAt (r .number) place) x) .2),
+    )
+  where
+    passed : firstOf (testReasons s table) ≡ none → sizeRight s table ballots tape wires board ≡ true → (j : ℕ)
+        → firstOf (runReasons s table (laneOf j ballots) (laneOf j tape) (laneOf j wires) (laneOf j board))
+        ≡ single.firstOfThree none (ballotsFound true (kindReason s (laneOf j ballots))) (lentFound (tapeRight s table ballots tape wires board) (wiresRight s table ballots tape wires board) (boardRight s table ballots tape wires board))
+    passed a b j = alone-reason s table ballots tape wires board j ∙ rw (a, b)

@@ -1,0 +1,2 @@
+// The run for 64 juries for programs in C and Rust.
+pub mod run;
