@@ -228,7 +228,7 @@ size_t jugy_trustees(size_t candidates, size_t grades, size_t ballots, const uin
  * What stands behind the last piece is not touched. answer[2 + j], j below 8, is jury j's number of rounds, G_j divided by share
  * and rounded up, 0 past the last jury. Each jury's board is that of jugy_run on its pieces, and its wires are zero.
  * Reasons 19 and 20, then those of a run, jury after jury and each to its end before the next is looked at: the place is the
- * jury. A piece that does not fit is cut where its table ends, which gives 2, 4, 7, 9 or 10. */
+ * jury. A piece for which its table is too short counts as empty, which gives 2, 4, 7, 9 or 10. */
 size_t jugy_dispatch(size_t juries, size_t share, const size_t *statements, size_t statements_length, const uint32_t *lists,
                      size_t lists_length, const uint8_t *ballots, size_t ballots_length, const uint8_t *tapes,
                      size_t tapes_length, uint8_t *wires, size_t wires_length, uint8_t *boards, size_t boards_length,

@@ -29,21 +29,27 @@ def random_gates(rng, inputs, count):
     return gates
 
 
+def random_ballots(rng, k, d, n):
+    """Rows with one 1, or rankings with ties where there are no grades."""
+    if d:
+        return [int(g == best) for best in (rng.randrange(d) for _ in range(n * k)) for g in range(d)]
+    ranks = [[rng.randrange(k) for _ in range(k)] for _ in range(n)]
+    return [int(of[i] < of[j]) for of in ranks for i in range(k) for j in range(k)]
+
+
 class Jury:
     """A jury's statement and pieces. Wires and board are given by their lengths."""
 
     def __init__(self, rng, k, d, n, gates):
         self.k, self.d, self.n = k, d, n
         self.stated = gates
-        made = random_gates(rng, n * k * d, gates)
+        inputs = doc.ballot_bytes(k, d, n)
+        made = random_gates(rng, inputs, gates)
         self.list = [x for gate in made for x in gate]
-        self.ballots = []
-        for _ in range(n * k):
-            best = rng.randrange(d)
-            self.ballots += [int(g == best) for g in range(d)]
+        self.ballots = random_ballots(rng, k, d, n)
         count = doc.conditional_count(doc.gates_of(self.list))
         self.tape = [rng.randrange(2) for _ in range(count)]
-        self.wires = n * k * d + gates
+        self.wires = inputs + gates
         self.board = count + k
 
     def statement(self):
@@ -98,14 +104,14 @@ def model(call):
             found = doc.test_fault(k, d, n, table)
             fault = found and found[0]
         count = doc.conditional_count(doc.gates_of(table)) if fault is None else 0
-        ballots = cut("ballots", n * k * d, 4)
+        ballots = cut("ballots", doc.ballot_bytes(k, d, n), 4)
         if fault is None:
             found = doc.ballots_fault(k, d, n, ballots)
             fault = found and found[0]
         tape = cut("tapes", count, 7)
         if fault is None and doc.first_above_one(tape) is not None:
             fault = 8
-        cut("wires", n * k * d + stated, 9)
+        cut("wires", doc.ballot_bytes(k, d, n) + stated, 9)
         cut("boards", count + k, 10)
         if fault is not None:
             return (fault, j, nothing, *as_lent)
@@ -152,7 +158,12 @@ def bad_juries(jury):
     yield "few gates", but(stated=jury.k - 1)
     yield "gate", but(list=[8] + jury.list[1:])
     yield "ballot byte", but(ballots=[2] + jury.ballots[1:])
-    yield "row", but(ballots=[0] * len(jury.ballots))
+    if jury.d:
+        yield "row", but(ballots=[0] * len(jury.ballots))
+    else:
+        yield "clash", but(ballots=[1] * len(jury.ballots))
+    if not jury.d and jury.k > 2:                            # candidate 0 before candidate 1, and a third beside both
+        yield "gap", but(ballots=[0, 1] + [0] * (len(jury.ballots) - 2))
     if jury.tape:
         yield "tape byte", but(tape=[2] + jury.tape[1:])
 
@@ -168,9 +179,10 @@ def main():
         answers[expected[0]] += 1
         return expected
 
-    def jury(gates=None):
-        k, d, n = rng.randint(1, 8), rng.randint(2, 7), rng.randint(1, 9)
-        return Jury(rng, k, d, n, gates if gates is not None else k + rng.randrange(40))
+    def jury(gates=None, d=None):
+        k, n = rng.randint(1, 8), rng.randint(1, 9)
+        grades = rng.choice((0, 0, 2, 3, 4, 5, 6, 7)) if d is None else d
+        return Jury(rng, k, grades, n, gates if gates is not None else k + rng.randrange(40))
 
     for count in range(1, 9):
         for extra in (0, 1, 50):
@@ -181,7 +193,7 @@ def main():
     check(Call([jury(3000)] + [jury(9) for _ in range(7)], 1))
     check(Call([jury(9) for _ in range(7)] + [jury(3000)], 1000))
 
-    juries = [jury(20) for _ in range(3)]
+    juries = [jury(20, d=4), Jury(rng, 4, 0, 3, 20), jury(20, d=2)]
     good = Call(juries, 8)
     for count in (0, 9, 2 ** 32, MOST_SIZE):
         check(good.but(count=count))
@@ -201,8 +213,9 @@ def main():
             check(part.but(count=3, **{name: getattr(part, name)[:-1]}))
     for missing in range(1, 13):
         check(Call(juries, 8, missing=missing))
-    for j, (_, bad) in itertools.product(range(3), bad_juries(juries[0])):
-        check(Call(juries[:j] + [bad] + juries[j + 1:], 8, 3))
+    for of in juries[:2]:
+        for j, (_, bad) in itertools.product(range(3), bad_juries(of)):
+            check(Call(juries[:j] + [bad] + juries[j + 1:], 8, 3))
     for (_, first), (_, second) in itertools.product(bad_juries(juries[0]), bad_juries(juries[1])):
         check(Call([first, second], 8))
 
@@ -220,7 +233,7 @@ def main():
         assert said[0] == "accepted" and board == alone[4]
 
     told = ", ".join(f"{reason}: {answers[reason]}" for reason in sorted(answers))
-    assert set(answers) == {0, 1, 2, 3, 4, 5, 6, 7, 8, 9, 10, 19, 20}, told
+    assert set(answers) == {0, 1, 2, 3, 4, 5, 6, 7, 8, 9, 10, 11, 12, 19, 20}, told
     print(f"tests/dispatch.py: {core.calls} calls as expected, by reason {told}")
 
 

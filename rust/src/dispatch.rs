@@ -1,6 +1,6 @@
 //! Up to eight juries in rounds. `c/jugyvaros.h` draws the tables, which are made here from a list of juries.
 
-use crate::{checked, Refusal, Shape};
+use crate::{Reason, Shape};
 
 mod c {
     extern "C" {
@@ -25,7 +25,8 @@ mod c {
     }
 }
 
-/// One jury of a call: its shape, its list of gates, its ballots and a fresh, secret tape.
+/// One jury of a call: its shape, its list of gates, its ballots and a fresh, secret tape. Each has exactly the length that shape
+/// and list ask for: the next jury's piece begins behind it, so what is too much would be read as that piece's start.
 #[derive(Clone, Copy, Debug)]
 pub struct Jury<'a> {
     pub shape: Shape,
@@ -41,8 +42,29 @@ pub struct Finished {
     pub board: Vec<u8>,
 }
 
-/// Runs the juries in rounds of up to `share` gates each. The place of a refusal is the jury, 0 for the reasons 19 and 20.
-pub fn dispatch(juries: &[Jury], share: usize) -> Result<Vec<Finished>, Refusal> {
+/// The first reason that applies, and the jury that it is found in, counted from 0; 0 for `Juries` and `GatesPerRound`. Where in
+/// its pieces is not said: a run on them alone says it.
+#[derive(Clone, Copy, Debug, PartialEq, Eq)]
+pub struct Refused {
+    pub reason: Reason,
+    pub jury: usize,
+}
+
+impl std::fmt::Display for Refused {
+    fn fmt(&self, f: &mut std::fmt::Formatter<'_>) -> std::fmt::Result {
+        write!(f, "refused {} {}: {}", self.reason.number(), self.jury, self.reason.words())?;
+        match self.reason {
+            Reason::Juries | Reason::GatesPerRound => Ok(()),
+            reason if reason.has_place() => write!(f, " of jury {}", self.jury),
+            _ => write!(f, ", jury {}", self.jury),
+        }
+    }
+}
+
+impl std::error::Error for Refused {}
+
+/// Runs the juries in rounds of up to `share` gates each.
+pub fn dispatch(juries: &[Jury], share: usize) -> Result<Vec<Finished>, Refused> {
     let statements: Vec<usize> = juries
         .iter()
         .flat_map(|jury| {
@@ -78,7 +100,11 @@ pub fn dispatch(juries: &[Jury], share: usize) -> Result<Vec<Finished>, Refusal>
             answer.len(),
         )
     };
-    checked(status, &answer)?;
+    if status != 0 {
+        // the answer array is as long as the function needs, so the status is one of the reasons
+        let reason = Reason::of(status).expect("a reason of the list");
+        return Err(Refused { reason, jury: answer[1] });
+    }
     let mut left = boards.as_slice();
     Ok(sizes
         .iter()

@@ -7,14 +7,15 @@ fn shape(candidates: usize, grades: usize, ballots: usize) -> Shape {
     Shape { candidates, grades, ballots }
 }
 
-/// Every row has its 1 at the first grade.
+/// Every row has its 1 at the first grade; without grades, every juror has all candidates level.
 fn ballots(shape: Shape) -> Vec<u8> {
-    (0..shape.ballots * shape.candidates * shape.grades).map(|i| (i % shape.grades == 0) as u8).collect()
+    let inputs = measure(shape).unwrap().inputs;
+    (0..inputs).map(|i| (shape.grades > 0 && i % shape.grades == 0) as u8).collect()
 }
 
 #[test]
 fn boards_are_those_of_undivided_runs() {
-    let shapes = [shape(2, 3, 3), shape(1, 2, 1), shape(3, 4, 5)];
+    let shapes = [shape(2, 3, 3), shape(3, 0, 2), shape(3, 4, 5)];
     let mut tables = Vec::new();
     for s in shapes {
         let mut table = vec![0; 4 * measure(s).unwrap().gates];
@@ -41,5 +42,10 @@ fn boards_are_those_of_undivided_runs() {
     let mut bad = juries.clone();
     bad[2].ballots = &bytes[1];
     let refusal = dispatch(&bad, 1).unwrap_err();
-    assert_eq!((refusal.reason, refusal.place), (Reason::BallotsLength, 2));
+    assert_eq!((refusal.reason, refusal.jury), (Reason::BallotsLength, 2));
+    assert_eq!(refusal.to_string(), "refused 4 2: the ballots have another length than the shape needs, jury 2");
+    let mut gates = tables[1].clone();
+    gates[0] = 8;
+    bad[1].table = &gates;
+    assert_eq!(dispatch(&bad, 1).unwrap_err().to_string(), "refused 3 1: bad kind or operand in gate of jury 1");
 }

@@ -44,11 +44,24 @@ static struct sizes total(const struct sizes *of, size_t juries) {
     return sum;
 }
 
+/* Ballots: a 1 in each row of grades; without grades, every juror ranks all candidates, with ties. */
+static void fill(uint8_t *votes, size_t bytes, size_t k, size_t d) {
+    for (size_t i = 0; d && i < bytes; i += d)
+        votes[i + below((uint32_t)d)] = 1;
+    for (size_t ballot = 0; !d && ballot < bytes; ballot += k * k) {
+        uint32_t rank[MOST];
+        for (size_t i = 0; i < k; i++)
+            rank[i] = below((uint32_t)k);
+        for (size_t i = 0; i < k * k; i++)
+            votes[ballot + i] = rank[i / k] < rank[i % k];
+    }
+}
+
 static void one_call(void) {
     size_t juries = 1 + below(MOST), share = 1 + below(below(2) ? 5 : 400), stated[4 * MOST], answer[10];
     struct sizes of[MOST];
     for (size_t j = 0; j < juries; j++) {
-        size_t k = 1 + below(3), d = 2 + below(3), n = 1 + below(4), measures[5];
+        size_t k = 1 + below(3), d = below(3) ? 2 + below(3) : 0, n = 1 + below(4), measures[5];
         jugy_measure(k, d, n, measures, 5);
         stated[4 * j] = k, stated[4 * j + 1] = d, stated[4 * j + 2] = n, stated[4 * j + 3] = measures[2];
         of[j] = (struct sizes){4 * measures[2], measures[4], measures[3], measures[4] + measures[2], measures[3] + k};
@@ -63,8 +76,7 @@ static void one_call(void) {
     for (size_t j = 0; j < juries; j++) {
         struct sizes at = total(of, j);
         jugy_write(stated[4 * j], stated[4 * j + 1], stated[4 * j + 2], whole + at.numbers, of[j].numbers, answer, 4);
-        for (size_t i = 0; i < of[j].bytes; i += stated[4 * j + 1])
-            votes[at.bytes + i + below((uint32_t)stated[4 * j + 1])] = 1;
+        fill(votes + at.bytes, of[j].bytes, stated[4 * j], stated[4 * j + 1]);
     }
     for (size_t i = 0; i < all.masks; i++)
         tape[i] = (uint8_t)below(2);

@@ -14,4 +14,4 @@ lastReason = 20
 pub record StatusTells : Type 0 where
   pub dispatch : (count : ℕ) (ss : List Statement) (share : ℕ) (t : Tables) (answer : List ℕ)
       → Tells lastReason dispatchAnswer (dispatchNumbers (dispatched count ss share t)) answer
-        (isAccepted (said (dispatched count ss share t .reason) (dispatched count ss share t .rounds)))
+      (isAccepted (said (dispatched count ss share t .reason) (dispatched count ss share t .rounds)))
