@@ -4,6 +4,7 @@ use answers::size::SIZE_ANSWER;
 use answers::size::put_size;
 use jury::shape::Shape;
 use trustees::run::Tallied;
+use trustees::run::run;
 ghost use mathlib.Core.Path.{_≡_};
 ghost use mathlib.Core.List.{_++_};
 ghost use Prim.Native.Nat.{_≤_};
@@ -80,8 +81,15 @@ pub extern "C" fn jugy_trustees(
         grades,
         ballots,
     };
-    let said = trustees::run::run(
-        shape, table, bytes, trustees, parts, dealt, wires, published,
+    let said = run(
+        shape,
+        table,
+        bytes,
+        trustees,
+        parts,
+        dealt,
+        wires,
+        published,
     );
     put_tally(said, answer)
 }
