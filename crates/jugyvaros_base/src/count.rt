@@ -1,7 +1,7 @@
 // Counting plainly, as a C program calls it.
-use answers::array::SHORT_ANSWER;
 use crate::answer::COUNT_ANSWER;
 use crate::answer::put_count;
+use answers::array::SHORT_ANSWER;
 use jury::reason::Refusal;
 use jury::reason::Verdict;
 use jury::shape::Shape;

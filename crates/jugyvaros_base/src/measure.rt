@@ -1,7 +1,7 @@
 // Measuring a shape, as a C program calls it.
-use answers::array::SHORT_ANSWER;
 use crate::answer::MEASURE_ANSWER;
 use crate::answer::put_measures;
+use answers::array::SHORT_ANSWER;
 use jury::reason::Refusal;
 use jury::shape::Shape;
 use jury::shape::Shaped;

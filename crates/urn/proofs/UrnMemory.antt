@@ -37,9 +37,16 @@ ballots-fine s xs graded =
 
 admit-fine : (k d : ℕ) (f : Facts) (j : ℕ) (x : List ℕ) → gradedShape k d ≡ true → All admitting (admitReasons k d f j x)
 unfolding All admitReasons gradedShape hasNumberIn reasonAt admitting
-admit-fine k d f j x e =
-    (unless-fine admitting _ 1 tt, (unless-fine admitting _ 13 tt, (unless-fine admitting _ 14 tt,
-    both admitting (ballotReasons (juryOfOne k d) x) _ (ballots-fine (juryOfOne k d) x (graded-is (juryOfOne k d) (within (juryOfOne k d) e))) (unless-fine admitting _ 15 tt, tt))))
+admit-fine k d f j x e = (
+  unless-fine admitting _ 1 tt,
+  (
+    unless-fine admitting _ 13 tt,
+    (
+      unless-fine admitting _ 14 tt,
+      both admitting (ballotReasons (juryOfOne k d) x) _ (ballots-fine (juryOfOne k d) x (graded-is (juryOfOne k d) (within (juryOfOne k d) e))) (unless-fine admitting _ 15 tt, tt),
+    ),
+  ),
+)
 
 -- any other is turned away for its shape, before all
 first-of : (t : Bool) (rest : List (Option Reason)) → t ≡ false → Fine admitting (firstOf (unless t 1 ∷ rest))
