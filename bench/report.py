@@ -155,7 +155,8 @@ def main():
     times, counts = read_times(folder / "times"), read_counts(folder)
     text = f"{table(times, counts)}\n\n{missed(times)}"
     urn, urn_run = urn_table(folder / "urn"), urn_run_table(folder / "urn_run_times")
-    print(text, urn, urn_run, batch_table(folder / "batch_times"), sep="\n\n")
+    batch = batch_table(folder / "batch_times")
+    print(text, urn, urn_run, batch, sep="\n\n")
     (HERE / "RESULT.md").write_text(
         "# The core against the same work in C\n\n"
         f"Made by `bench/run` on {machine()}. C is `bench/core.c` by `gcc -O2`, with the same tests made.\n\n"
@@ -173,7 +174,9 @@ def main():
         f"{urn}\n\n"
         "## The run on an urn\n\n"
         "C is `bench/urn_run.c`. The urn is full but for one slot. The last column is `run` on the same ballots, beside the same C.\n\n"
-        f"{urn_run}\n"
+        f"{urn_run}\n\n"
+        "## The run for 64 juries\n\n"
+        f"{batch}\n"
     )
     (HERE / "result.svg").write_text(plot(times, counts))
 

@@ -122,12 +122,12 @@ size_t jugy_run(size_t candidates, size_t grades, size_t ballots, const uint32_t
  * jury j's bits are what jugy_run makes of its own: answer[2] is G, answer[3] is C, as for a single run. Lengths count
  * numbers, not bytes.
  *   table  4 G numbers, the list's own length, as for jugy_run
- *   words  I = n k d numbers: bit j of words[i] is ballot byte i of jury j
+ *   words  I numbers, as many as jugy_run has ballot bytes: bit j of words[i] is ballot byte i of jury j
  *   tape   C numbers, any: bit j of tape[i] masks the i-th conditional gate of jury j. Each bit is to be fresh, secret and random
  *   wires  I + G numbers, whatever they held; all zero afterwards
  *   board  C + k numbers, whatever they held: bit j of board[C + i] is candidate i's closing byte in jury j
- * Reasons 1, 2, 3, 4, 6, 7, 9 and 10, in this order; the place of 6 is the first jury, 0 to 63, that has a bad row. Reasons 5
- * and 8 do not concern these numbers. All 64 juries are tested and run: whoever has fewer fills the others up with copies. */
+ * Reasons 1, 2, 3, 4, then 6 or, of rankings, 11 and 12, then 7, 9 and 10; the place of 6, 11 and 12 is the first jury, 0 to 63, that
+ * has the fault. Reasons 5 and 8 do not concern these numbers. All 64 juries are tested and run: whoever has fewer fills the others up with copies. */
 size_t jugy_run_batch(size_t candidates, size_t grades, size_t ballots, const uint32_t *table, size_t table_length,
                       const uint64_t *words, size_t words_length, const uint64_t *tape, size_t tape_length, uint64_t *wires,
                       size_t wires_length, uint64_t *board, size_t board_length, size_t *answer, size_t answer_length);

@@ -2,8 +2,8 @@
 
     python3 tests/batch.py    prints how many calls there were, by answer
 
-Own lists and strangers' lists with every kind, lists without a conditional gate, words of all ones, a bad row in every
-jury, each length one short and one long, shapes at their limits, and all pairs of faults.
+Own lists and strangers' lists with every kind, lists without a conditional gate, words of all ones, a bad row and a bad
+ranking in every jury, each length one short and one long, shapes at their limits, and all pairs of faults.
 """
 
 import collections
@@ -29,16 +29,18 @@ def lane(j, words):
 
 
 def batch_fault(k, d, n, table, words, tape, wires, board):
-    """Reasons 1, 2, 3, 4, 6, 7, 9 and 10: a number and a place, or None."""
+    """Reasons 1, 2, 3, 4, then 6 or 11 and 12, then 7, 9 and 10: a number and a place, or None."""
     fault = doc.test_fault(k, d, n, table)
     if fault is not None:
         return fault
-    if len(words) != n * k * d:
+    if len(words) != doc.ballot_bytes(k, d, n):
         return (4, 0)
-    for j in range(JURIES):
-        if doc.ballots_fault(k, d, n, lane(j, words)) is not None:
-            return (6, j)
-    return doc.lent_fault(n * k * d, k, doc.gates_of(table), [0] * len(tape), wires, board)
+    faults = [doc.ballots_fault(k, d, n, lane(j, words)) for j in range(JURIES)]
+    for number in (6, 11, 12):
+        juries = [j for j, fault in enumerate(faults) if fault is not None and fault[0] == number]
+        if juries:
+            return (number, juries[0])
+    return doc.lent_fault(doc.ballot_bytes(k, d, n), k, doc.gates_of(table), [0] * len(tape), wires, board)
 
 
 class Batch(Core):
@@ -64,7 +66,7 @@ class Tester:
         k, d, n = shape
         gates = doc.gates_of(table)
         count = doc.conditional_count(gates)
-        wires = [OLD] * (n * k * d + len(gates) if wires is None else wires)
+        wires = [OLD] * (doc.ballot_bytes(k, d, n) + len(gates) if wires is None else wires)
         board = [OLD] * (count + k if board is None else board)
         fault = batch_fault(k, d, n, table, words, tape, wires, board)
         said, wires_after, board_after = self.core.run_batch(shape, table, words, tape, wires, board)
@@ -84,6 +86,9 @@ class Tester:
     def jury(self, shape):
         """Random ballots that are accepted."""
         k, d, n = shape
+        if d == 0:
+            rankings = [[self.rng.randrange(k) for _ in range(k)] for _ in range(n)]
+            return [int(x < y) for ranks in rankings for x in ranks for y in ranks]
         return [int(g == best) for best in (self.rng.randrange(d) for _ in range(n * k)) for g in range(d)]
 
     def juries(self, shape):
@@ -93,15 +98,15 @@ class Tester:
         return [self.rng.getrandbits(JURIES) for _ in range(doc.conditional_count(doc.gates_of(table)))]
 
     def own_lists(self):
-        for shape in [(1, 2, 1), (2, 3, 3), (3, 4, 5), (8, 2, 2), (1, 7, 9), (4, 3, 7)]:
+        for shape in [(1, 2, 1), (2, 3, 3), (3, 4, 5), (8, 2, 2), (1, 7, 9), (4, 3, 7), (1, 0, 1), (2, 0, 3), (3, 0, 5), (4, 0, 7)]:
             table = self.core.own_list(shape)
             self.check(shape, table, words_of(self.juries(shape)), self.tape(table))
 
     def strangers(self):
         for _ in range(40):
-            shape = (self.rng.randint(1, 4), self.rng.randint(2, 4), self.rng.randint(1, 3))
+            shape = (self.rng.randint(1, 4), self.rng.choice((0, 2, 3, 4)), self.rng.randint(1, 3))
             k, d, n = shape
-            table = flat(random_gates(self.rng, n * k * d, self.rng.randint(k, 60)))
+            table = flat(random_gates(self.rng, doc.ballot_bytes(k, d, n), self.rng.randint(k, 60)))
             self.check(shape, table, words_of(self.juries(shape)), self.tape(table))
 
     def free_lists(self):
@@ -132,12 +137,29 @@ class Tester:
         self.check(shape, table, [0] * 12, tape, single=False)
         self.check(shape, table, [ALL] * 12, tape, single=False)
 
+    def bad_rankings(self):
+        """A clash, on the diagonal and off it, and a gap, in each jury alone, first ballot and last; then of two juries."""
+        shape, table = (3, 0, 2), flat([(4, 0, 1, 0)] * 3)
+        good, tape = self.juries(shape), self.tape(table)
+        clashes, gap = ([1] + [0] * 8, [0, 1, 0, 1, 0, 0, 0, 0, 0]), [0, 1, 0] + [0] * 6
+        for j in range(JURIES):
+            for ballot, bits in itertools.product((0, 1), (*clashes, gap)):
+                bad = list(good)
+                bad[j] = good[j][:9 * ballot] + bits + good[j][9 * ballot + 9:]
+                self.check(shape, table, words_of(bad), tape, single=False)
+        for (first, a), (second, b) in itertools.product(zip((0, 31, 62), (gap, clashes[0], gap)), zip((1, 32, 63), (clashes[1], gap, gap))):
+            bad = list(good)
+            bad[first], bad[second] = a + good[first][9:], good[second][:9] + b
+            self.check(shape, table, words_of(bad), tape, single=False)
+        self.check(shape, table, [0] * 18, tape)
+        self.check(shape, table, [ALL] * 18, tape, single=False)
+
     def faults(self):
         """Each fault at its edges, and all pairs of faults."""
         shape, table = (2, 2, 2), flat([(4, 0, 1, 0), (1, 0, 0, 0), (7, 0, 2, 3)])
         words, tape = words_of(self.juries(shape)), self.tape(table)
         ways = [
-            [("shape", s) for s in [(0, 2, 2), (9, 2, 2), (2, 1, 2), (2, 8, 2), (2, 2, 0), (2, 2, 256), (2, 2, 2 ** 64 - 1), (2, 0, 2)]],
+            [("shape", s) for s in [(0, 2, 2), (9, 2, 2), (2, 1, 2), (2, 8, 2), (2, 2, 0), (2, 2, 256), (2, 2, 2 ** 64 - 1)]],
             [("table", t) for t in [table[:4], table[:-1], table + [0], []]],
             [("table", t) for t in [flat([(8, 0, 0, 0)]) + table[4:], table[:4] + flat([(2, 9, 0, 0)]) + table[8:], table[:8] + [7, 10, 0, 0]]],
             [("words", w) for w in [words[:-1], words + [0], []]],
@@ -154,9 +176,9 @@ class Tester:
 
     def shapes(self):
         """Shapes at their limits, with one list that fits them all."""
-        for shape in itertools.product((1, 8), (2, 7), (1, 255)):
+        for shape in itertools.product((1, 8), (0, 2, 7), (1, 255)):
             k, d, n = shape
-            last = n * k * d - 1
+            last = doc.ballot_bytes(k, d, n) - 1
             table = flat([(4, 0, last, 0), (7, last, 0, last + 1)] * 2 + [(5, 0, last, 0)] * k)
             words = words_of([self.jury(shape) for _ in range(4)] * 16)
             self.check(shape, table, words, self.tape(table), single=k * n < 300)
@@ -164,9 +186,9 @@ class Tester:
 
 def main():
     tester = Tester()
-    for part in (tester.own_lists, tester.strangers, tester.free_lists, tester.all_ones, tester.bad_rows, tester.faults, tester.shapes):
+    for part in (tester.own_lists, tester.strangers, tester.free_lists, tester.all_ones, tester.bad_rows, tester.bad_rankings, tester.faults, tester.shapes):
         part()
-    reasons = [1, 2, 3, 4, 6, 7, 9, 10]
+    reasons = [1, 2, 3, 4, 6, 11, 12, 7, 9, 10]
     assert set(tester.answers) == {"accepted", *reasons}, tester.answers
     print("tests/batch.py: ok,", ", ".join(f"{tester.answers[answer]} times {answer}" for answer in ["accepted", *reasons]))
 

@@ -53,8 +53,8 @@ pub fn unpack(words: &[u64], j: usize) -> Vec<u8> {
 }
 
 /// Runs a list on the ballots of 64 juries, with one tape number for each conditional gate. Lengths count numbers: as many as a
-/// single run has bytes. Of reason 6 the place is the first jury with a bad row; reasons 5 and 8 never come. `wires` is all
-/// zero afterwards.
+/// single run has bytes. Of reasons 6, 11 and 12 the place is the first jury with the fault; reasons 5 and 8 never come. `wires`
+/// is all zero afterwards.
 pub fn run(
     shape: Shape,
     table: &[u32],
