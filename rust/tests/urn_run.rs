@@ -1,5 +1,5 @@
 //! A run on an urn through the wrapper: it is the run on the chain's ballots, and the urn stays as it was.
-use jugyvaros::urn::{admit, empty};
+use jugyvaros::urn::{self, admit};
 use jugyvaros::urn_run::run_urn;
 use jugyvaros::{measure, run, write, Reason, Refusal, Shape};
 
@@ -16,7 +16,7 @@ fn the_chain_is_run() {
     let mut table = vec![0; 4 * measures.gates];
     let size = write(SHAPE, &mut table).unwrap();
     let tape: Vec<u8> = (0..size.conditional).map(|i| (i % 2) as u8).collect();
-    let mut urn = empty(2, 3, 6);
+    let mut urn = urn::new(2, 3, 6).unwrap();
     for (juror, ballot) in BALLOTS.iter().enumerate() {
         admit(2, 3, &mut urn, juror + 1, ballot).unwrap();
     }
@@ -33,7 +33,7 @@ fn the_chain_is_run() {
 
 #[test]
 fn refusals_alter_nothing() {
-    let mut urn = empty(2, 3, 2);
+    let mut urn = urn::new(2, 3, 2).unwrap();
     admit(2, 3, &mut urn, 1, &BALLOTS[0]).unwrap();
     let mut table = vec![0; 4 * measure(SHAPE).unwrap().gates];
     write(SHAPE, &mut table).unwrap();

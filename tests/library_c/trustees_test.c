@@ -50,7 +50,7 @@ static void one_call(size_t k, size_t d, size_t n, size_t t, int damage) {
     size_t expected = 0;
     if (damage == 1 && (expected = JUGY_DEALING))
         parts[below((uint32_t)lengths[0])] ^= (uint8_t)(1 + below(3));
-    if (damage == 2 && (expected = JUGY_DEALING))
+    if (damage == 2 && C > 0 && (expected = JUGY_DEALING))
         dealt[3 * below((uint32_t)(lengths[1] / 3)) + 2] ^= (uint8_t)(1 + below(3));
     if (damage == 3 && (expected = JUGY_PART_TABLES))
         lengths[2 + below(2)] -= 1;
