@@ -318,7 +318,7 @@ pub fn test(shape: Shape, table: &[u32]) -> Result<Size, Refusal> {
 }
 
 /// Runs a list on the ballots, with one tape byte for each conditional gate. The tape is fresh, secret random bits, never
-/// used again; afterwards `wires` holds every ballot in clear, and `board` may be published. The table is the list and
+/// used again; afterwards `wires` is zeros, and `board` may be published. The table is the list and
 /// nothing behind it.
 pub fn run(
     shape: Shape,
