@@ -11,6 +11,7 @@ use Rattle.trustees.proofs.Demands as trustees
 use Rattle.dispatcher.proofs.Theorems.{dispatching}
 use Rattle.batch.proofs.Theorems.{each-as-alone, batch-memory, batch-accuracy, batch-hiding}
 use Rattle.demands.specs.Demands.{AllDemands}
+use Rattle.demands.proofs.Dispatched.{dispatch-accuracy}
 
 pub all-demands : AllDemands
 all-demands =
@@ -24,6 +25,7 @@ all-demands =
       urn-run = urn-run-holds;
       by-trustees = trustees.demands;
       dispatcher = dispatching;
+      dispatcher-accuracy = dispatch-accuracy;
       lanes-alone = each-as-alone;
       lanes-memory = batch-memory;
       lanes-accuracy = batch-accuracy;

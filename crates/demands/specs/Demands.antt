@@ -8,6 +8,7 @@ use Rattle.urn.specs.Theorems.{UrnHolds, PreviewsTell}
 use Rattle.urn_run.specs.Theorems.{UrnRunHolds}
 use Rattle.trustees.specs.Demands as trustees
 use Rattle.dispatcher.specs.Theorems.{Dispatching}
+use Rattle.demands.specs.Dispatched.{DispatchAccuracy}
 use Rattle.batch.specs.Theorems.{EachAsAlone, BatchMemory, BatchAccuracy, BatchHiding}
 
 -- The demand [memory], for each table that a call is lent: gate table, ballots, tape, wire table and board; a text and its output; the bytes of a season; an urn. Those of a run on an urn, of trustees, of a dispatched call and of 64 juries stand with the other demands below.
@@ -32,8 +33,9 @@ pub record AllDemands : Type 0 where
   pub urn-run : UrnRunHolds
   -- [trustees]: memory, accuracy, and that views tell no more than the closing bytes
   pub by-trustees : trustees.Demands
-  -- [dispatcher]: rounds, lengths, refusals, each jury as alone
+  -- [dispatcher]: rounds, lengths, refusals, each jury as alone, hiding; accuracy
   pub dispatcher : Dispatching
+  pub dispatcher-accuracy : DispatchAccuracy
   -- [lanes]: each jury as alone, memory, accuracy, hiding
   pub lanes-alone : EachAsAlone
   pub lanes-memory : BatchMemory

@@ -1,1 +1,2 @@
+pub mod Dispatched
 pub mod Demands
