@@ -275,8 +275,8 @@ static void still_won(struct writer *w, struct group g, uint32_t stays) {
             emit(w, AND, g.won + i, stays, 0);
 }
 
-/* The key is left out: the last meeting keeps none. */
-static struct order meeting(struct writer *w, const struct plan *p, struct group x, struct group y, struct group *both) {
+/* The key is left out: the last merge keeps none. */
+static struct order merge(struct writer *w, const struct plan *p, struct group x, struct group y, struct group *both) {
     struct order keys = contest(w, p, (struct words){x.key, y.key});
     uint32_t x_first = emit(w, AND, keys.differ, keys.first, 0);
     uint32_t y_first = emit(w, XOR, keys.differ, x_first, 0);
@@ -294,7 +294,7 @@ static struct group best_of(struct writer *w, const struct plan *p, const uint32
     if (size == 1)
         return (struct group){1, keys[0], 0};
     struct group x = best_of(w, p, keys, size / 2), y = best_of(w, p, keys + size / 2, size - size / 2), both;
-    struct order order = meeting(w, p, x, y, &both);
+    struct order order = merge(w, p, x, y, &both);
     if (size < p->k)
         both.key = choose(w, order.first, x.key, y.key, key_gates(p));
     return both;
@@ -340,8 +340,8 @@ static size_t below_medians_gates(const struct plan *p) {
         return 1;
     if (p->d == 2)
         return versus_gates(p->digits);
-    size_t probe = 2 * p->digits + 1, chosen = 4 * p->digits, sums = 6 * p->digits, settled = 10;
-    return (p->d - 3) * (probe + chosen) + 2 * versus_gates(p->digits) + sums + settled;
+    size_t side = 2 * p->digits + 1, chosen = 4 * p->digits, sums = 6 * p->digits, resolved = 10;
+    return (p->d - 3) * (side + chosen) + 2 * versus_gates(p->digits) + sums + resolved;
 }
 
 static size_t contest_gates(const struct plan *p) {

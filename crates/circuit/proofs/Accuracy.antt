@@ -38,7 +38,7 @@ use Rattle.circuit.specs.Plan.{planOf, Planned, bitsAt, apart}
 use Rattle.circuit.specs.OwnList.{circuit, ownList}
 use Rattle.circuit.proofs.Planning.{planned}
 use Rattle.circuit.proofs.SumLaws.{Sums}
-use Rattle.circuit.proofs.MeetingLaws.{Same, Rule}
+use Rattle.circuit.proofs.MergeLaws.{Same, Rule}
 use Rattle.circuit.proofs.CircuitLaws.{circuit-block, wonFrom, won-end, Final, circuit-law}
 use Rattle.circuit.proofs.RuleLaws.{Row, upTo, row-sums, same-sequence, judgment-rule}
 use Rattle.circuit.proofs.Columns.{column}

@@ -18,10 +18,10 @@ use Rattle.circuit.specs.RunningSums.{wordSpan, middleSpan, lastSpan, la
 use Rattle.circuit.specs.Key.{keySpan, candidateSpan}
 use Rattle.circuit.specs.Versus.{versusSpan}
 use Rattle.circuit.specs.Median.{medianSize}
-use Rattle.circuit.specs.Nearest.{probeSpan, eitherSpan}
+use Rattle.circuit.specs.Nearest.{sideSpan, eitherSpan}
 use Rattle.circuit.specs.Outward.{outwardSpan}
 use Rattle.circuit.specs.Contest.{lowerSpan, medianSpan, contestSpan}
-use Rattle.circuit.specs.Meeting.{meetingSpan}
+use Rattle.circuit.specs.Merge.{mergeSpan}
 use Rattle.circuit.specs.OwnList.{levelsSpan, lowLevels, circuit}
 use Rattle.circuit.proofs.CandidateBlocks.{middle-span, last-span, candidate-span}
 use Rattle.circuit.proofs.LevelsLaws.{span-one, span-more}
@@ -119,26 +119,26 @@ module _ (p : Plan) (f : Planned p) where
   lower-most (suc r) zero h = omega arith
   lower-most (suc r) (suc t) h =
       let few : t ≤ 4 = omega arith in
-      omega (arith, mul-le-mul-right {m = t} {n = 4} (probeSpan r) few, mul-le-mul-right {m = t} {n = 4} (eitherSpan r) few)
+      omega (arith, mul-le-mul-right {m = t} {n = 4} (sideSpan r) few, mul-le-mul-right {m = t} {n = 4} (eitherSpan r) few)
 
   key-most : keySpan p ≤ 6 * w
   unfolding w
   key-most = let few : p .grades - 1 ≤ 6 = omega (arith, f .d-most) in omega (arith, mul-le-mul-right {m = p .grades - 1} {n = 6} (wordSpan p) few)
 
-  -- a meeting of at most eight candidates, with the key that is kept
-  meet : ℕ
-  meet = 42 * w + 100
+  -- a merge of at most eight candidates, with the key that is kept
+  merge : ℕ
+  merge = 42 * w + 100
 
-  meet-most : (l m : ℕ) → l + m ≤ 8 → meetingSpan p l m + keySpan p ≤ meet
-  unfolding meet w
-  meet-most l m h =
+  merge-most : (l m : ℕ) → l + m ≤ 8 → mergeSpan p l m + keySpan p ≤ merge
+  unfolding merge w
+  merge-most l m h =
       omega (arith, key, median-size-most (p .grades - 1) (suc (p .places)), places-most, lower-most (p .digits) (p .grades - 2) (omega (arith, f .d-most)), f .d-most)
     where
       key : keySpan p ≤ 6 * suc (p .digits)
       key = unfold w in key-most
 
-  levels-most : (r m : ℕ) → 0 < m → m ≤ 8 → m ≤ 2 ^ r → levelsSpan p r m + meet ≤ m * meet
-  levels-most zero m some few h = unfold levelsSpan in (let e : m ≡ 1 = omega arith in omega (arith, ap (λ (k : ℕ). k * meet) e))
+  levels-most : (r m : ℕ) → 0 < m → m ≤ 8 → m ≤ 2 ^ r → levelsSpan p r m + merge ≤ m * merge
+  levels-most zero m some few h = unfold levelsSpan in (let e : m ≡ 1 = omega arith in omega (arith, ap (λ (k : ℕ). k * merge) e))
   levels-most (suc r) m some few h = ⊎-elim
       (λ (l : 1 < m).
       let e = pow r m h in
@@ -148,18 +148,18 @@ module _ (p : Plan) (f : Planned p) where
         span-more p r m l,
         levels-most r (m / 2) (omega arith) (omega arith) (omega arith),
         levels-most r (m - m / 2) (omega arith) (omega arith) (omega arith),
-        meet-most (m / 2) (m - m / 2) (omega arith),
-        ap (λ (k : ℕ). k * meet) whole,
-        add-mul (m / 2) (m - m / 2) meet,
+        merge-most (m / 2) (m - m / 2) (omega arith),
+        ap (λ (k : ℕ). k * merge) whole,
+        add-mul (m / 2) (m - m / 2) merge,
       ))
-      (λ (l : m ≤ 1). let e : m ≡ 1 = omega arith in omega (arith, span-one p r m l, ap (λ (k : ℕ). k * meet) e))
+      (λ (l : m ≤ 1). let e : m ≡ 1 = omega arith in omega (arith, span-one p r m l, ap (λ (k : ℕ). k * merge) e))
       (below-or-not 1 m)
     where
       pow : (r m : ℕ) → m ≤ 2 ^ suc r → m ≤ 2 * 2 ^ r
       pow r m h = omega (arith, pow-succ' 2 r)
 
-  -- all of it: a share for each candidate and grade, and a meeting for each candidate
-  all-most : 1 < p .candidates → length (circuit p) ≤ p .candidates * (p .grades * share) + p .candidates * meet
+  -- all of it: a share for each candidate and grade, and a merge for each candidate
+  all-most : 1 < p .candidates → length (circuit p) ≤ p .candidates * (p .grades * share) + p .candidates * merge
   all-most two =
       let k = p .candidates in
       let h = k / 2 in
@@ -171,9 +171,9 @@ module _ (p : Plan) (f : Planned p) where
         mul-le-mul-left {m = candidateSpan p} {n = p .grades * share} k candidate-most,
         levels-most lowLevels h (omega arith) (omega arith) (omega arith),
         levels-most lowLevels (k - h) (omega arith) (omega arith) (omega arith),
-        meet-most h (k - h) (omega arith),
-        ap (λ (x : ℕ). x * meet) whole,
-        add-mul h (k - h) meet,
+        merge-most h (k - h) (omega arith),
+        ap (λ (x : ℕ). x * merge) whole,
+        add-mul h (k - h) merge,
       )
 
   -- the bound's products, put together from a candidate's share
@@ -190,9 +190,9 @@ module _ (p : Plan) (f : Planned p) where
       sym (mul-assoc (k * d) 2 (n * v)) ∙ ap (λ (x : ℕ). x * (n * v)) (mul-comm (k * d) 2 ∙ sym (mul-assoc 2 k d)) ∙ sym (mul-assoc (2 * k * d) n v) in
       assoc ∙ split ∙ ap (λ (x : ℕ). x + k * d * (30 * v + 20)) first
 
-  -- what request 2.1 adds is more than the meetings take
-  meets : p .candidates * meet ≤ p .candidates * p .grades * (400 * w + 400)
-  unfolding meet w
+  -- what request 2.1 adds is more than the merges take
+  meets : p .candidates * merge ≤ p .candidates * p .grades * (400 * w + 400)
+  unfolding merge w
   meets =
       let k = p .candidates in
       let d = p .grades in
@@ -217,13 +217,13 @@ module _ (p : Plan) (f : Planned p) where
   unfolding share w
   share-small = omega (arith, nw-small, digits-most)
 
-  meet-small : meet ≤ 500
-  unfolding meet w
-  meet-small = omega (arith, digits-most)
+  merge-small : merge ≤ 500
+  unfolding merge w
+  merge-small = omega (arith, digits-most)
 
   pub gates-small : 1 < p .candidates → length (circuit p) ≤ 284000
   gates-small two =
       let each : p .grades * share ≤ 7 * 5000 = mul-le-mul (f .d-most) share-small in
       let all : p .candidates * (p .grades * share) ≤ 8 * 35000 = mul-le-mul (f .k-most) each in
-      let met : p .candidates * meet ≤ 8 * 500 = mul-le-mul (f .k-most) meet-small in
+      let met : p .candidates * merge ≤ 8 * 500 = mul-le-mul (f .k-most) merge-small in
       omega (arith, all-most two)

@@ -13,19 +13,19 @@ use Rattle.circuit.specs.declared.plan.Plan.{Plan}
 use Rattle.circuit.specs.Plan.{Planned, bitsAt, apart}
 use Rattle.circuit.specs.Key.{candidateSpan}
 use Rattle.circuit.specs.Contest.{contestSpan, resultAt}
-use Rattle.circuit.specs.Meeting.{meetingSpan, wonAt}
-use Rattle.circuit.specs.OwnList.{candidates, keyAt, levelsSpan, otherAt, meetAt, halvesMeet, bestKey, groupWon, levels, lowLevels, levelsAt, circuit}
+use Rattle.circuit.specs.Merge.{mergeSpan, wonAt}
+use Rattle.circuit.specs.OwnList.{candidates, keyAt, levelsSpan, otherAt, mergeAt, halvesMerge, bestKey, groupWon, levels, lowLevels, levelsAt, circuit}
 use Rattle.circuit.proofs.Blocks.{Block, both-block, sized}
 use Rattle.circuit.proofs.Cutting.{cut4}
 use Rattle.circuit.proofs.SumLaws.{Sums, Spells, candidate-law}
-use Rattle.circuit.proofs.MeetingLaws.{Rule, Standing, Group, Joined}
-use Rattle.circuit.proofs.LevelsLaws.{candidates-block, levels-block, halves-meet-block, each-candidate, levels-law, halves-law}
+use Rattle.circuit.proofs.MergeLaws.{Rule, Standing, Group, Joined}
+use Rattle.circuit.proofs.LevelsLaws.{candidates-block, levels-block, halves-merge-block, each-candidate, levels-law, halves-law}
 
 module _ (p : Plan) (f : Planned p) (two : 1 < p .candidates) where
   abbrev pub circuitSpan : ℕ
   circuitSpan =
       p .candidates * candidateSpan p + levelsSpan p lowLevels (p .candidates / 2) + levelsSpan p lowLevels (p .candidates - p .candidates / 2)
-      + meetingSpan p (p .candidates / 2) (p .candidates - p .candidates / 2)
+      + mergeSpan p (p .candidates / 2) (p .candidates - p .candidates / 2)
 
   pub circuit-block : Block (p .inputs) (circuit p) circuitSpan
   unfolding circuit
@@ -35,11 +35,11 @@ module _ (p : Plan) (f : Planned p) (two : 1 < p .candidates) where
       both-block (both-block (both-block (candidates-block p f (p .inputs) 0 k (omega arith) (omega arith)) refl
       (levels-block p f lowLevels (levelsAt p) 0 (k / 2) (omega arith) (omega arith) (omega arith) (omega arith))) (omega arith)
       (levels-block p f lowLevels (otherAt p lowLevels (levelsAt p) k) (k / 2) (k - k / 2) (omega arith) (omega arith) (omega arith) (omega arith))) (omega arith)
-      (halves-meet-block p f lowLevels (levelsAt p) 0 k (omega arith) two (omega arith) (omega arith))
+      (halves-merge-block p f lowLevels (levelsAt p) 0 k (omega arith) two (omega arith) (omega arith))
 
   -- the last k wires
   pub wonFrom : ℕ
-  wonFrom = wonAt p (meetAt p lowLevels (levelsAt p) (p .candidates))
+  wonFrom = wonAt p (mergeAt p lowLevels (levelsAt p) (p .candidates))
 
   pub won-end : wonFrom + p .candidates ≡ p .inputs + length (circuit p)
   unfolding wonFrom
@@ -53,14 +53,14 @@ module _ (p : Plan) (f : Planned p) (two : 1 < p .candidates) where
     parts : Holds W (p .inputs) (candidates p (p .inputs) 0 (p .candidates))
         × Holds W (levelsAt p) (levels p lowLevels (levelsAt p) 0 (p .candidates / 2))
         × Holds W (otherAt p lowLevels (levelsAt p) (p .candidates)) (levels p lowLevels (otherAt p lowLevels (levelsAt p) (p .candidates)) (p .candidates / 2) (p .candidates - p .candidates / 2))
-        × Holds W (meetAt p lowLevels (levelsAt p) (p .candidates)) (halvesMeet p lowLevels (levelsAt p) 0 (p .candidates))
+        × Holds W (mergeAt p lowLevels (levelsAt p) (p .candidates)) (halvesMerge p lowLevels (levelsAt p) 0 (p .candidates))
     unfolding circuit
     parts =
         let k = p .candidates in
         let most = f .k-most in
         let n = levelsAt p in
         let other = otherAt p lowLevels n k in
-        cut4 W (p .inputs) (candidates p (p .inputs) 0 k) (levels p lowLevels n 0 (k / 2)) (levels p lowLevels other (k / 2) (k - k / 2)) (halvesMeet p lowLevels n 0 k) n other (meetAt p lowLevels n k)
+        cut4 W (p .inputs) (candidates p (p .inputs) 0 k) (levels p lowLevels n 0 (k / 2)) (levels p lowLevels other (k / 2) (k - k / 2)) (halvesMerge p lowLevels n 0 k) n other (mergeAt p lowLevels n k)
         (omega (arith, candidates-block p f (p .inputs) 0 k (omega arith) (omega arith) .long))
         (omega (arith, levels-block p f lowLevels n 0 (k / 2) (omega arith) (omega arith) (omega arith) (omega arith) .long))
         (omega (arith, levels-block p f lowLevels other (k / 2) (k - k / 2) (omega arith) (omega arith) (omega arith) (omega arith) .long)) h
@@ -93,7 +93,7 @@ module _ (p : Plan) (f : Planned p) (two : 1 < p .candidates) where
         let two′ = levels-law p f S Before rule W b medians sums keys lowLevels other (k / 2) (k - k / 2) (omega arith) (omega arith) (omega arith) (omega arith) (parts .2) in
         let x = bestKey p lowLevels n 0 (k / 2) in
         let y = bestKey p lowLevels other (0 + k / 2) (k - k / 2) in
-        final (resultAt p (meetAt p lowLevels n k)) x y
+        final (resultAt p (mergeAt p lowLevels n k)) x y
         (halves-law p f S Before rule W b medians sums keys lowLevels n 0 k (omega arith) two (omega arith) (omega arith) one
         (subst (λ (c : ℕ). Group p f S Before rule W b c (k - k / 2) (bestKey p lowLevels other c (k - k / 2)) (groupWon p lowLevels other (k - k / 2))) (sym (zero-add (k / 2))) two′)
         (parts .3))

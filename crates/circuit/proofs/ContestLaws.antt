@@ -22,7 +22,7 @@ use Rattle.circuit.specs.Key.{keySpan, lowAt, worseAt}
 use Rattle.circuit.specs.Versus.{versus, versusSpan, unequalSpan, unequalAt, aboveAt}
 use Rattle.circuit.specs.Median.{Fits, median, medianSize}
 use Rattle.circuit.specs.Nearest.{stride}
-use Rattle.circuit.specs.Outward.{settleAt, outwardSpan}
+use Rattle.circuit.specs.Outward.{resolveAt, outwardSpan}
 use Rattle.circuit.specs.Contest.{lower, lowerSpan, lowerUnequal, lowerFirst, medianSpan, rightMedian, leftMedian, mediansAt, lowerAt, resultAt, contest, contestSpan}
 use Rattle.circuit.proofs.Blocks.{Block, none-block, both-block, sized, gate-block, or-good, mux-good}
 use Rattle.circuit.proofs.Cutting.{cut2, cut5}
@@ -160,7 +160,7 @@ module _ (p : Plan) (f : Planned p) where
             let many : suc (suc t) ≡ p .grades - 1 = omega (arith, grades-are) in
             let bound : (k : ℕ) → k + keySpan p ≤ n → k + suc (suc t) * stride r ≤ n =
             λ k l. strided k t r n (subst (λ (i : ℕ). k + suc (suc t) * (i + 1) ≤ n) e (subst (λ (i : ℕ). k + i * (p .digits + 1) ≤ n) (sym many) l)) in
-            subst (λ (i : ℕ). Outcome (W (settleAt n r t + 8)) (W (settleAt n r t + 9)) (p .ballots) i A C) many
+            subst (λ (i : ℕ). Outcome (W (resolveAt n r t + 8)) (W (resolveAt n r t + 9)) (p .ballots) i A C) many
             (outward-law W b p f r t e z A C median a c n x y (bound x hx) (bound y hy) kx ky h)
 
       -- a better median comes first

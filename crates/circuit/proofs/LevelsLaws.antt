@@ -1,4 +1,4 @@
--- The levels of meetings are well-formed, and find the best of their candidates.
+-- The levels of merges are well-formed, and find the best of their candidates.
 -- Assumes nothing.
 use mathlib.Core.Path.{_≡_, _∙_, refl, sym, ap, subst}
 use mathlib.Core.Bool.{Bool, true, false, cond}
@@ -19,14 +19,14 @@ use Rattle.circuit.specs.declared.plan.Plan.{Plan}
 use Rattle.circuit.specs.Plan.{Planned}
 use Rattle.circuit.specs.Key.{candidate, keyOf, keySpan, candidateSpan}
 use Rattle.circuit.specs.Contest.{resultAt, contestSpan}
-use Rattle.circuit.specs.Meeting.{meeting, meetingSpan, wonAt, better}
-use Rattle.circuit.specs.OwnList.{candidates, keyAt, levelsSpan, bestKey, groupWon, otherAt, meetAt, halvesMeet, halvesBetter, levels, lowLevels, levelsAt, circuit}
+use Rattle.circuit.specs.Merge.{merge, mergeSpan, wonAt, better}
+use Rattle.circuit.specs.OwnList.{candidates, keyAt, levelsSpan, bestKey, groupWon, otherAt, mergeAt, halvesMerge, halvesBetter, levels, lowLevels, levelsAt, circuit}
 use Rattle.circuit.proofs.Blocks.{Block, none-block, both-block, sized}
 use Rattle.circuit.proofs.Cutting.{cut2, cut4}
 use Rattle.circuit.proofs.CandidateBlocks.{candidate-block, key-of}
 use Rattle.circuit.proofs.SumLaws.{Sums, Spells}
 use Rattle.circuit.proofs.ContestLaws.{key-some}
-use Rattle.circuit.proofs.MeetingLaws.{meeting-block, better-block, better-one, better-zero, wonBit, won-bit, won-alone, Same, Rule, Standing, Group, Joined, meeting-law}
+use Rattle.circuit.proofs.MergeLaws.{merge-block, better-block, better-one, better-zero, wonBit, won-bit, won-alone, Same, Rule, Standing, Group, Joined, merge-law}
 
 -- one candidate alone, or two halves
 module _ (p : Plan) (r m : ℕ) where
@@ -34,7 +34,7 @@ module _ (p : Plan) (r m : ℕ) where
   unfolding levelsSpan
   span-one h = rw (le-leb m 1 h)
 
-  pub span-more : 1 < m → levelsSpan p (suc r) m ≡ levelsSpan p r (m / 2) + levelsSpan p r (m - m / 2) + meetingSpan p (m / 2) (m - m / 2) + keySpan p
+  pub span-more : 1 < m → levelsSpan p (suc r) m ≡ levelsSpan p r (m / 2) + levelsSpan p r (m - m / 2) + mergeSpan p (m / 2) (m - m / 2) + keySpan p
   unfolding levelsSpan
   span-more h = rw (lt-leb m 1 h)
 
@@ -43,11 +43,11 @@ module _ (p : Plan) (r m : ℕ) where
     unfolding bestKey
     key-one h = rw (le-leb m 1 h)
 
-    pub key-more : 1 < m → bestKey p (suc r) n c m ≡ n + levelsSpan p r (m / 2) + levelsSpan p r (m - m / 2) + meetingSpan p (m / 2) (m - m / 2)
+    pub key-more : 1 < m → bestKey p (suc r) n c m ≡ n + levelsSpan p r (m / 2) + levelsSpan p r (m - m / 2) + mergeSpan p (m / 2) (m - m / 2)
     unfolding bestKey
     key-more h = rw (lt-leb m 1 h)
 
-    pub won-more : 1 < m → groupWon p (suc r) n m ≡ wonAt p (meetAt p r n m)
+    pub won-more : 1 < m → groupWon p (suc r) n m ≡ wonAt p (mergeAt p r n m)
     unfolding groupWon
     won-more h = rw (lt-leb m 1 h)
 
@@ -55,7 +55,7 @@ module _ (p : Plan) (r m : ℕ) where
     unfolding levels
     levels-one h = rw (le-leb m 1 h)
 
-    pub levels-more : 1 < m → levels p (suc r) n c m ≡ levels p r n c (m / 2) ++ levels p r (otherAt p r n m) (c + m / 2) (m - m / 2) ++ halvesMeet p r n c m ++ halvesBetter p r n c m
+    pub levels-more : 1 < m → levels p (suc r) n c m ≡ levels p r n c (m / 2) ++ levels p r (otherAt p r n m) (c + m / 2) (m - m / 2) ++ halvesMerge p r n c m ++ halvesBetter p r n c m
     unfolding levels
     levels-more h = rw (lt-leb m 1 h)
 
@@ -88,25 +88,25 @@ module _ (p : Plan) (f : Planned p) where
   won-place zero n m h l = absurd (omega arith)
   won-place (suc r) n m h l = omega (arith, won-more p r m n 0 l, span-more p r m l)
 
-  pub halves-meet-block : (r n c m : ℕ) → levelsAt p ≤ n → 1 < m → m ≤ 2 ^ suc r → c + m ≤ p .candidates → Block (meetAt p r n m) (halvesMeet p r n c m) (meetingSpan p (m / 2) (m - m / 2))
-  unfolding halvesMeet
-  halves-meet-block r n c m h l hm hc =
+  pub halves-merge-block : (r n c m : ℕ) → levelsAt p ≤ n → 1 < m → m ≤ 2 ^ suc r → c + m ≤ p .candidates → Block (mergeAt p r n m) (halvesMerge p r n c m) (mergeSpan p (m / 2) (m - m / 2))
+  unfolding halvesMerge
+  halves-merge-block r n c m h l hm hc =
       let q = halves r m l hm in
       let other = otherAt p r n m in
       let first = key-place r n c (m / 2) h (q .0) (omega arith) in
       let second = key-place r other (c + m / 2) (m - m / 2) (omega arith) (q .2) (omega arith) in
-      meeting-block p f (meetAt p r n m) (bestKey p r n c (m / 2)) (bestKey p r other (c + m / 2) (m - m / 2)) (groupWon p r n (m / 2)) (groupWon p r other (m - m / 2)) (m / 2) (m - m / 2)
+      merge-block p f (mergeAt p r n m) (bestKey p r n c (m / 2)) (bestKey p r other (c + m / 2) (m - m / 2)) (groupWon p r n (m / 2)) (groupWon p r other (m - m / 2)) (m / 2) (m - m / 2)
       (omega arith) (omega arith) (λ k. let z = won-place r n (m / 2) (q .1) k in omega arith) (λ k. let z = won-place r other (m - m / 2) (q .3) k in omega arith)
 
   pub halves-better-block : (r n c m : ℕ) → levelsAt p ≤ n → 1 < m → m ≤ 2 ^ suc r → c + m ≤ p .candidates
-      → Block (meetAt p r n m + meetingSpan p (m / 2) (m - m / 2)) (halvesBetter p r n c m) (keySpan p)
+      → Block (mergeAt p r n m + mergeSpan p (m / 2) (m - m / 2)) (halvesBetter p r n c m) (keySpan p)
   unfolding halvesBetter
   halves-better-block r n c m h l hm hc =
       let q = halves r m l hm in
       let other = otherAt p r n m in
       let first = key-place r n c (m / 2) h (q .0) (omega arith) in
       let second = key-place r other (c + m / 2) (m - m / 2) (omega arith) (q .2) (omega arith) in
-      better-block p f (meetAt p r n m + meetingSpan p (m / 2) (m - m / 2)) (meetAt p r n m) (bestKey p r n c (m / 2)) (bestKey p r other (c + m / 2) (m - m / 2)) (omega arith) (omega arith) (omega arith)
+      better-block p f (mergeAt p r n m + mergeSpan p (m / 2) (m - m / 2)) (mergeAt p r n m) (bestKey p r n c (m / 2)) (bestKey p r other (c + m / 2) (m - m / 2)) (omega arith) (omega arith) (omega arith)
 
   pub levels-block : (r n c m : ℕ) → levelsAt p ≤ n → 0 < m → m ≤ 2 ^ r → c + m ≤ p .candidates → Block n (levels p r n c m) (levelsSpan p r m)
   levels-block zero n c m h hm hr hc = unfold levels levelsSpan in (none-block n)
@@ -116,7 +116,7 @@ module _ (p : Plan) (f : Planned p) where
       (sized (sym (span-more p r m l))
       (both-block (both-block (both-block (levels-block r n c (m / 2) h (q .0) (q .1) (omega arith)) refl
       (levels-block r (otherAt p r n m) (c + m / 2) (m - m / 2) (omega arith) (q .2) (q .3) (omega arith))) (omega arith)
-      (halves-meet-block r n c m h l hr hc)) (omega arith)
+      (halves-merge-block r n c m h l hr hc)) (omega arith)
       (halves-better-block r n c m h l hr hc))))
       (λ (l : m ≤ 1). subst (λ (gs : List Gate). Block n gs (levelsSpan p (suc r) m)) (sym (levels-one p r m n c l)) (sized (sym (span-one p r m l)) (none-block n)))
       (below-or-not 1 m)
@@ -157,32 +157,32 @@ module _ (p : Plan) (f : Planned p) (S : ℕ → ℕ → ℕ) (Before : ℕ → 
         standing = λ i l. inl (ap (λ (j : ℕ). wonBit W won j i) one ∙ won-alone W won i, λ g z. let e : c + i ≡ c = omega arith in ap (λ (j : ℕ). S j g) e);
       }
 
-  -- two halves that are known meet
+  -- two halves that are known are merged
   pub halves-law : (r n c m : ℕ) → levelsAt p ≤ n → 1 < m → m ≤ 2 ^ suc r → c + m ≤ p .candidates
       → Group p f S Before rule W b c (m / 2) (bestKey p r n c (m / 2)) (groupWon p r n (m / 2))
       → Group p f S Before rule W b (c + m / 2) (m - m / 2) (bestKey p r (otherAt p r n m) (c + m / 2) (m - m / 2)) (groupWon p r (otherAt p r n m) (m - m / 2))
-      → Holds W (meetAt p r n m) (halvesMeet p r n c m)
-      → Joined p f S Before rule W b c (m / 2) (m - m / 2) (resultAt p (meetAt p r n m)) (bestKey p r n c (m / 2)) (bestKey p r (otherAt p r n m) (c + m / 2) (m - m / 2)) (wonAt p (meetAt p r n m))
-  unfolding halvesMeet
+      → Holds W (mergeAt p r n m) (halvesMerge p r n c m)
+      → Joined p f S Before rule W b c (m / 2) (m - m / 2) (resultAt p (mergeAt p r n m)) (bestKey p r n c (m / 2)) (bestKey p r (otherAt p r n m) (c + m / 2) (m - m / 2)) (wonAt p (mergeAt p r n m))
+  unfolding halvesMerge
   halves-law r n c m h l hm hc one two w =
       let q = halves r m l hm in
       let other = otherAt p r n m in
       let first = key-place p f r n c (m / 2) h (q .0) (omega arith) in
       let second = key-place p f r other (c + m / 2) (m - m / 2) (omega arith) (q .2) (omega arith) in
-      meeting-law p f S Before rule W b medians sums (meetAt p r n m) c (bestKey p r n c (m / 2)) (bestKey p r other (c + m / 2) (m - m / 2)) (groupWon p r n (m / 2)) (groupWon p r other (m - m / 2)) (m / 2) (m - m / 2)
+      merge-law p f S Before rule W b medians sums (mergeAt p r n m) c (bestKey p r n c (m / 2)) (bestKey p r other (c + m / 2) (m - m / 2)) (groupWon p r n (m / 2)) (groupWon p r other (m - m / 2)) (m / 2) (m - m / 2)
       (omega arith) (omega arith) (omega arith) (λ k. let z = won-place p f r n (m / 2) (q .1) k in omega arith) (λ k. let z = won-place p f r other (m - m / 2) (q .3) k in omega arith) one two w
 
   -- the key that is kept
   chosen-key : (r n c m at : ℕ) (T : ℕ → ℕ)
-      → ((W (resultAt p (meetAt p r n m) + 1) ≡ 1) × Spells W b p f (bestKey p r n c (m / 2)) T) ⊎ ((W (resultAt p (meetAt p r n m) + 1) ≡ 0) × Spells W b p f (bestKey p r (otherAt p r n m) (c + m / 2) (m - m / 2)) T)
+      → ((W (resultAt p (mergeAt p r n m) + 1) ≡ 1) × Spells W b p f (bestKey p r n c (m / 2)) T) ⊎ ((W (resultAt p (mergeAt p r n m) + 1) ≡ 0) × Spells W b p f (bestKey p r (otherAt p r n m) (c + m / 2) (m - m / 2)) T)
       → Holds W at (halvesBetter p r n c m) → Spells W b p f at T
   unfolding halvesBetter
   chosen-key r n c m at T choice w =
       let x = bestKey p r n c (m / 2) in
       let y = bestKey p r (otherAt p r n m) (c + m / 2) (m - m / 2) in
       ⊎-elim
-      (λ (z : (W (resultAt p (meetAt p r n m) + 1) ≡ 1) × Spells W b p f x T). better-one W b p f at (meetAt p r n m) x y T w (z .0) (z .1))
-      (λ (z : (W (resultAt p (meetAt p r n m) + 1) ≡ 0) × Spells W b p f y T). better-zero W b p f at (meetAt p r n m) x y T w (z .0) (z .1))
+      (λ (z : (W (resultAt p (mergeAt p r n m) + 1) ≡ 1) × Spells W b p f x T). better-one W b p f at (mergeAt p r n m) x y T w (z .0) (z .1))
+      (λ (z : (W (resultAt p (mergeAt p r n m) + 1) ≡ 0) × Spells W b p f y T). better-zero W b p f at (mergeAt p r n m) x y T w (z .0) (z .1))
       choice
 
   pub levels-law : (r n c m : ℕ) → levelsAt p ≤ n → 0 < m → m ≤ 2 ^ r → c + m ≤ p .candidates → Holds W n (levels p r n c m)
@@ -192,14 +192,14 @@ module _ (p : Plan) (f : Planned p) (S : ℕ → ℕ → ℕ) (Before : ℕ → 
       (λ (l : 1 < m).
       let q = halves r m l hr in
       let other = otherAt p r n m in
-      let meet = meetAt p r n m in
-      let last = meet + meetingSpan p (m / 2) (m - m / 2) in
+      let merge = mergeAt p r n m in
+      let last = merge + mergeSpan p (m / 2) (m - m / 2) in
       let gs = levels p r n c (m / 2) in
       let hs = levels p r other (c + m / 2) (m - m / 2) in
-      let o = cut4 W n gs hs (halvesMeet p r n c m) (halvesBetter p r n c m) other meet last
+      let o = cut4 W n gs hs (halvesMerge p r n c m) (halvesBetter p r n c m) other merge last
       (omega (arith, levels-block p f r n c (m / 2) h (q .0) (q .1) (omega arith) .long))
       (omega (arith, levels-block p f r other (c + m / 2) (m - m / 2) (omega arith) (q .2) (q .3) (omega arith) .long))
-      (omega (arith, halves-meet-block p f r n c m h l hr hc .long))
+      (omega (arith, halves-merge-block p f r n c m h l hr hc .long))
       (subst (Holds W n) (levels-more p r m n c l) w) in
       let one = levels-law r n c (m / 2) h (q .0) (q .1) (omega arith) (o .0) in
       let two = levels-law r other (c + m / 2) (m - m / 2) (omega arith) (q .2) (q .3) (omega arith) (o .1) in

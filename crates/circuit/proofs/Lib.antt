@@ -12,7 +12,7 @@ pub mod NearestLaws
 pub mod OutwardBlocks
 pub mod OutwardLaws
 pub mod ContestLaws
-pub mod MeetingLaws
+pub mod MergeLaws
 pub mod LevelsLaws
 pub mod CircuitLaws
 pub mod RuleLaws

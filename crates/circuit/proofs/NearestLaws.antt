@@ -1,4 +1,4 @@
--- What the probes of some grades tell, and which words are chosen by them.
+-- What the sides of some grades tell, and which words are chosen by them.
 -- Assumes nothing.
 use mathlib.Core.Path.{_≡_, _∙_, refl, sym, ap, subst}
 use mathlib.Core.Logic.{_⊎_, inl, inr, ⊎-elim, _≢_}
@@ -18,53 +18,53 @@ use Rattle.words.proofs.ChoiceSteps.{length-choose}
 use Rattle.words.proofs.ChoiceLaws.{choose-one, choose-zero}
 use Rattle.words.proofs.Ends.{chain-below}
 use Rattle.circuit.specs.Versus.{unequal, unequalSpan, unequalAt}
-use Rattle.circuit.specs.Nearest.{stride, probe, probeSpan, belowAt, fromAt, probes, either, eitherSpan, lastOf, firstOf, leftEnd, rightEnd}
+use Rattle.circuit.specs.Nearest.{stride, side, sideSpan, belowAt, fromAt, sides, either, eitherSpan, lastOf, firstOf, leftEnd, rightEnd}
 use Rattle.circuit.proofs.Blocks.{Block, none-block, both-block, sized, gate-block, choose-block, and-good, xor-good}
 use Rattle.circuit.proofs.VersusLaws.{length-unequal, unequal-block, unequal-zero, unequal-one}
 use Rattle.circuit.proofs.Cutting.{cut2}
 
-pub probe-block : (n x y r : ℕ) → x + suc (suc r) ≤ n → y + suc r ≤ n → Block n (probe n x y r) (probeSpan r)
-unfolding probe
-probe-block n x y r hx hy =
+pub side-block : (n x y r : ℕ) → x + suc (suc r) ≤ n → y + suc r ≤ n → Block n (side n x y r) (sideSpan r)
+unfolding side
+side-block n x y r hx hy =
     let q = n + unequalSpan r in
     let e = chain-below (n + suc r) n r q (omega arith) (omega arith) in
     both-block (unequal-block n x y r (omega arith) (omega arith)) refl
     (gate-block (and-good q (unequalAt n r) (x + suc r) e (omega arith))
     (gate-block (xor-good (suc q) (unequalAt n r) q (omega arith) (omega arith)) (none-block (suc (suc q)))))
 
-pub probes-block : (n x y r t : ℕ) → x + t * stride r ≤ n → y + t * stride r ≤ n → Block n (probes n x y r t) (t * probeSpan r)
-unfolding probes
-probes-block n x y r zero hx hy = sized (sym (zero-mul (probeSpan r))) (none-block n)
-probes-block n x y r (suc t) hx hy =
+pub sides-block : (n x y r t : ℕ) → x + t * stride r ≤ n → y + t * stride r ≤ n → Block n (sides n x y r t) (t * sideSpan r)
+unfolding sides
+sides-block n x y r zero hx hy = sized (sym (zero-mul (sideSpan r))) (none-block n)
+sides-block n x y r (suc t) hx hy =
     let e = suc-mul t (stride r) in
-    sized (omega (arith, suc-mul t (probeSpan r)))
-    (both-block (probe-block n x y r (omega arith) (omega arith)) refl (probes-block (n + probeSpan r) (x + stride r) (y + stride r) r t (omega arith) (omega arith)))
+    sized (omega (arith, suc-mul t (sideSpan r)))
+    (both-block (side-block n x y r (omega arith) (omega arith)) refl (sides-block (n + sideSpan r) (x + stride r) (y + stride r) r t (omega arith) (omega arith)))
 
 pub either-block : (n f x y u v r : ℕ) → f < n → x + suc r ≤ n → y + suc r ≤ n → u + suc r ≤ n → v + suc r ≤ n → Block n (either f x y u v r) (eitherSpan r)
 unfolding either
 either-block n f x y u v r hf hx hy hu hv =
     both-block (choose-block n f x u (suc r) hf hx hu) refl (choose-block (n + suc r) f y v (suc r) (omega arith) (omega arith) (omega arith))
 
-pub last-of-block : (n f x y u v r t : ℕ) → f + t * probeSpan r < n + probeSpan r → x + t * stride r ≤ n → y + t * stride r ≤ n → u + suc r ≤ n → v + suc r ≤ n
+pub last-of-block : (n f x y u v r t : ℕ) → f + t * sideSpan r < n + sideSpan r → x + t * stride r ≤ n → y + t * stride r ≤ n → u + suc r ≤ n → v + suc r ≤ n
     → Block n (lastOf n f x y u v r t) (t * eitherSpan r)
 unfolding lastOf
 last-of-block n f x y u v r zero hf hx hy hu hv = sized (sym (zero-mul (eitherSpan r))) (none-block n)
 last-of-block n f x y u v r (suc t) hf hx hy hu hv =
     let e = suc-mul t (stride r) in
-    let e′ = suc-mul t (probeSpan r) in
+    let e′ = suc-mul t (sideSpan r) in
     sized (omega (arith, suc-mul t (eitherSpan r)))
     (both-block (either-block n f x y u v r (omega arith) (omega arith) (omega arith) hu hv) refl
-    (last-of-block (n + eitherSpan r) (f + probeSpan r) (x + stride r) (y + stride r) n (n + suc r) r t (omega arith) (omega arith) (omega arith) (omega arith) (omega arith)))
+    (last-of-block (n + eitherSpan r) (f + sideSpan r) (x + stride r) (y + stride r) n (n + suc r) r t (omega arith) (omega arith) (omega arith) (omega arith) (omega arith)))
 
-pub first-of-block : (n f x y u v r t : ℕ) → f + t * probeSpan r < n + probeSpan r → x + t * stride r ≤ n → y + t * stride r ≤ n → u + suc r ≤ n → v + suc r ≤ n
+pub first-of-block : (n f x y u v r t : ℕ) → f + t * sideSpan r < n + sideSpan r → x + t * stride r ≤ n → y + t * stride r ≤ n → u + suc r ≤ n → v + suc r ≤ n
     → Block n (firstOf n f x y u v r t) (t * eitherSpan r)
 unfolding firstOf
 first-of-block n f x y u v r zero hf hx hy hu hv = sized (sym (zero-mul (eitherSpan r))) (none-block n)
 first-of-block n f x y u v r (suc t) hf hx hy hu hv =
     let e = suc-mul t (stride r) in
-    let e′ = suc-mul t (probeSpan r) in
+    let e′ = suc-mul t (sideSpan r) in
     sized (omega (arith, suc-mul t (eitherSpan r)))
-    (both-block (either-block n (f + t * probeSpan r) (x + t * stride r) (y + t * stride r) u v r (omega arith) (omega arith) (omega arith) hu hv) refl
+    (both-block (either-block n (f + t * sideSpan r) (x + t * stride r) (y + t * stride r) u v r (omega arith) (omega arith) (omega arith) hu hv) refl
     (first-of-block (n + eitherSpan r) f x y n (n + suc r) r t (omega arith) (omega arith) (omega arith) (omega arith) (omega arith)))
 
 pub left-below : (n u r t m : ℕ) → u + suc r ≤ m → n + t * eitherSpan r ≤ m → leftEnd n u r t + suc r ≤ m
@@ -122,16 +122,16 @@ module _ (W : ℕ → ℕ) (b : Binary W) where
   abbrev pub spelled : ℕ → ℕ → ℕ
   spelled r at = number W at 1 (suc r)
 
-  -- what a probe tells
-  pub record Probe (n x y r : ℕ) : Type 0 where
+  -- what a side tells
+  pub record Side (n x y r : ℕ) : Type 0 where
     pub below-one : W (belowAt n r) ≡ 1 → (spelled r x ≢ spelled r y) × (W (x + suc r) ≡ 1)
     pub below-zero : W (belowAt n r) ≡ 0 → W (x + suc r) ≡ 1 → spelled r x ≡ spelled r y
     pub from-one : W (fromAt n r) ≡ 1 → (spelled r x ≢ spelled r y) × (W (x + suc r) ≡ 0)
     pub from-zero : W (fromAt n r) ≡ 0 → W (x + suc r) ≡ 0 → spelled r x ≡ spelled r y
 
-  probe-law : (n x y r : ℕ) → Holds W n (probe n x y r) → Probe n x y r
-  unfolding probe
-  probe-law n x y r h =
+  side-law : (n x y r : ℕ) → Holds W n (side n x y r) → Side n x y r
+  unfolding side
+  side-law n x y r h =
       let q = n + unequalSpan r in
       let e = unequalAt n r in
       let f = x + suc r in
@@ -151,18 +151,18 @@ module _ (W : ℕ → ℕ) (b : Binary W) where
       })
       (same-or-not (spelled r x) (spelled r y))
 
-  pub probes-law : (n x y r t : ℕ) → x + t * stride r ≤ n → y + t * stride r ≤ n → Holds W n (probes n x y r t) → (i : ℕ) → i < t → Probe (n + i * probeSpan r) (x + i * stride r) (y + i * stride r) r
-  unfolding probes
-  probes-law n x y r zero hx hy h i l = absurd (omega arith)
-  probes-law n x y r (suc t) hx hy h zero l =
+  pub sides-law : (n x y r t : ℕ) → x + t * stride r ≤ n → y + t * stride r ≤ n → Holds W n (sides n x y r t) → (i : ℕ) → i < t → Side (n + i * sideSpan r) (x + i * stride r) (y + i * stride r) r
+  unfolding sides
+  sides-law n x y r zero hx hy h i l = absurd (omega arith)
+  sides-law n x y r (suc t) hx hy h zero l =
       let e = suc-mul t (stride r) in
-      let c = cut2 W n (probe n x y r) (probes (n + probeSpan r) (x + stride r) (y + stride r) r t) (n + probeSpan r) (omega (arith, probe-block n x y r (omega arith) (omega arith) .long)) h in
-      rw (first-place n (probeSpan r), first-place x (stride r), first-place y (stride r)) (probe-law n x y r (c .0))
-  probes-law n x y r (suc t) hx hy h (suc i) l =
+      let c = cut2 W n (side n x y r) (sides (n + sideSpan r) (x + stride r) (y + stride r) r t) (n + sideSpan r) (omega (arith, side-block n x y r (omega arith) (omega arith) .long)) h in
+      rw (first-place n (sideSpan r), first-place x (stride r), first-place y (stride r)) (side-law n x y r (c .0))
+  sides-law n x y r (suc t) hx hy h (suc i) l =
       let e = suc-mul t (stride r) in
-      let c = cut2 W n (probe n x y r) (probes (n + probeSpan r) (x + stride r) (y + stride r) r t) (n + probeSpan r) (omega (arith, probe-block n x y r (omega arith) (omega arith) .long)) h in
-      rw (← next-place n (probeSpan r) i, ← next-place x (stride r) i, ← next-place y (stride r) i)
-      (probes-law (n + probeSpan r) (x + stride r) (y + stride r) r t (omega arith) (omega arith) (c .1) i (omega arith))
+      let c = cut2 W n (side n x y r) (sides (n + sideSpan r) (x + stride r) (y + stride r) r t) (n + sideSpan r) (omega (arith, side-block n x y r (omega arith) (omega arith) .long)) h in
+      rw (← next-place n (sideSpan r) i, ← next-place x (stride r) i, ← next-place y (stride r) i)
+      (sides-law (n + sideSpan r) (x + stride r) (y + stride r) r t (omega arith) (omega arith) (c .1) i (omega arith))
 
   module _ (n f x y u v r : ℕ) (h : Holds W n (either f x y u v r)) where
     cut-either : Holds W n (choose f x u (suc r)) × Holds W (n + suc r) (choose f y v (suc r))
@@ -176,12 +176,12 @@ module _ (W : ℕ → ℕ) (b : Binary W) where
 
   -- wires and words of grade i
   abbrev pub flagAt : ℕ → ℕ → ℕ → ℕ
-  flagAt f r i = W (f + i * probeSpan r)
+  flagAt f r i = W (f + i * sideSpan r)
 
   abbrev pub wordOf : ℕ → ℕ → ℕ → ℕ
   wordOf x r i = spelled r (x + i * stride r)
 
-  pub last-of-law : (n f x y u v r t : ℕ) → f + t * probeSpan r < n + probeSpan r → x + t * stride r ≤ n → y + t * stride r ≤ n → u + suc r ≤ n → v + suc r ≤ n
+  pub last-of-law : (n f x y u v r t : ℕ) → f + t * sideSpan r < n + sideSpan r → x + t * stride r ≤ n → y + t * stride r ≤ n → u + suc r ≤ n → v + suc r ≤ n
       → Holds W n (lastOf n f x y u v r t)
       → Absent (flagAt f r) t (spelled r u) (spelled r v) (spelled r (leftEnd n u r t)) (spelled r (rightEnd n v r t))
       ⊎ LastAt (flagAt f r) (wordOf x r) (wordOf y r) t (spelled r (leftEnd n u r t)) (spelled r (rightEnd n v r t))
@@ -189,18 +189,18 @@ module _ (W : ℕ → ℕ) (b : Binary W) where
   last-of-law n f x y u v r zero hf hx hy hu hv h = unfold leftEnd rightEnd in (inl (record { none = λ i l. absurd (omega arith); stays-left = refl; stays-right = refl }))
   last-of-law n f x y u v r (suc t) hf hx hy hu hv h =
       let n′ = n + eitherSpan r in
-      let rest = lastOf n′ (f + probeSpan r) (x + stride r) (y + stride r) n (n + suc r) r t in
+      let rest = lastOf n′ (f + sideSpan r) (x + stride r) (y + stride r) n (n + suc r) r t in
       let e = suc-mul t (stride r) in
-      let e′ = suc-mul t (probeSpan r) in
+      let e′ = suc-mul t (sideSpan r) in
       let c = cut2 W n (either f x y u v r) rest n′ (omega (arith, either-block n f x y u v r (omega arith) (omega arith) (omega arith) hu hv .long)) h in
       let left = ap (spelled r) (left-next n u r t) in
       let right = ap (spelled r) (right-next n v r t) in
-      let F : (i : ℕ) → flagAt (f + probeSpan r) r i ≡ flagAt f r (suc i) = λ i. ap W (next-place f (probeSpan r) i) in
-      let first-flag = ap W (first-place f (probeSpan r)) in
+      let F : (i : ℕ) → flagAt (f + sideSpan r) r i ≡ flagAt f r (suc i) = λ i. ap W (next-place f (sideSpan r) i) in
+      let first-flag = ap W (first-place f (sideSpan r)) in
       let first-x = ap (spelled r) (first-place x (stride r)) in
       let first-y = ap (spelled r) (first-place y (stride r)) in
       ⊎-elim
-      (λ (a : Absent (flagAt (f + probeSpan r) r) t (spelled r n) (spelled r (n + suc r)) (spelled r (leftEnd n′ n r t)) (spelled r (rightEnd n′ (n + suc r) r t))).
+      (λ (a : Absent (flagAt (f + sideSpan r) r) t (spelled r n) (spelled r (n + suc r)) (spelled r (leftEnd n′ n r t)) (spelled r (rightEnd n′ (n + suc r) r t))).
       ⊎-elim
       (λ (z : W f ≡ 0). let k = either-zero n f x y u v r (c .0) z in
       inl (record { none = zeros f r t (first-flag ∙ z) (λ i l. sym (F i) ∙ a .none i l); stays-left = sym left ∙ a .stays-left ∙ k .0; stays-right = sym right ∙ a .stays-right ∙ k .1 }))
@@ -214,7 +214,7 @@ module _ (W : ℕ → ℕ) (b : Binary W) where
         is-right = sym right ∙ a .stays-right ∙ k .1 ∙ sym first-y;
       }))
       (bit-cases (W f) (b f)))
-      (λ (a : LastAt (flagAt (f + probeSpan r) r) (wordOf (x + stride r) r) (wordOf (y + stride r) r) t (spelled r (leftEnd n′ n r t)) (spelled r (rightEnd n′ (n + suc r) r t))).
+      (λ (a : LastAt (flagAt (f + sideSpan r) r) (wordOf (x + stride r) r) (wordOf (y + stride r) r) t (spelled r (leftEnd n′ n r t)) (spelled r (rightEnd n′ (n + suc r) r t))).
       inr (record {
         place = suc (a .place);
         inside = omega (arith, a .inside);
@@ -223,7 +223,7 @@ module _ (W : ℕ → ℕ) (b : Binary W) where
         is-left = sym left ∙ a .is-left ∙ ap (spelled r) (next-place x (stride r) (a .place));
         is-right = sym right ∙ a .is-right ∙ ap (spelled r) (next-place y (stride r) (a .place));
       }))
-      (last-of-law n′ (f + probeSpan r) (x + stride r) (y + stride r) n (n + suc r) r t (omega arith) (omega arith) (omega arith) (omega arith) (omega arith) (c .1))
+      (last-of-law n′ (f + sideSpan r) (x + stride r) (y + stride r) n (n + suc r) r t (omega arith) (omega arith) (omega arith) (omega arith) (omega arith) (c .1))
     where
       zeros : (f r t : ℕ) → flagAt f r 0 ≡ 0 → ((i : ℕ) → i < t → flagAt f r (suc i) ≡ 0) → (i : ℕ) → i < suc t → flagAt f r i ≡ 0
       zeros f r t z q zero l = z
@@ -237,7 +237,7 @@ module _ (W : ℕ → ℕ) (b : Binary W) where
       beyond f r t at q zero k l = absurd (omega arith)
       beyond f r t at q (suc i) k l = q i (omega arith) (omega arith)
 
-  pub first-of-law : (n f x y u v r t : ℕ) → f + t * probeSpan r < n + probeSpan r → x + t * stride r ≤ n → y + t * stride r ≤ n → u + suc r ≤ n → v + suc r ≤ n
+  pub first-of-law : (n f x y u v r t : ℕ) → f + t * sideSpan r < n + sideSpan r → x + t * stride r ≤ n → y + t * stride r ≤ n → u + suc r ≤ n → v + suc r ≤ n
       → Holds W n (firstOf n f x y u v r t)
       → Absent (flagAt f r) t (spelled r u) (spelled r v) (spelled r (leftEnd n u r t)) (spelled r (rightEnd n v r t))
       ⊎ FirstAt (flagAt f r) (wordOf x r) (wordOf y r) t (spelled r (leftEnd n u r t)) (spelled r (rightEnd n v r t))
@@ -245,12 +245,12 @@ module _ (W : ℕ → ℕ) (b : Binary W) where
   first-of-law n f x y u v r zero hf hx hy hu hv h = unfold leftEnd rightEnd in (inl (record { none = λ i l. absurd (omega arith); stays-left = refl; stays-right = refl }))
   first-of-law n f x y u v r (suc t) hf hx hy hu hv h =
       let n′ = n + eitherSpan r in
-      let g = f + t * probeSpan r in
+      let g = f + t * sideSpan r in
       let xt = x + t * stride r in
       let yt = y + t * stride r in
       let rest = firstOf n′ f x y n (n + suc r) r t in
       let e = suc-mul t (stride r) in
-      let e′ = suc-mul t (probeSpan r) in
+      let e′ = suc-mul t (sideSpan r) in
       let c = cut2 W n (either g xt yt u v r) rest n′ (omega (arith, either-block n g xt yt u v r (omega arith) (omega arith) (omega arith) hu hv .long)) h in
       let left = ap (spelled r) (left-next n u r t) in
       let right = ap (spelled r) (right-next n v r t) in

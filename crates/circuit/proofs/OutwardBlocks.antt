@@ -8,34 +8,34 @@ use native.Mathlib.Omega.{arith}
 use Rattle.words.proofs.Ends.{chain-below}
 use Rattle.circuit.specs.declared.plan.Plan.{Plan}
 use Rattle.circuit.specs.Versus.{versusSpan, unequalSpan, unequalAt, aboveAt}
-use Rattle.circuit.specs.Nearest.{stride, probeSpan, belowAt, fromAt, eitherSpan}
-use Rattle.circuit.specs.Outward.{downAt, upAt, nearestEnd, farAt, nearest, downLeft, downRight, upLeft, upRight, weigh, weighSpan, leftCarry, rightCarry, settle, settleSpan, settleAt, outward, outwardSpan}
+use Rattle.circuit.specs.Nearest.{stride, sideSpan, belowAt, fromAt, eitherSpan}
+use Rattle.circuit.specs.Outward.{downAt, upAt, nearestEnd, farAt, nearest, downLeft, downRight, upLeft, upRight, compareAndAdd, compareAndAddSpan, leftCarry, rightCarry, resolve, resolveSpan, resolveAt, outward, outwardSpan}
 use Rattle.circuit.proofs.Blocks.{Block, none-block, both-block, sized, gate-block, add-bit-block, not-good, and-good, xor-good, mux-good}
 use Rattle.circuit.proofs.VersusLaws.{versus-block}
-use Rattle.circuit.proofs.NearestLaws.{probes-block, last-of-block, first-of-block, left-below, right-below}
+use Rattle.circuit.proofs.NearestLaws.{sides-block, last-of-block, first-of-block, left-below, right-below}
 
 pub nearest-block : (n x y r t : ℕ) → x + suc (suc t) * stride r ≤ n → y + suc (suc t) * stride r ≤ n
-    → Block n (nearest n x y r t) (t * probeSpan r + t * eitherSpan r + t * eitherSpan r)
+    → Block n (nearest n x y r t) (t * sideSpan r + t * eitherSpan r + t * eitherSpan r)
 unfolding nearest
 nearest-block n x y r t hx hy =
     let e = suc-mul (suc t) (stride r) in
     let e′ = suc-mul t (stride r) in
-    both-block (both-block (probes-block n (x + stride r) (y + stride r) r t (omega arith) (omega arith)) refl
+    both-block (both-block (sides-block n (x + stride r) (y + stride r) r t (omega arith) (omega arith)) refl
     (last-of-block (downAt n r t) (belowAt n r) (x + stride r) (y + stride r) x y r t (omega arith) (omega arith) (omega arith) (omega arith) (omega arith))) (omega arith)
     (first-of-block (upAt n r t) (fromAt n r) (x + stride r) (y + stride r) (farAt x r t) (farAt y r t) r t (omega arith) (omega arith) (omega arith) (omega arith) (omega arith))
 
-pub weigh-block : (n a c u v e r : ℕ) → a + suc r ≤ n → c + suc r ≤ n → u + suc r ≤ n → v + suc r ≤ n → Block n (weigh n a c u v e r) (weighSpan r)
-unfolding weigh
-weigh-block n a c u v e r ha hc hu hv =
+pub compare-and-add-block : (n a c u v e r : ℕ) → a + suc r ≤ n → c + suc r ≤ n → u + suc r ≤ n → v + suc r ≤ n → Block n (compareAndAdd n a c u v e r) (compareAndAddSpan r)
+unfolding compareAndAdd
+compare-and-add-block n a c u v e r ha hc hu hv =
     sized (omega arith)
     (both-block (both-block (both-block (versus-block n a c r ha hc) refl
     (versus-block (n + versusSpan r) u v r (omega arith) (omega arith))) (omega arith)
     (add-bit-block (n + 2 * versusSpan r) a u e (suc r) (omega arith) (omega arith))) (omega arith)
     (add-bit-block (n + 2 * versusSpan r + 3 * suc r) c v e (suc r) (omega arith) (omega arith)))
 
-pub settle-block : (n e₁ s₁ e₂ s₂ j k f g : ℕ) → e₁ < n → s₁ < n → e₂ < n → s₂ < n → j < n → k < n → f < n → g < n → Block n (settle n e₁ s₁ e₂ s₂ j k f g) settleSpan
-unfolding settle
-settle-block n e₁ s₁ e₂ s₂ j k f g a₁ b₁ a₂ b₂ hj hk hf hg =
+pub resolve-block : (n e₁ s₁ e₂ s₂ j k f g : ℕ) → e₁ < n → s₁ < n → e₂ < n → s₂ < n → j < n → k < n → f < n → g < n → Block n (resolve n e₁ s₁ e₂ s₂ j k f g) resolveSpan
+unfolding resolve
+resolve-block n e₁ s₁ e₂ s₂ j k f g a₁ b₁ a₂ b₂ hj hk hf hg =
     gate-block (mux-good n s₁ j k b₁ hj hk)
     (gate-block (not-good (suc n) n (omega arith))
     (gate-block (xor-good (suc (suc n)) f g (omega arith) (omega arith))
@@ -67,15 +67,15 @@ module _ (n x y r t : ℕ) (hx : x + suc (suc t) * stride r ≤ n) (hy : y + suc
   outward-block p =
       let m = nearestEnd n r t in
       let m′ = m + versusSpan r in
-      let q = settleAt n r t in
+      let q = resolveAt n r t in
       let e = suc-mul (suc t) (stride r) in
       let dl = down-left-below in
       let dr = down-right-below in
       let ul = up-left-below in
       let ur = up-right-below in
       both-block (both-block (nearest-block n x y r t hx hy) (omega arith)
-      (weigh-block m (downLeft n x r t) (downRight n y r t) (upLeft n x r t) (upRight n y r t) (p .ballots % 2) r dl dr ul ur)) (omega arith)
-      (settle-block q (unequalAt m r) (aboveAt m (downLeft n x r t) r) (unequalAt m′ r) (aboveAt m′ (upLeft n x r t) r) (leftCarry m r) (rightCarry m r) (x + suc r) (farAt x r t + suc r)
+      (compare-and-add-block m (downLeft n x r t) (downRight n y r t) (upLeft n x r t) (upRight n y r t) (p .ballots % 2) r dl dr ul ur)) (omega arith)
+      (resolve-block q (unequalAt m r) (aboveAt m (downLeft n x r t) r) (unequalAt m′ r) (aboveAt m′ (upLeft n x r t) r) (leftCarry m r) (rightCarry m r) (x + suc r) (farAt x r t + suc r)
       (chain-below (m + suc r) m r q (omega arith) (omega arith))
       (chain-below (m + unequalSpan r) (downLeft n x r t) r q (omega arith) (omega arith))
       (chain-below (m′ + suc r) m′ r q (omega arith) (omega arith))

@@ -19,14 +19,14 @@ use Rattle.words.proofs.AdderLaws.{half-law, add-law}
 use Rattle.circuit.specs.declared.plan.Plan.{Plan}
 use Rattle.circuit.specs.Plan.{Planned}
 use Rattle.circuit.specs.Versus.{versus, versusSpan, unequalSpan, unequalAt, aboveAt}
-use Rattle.circuit.specs.Nearest.{stride, probes, probeSpan, belowAt, fromAt, lastOf, firstOf, eitherSpan, leftEnd, rightEnd}
-use Rattle.circuit.specs.Outward.{downAt, upAt, nearestEnd, farAt, nearest, downLeft, downRight, upLeft, upRight, weigh, weighSpan, leftCarry, rightCarry, settle, settleSpan, settleAt, outward, outwardSpan}
+use Rattle.circuit.specs.Nearest.{stride, sides, sideSpan, belowAt, fromAt, lastOf, firstOf, eitherSpan, leftEnd, rightEnd}
+use Rattle.circuit.specs.Outward.{downAt, upAt, nearestEnd, farAt, nearest, downLeft, downRight, upLeft, upRight, compareAndAdd, compareAndAddSpan, leftCarry, rightCarry, resolve, resolveSpan, resolveAt, outward, outwardSpan}
 use Rattle.circuit.proofs.Cutting.{cut2, cut3, cut4}
 use Rattle.circuit.proofs.VersusLaws.{Tells, versus-block, versus-law}
 use Rattle.circuit.proofs.SumLaws.{Sums, Word, Spells, top-zero, top-one}
-use Rattle.circuit.proofs.NearestLaws.{Probe, probes-block, last-of-block, probes-law, spelled, flagAt, wordOf, Absent, LastAt, FirstAt, last-of-law, first-of-law}
+use Rattle.circuit.proofs.NearestLaws.{Side, sides-block, last-of-block, sides-law, spelled, flagAt, wordOf, Absent, LastAt, FirstAt, last-of-law, first-of-law}
 use Rattle.circuit.proofs.Near.{Near, near-flip, Decides, lower-decides, upper-decides, all-same}
-use Rattle.circuit.proofs.OutwardBlocks.{nearest-block, weigh-block, down-left-below, down-right-below, up-left-below, up-right-below}
+use Rattle.circuit.proofs.OutwardBlocks.{nearest-block, compare-and-add-block, down-left-below, down-right-below, up-left-below, up-right-below}
 
 -- some grade decides for the row A
 pub record Ahead (n d : ℕ) (A C : ℕ → ℕ) : Type 0 where
@@ -75,8 +75,8 @@ module _ (W : ℕ → ℕ) (b : Binary W) where
       (λ (z : W (n + 3 * w + 2) ≡ 1). absurd (omega (arith, top-one _ _ _ _ (sym (sum-of n x y e w l h)) z)))
       (bit-cases (W (n + 3 * w + 2)) (b (n + 3 * w + 2)))
 
-  -- what is settled, by the wires that it is settled from
-  pub record Settled (n e₁ s₁ e₂ s₂ j k f g : ℕ) : Type 0 where
+  -- what is resolved, by the wires that it is resolved from
+  pub record Resolved (n e₁ s₁ e₂ s₂ j k f g : ℕ) : Type 0 where
     pub left-sum : W f + W g ≡ 1 → W s₁ ≡ 1 → W (n + 3) + W j ≡ 1
     pub right-sum : W f + W g ≡ 1 → W s₁ ≡ 0 → W (n + 3) + W k ≡ 1
     pub one-side : W f ≡ W g → W (n + 3) ≡ W f
@@ -86,9 +86,9 @@ module _ (W : ℕ → ℕ) (b : Binary W) where
     pub lower-first : W e₁ ≡ 1 → W e₂ ≡ 1 → W (n + 3) ≡ 0 → (W (n + 8) ≡ 1) × (W (n + 9) ≡ W s₁)
     pub upper-first : W e₁ ≡ 1 → W e₂ ≡ 1 → W (n + 3) ≡ 1 → (W (n + 8) ≡ 1) × (W (n + 9) ≡ W s₂)
 
-  settle-law : (n e₁ s₁ e₂ s₂ j k f g : ℕ) → Holds W n (settle n e₁ s₁ e₂ s₂ j k f g) → Settled n e₁ s₁ e₂ s₂ j k f g
-  unfolding settle
-  settle-law n e₁ s₁ e₂ s₂ j k f g h =
+  resolve-law : (n e₁ s₁ e₂ s₂ j k f g : ℕ) → Holds W n (resolve n e₁ s₁ e₂ s₂ j k f g) → Resolved n e₁ s₁ e₂ s₂ j k f g
+  unfolding resolve
+  resolve-law n e₁ s₁ e₂ s₂ j k f g h =
       let g₃ = muxOf (n + 2) (n + 1) f in
       let g₄ = andOf e₁ e₂ in
       let g₅ = andOf (n + 4) (n + 3) in
@@ -159,51 +159,51 @@ module _ (W : ℕ → ℕ) (b : Binary W) where
     zero-worse g l z = ⊎-elim (λ (m : g < median). absurd (omega (arith, worse-one g l m))) (λ (m : median ≤ g). m) (below-or-not g median)
 
     parts : Holds W n (nearest n x y r t)
-        → Holds W n (probes n (x + stride r) (y + stride r) r t)
+        → Holds W n (sides n (x + stride r) (y + stride r) r t)
         × Holds W (downAt n r t) (lastOf (downAt n r t) (belowAt n r) (x + stride r) (y + stride r) x y r t)
         × Holds W (upAt n r t) (firstOf (upAt n r t) (fromAt n r) (x + stride r) (y + stride r) (farAt x r t) (farAt y r t) r t)
     unfolding nearest
     parts h =
         let e = suc-mul (suc t) (stride r) in
         let e′ = suc-mul t (stride r) in
-        cut3 W n (probes n (x + stride r) (y + stride r) r t) (lastOf (downAt n r t) (belowAt n r) (x + stride r) (y + stride r) x y r t)
+        cut3 W n (sides n (x + stride r) (y + stride r) r t) (lastOf (downAt n r t) (belowAt n r) (x + stride r) (y + stride r) x y r t)
         (firstOf (upAt n r t) (fromAt n r) (x + stride r) (y + stride r) (farAt x r t) (farAt y r t) r t) (downAt n r t) (upAt n r t)
-        (omega (arith, probes-block n (x + stride r) (y + stride r) r t (omega arith) (omega arith) .long))
+        (omega (arith, sides-block n (x + stride r) (y + stride r) r t (omega arith) (omega arith) .long))
         (omega (arith, last-of-block (downAt n r t) (belowAt n r) (x + stride r) (y + stride r) x y r t (omega arith) (omega arith) (omega arith) (omega arith) (omega arith) .long)) h
 
     module _ (h : Holds W n (nearest n x y r t)) where
-      probed : (i : ℕ) → i < t → Probe W b (n + i * probeSpan r) (x + suc i * stride r) (y + suc i * stride r) r
-      probed i l =
+      sided : (i : ℕ) → i < t → Side W b (n + i * sideSpan r) (x + suc i * stride r) (y + suc i * stride r) r
+      sided i l =
           let e = suc-mul (suc t) (stride r) in
           let e′ = suc-mul t (stride r) in
           let px : x + stride r + i * stride r ≡ x + suc i * stride r = omega (arith, suc-mul i (stride r)) in
           let py : y + stride r + i * stride r ≡ y + suc i * stride r = omega (arith, suc-mul i (stride r)) in
-          subst (λ (k : ℕ). Probe W b (n + i * probeSpan r) (x + suc i * stride r) k r) py
-          (subst (λ (k : ℕ). Probe W b (n + i * probeSpan r) k (y + stride r + i * stride r) r) px
-          (probes-law W b n (x + stride r) (y + stride r) r t (omega arith) (omega arith) (parts h .0) i l))
+          subst (λ (k : ℕ). Side W b (n + i * sideSpan r) (x + suc i * stride r) k r) py
+          (subst (λ (k : ℕ). Side W b (n + i * sideSpan r) k (y + stride r + i * stride r) r) px
+          (sides-law W b n (x + stride r) (y + stride r) r t (omega arith) (omega arith) (parts h .0) i l))
 
-      below-place : (i : ℕ) → flagAt W b (belowAt n r) r i ≡ W (belowAt (n + i * probeSpan r) r)
-      below-place i = let e : belowAt n r + i * probeSpan r ≡ belowAt (n + i * probeSpan r) r = omega arith in ap W e
+      below-place : (i : ℕ) → flagAt W b (belowAt n r) r i ≡ W (belowAt (n + i * sideSpan r) r)
+      below-place i = let e : belowAt n r + i * sideSpan r ≡ belowAt (n + i * sideSpan r) r = omega arith in ap W e
 
-      from-place : (i : ℕ) → flagAt W b (fromAt n r) r i ≡ W (fromAt (n + i * probeSpan r) r)
-      from-place i = let e : fromAt n r + i * probeSpan r ≡ fromAt (n + i * probeSpan r) r = omega arith in ap W e
+      from-place : (i : ℕ) → flagAt W b (fromAt n r) r i ≡ W (fromAt (n + i * sideSpan r) r)
+      from-place i = let e : fromAt n r + i * sideSpan r ≡ fromAt (n + i * sideSpan r) r = omega arith in ap W e
 
-      -- what the probe of a grade tells of the sums
+      -- what the side of a grade tells of the sums
       below-found : (i : ℕ) → i < t → flagAt W b (belowAt n r) r i ≡ 1 → (suc i < median) × (A (suc i) ≢ C (suc i))
       below-found i l z =
-          let q = probed i l .below-one (sym (below-place i) ∙ z) in
+          let q = sided i l .below-one (sym (below-place i) ∙ z) in
           (one-worse (suc i) (omega arith) (q .1), λ e. q .0 (omega (arith, matched (suc i) (omega arith))))
 
       below-none : (i : ℕ) → i < t → flagAt W b (belowAt n r) r i ≡ 0 → suc i < median → A (suc i) ≡ C (suc i)
-      below-none i l z m = omega (arith, probed i l .below-zero (sym (below-place i) ∙ z) (worse-one (suc i) (omega arith) m), matched (suc i) (omega arith))
+      below-none i l z m = omega (arith, sided i l .below-zero (sym (below-place i) ∙ z) (worse-one (suc i) (omega arith) m), matched (suc i) (omega arith))
 
       from-found : (i : ℕ) → i < t → flagAt W b (fromAt n r) r i ≡ 1 → (median ≤ suc i) × (A (suc i) ≢ C (suc i))
       from-found i l z =
-          let q = probed i l .from-one (sym (from-place i) ∙ z) in
+          let q = sided i l .from-one (sym (from-place i) ∙ z) in
           (zero-worse (suc i) (omega arith) (q .1), λ e. q .0 (omega (arith, matched (suc i) (omega arith))))
 
       from-none : (i : ℕ) → i < t → flagAt W b (fromAt n r) r i ≡ 0 → median ≤ suc i → A (suc i) ≡ C (suc i)
-      from-none i l z m = omega (arith, probed i l .from-zero (sym (from-place i) ∙ z) (worse-zero (suc i) (omega arith) m), matched (suc i) (omega arith))
+      from-none i l z m = omega (arith, sided i l .from-zero (sym (from-place i) ∙ z) (worse-zero (suc i) (omega arith) m), matched (suc i) (omega arith))
 
       -- the grade below the median whose words are chosen
       record DownIs : Type 0 where
@@ -341,7 +341,7 @@ module _ (W : ℕ → ℕ) (b : Binary W) where
     tells-sums q k = record { same = λ z. k .same (omega arith); differ = λ z. k .differ (λ y. z (omega arith)); over = λ l. k .over (omega arith); under = λ l. k .under (omega arith) }
 
     -- what the two grades decide
-    module _ (down up q e₁ s₁ e₂ s₂ j k i i′ : ℕ) (near : Near t median A C down up) (set : Settled q e₁ s₁ e₂ s₂ j k i i′)
+    module _ (down up q e₁ s₁ e₂ s₂ j k i i′ : ℕ) (near : Near t median A C down up) (set : Resolved q e₁ s₁ e₂ s₂ j k i i′)
         (low : Tells (W e₁) (W s₁) (A down) (C down)) (high : Tells (W e₂) (W s₂) (A up) (C up))
         (left : W s₁ ≡ 1 → Second A down up (W (q + 3))) (right : W s₁ ≡ 0 → Second C down up (W (q + 3))) where
       Result : Type 0
@@ -429,12 +429,12 @@ module _ (W : ℕ → ℕ) (b : Binary W) where
       unfolding Result
       decided = ⊎-elim tie-below (⊎-elim x-above y-above) (three-ways (A down) (C down))
 
-    pub outward-law : Holds W n (outward p n x y r t) → Outcome (W (settleAt n r t + 8)) (W (settleAt n r t + 9)) (p .ballots) (suc (suc t)) A C
-    unfolding outward weigh
+    pub outward-law : Holds W n (outward p n x y r t) → Outcome (W (resolveAt n r t + 8)) (W (resolveAt n r t + 9)) (p .ballots) (suc (suc t)) A C
+    unfolding outward compareAndAdd
     outward-law h =
         let m = nearestEnd n r t in
         let m′ = m + versusSpan r in
-        let q = settleAt n r t in
+        let q = resolveAt n r t in
         let dl = downLeft n x r t in
         let dr = downRight n y r t in
         let ul = upLeft n x r t in
@@ -444,9 +444,9 @@ module _ (W : ℕ → ℕ) (b : Binary W) where
         let hdr = down-right-below n x y r t hx hy in
         let hul = up-left-below n x y r t hx hy in
         let hur = up-right-below n x y r t hx hy in
-        let last = settle q (unequalAt m r) (aboveAt m dl r) (unequalAt m′ r) (aboveAt m′ ul r) (leftCarry m r) (rightCarry m r) (x + suc r) (farAt x r t + suc r) in
-        let o = cut3 W n (nearest n x y r t) (weigh m dl dr ul ur bit r) last m q
-        (omega (arith, nearest-block n x y r t hx hy .long)) (omega (arith, weigh-block m dl dr ul ur bit r hdl hdr hul hur .long)) h in
+        let last = resolve q (unequalAt m r) (aboveAt m dl r) (unequalAt m′ r) (aboveAt m′ ul r) (leftCarry m r) (rightCarry m r) (x + suc r) (farAt x r t + suc r) in
+        let o = cut3 W n (nearest n x y r t) (compareAndAdd m dl dr ul ur bit r) last m q
+        (omega (arith, nearest-block n x y r t hx hy .long)) (omega (arith, compare-and-add-block m dl dr ul ur bit r hdl hdr hul hur .long)) h in
         let v = cut4 W m (versus m dl dr r) (versus m′ ul ur r) (addWithBit (m + 2 * versusSpan r) dl ul bit (suc r)) (addWithBit (m + 2 * versusSpan r + 3 * suc r) dr ur bit (suc r))
         m′ (m + 2 * versusSpan r) (m + 2 * versusSpan r + 3 * suc r)
         (omega (arith, versus-block m dl dr r hdl hdr .long)) (omega (arith, versus-block m′ ul ur r (omega arith) (omega arith) .long)) (omega (arith, length-add-bit (m + 2 * versusSpan r) dl ul bit (suc r))) (o .1) in
@@ -455,7 +455,7 @@ module _ (W : ℕ → ℕ) (b : Binary W) where
         let i = d .down in
         let i′ = u .up in
         let hd : i < suc (suc t) = omega (arith, d .down-in) in
-        let set = settle-law q (unequalAt m r) (aboveAt m dl r) (unequalAt m′ r) (aboveAt m′ ul r) (leftCarry m r) (rightCarry m r) (x + suc r) (farAt x r t + suc r) (o .2) in
+        let set = resolve-law q (unequalAt m r) (aboveAt m dl r) (unequalAt m′ r) (aboveAt m′ ul r) (leftCarry m r) (rightCarry m r) (x + suc r) (farAt x r t + suc r) (o .2) in
         decided i i′ q (unequalAt m r) (aboveAt m dl r) (unequalAt m′ r) (aboveAt m′ ul r) (leftCarry m r) (rightCarry m r) (x + suc r) (farAt x r t + suc r)
         (record { down-in = hd; up-in = u .up-in; down-rest = d .down-rest; down-far = d .down-far; up-rest = u .up-rest; up-far = u .up-far })
         set

@@ -19,7 +19,7 @@ use Rattle.judgment.proofs.SumRule.{sum-rule}
 use Rattle.circuit.proofs.SumLaws.{Sums}
 use Rattle.circuit.proofs.Near.{Decides}
 use Rattle.circuit.proofs.OutwardLaws.{Ahead}
-use Rattle.circuit.proofs.MeetingLaws.{Same, Rule}
+use Rattle.circuit.proofs.MergeLaws.{Same, Rule}
 
 -- a row of d counts of n grades
 pub record Row (n d : ℕ) (row : List ℕ) : Type 0 where

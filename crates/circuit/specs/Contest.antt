@@ -7,7 +7,7 @@ use Rattle.circuit.specs.declared.plan.Plan.{Plan}
 use Rattle.circuit.specs.RunningSums.{wordSpan}
 use Rattle.circuit.specs.Versus.{versus, versusSpan, unequalAt, aboveAt}
 use Rattle.circuit.specs.Median.{median, medianSize}
-use Rattle.circuit.specs.Outward.{outward, outwardSpan, settleAt}
+use Rattle.circuit.specs.Outward.{outward, outwardSpan, resolveAt}
 
 -- Below the medians: sums of so many low digits, of the best grade and t grades more. Without a low digit there is one ballot, and its grade is the median: nothing differs. One sum alone is compared as it is.
 unfoldable pub lower : Plan → ℕ → ℕ → ℕ → ℕ → ℕ → List Gate
@@ -24,12 +24,12 @@ lowerSpan (suc r) (suc t) = outwardSpan r t
 unfoldable pub lowerUnequal : ℕ → ℕ → ℕ → ℕ
 lowerUnequal n zero t = n
 lowerUnequal n (suc r) zero = unequalAt n r
-lowerUnequal n (suc r) (suc t) = settleAt n r t + 8
+lowerUnequal n (suc r) (suc t) = resolveAt n r t + 8
 
 unfoldable pub lowerFirst : ℕ → ℕ → ℕ → ℕ → ℕ
 lowerFirst n x zero t = n
 lowerFirst n x (suc r) zero = aboveAt n x r
-lowerFirst n x (suc r) (suc t) = settleAt n r t + 9
+lowerFirst n x (suc r) (suc t) = resolveAt n r t + 9
 
 -- The numbers of both median grades, y's first; whether they differ, and y's is larger, which is worse; what is below them; and of both, which decides.
 abbrev pub medianSpan : Plan → ℕ

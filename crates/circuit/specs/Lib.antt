@@ -6,6 +6,6 @@ pub mod Median
 pub mod Nearest
 pub mod Outward
 pub mod Contest
-pub mod Meeting
+pub mod Merge
 pub mod OwnList
 pub mod Bound

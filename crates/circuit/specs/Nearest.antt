@@ -11,11 +11,11 @@ abbrev pub stride : ℕ → ℕ
 stride r = r + 2
 
 -- Of one grade: whether the words at x and y differ, and the median is worse, as the wire behind the word at x says; and whether they differ and it is not.
-unfoldable pub probe : ℕ → ℕ → ℕ → ℕ → List Gate
-probe n x y r = unequal n x y r ++ (andOf (unequalAt n r) (x + suc r) ∷ xorOf (unequalAt n r) (n + unequalSpan r) ∷ [])
+unfoldable pub side : ℕ → ℕ → ℕ → ℕ → List Gate
+side n x y r = unequal n x y r ++ (andOf (unequalAt n r) (x + suc r) ∷ xorOf (unequalAt n r) (n + unequalSpan r) ∷ [])
 
-abbrev pub probeSpan : ℕ → ℕ
-probeSpan r = unequalSpan r + 2
+abbrev pub sideSpan : ℕ → ℕ
+sideSpan r = unequalSpan r + 2
 
 abbrev pub belowAt : ℕ → ℕ → ℕ
 belowAt n r = n + unequalSpan r
@@ -24,9 +24,9 @@ abbrev pub fromAt : ℕ → ℕ → ℕ
 fromAt n r = n + unequalSpan r + 1
 
 -- Of t grades.
-unfoldable pub probes : ℕ → ℕ → ℕ → ℕ → ℕ → List Gate
-probes n x y r zero = []
-probes n x y r (suc t) = probe n x y r ++ probes (n + probeSpan r) (x + stride r) (y + stride r) r t
+unfoldable pub sides : ℕ → ℕ → ℕ → ℕ → ℕ → List Gate
+sides n x y r zero = []
+sides n x y r (suc t) = side n x y r ++ sides (n + sideSpan r) (x + stride r) (y + stride r) r t
 
 -- The words at x and y where wire f is 1, else those at u and v.
 unfoldable pub either : ℕ → ℕ → ℕ → ℕ → ℕ → ℕ → List Gate
@@ -38,12 +38,12 @@ eitherSpan r = suc r + suc r
 -- The words of the last of t grades whose wire, the first being f, is 1; those at u and v where there is none.
 unfoldable pub lastOf : ℕ → ℕ → ℕ → ℕ → ℕ → ℕ → ℕ → ℕ → List Gate
 lastOf n f x y u v r zero = []
-lastOf n f x y u v r (suc t) = either f x y u v r ++ lastOf (n + eitherSpan r) (f + probeSpan r) (x + stride r) (y + stride r) n (n + suc r) r t
+lastOf n f x y u v r (suc t) = either f x y u v r ++ lastOf (n + eitherSpan r) (f + sideSpan r) (x + stride r) (y + stride r) n (n + suc r) r t
 
 -- The words of the first such grade: the grades are gone through from the last one.
 unfoldable pub firstOf : ℕ → ℕ → ℕ → ℕ → ℕ → ℕ → ℕ → ℕ → List Gate
 firstOf n f x y u v r zero = []
-firstOf n f x y u v r (suc t) = either (f + t * probeSpan r) (x + t * stride r) (y + t * stride r) u v r ++ firstOf (n + eitherSpan r) f x y n (n + suc r) r t
+firstOf n f x y u v r (suc t) = either (f + t * sideSpan r) (x + t * stride r) (y + t * stride r) u v r ++ firstOf (n + eitherSpan r) f x y n (n + suc r) r t
 
 -- Where the words chosen stand: u and v themselves where there is no grade to choose from.
 unfoldable pub leftEnd : ℕ → ℕ → ℕ → ℕ → ℕ

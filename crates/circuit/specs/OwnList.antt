@@ -9,7 +9,7 @@ use Rattle.jury.specs.declared.shape.Shape.{Shape}
 use Rattle.circuit.specs.declared.plan.Plan.{Plan}
 use Rattle.circuit.specs.Plan.{planOf}
 use Rattle.circuit.specs.Key.{candidate, keyOf, keySpan, candidateSpan}
-use Rattle.circuit.specs.Meeting.{meeting, meetingSpan, wonAt, better}
+use Rattle.circuit.specs.Merge.{merge, mergeSpan, wonAt, better}
 
 -- The circuits of m candidates, from candidate c on. They stand first, so that each one's key has its place.
 unfoldable pub candidates : Plan → ℕ → ℕ → ℕ → List Gate
@@ -19,42 +19,42 @@ candidates p n c (suc m) = candidate p n c ++ candidates p (n + candidateSpan p)
 abbrev pub keyAt : Plan → ℕ → ℕ
 keyAt p c = keyOf p (p .inputs + c * candidateSpan p)
 
--- The best of m candidates from candidate c on, in r levels of meetings: the best of the first half and that of the other half meet, and the better key is kept. A single candidate meets nobody.
+-- The best of m candidates from candidate c on, in r levels of merges: the best of the first half and that of the other half are compared, and the better key is kept. A single candidate is compared with nobody.
 unfoldable pub levelsSpan : Plan → ℕ → ℕ → ℕ
 levelsSpan p zero m = 0
-levelsSpan p (suc r) m = cond (leb m 1) 0 (levelsSpan p r (m / 2) + levelsSpan p r (m - m / 2) + meetingSpan p (m / 2) (m - m / 2) + keySpan p)
+levelsSpan p (suc r) m = cond (leb m 1) 0 (levelsSpan p r (m / 2) + levelsSpan p r (m - m / 2) + mergeSpan p (m / 2) (m - m / 2) + keySpan p)
 
 -- Where the group's key and its candidates' wires stand, the levels being written from wire n on.
 unfoldable pub bestKey : Plan → ℕ → ℕ → ℕ → ℕ → ℕ
 bestKey p zero n c m = keyAt p c
-bestKey p (suc r) n c m = cond (leb m 1) (keyAt p c) (n + levelsSpan p r (m / 2) + levelsSpan p r (m - m / 2) + meetingSpan p (m / 2) (m - m / 2))
+bestKey p (suc r) n c m = cond (leb m 1) (keyAt p c) (n + levelsSpan p r (m / 2) + levelsSpan p r (m - m / 2) + mergeSpan p (m / 2) (m - m / 2))
 
 unfoldable pub groupWon : Plan → ℕ → ℕ → ℕ → ℕ
 groupWon p zero n m = 0
 groupWon p (suc r) n m = cond (leb m 1) 0 (wonAt p (n + levelsSpan p r (m / 2) + levelsSpan p r (m - m / 2)))
 
--- Two halves meet: the first is written from wire n on, the other behind it, and the meeting behind both.
+-- Two halves are merged: the first is written from wire n on, the other behind it, and the merge behind both.
 abbrev pub otherAt : Plan → ℕ → ℕ → ℕ → ℕ
 otherAt p r n m = n + levelsSpan p r (m / 2)
 
-abbrev pub meetAt : Plan → ℕ → ℕ → ℕ → ℕ
-meetAt p r n m = otherAt p r n m + levelsSpan p r (m - m / 2)
+abbrev pub mergeAt : Plan → ℕ → ℕ → ℕ → ℕ
+mergeAt p r n m = otherAt p r n m + levelsSpan p r (m - m / 2)
 
-unfoldable pub halvesMeet : Plan → ℕ → ℕ → ℕ → ℕ → List Gate
-halvesMeet p r n c m =
-    meeting p (meetAt p r n m)
+unfoldable pub halvesMerge : Plan → ℕ → ℕ → ℕ → ℕ → List Gate
+halvesMerge p r n c m =
+    merge p (mergeAt p r n m)
     (bestKey p r n c (m / 2)) (bestKey p r (otherAt p r n m) (c + m / 2) (m - m / 2))
     (groupWon p r n (m / 2)) (groupWon p r (otherAt p r n m) (m - m / 2))
     (m / 2) (m - m / 2)
 
 unfoldable pub halvesBetter : Plan → ℕ → ℕ → ℕ → ℕ → List Gate
-halvesBetter p r n c m = better p (meetAt p r n m) (bestKey p r n c (m / 2)) (bestKey p r (otherAt p r n m) (c + m / 2) (m - m / 2))
+halvesBetter p r n c m = better p (mergeAt p r n m) (bestKey p r n c (m / 2)) (bestKey p r (otherAt p r n m) (c + m / 2) (m - m / 2))
 
 unfoldable pub levels : Plan → ℕ → ℕ → ℕ → ℕ → List Gate
 levels p zero n c m = []
 levels p (suc r) n c m =
     cond (leb m 1) []
-    (levels p r n c (m / 2) ++ levels p r (otherAt p r n m) (c + m / 2) (m - m / 2) ++ halvesMeet p r n c m ++ halvesBetter p r n c m)
+    (levels p r n c (m / 2) ++ levels p r (otherAt p r n m) (c + m / 2) (m - m / 2) ++ halvesMerge p r n c m ++ halvesBetter p r n c m)
 
 -- Eight candidates need three levels. The last one keeps no key, and its wires are the last k gates: they say who has won.
 abbrev pub lowLevels : ℕ
@@ -68,7 +68,7 @@ circuit p =
     candidates p (p .inputs) 0 (p .candidates)
     ++ levels p lowLevels (levelsAt p) 0 (p .candidates / 2)
     ++ levels p lowLevels (otherAt p lowLevels (levelsAt p) (p .candidates)) (p .candidates / 2) (p .candidates - p .candidates / 2)
-    ++ halvesMeet p lowLevels (levelsAt p) 0 (p .candidates)
+    ++ halvesMerge p lowLevels (levelsAt p) 0 (p .candidates)
 
 -- A single candidate wins: one gate says so.
 unfoldable pub ownList : Shape → List Gate

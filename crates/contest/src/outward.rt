@@ -6,7 +6,7 @@ use gates::kind;
 use keys::nearest::first_of;
 use keys::nearest::last_of;
 use keys::nearest::left_end;
-use keys::nearest::probes;
+use keys::nearest::sides;
 use keys::nearest::right_end;
 use keys::versus::above_at;
 use keys::versus::unequal_at;
@@ -17,13 +17,13 @@ ghost use mathlib.Core.List.{_∷_, []};
 ghost use Prim.Native.Nat.{suc, _+_, _-_, _*_, _≤_, _<_};
 ghost use Rattle.words.specs.Gates.{notOf, andOf, xorOf, muxOf};
 ghost use Rattle.words.specs.Writing.{Room, Wrote};
-ghost use Rattle.circuit.specs.Nearest.{stride, probeSpan, eitherSpan};
+ghost use Rattle.circuit.specs.Nearest.{stride, sideSpan, eitherSpan};
 ghost use Rattle.circuit.specs.Versus.{versusSpan, unequalAt, aboveAt};
-ghost use Rattle.circuit.specs.Outward.{nearest, weigh, weighSpan, leftCarry, rightCarry, settle, settleSpan, outward, outwardSpan};
+ghost use Rattle.circuit.specs.Outward.{nearest, compareAndAdd, compareAndAddSpan, leftCarry, rightCarry, resolve, resolveSpan, outward, outwardSpan};
 
 // The words at the nearest grades on either side of the median.
 fn nearest(w: Writer, table: &mut [u32], x: u32, y: u32, above: u32, between: u32) -> Writer
-    requires { ⌜ Room w (between * probeSpan above + between * eitherSpan above + between * eitherSpan above) ⌝ }
+    requires { ⌜ Room w (between * sideSpan above + between * eitherSpan above + between * eitherSpan above) ⌝ }
     requires { ⌜ (x + suc (suc between) * stride above ≤ w .wire) × (y + suc (suc between) * stride above ≤ w .wire) × (above ≤ 7) × (between ≤ 6) ⌝ }
     ensures { λ r. ⌜ Wrote w (now (table .entry)) (nearest (w .wire) x y above between) (now (table .exit)) r ⌝ }
 {
@@ -32,8 +32,8 @@ fn nearest(w: Writer, table: &mut [u32], x: u32, y: u32, above: u32, between: u3
     let right = y + step;
     let far = (between + 1) * step;
     let below = w.wire + (above + 1) + above;
-    let probed = probes(w, table, left, right, above, between);
-    let down = last_of(probed, table, below, left, right, x, y, above, between);
+    let sided = sides(w, table, left, right, above, between);
+    let down = last_of(sided, table, below, left, right, x, y, above, between);
     first_of(
         down,
         table,
@@ -48,7 +48,7 @@ fn nearest(w: Writer, table: &mut [u32], x: u32, y: u32, above: u32, between: u3
 }
 
 // The words on either side compared, and added for each key.
-fn weigh(
+fn compare_and_add(
     w: Writer,
     table: &mut [u32],
     a: u32,
@@ -58,9 +58,9 @@ fn weigh(
     bit: u32,
     above: u32,
 ) -> Writer
-    requires { ⌜ Room w (weighSpan above) ⌝ }
+    requires { ⌜ Room w (compareAndAddSpan above) ⌝ }
     requires { ⌜ (a + suc above ≤ w .wire) × (c + suc above ≤ w .wire) × (u + suc above ≤ w .wire) × (v + suc above ≤ w .wire) × (bit ≤ 1) ⌝ }
-    ensures { λ r. ⌜ Wrote w (now (table .entry)) (weigh (w .wire) a c u v bit above) (now (table .exit)) r ⌝ }
+    ensures { λ r. ⌜ Wrote w (now (table .entry)) (compareAndAdd (w .wire) a c u v bit above) (now (table .exit)) r ⌝ }
 {
     let down = versus(w, table, a, c, above);
     let up = versus(down, table, u, v, above);
@@ -97,8 +97,8 @@ fn decide(w: Writer, table: &mut [u32], e1: u32, s1: u32, e2: u32, s2: u32) -> W
     differ.emit(table, kind::CHOICE, n + 2, s1, s2)
 }
 
-// What the comparisons and sums from wire m on, of words a and u of the first key, settle.
-fn settle(
+// What the comparisons and sums from wire m on, of words a and u of the first key, decide.
+fn resolve(
     w: Writer,
     table: &mut [u32],
     m: u32,
@@ -108,9 +108,9 @@ fn settle(
     g: u32,
     above: u32,
 ) -> Writer
-    requires { ⌜ Room w settleSpan ⌝ }
-    requires { ⌜ (w .wire ≡ m + weighSpan above) × (above ≤ 7) ⌝ }
-    ensures { λ r. ⌜ Wrote w (now (table .entry)) (settle (w .wire) (unequalAt m above) (aboveAt m a above) (unequalAt (m + versusSpan above) above) (aboveAt (m + versusSpan above) u above) (leftCarry m above) (rightCarry m above) f g) (now (table .exit)) r ⌝ }
+    requires { ⌜ Room w resolveSpan ⌝ }
+    requires { ⌜ (w .wire ≡ m + compareAndAddSpan above) × (above ≤ 7) ⌝ }
+    ensures { λ r. ⌜ Wrote w (now (table .entry)) (resolve (w .wire) (unequalAt m above) (aboveAt m a above) (unequalAt (m + versusSpan above) above) (aboveAt (m + versusSpan above) u above) (leftCarry m above) (rightCarry m above) f g) (now (table .exit)) r ⌝ }
 {
     let up = m + above + 1 + above + above;
     let e1 = unequal_at(m, above);
@@ -145,9 +145,9 @@ pub(crate) fn outward(
     let u = left_end(up, x + far, above, between);
     let v = right_end(up, y + far, above, between);
     let chosen = nearest(w, table, x, y, above, between);
-    let weighed = weigh(chosen, table, a, c, u, v, p.ballots % 2, above);
-    settle(
-        weighed,
+    let compared = compare_and_add(chosen, table, a, c, u, v, p.ballots % 2, above);
+    resolve(
+        compared,
         table,
         chosen.wire,
         a,

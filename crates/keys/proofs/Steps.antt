@@ -12,9 +12,9 @@ use Rattle.circuit.specs.Median.{Fits, medianLevels, medianDigits, medianSize}
 use Rattle.circuit.proofs.MedianLaws.{fits-half, fits-some}
 use Rattle.circuit.specs.declared.plan.Plan.{Plan}
 use Rattle.circuit.specs.Versus.{versus, versusSpan, unequalAt, aboveAt}
-use Rattle.circuit.specs.Outward.{settleAt, outward, outwardSpan}
+use Rattle.circuit.specs.Outward.{resolveAt, outward, outwardSpan}
 use Rattle.circuit.specs.Contest.{lower, lowerSpan, lowerUnequal, lowerFirst}
-use Rattle.circuit.specs.Nearest.{stride, probe, probeSpan, probes, either, eitherSpan, lastOf, firstOf, leftEnd, rightEnd}
+use Rattle.circuit.specs.Nearest.{stride, side, sideSpan, sides, either, eitherSpan, lastOf, firstOf, leftEnd, rightEnd}
 
 -- a number above 0
 above-zero : (t : ℕ) → 0 < t → t ≡ suc (t - 1)
@@ -24,14 +24,14 @@ above-zero t h = omega arith
 pub one-less : (t k : ℕ) → 0 < t → t * k ≡ k + (t - 1) * k
 one-less t k h = omega (arith, ap (λ (x : ℕ). x * k) (above-zero t h), suc-mul (t - 1) k)
 
-pub probes-step : (n x y r t : ℕ) → 0 < t → probes n x y r t ≡ probe n x y r ++ probes (n + probeSpan r) (x + stride r) (y + stride r) r (t - 1)
-probes-step n x y r t h = ap (probes n x y r) (above-zero t h) ∙ (unfold probes in refl)
+pub sides-step : (n x y r t : ℕ) → 0 < t → sides n x y r t ≡ side n x y r ++ sides (n + sideSpan r) (x + stride r) (y + stride r) r (t - 1)
+sides-step n x y r t h = ap (sides n x y r) (above-zero t h) ∙ (unfold sides in refl)
 
-pub probes-none : (n x y r t : ℕ) → t ≤ 0 → probes n x y r t ≡ []
-unfolding probes
-probes-none n x y r t h = let e : t ≡ 0 = omega arith in rw e
+pub sides-none : (n x y r t : ℕ) → t ≤ 0 → sides n x y r t ≡ []
+unfolding sides
+sides-none n x y r t h = let e : t ≡ 0 = omega arith in rw e
 
-pub last-step : (n f x y u v r t : ℕ) → 0 < t → lastOf n f x y u v r t ≡ either f x y u v r ++ lastOf (n + eitherSpan r) (f + probeSpan r) (x + stride r) (y + stride r) n (n + suc r) r (t - 1)
+pub last-step : (n f x y u v r t : ℕ) → 0 < t → lastOf n f x y u v r t ≡ either f x y u v r ++ lastOf (n + eitherSpan r) (f + sideSpan r) (x + stride r) (y + stride r) n (n + suc r) r (t - 1)
 last-step n f x y u v r t h = ap (lastOf n f x y u v r) (above-zero t h) ∙ (unfold lastOf in refl)
 
 pub last-none : (n f x y u v r t : ℕ) → t ≤ 0 → lastOf n f x y u v r t ≡ []
@@ -39,7 +39,7 @@ unfolding lastOf
 last-none n f x y u v r t h = let e : t ≡ 0 = omega arith in rw e
 
 pub first-step : (n f x y u v r t : ℕ) → 0 < t
-    → firstOf n f x y u v r t ≡ either (f + (t - 1) * probeSpan r) (x + (t - 1) * stride r) (y + (t - 1) * stride r) u v r ++ firstOf (n + eitherSpan r) f x y n (n + suc r) r (t - 1)
+    → firstOf n f x y u v r t ≡ either (f + (t - 1) * sideSpan r) (x + (t - 1) * stride r) (y + (t - 1) * stride r) u v r ++ firstOf (n + eitherSpan r) f x y n (n + suc r) r (t - 1)
 first-step n f x y u v r t h = ap (firstOf n f x y u v r) (above-zero t h) ∙ (unfold firstOf in refl)
 
 pub first-none : (n f x y u v r t : ℕ) → t ≤ 0 → firstOf n f x y u v r t ≡ []
@@ -119,7 +119,7 @@ module _ (n digits t : ℕ) where
   pub unequal-one-at : 0 < digits → t ≡ 0 → lowerUnequal n digits t ≡ unequalAt n (digits - 1)
   unequal-one-at h e = ap (λ (d : ℕ). lowerUnequal n d t) (above-zero digits h) ∙ ap (lowerUnequal n (suc (digits - 1))) e ∙ (unfold lowerUnequal in refl)
 
-  pub unequal-more-at : 0 < digits → 0 < t → lowerUnequal n digits t ≡ settleAt n (digits - 1) (t - 1) + 8
+  pub unequal-more-at : 0 < digits → 0 < t → lowerUnequal n digits t ≡ resolveAt n (digits - 1) (t - 1) + 8
   unequal-more-at h k = ap (λ (d : ℕ). lowerUnequal n d t) (above-zero digits h) ∙ ap (lowerUnequal n (suc (digits - 1))) (above-zero t k) ∙ (unfold lowerUnequal in refl)
 
   module _ (x : ℕ) where
@@ -130,5 +130,5 @@ module _ (n digits t : ℕ) where
     pub first-one-at : 0 < digits → t ≡ 0 → lowerFirst n x digits t ≡ aboveAt n x (digits - 1)
     first-one-at h e = ap (λ (d : ℕ). lowerFirst n x d t) (above-zero digits h) ∙ ap (lowerFirst n x (suc (digits - 1))) e ∙ (unfold lowerFirst in refl)
 
-    pub first-more-at : 0 < digits → 0 < t → lowerFirst n x digits t ≡ settleAt n (digits - 1) (t - 1) + 9
+    pub first-more-at : 0 < digits → 0 < t → lowerFirst n x digits t ≡ resolveAt n (digits - 1) (t - 1) + 9
     first-more-at h k = ap (λ (d : ℕ). lowerFirst n x d t) (above-zero digits h) ∙ ap (lowerFirst n x (suc (digits - 1))) (above-zero t k) ∙ (unfold lowerFirst in refl)

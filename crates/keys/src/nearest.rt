@@ -7,13 +7,13 @@ ghost use mathlib.Core.Path.{_≡_};
 ghost use Prim.Native.Nat.{suc, _+_, _*_, _≤_, _<_};
 ghost use Rattle.words.specs.Limits.{writerLimit};
 ghost use Rattle.words.specs.Writing.{Room, Wrote};
-ghost use Rattle.circuit.specs.Nearest.{stride, probe, probeSpan, probes, either, eitherSpan, lastOf, firstOf, leftEnd, rightEnd};
+ghost use Rattle.circuit.specs.Nearest.{stride, side, sideSpan, sides, either, eitherSpan, lastOf, firstOf, leftEnd, rightEnd};
 
 // Of one grade: whether the words differ on either side of the median.
-fn probe(w: Writer, table: &mut [u32], x: u32, y: u32, above: u32) -> Writer
-    requires { ⌜ Room w (probeSpan above) ⌝ }
+fn side(w: Writer, table: &mut [u32], x: u32, y: u32, above: u32) -> Writer
+    requires { ⌜ Room w (sideSpan above) ⌝ }
     requires { ⌜ (x + stride above ≤ w .wire) × (y + stride above ≤ w .wire) ⌝ }
-    ensures { λ r. ⌜ Wrote w (now (table .entry)) (probe (w .wire) x y above) (now (table .exit)) r ⌝ }
+    ensures { λ r. ⌜ Wrote w (now (table .entry)) (side (w .wire) x y above) (now (table .exit)) r ⌝ }
 {
     let differ = unequal_at(w.wire, above);
     let compared = unequal(w, table, x, y, above);
@@ -22,17 +22,17 @@ fn probe(w: Writer, table: &mut [u32], x: u32, y: u32, above: u32) -> Writer
 }
 
 // Of so many grades.
-pub fn probes(w: Writer, table: &mut [u32], x: u32, y: u32, above: u32, count: u32) -> Writer
-    requires { ⌜ Room w (count * probeSpan above) ⌝ }
+pub fn sides(w: Writer, table: &mut [u32], x: u32, y: u32, above: u32, count: u32) -> Writer
+    requires { ⌜ Room w (count * sideSpan above) ⌝ }
     requires { ⌜ (x + count * stride above ≤ w .wire) × (y + count * stride above ≤ w .wire) × (above ≤ 7) ⌝ }
-    ensures { λ r. ⌜ Wrote w (now (table .entry)) (probes (w .wire) x y above count) (now (table .exit)) r ⌝ }
+    ensures { λ r. ⌜ Wrote w (now (table .entry)) (sides (w .wire) x y above count) (now (table .exit)) r ⌝ }
 {
     let mut next = w;
     let mut left = x;
     let mut right = y;
     let mut more = count;
     while 0 < more {
-        next = probe(next, table, left, right, above);
+        next = side(next, table, left, right, above);
         left += above + 2;
         right += above + 2;
         more -= 1;
@@ -72,7 +72,7 @@ pub fn last_of(
     count: u32,
 ) -> Writer
     requires { ⌜ Room w (count * eitherSpan above) ⌝ }
-    requires { ⌜ (f + count * probeSpan above < w .wire + probeSpan above) × (x + count * stride above ≤ w .wire) × (y + count * stride above ≤ w .wire) × (u + suc above ≤ w .wire) × (v + suc above ≤ w .wire) × (above ≤ 7) ⌝ }
+    requires { ⌜ (f + count * sideSpan above < w .wire + sideSpan above) × (x + count * stride above ≤ w .wire) × (y + count * stride above ≤ w .wire) × (u + suc above ≤ w .wire) × (v + suc above ≤ w .wire) × (above ≤ 7) ⌝ }
     ensures { λ r. ⌜ Wrote w (now (table .entry)) (lastOf (w .wire) f x y u v above count) (now (table .exit)) r ⌝ }
 {
     let mut next = w;
@@ -108,7 +108,7 @@ pub fn first_of(
     count: u32,
 ) -> Writer
     requires { ⌜ Room w (count * eitherSpan above) ⌝ }
-    requires { ⌜ (f + count * probeSpan above < w .wire + probeSpan above) × (x + count * stride above ≤ w .wire) × (y + count * stride above ≤ w .wire) × (u + suc above ≤ w .wire) × (v + suc above ≤ w .wire) × (above ≤ 7) × (count ≤ 6) ⌝ }
+    requires { ⌜ (f + count * sideSpan above < w .wire + sideSpan above) × (x + count * stride above ≤ w .wire) × (y + count * stride above ≤ w .wire) × (u + suc above ≤ w .wire) × (v + suc above ≤ w .wire) × (above ≤ 7) × (count ≤ 6) ⌝ }
     ensures { λ r. ⌜ Wrote w (now (table .entry)) (firstOf (w .wire) f x y u v above count) (now (table .exit)) r ⌝ }
 {
     let mut next = w;

@@ -24,8 +24,8 @@ use Rattle.circuit.specs.declared.plan.Plan.{Plan}
 use Rattle.circuit.specs.Plan.{planOf, Planned}
 use Rattle.circuit.specs.Key.{keySpan, candidate, candidateSpan}
 use Rattle.circuit.specs.Contest.{resultAt, contestSpan}
-use Rattle.circuit.specs.Meeting.{bothOf, stillWon, meeting, meetingSpan, wonAt, better}
-use Rattle.circuit.specs.OwnList.{candidates, keyAt, levelsSpan, bestKey, groupWon, otherAt, meetAt, halvesMeet, halvesBetter, levels, lowLevels, levelsAt, circuit, ownList}
+use Rattle.circuit.specs.Merge.{bothOf, stillWon, merge, mergeSpan, wonAt, better}
+use Rattle.circuit.specs.OwnList.{candidates, keyAt, levelsSpan, bestKey, groupWon, otherAt, mergeAt, halvesMerge, halvesBetter, levels, lowLevels, levelsAt, circuit, ownList}
 use Rattle.circuit.proofs.Planning.{planned}
 use Rattle.circuit.proofs.CandidateBlocks.{key-of}
 use Rattle.circuit.proofs.LevelsLaws.{candidates-block, key-before, span-one, span-more, key-one, key-more, won-more, levels-one, levels-more}
@@ -45,12 +45,12 @@ abbrev pub allLevels : Plan → List Gate
 allLevels p =
     levels p lowLevels (levelsAt p) 0 (p .candidates / 2)
     ++ levels p lowLevels (otherAt p lowLevels (levelsAt p) (p .candidates)) (p .candidates / 2) (p .candidates - p .candidates / 2)
-    ++ halvesMeet p lowLevels (levelsAt p) 0 (p .candidates)
+    ++ halvesMerge p lowLevels (levelsAt p) 0 (p .candidates)
 
 abbrev pub allLevelsSpan : Plan → ℕ
 allLevelsSpan p =
     levelsSpan p lowLevels (p .candidates / 2)
-    + (levelsSpan p lowLevels (p .candidates - p .candidates / 2) + meetingSpan p (p .candidates / 2) (p .candidates - p .candidates / 2))
+    + (levelsSpan p lowLevels (p .candidates - p .candidates / 2) + mergeSpan p (p .candidates / 2) (p .candidates - p .candidates / 2))
 
 pub circuit-parts : (p : Plan) → candidates p (p .inputs) 0 (p .candidates) ++ allLevels p ≡ circuit p
 unfolding circuit
@@ -132,12 +132,12 @@ pub candidates-none : (p : Plan) (n c k : ℕ) → k ≤ c → candidates p n c 
 unfolding candidates
 candidates-none p n c k h = let e : k - c ≡ 0 = omega arith in rw e
 
--- where the key of a group and its wires stand, by the end of its meetings
+-- where the key of a group and its wires stand, by the end of its merges
 module _ (p : Plan) (r n m : ℕ) where
   pub key-is : (c : ℕ) → bestKey p (suc r) n c m ≡ cond (leb m 1) (keyAt p c) (n + levelsSpan p (suc r) m - keySpan p)
   key-is c = ⊎-elim
       (λ (l : 1 < m).
-      let e : n + levelsSpan p r (m / 2) + levelsSpan p r (m - m / 2) + meetingSpan p (m / 2) (m - m / 2) ≡ n + levelsSpan p (suc r) m - keySpan p = omega (arith, span-more p r m l) in
+      let e : n + levelsSpan p r (m / 2) + levelsSpan p r (m - m / 2) + mergeSpan p (m / 2) (m - m / 2) ≡ n + levelsSpan p (suc r) m - keySpan p = omega (arith, span-more p r m l) in
       key-more p r m n c l ∙ e ∙ sym (ap (λ (t : Bool). cond t (keyAt p c) (n + levelsSpan p (suc r) m - keySpan p)) (lt-leb m 1 l)))
       (λ (l : m ≤ 1). key-one p r m n c l ∙ sym (ap (λ (t : Bool). cond t (keyAt p c) (n + levelsSpan p (suc r) m - keySpan p)) (le-leb m 1 l)))
       (below-or-not 1 m)
@@ -145,7 +145,7 @@ module _ (p : Plan) (r n m : ℕ) where
   pub won-is : groupWon p (suc r) n m ≡ cond (leb m 1) 0 (n + levelsSpan p (suc r) m - keySpan p - m)
   won-is = ⊎-elim
       (λ (l : 1 < m).
-      let e : wonAt p (meetAt p r n m) ≡ n + levelsSpan p (suc r) m - keySpan p - m = omega (arith, span-more p r m l) in
+      let e : wonAt p (mergeAt p r n m) ≡ n + levelsSpan p (suc r) m - keySpan p - m = omega (arith, span-more p r m l) in
       won-more p r m n 0 l ∙ e ∙ sym (ap (λ (t : Bool). cond {A = ℕ} t 0 (n + levelsSpan p (suc r) m - keySpan p - m)) (lt-leb m 1 l)))
       (λ (l : m ≤ 1). none l ∙ sym (ap (λ (t : Bool). cond {A = ℕ} t 0 (n + levelsSpan p (suc r) m - keySpan p - m)) (le-leb m 1 l)))
       (below-or-not 1 m)
@@ -153,20 +153,20 @@ module _ (p : Plan) (r n m : ℕ) where
       none : m ≤ 1 → groupWon p (suc r) n m ≡ 0
       none l = unfold groupWon in (rw (le-leb m 1 l))
 
--- two candidates: no meeting before theirs
-pair-parts : (p : Plan) (n c : ℕ) → levels p 0 n c 1 ++ levels p 0 (otherAt p 0 n 2) (c + 1) 1 ++ halvesMeet p 0 n c 2 ++ halvesBetter p 0 n c 2
-    ≡ meeting p (n + 0 + 0) (keyAt p c) (keyAt p (c + 1)) 0 0 1 1 ++ choose (resultAt p (n + 0 + 0) + 1) (keyAt p c) (keyAt p (c + 1)) (keySpan p)
-unfolding levels halvesMeet halvesBetter bestKey groupWon levelsSpan better
+-- two candidates: no merge before theirs
+pair-parts : (p : Plan) (n c : ℕ) → levels p 0 n c 1 ++ levels p 0 (otherAt p 0 n 2) (c + 1) 1 ++ halvesMerge p 0 n c 2 ++ halvesBetter p 0 n c 2
+    ≡ merge p (n + 0 + 0) (keyAt p c) (keyAt p (c + 1)) 0 0 1 1 ++ choose (resultAt p (n + 0 + 0) + 1) (keyAt p c) (keyAt p (c + 1)) (keySpan p)
+unfolding levels halvesMerge halvesBetter bestKey groupWon levelsSpan better
 pair-parts p n c = refl
 
 pub pair-is : (p : Plan) (n c : ℕ) → levels p 1 n c 2
-    ≡ meeting p n (keyAt p c) (keyAt p (c + 1)) 0 0 1 1 ++ choose (resultAt p n + 1) (keyAt p c) (keyAt p (c + 1)) (keySpan p)
+    ≡ merge p n (keyAt p c) (keyAt p (c + 1)) 0 0 1 1 ++ choose (resultAt p n + 1) (keyAt p c) (keyAt p (c + 1)) (keySpan p)
 pair-is p n c =
     let e : n + 0 + 0 ≡ n = omega arith in
     levels-more p 0 2 n c (omega arith) ∙ pair-parts p n c
-    ∙ ap (λ (k : ℕ). meeting p k (keyAt p c) (keyAt p (c + 1)) 0 0 1 1 ++ choose (resultAt p k + 1) (keyAt p c) (keyAt p (c + 1)) (keySpan p)) e
+    ∙ ap (λ (k : ℕ). merge p k (keyAt p c) (keyAt p (c + 1)) 0 0 1 1 ++ choose (resultAt p k + 1) (keyAt p c) (keyAt p (c + 1)) (keySpan p)) e
 
-pub pair-span : (p : Plan) → levelsSpan p 1 2 ≡ meetingSpan p 1 1 + keySpan p
+pub pair-span : (p : Plan) → levelsSpan p 1 2 ≡ mergeSpan p 1 1 + keySpan p
 pair-span p = span-more p 0 2 (omega arith) ∙ (unfold levelsSpan in (omega arith))
 
 -- two halves
@@ -176,25 +176,25 @@ keyBy p c l end = cond (leb l 1) (keyAt p c) (end - keySpan p)
 abbrev wonBy : Plan → ℕ → ℕ → ℕ
 wonBy p l end = cond (leb l 1) 0 (end - keySpan p - l)
 
-pub meet-same : (p : Plan) (r n c m k mid end : ℕ) → k ≡ meetAt p (suc r) n m → mid ≡ otherAt p (suc r) n m → end ≡ meetAt p (suc r) n m
-    → meeting p k (cond (leb (m / 2) 1) (keyAt p c) (mid - keySpan p)) (cond (leb (m - m / 2) 1) (keyAt p (c + m / 2)) (end - keySpan p))
+pub merge-same : (p : Plan) (r n c m k mid end : ℕ) → k ≡ mergeAt p (suc r) n m → mid ≡ otherAt p (suc r) n m → end ≡ mergeAt p (suc r) n m
+    → merge p k (cond (leb (m / 2) 1) (keyAt p c) (mid - keySpan p)) (cond (leb (m - m / 2) 1) (keyAt p (c + m / 2)) (end - keySpan p))
     (cond (leb (m / 2) 1) 0 (mid - keySpan p - m / 2)) (cond (leb (m - m / 2) 1) 0 (end - keySpan p - (m - m / 2))) (m / 2) (m - m / 2)
-    ≡ halvesMeet p (suc r) n c m
-unfolding halvesMeet
-meet-same p r n c m k mid end ek em ee =
+    ≡ halvesMerge p (suc r) n c m
+unfolding halvesMerge
+merge-same p r n c m k mid end ek em ee =
     let l = m / 2 in
     let h = m - m / 2 in
     let o = otherAt p (suc r) n m in
-    let q = meetAt p (suc r) n m in
-    ap (λ (i : ℕ). meeting p i (keyBy p c l mid) (keyBy p (c + l) h end) (wonBy p l mid) (wonBy p h end) l h) ek
-    ∙ ap (λ (i : ℕ). meeting p q (keyBy p c l i) (keyBy p (c + l) h end) (wonBy p l i) (wonBy p h end) l h) em
-    ∙ ap (λ (i : ℕ). meeting p q (keyBy p c l o) (keyBy p (c + l) h i) (wonBy p l o) (wonBy p h i) l h) ee
-    ∙ ap (λ (i : ℕ). meeting p q i (keyBy p (c + l) h q) (wonBy p l o) (wonBy p h q) l h) (sym (key-is p r n l c))
-    ∙ ap (λ (i : ℕ). meeting p q (bestKey p (suc r) n c l) i (wonBy p l o) (wonBy p h q) l h) (sym (key-is p r o h (c + l)))
-    ∙ ap (λ (i : ℕ). meeting p q (bestKey p (suc r) n c l) (bestKey p (suc r) o (c + l) h) i (wonBy p h q) l h) (sym (won-is p r n l))
-    ∙ ap (λ (i : ℕ). meeting p q (bestKey p (suc r) n c l) (bestKey p (suc r) o (c + l) h) (groupWon p (suc r) n l) i l h) (sym (won-is p r o h))
+    let q = mergeAt p (suc r) n m in
+    ap (λ (i : ℕ). merge p i (keyBy p c l mid) (keyBy p (c + l) h end) (wonBy p l mid) (wonBy p h end) l h) ek
+    ∙ ap (λ (i : ℕ). merge p q (keyBy p c l i) (keyBy p (c + l) h end) (wonBy p l i) (wonBy p h end) l h) em
+    ∙ ap (λ (i : ℕ). merge p q (keyBy p c l o) (keyBy p (c + l) h i) (wonBy p l o) (wonBy p h i) l h) ee
+    ∙ ap (λ (i : ℕ). merge p q i (keyBy p (c + l) h q) (wonBy p l o) (wonBy p h q) l h) (sym (key-is p r n l c))
+    ∙ ap (λ (i : ℕ). merge p q (bestKey p (suc r) n c l) i (wonBy p l o) (wonBy p h q) l h) (sym (key-is p r o h (c + l)))
+    ∙ ap (λ (i : ℕ). merge p q (bestKey p (suc r) n c l) (bestKey p (suc r) o (c + l) h) i (wonBy p h q) l h) (sym (won-is p r n l))
+    ∙ ap (λ (i : ℕ). merge p q (bestKey p (suc r) n c l) (bestKey p (suc r) o (c + l) h) (groupWon p (suc r) n l) i l h) (sym (won-is p r o h))
 
-pub better-same : (p : Plan) (r n c m q mid end : ℕ) → q ≡ resultAt p (meetAt p (suc r) n m) + 1 → mid ≡ otherAt p (suc r) n m → end ≡ meetAt p (suc r) n m
+pub better-same : (p : Plan) (r n c m q mid end : ℕ) → q ≡ resultAt p (mergeAt p (suc r) n m) + 1 → mid ≡ otherAt p (suc r) n m → end ≡ mergeAt p (suc r) n m
     → choose q (cond (leb (m / 2) 1) (keyAt p c) (mid - keySpan p)) (cond (leb (m - m / 2) 1) (keyAt p (c + m / 2)) (end - keySpan p)) (keySpan p)
     ≡ halvesBetter p (suc r) n c m
 unfolding halvesBetter better
@@ -202,11 +202,11 @@ better-same p r n c m q mid end eq em ee =
     let l = m / 2 in
     let h = m - m / 2 in
     let o = otherAt p (suc r) n m in
-    let at = resultAt p (meetAt p (suc r) n m) + 1 in
+    let at = resultAt p (mergeAt p (suc r) n m) + 1 in
     ap (λ (i : ℕ). choose i (cond (leb l 1) (keyAt p c) (mid - keySpan p)) (keyBy p (c + l) h end) (keySpan p)) eq
     ∙ ap (λ (i : ℕ). choose at (cond (leb l 1) (keyAt p c) (i - keySpan p)) (keyBy p (c + l) h end) (keySpan p)) em
     ∙ ap (λ (i : ℕ). choose at (cond (leb l 1) (keyAt p c) (o - keySpan p)) (keyBy p (c + l) h i) (keySpan p)) ee
-    ∙ ap (λ (i : ℕ). choose at i (keyBy p (c + l) h (meetAt p (suc r) n m)) (keySpan p)) (sym (key-is p r n l c))
+    ∙ ap (λ (i : ℕ). choose at i (keyBy p (c + l) h (mergeAt p (suc r) n m)) (keySpan p)) (sym (key-is p r n l c))
     ∙ ap (λ (i : ℕ). choose at (bestKey p (suc r) n c l) i (keySpan p)) (sym (key-is p r o h (c + l)))
 
 -- a choice by a number that is 1 at most, or more

@@ -1,3 +1,3 @@
 // The own list of a shape, written into a table.
 pub mod list;
-mod meeting;
+mod merge;

@@ -1,7 +1,7 @@
 // The own list of a shape.
-use crate::meeting::better;
-use crate::meeting::key_span;
-use crate::meeting::meeting;
+use crate::merge::better;
+use crate::merge::key_span;
+use crate::merge::merge;
 use candidate::key::candidate;
 use circuit::plan::Plan;
 use gates::kind;
@@ -19,8 +19,8 @@ ghost use Rattle.words.specs.Writing.{Room, Wrote};
 ghost use Rattle.jury.specs.Shape.{gradedLimits, ballotBytes};
 ghost use Rattle.circuit.specs.Plan.{Planned};
 ghost use Rattle.circuit.specs.Key.{keySpan, candidateSpan};
-ghost use Rattle.circuit.specs.Meeting.{meeting, meetingSpan};
-ghost use Rattle.circuit.specs.OwnList.{candidates, keyAt, levelsSpan, levels, otherAt, halvesMeet, lowLevels, levelsAt, circuit, ownList};
+ghost use Rattle.circuit.specs.Merge.{merge, mergeSpan};
+ghost use Rattle.circuit.specs.OwnList.{candidates, keyAt, levelsSpan, levels, otherAt, halvesMerge, lowLevels, levelsAt, circuit, ownList};
 
 // The circuits of all candidates.
 fn candidates(w: Writer, table: &mut [u32], p: Plan) -> Writer
@@ -48,7 +48,7 @@ fn key_at(p: Plan, span: u32, c: u32) -> u32
     p.inputs + (c + 1) * span - key_span(p)
 }
 
-// The key of the best of so many candidates from candidate c on, whose meetings end before wire `end`.
+// The key of the best of so many candidates from candidate c on, whose merges end before wire `end`.
 fn best_key(p: Plan, span: u32, c: u32, count: u32, end: u32) -> u32
     requires { ⌜ Planned p ⌝ }
     requires { ⌜ (span ≡ candidateSpan p) × (c < p .candidates) × (levelsAt p < writerLimit) × (1 < count → keySpan p ≤ end) ⌝ }
@@ -84,12 +84,12 @@ fn pair(w: Writer, table: &mut [u32], p: Plan, span: u32, c: u32, count: u32) ->
     }
     let x = key_at(p, span, c);
     let y = key_at(p, span, c + 1);
-    let met = meeting(w, table, p, x, y, 0, 0, 1, 1);
+    let met = merge(w, table, p, x, y, 0, 0, 1, 1);
     better(met, table, p, met.wire - 8, x, y)
 }
 
-// The meeting of the best of `first` candidates from candidate c on and of the `second` ones behind them: their own
-// meetings end before the wires `middle` and the writer's.
+// The merge of the best of `first` candidates from candidate c on and of the `second` ones behind them: their own
+// merges end before the wires `middle` and the writer's.
 fn halves(
     w: Writer,
     table: &mut [u32],
@@ -101,16 +101,16 @@ fn halves(
     middle: u32,
 ) -> Writer
     requires { ⌜ Planned p ⌝ }
-    requires { ⌜ Room w (meetingSpan p first second) ⌝ }
+    requires { ⌜ Room w (mergeSpan p first second) ⌝ }
     requires { ⌜ (span ≡ candidateSpan p) × (levelsAt p ≤ middle) × (middle ≤ w .wire) × (0 < first) × (0 < second) × (c + first + second ≤ p .candidates) ⌝ }
     requires { ⌜ (1 < first → levelsAt p + first + keySpan p ≤ middle) × (1 < second → middle + second + keySpan p ≤ w .wire) ⌝ }
-    ensures { λ r. ⌜ Wrote w (now (table .entry)) (meeting p (w .wire) (cond (leb first 1) (keyAt p c) (middle - keySpan p)) (cond (leb second 1) (keyAt p (c + first)) (w .wire - keySpan p)) (cond (leb first 1) 0 (middle - keySpan p - first)) (cond (leb second 1) 0 (w .wire - keySpan p - second)) first second) (now (table .exit)) r ⌝ }
+    ensures { λ r. ⌜ Wrote w (now (table .entry)) (merge p (w .wire) (cond (leb first 1) (keyAt p c) (middle - keySpan p)) (cond (leb second 1) (keyAt p (c + first)) (w .wire - keySpan p)) (cond (leb first 1) 0 (middle - keySpan p - first)) (cond (leb second 1) 0 (w .wire - keySpan p - second)) first second) (now (table .exit)) r ⌝ }
 {
     let x = best_key(p, span, c, first, middle);
     let y = best_key(p, span, c + first, second, w.wire);
     let u = group_won(p, first, middle);
     let v = group_won(p, second, w.wire);
-    meeting(w, table, p, x, y, u, v, first, second)
+    merge(w, table, p, x, y, u, v, first, second)
 }
 
 // The best of two to four candidates from candidate c on.
@@ -143,12 +143,12 @@ fn four(w: Writer, table: &mut [u32], p: Plan, span: u32, c: u32, count: u32) ->
     two_to_four(w, table, p, span, c, count)
 }
 
-// Three levels of meetings, behind the circuits of all candidates.
+// Three levels of merges, behind the circuits of all candidates.
 fn all_levels(all: Writer, table: &mut [u32], p: Plan, span: u32) -> Writer
     requires { ⌜ Planned p ⌝ }
-    requires { ⌜ Room all (levelsSpan p lowLevels (p .candidates / 2) + (levelsSpan p lowLevels (p .candidates - p .candidates / 2) + meetingSpan p (p .candidates / 2) (p .candidates - p .candidates / 2))) ⌝ }
+    requires { ⌜ Room all (levelsSpan p lowLevels (p .candidates / 2) + (levelsSpan p lowLevels (p .candidates - p .candidates / 2) + mergeSpan p (p .candidates / 2) (p .candidates - p .candidates / 2))) ⌝ }
     requires { ⌜ (span ≡ candidateSpan p) × (all .wire ≡ levelsAt p) × (1 < p .candidates) ⌝ }
-    ensures { λ r. ⌜ Wrote all (now (table .entry)) (levels p lowLevels (levelsAt p) 0 (p .candidates / 2) ++ levels p lowLevels (otherAt p lowLevels (levelsAt p) (p .candidates)) (p .candidates / 2) (p .candidates - p .candidates / 2) ++ halvesMeet p lowLevels (levelsAt p) 0 (p .candidates)) (now (table .exit)) r ⌝ }
+    ensures { λ r. ⌜ Wrote all (now (table .entry)) (levels p lowLevels (levelsAt p) 0 (p .candidates / 2) ++ levels p lowLevels (otherAt p lowLevels (levelsAt p) (p .candidates)) (p .candidates / 2) (p .candidates - p .candidates / 2) ++ halvesMerge p lowLevels (levelsAt p) 0 (p .candidates)) (now (table .exit)) r ⌝ }
 {
     let first = p.candidates / 2;
     let second = p.candidates - first;

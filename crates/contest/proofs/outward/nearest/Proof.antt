@@ -1,4 +1,4 @@
--- `contest::outward::nearest` meets its contract: the probes, the words below the median, and those from it on.
+-- `contest::outward::nearest` meets its contract: the sides, the words below the median, and those from it on.
 -- Assumes nothing.
 use mathlib.Core.Path.{_≡_, _∙_, refl, ap}
 use mathlib.Core.List.{List}
@@ -8,9 +8,9 @@ use native.Mathlib.Numerals.{add-one}
 use native.Mathlib.Omega.{arith}
 use borrow.Author.Needs.{needs}
 use Rattle.words.proofs.Writing.{room-less}
-use Rattle.circuit.specs.Nearest.{stride, probeSpan, belowAt, fromAt, eitherSpan, lastOf, firstOf}
+use Rattle.circuit.specs.Nearest.{stride, sideSpan, belowAt, fromAt, eitherSpan, lastOf, firstOf}
 use Rattle.circuit.specs.Outward.{downAt, upAt, farAt, nearest}
-use Rattle.circuit.proofs.NearestLaws.{probes-block, last-of-block}
+use Rattle.circuit.proofs.NearestLaws.{sides-block, last-of-block}
 use Rattle.keys.proofs.Steps.{product-most}
 use Rattle.circuit.proofs.Writers.{Stands, stands, stands-after, room-of, wrote-then}
 use Rattle.contest.proofs.outward.nearest.Statement.{statement}
@@ -68,32 +68,32 @@ add-below-3 : tie.Need-add-below-3
 add-below-3 c =
     omega (arith, (c .before .before) .pre .1, (c .before .before) .pre .0 .small)
 
-probes-requires : tie.Need-probes-requires
-probes-requires c κs =
+sides-requires : tie.Need-sides-requires
+sides-requires c κs =
     (room-less ((c .before .before .before .args) .w) _ _ (omega arith) ((c .before .before .before) .pre .0), (omega (arith, xs (c .before .before)), omega (arith, ys (c .before .before)), (c .before .before .before) .pre .1 .2))
 
-probed : (c : tie.After-probes) → Stands ((c .probes) .result) ((c .before .before .before .before .args) .w .wire + (c .before .before .before .before .args) .between * probeSpan ((c .before .before .before .before .args) .above)) ((c .before .before .before .before .args) .between * eitherSpan ((c .before .before .before .before .args) .above) + (c .before .before .before .before .args) .between * eitherSpan ((c .before .before .before .before .args) .above))
-probed c =
+sided : (c : tie.After-sides) → Stands ((c .sides) .result) ((c .before .before .before .before .args) .w .wire + (c .before .before .before .before .args) .between * sideSpan ((c .before .before .before .before .args) .above)) ((c .before .before .before .before .args) .between * eitherSpan ((c .before .before .before .before .args) .above) + (c .before .before .before .before .args) .between * eitherSpan ((c .before .before .before .before .args) .above))
+sided c =
     let a = (c .before .before .before .before .args) in
-    stands-after (a .w) (a .table .now) _ ((c .probes) .last .1 .0) ((c .probes) .result) _ _ _ ((c .probes) .ensures) (probes-block (a .w .wire) (a .x + (a .above + 2)) (a .y + (a .above + 2)) (a .above) (a .between) (omega (arith, xs (c .before .before .before))) (omega (arith, ys (c .before .before .before))) .long)
+    stands-after (a .w) (a .table .now) _ ((c .sides) .last .1 .0) ((c .sides) .result) _ _ _ ((c .sides) .ensures) (sides-block (a .w .wire) (a .x + (a .above + 2)) (a .y + (a .above + 2)) (a .above) (a .between) (omega (arith, xs (c .before .before .before))) (omega (arith, ys (c .before .before .before))) .long)
     (stands (a .w) (a .w .wire) _ _ refl (omega arith) ((c .before .before .before .before) .pre .0))
 
 last-of-requires : tie.Need-last-of-requires
 last-of-requires c κs =
     let x = xs (c .before .before .before .before .before .before) in
     let y = ys (c .before .before .before .before .before .before) in
-    let p = probed (c .before .before .before) .place in
-    (room-of ((c .before .before .before .probes) .result) _ _ _ (probed (c .before .before .before)) (omega arith), (omega (arith, p), omega (arith, x .0, p), omega (arith, y .0, p), omega (arith, x .0, p), omega (arith, y .0, p), (c .before .before .before .before .before .before .before) .pre .1 .2))
+    let p = sided (c .before .before .before) .place in
+    (room-of ((c .before .before .before .sides) .result) _ _ _ (sided (c .before .before .before)) (omega arith), (omega (arith, p), omega (arith, x .0, p), omega (arith, y .0, p), omega (arith, x .0, p), omega (arith, y .0, p), (c .before .before .before .before .before .before .before) .pre .1 .2))
 
-down : (c : tie.After-last-of) → Stands ((c .last-of) .result) ((c .before .before .before .before .before .before .before .before .args) .w .wire + (c .before .before .before .before .before .before .before .before .args) .between * probeSpan ((c .before .before .before .before .before .before .before .before .args) .above) + (c .before .before .before .before .before .before .before .before .args) .between * eitherSpan ((c .before .before .before .before .before .before .before .before .args) .above)) ((c .before .before .before .before .before .before .before .before .args) .between * eitherSpan ((c .before .before .before .before .before .before .before .before .args) .above))
+down : (c : tie.After-last-of) → Stands ((c .last-of) .result) ((c .before .before .before .before .before .before .before .before .args) .w .wire + (c .before .before .before .before .before .before .before .before .args) .between * sideSpan ((c .before .before .before .before .before .before .before .before .args) .above) + (c .before .before .before .before .before .before .before .before .args) .between * eitherSpan ((c .before .before .before .before .before .before .before .before .args) .above)) ((c .before .before .before .before .before .before .before .before .args) .between * eitherSpan ((c .before .before .before .before .before .before .before .before .args) .above))
 down c =
     let a = (c .before .before .before .before .before .before .before .before .args) in
     let x = xs (c .before .before .before .before .before .before .before) in
     let y = ys (c .before .before .before .before .before .before .before) in
-    let p = probed (c .before .before .before .before) .place in
-    stands-after ((c .before .before .before .before .probes) .result) ((c .before .before .before .before .probes) .last .1 .0) _ ((c .last-of) .last .1 .0) ((c .last-of) .result) _ _ _ ((c .last-of) .ensures)
-    (last-of-block ((c .before .before .before .before .probes) .result .wire) (a .w .wire + (a .above + 1) + a .above) (a .x + (a .above + 2)) (a .y + (a .above + 2)) (a .x) (a .y) (a .above) (a .between) (omega (arith, p)) (omega (arith, x .0, p)) (omega (arith, y .0, p)) (omega (arith, x .0, p)) (omega (arith, y .0, p)) .long)
-    (probed (c .before .before .before .before))
+    let p = sided (c .before .before .before .before) .place in
+    stands-after ((c .before .before .before .before .sides) .result) ((c .before .before .before .before .sides) .last .1 .0) _ ((c .last-of) .last .1 .0) ((c .last-of) .result) _ _ _ ((c .last-of) .ensures)
+    (last-of-block ((c .before .before .before .before .sides) .result .wire) (a .w .wire + (a .above + 1) + a .above) (a .x + (a .above + 2)) (a .y + (a .above + 2)) (a .x) (a .y) (a .above) (a .between) (omega (arith, p)) (omega (arith, x .0, p)) (omega (arith, y .0, p)) (omega (arith, x .0, p)) (omega (arith, y .0, p)) .long)
+    (sided (c .before .before .before .before))
 
 add-first-of : tie.Need-add-first-of
 add-first-of c =
@@ -129,8 +129,8 @@ returns c =
     let ex : a .x + (t + 1) * (r + 2) ≡ farAt (a .x) r t = ap (λ (k : ℕ). a .x + k) (xs (c .before .before .before .before .before .before .before .before .before .before .before .before .before) .2) in
     let ey : a .y + (t + 1) * (r + 2) ≡ farAt (a .y) r t = ap (λ (k : ℕ). a .y + k) (ys (c .before .before .before .before .before .before .before .before .before .before .before .before .before) .2) in
     wrote-then (a .w) (a .table .now) _ ((c .before .before .before .before .before .before .last-of) .last .1 .0) ((c .before .before .before .before .before .before .last-of) .result) _ _ _ _
-    (wrote-then (a .w) (a .table .now) _ ((c .before .before .before .before .before .before .before .before .before .before .probes) .last .1 .0) ((c .before .before .before .before .before .before .before .before .before .before .probes) .result) _ _ _ _ ((c .before .before .before .before .before .before .before .before .before .before .probes) .ensures) ((c .before .before .before .before .before .before .last-of) .ensures)
-    (ap (λ (k : ℕ). lastOf k below x y (a .x) (a .y) r t) (probed (c .before .before .before .before .before .before .before .before .before .before) .place) ∙ ap (λ (k : ℕ). lastOf (downAt n r t) k x y (a .x) (a .y) r t) e₁))
+    (wrote-then (a .w) (a .table .now) _ ((c .before .before .before .before .before .before .before .before .before .before .sides) .last .1 .0) ((c .before .before .before .before .before .before .before .before .before .before .sides) .result) _ _ _ _ ((c .before .before .before .before .before .before .before .before .before .before .sides) .ensures) ((c .before .before .before .before .before .before .last-of) .ensures)
+    (ap (λ (k : ℕ). lastOf k below x y (a .x) (a .y) r t) (sided (c .before .before .before .before .before .before .before .before .before .before) .place) ∙ ap (λ (k : ℕ). lastOf (downAt n r t) k x y (a .x) (a .y) r t) e₁))
     ((c .before .before .first-of) .ensures)
     (ap (λ (k : ℕ). firstOf k (below + 1) x y (a .x + (t + 1) * (r + 2)) (a .y + (t + 1) * (r + 2)) r t) (down (c .before .before .before .before .before .before) .place)
     ∙ ap (λ (k : ℕ). firstOf (upAt n r t) k x y (a .x + (t + 1) * (r + 2)) (a .y + (t + 1) * (r + 2)) r t) e₂
@@ -141,4 +141,4 @@ same-length : tie.Need-same-length
 same-length c = search needs
 
 pub nearest-spec : {M : Type 1} → statement M
-nearest-spec = tie.close (tie.spec add-step add-left add-right add-far mul-far add-below add-below-2 add-below-3 probes-requires last-of-requires add-first-of add-first-of-2 add-first-of-3 first-of-requires same-length returns)
+nearest-spec = tie.close (tie.spec add-step add-left add-right add-far mul-far add-below add-below-2 add-below-3 sides-requires last-of-requires add-first-of add-first-of-2 add-first-of-3 first-of-requires same-length returns)

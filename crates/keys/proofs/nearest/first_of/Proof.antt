@@ -6,7 +6,7 @@ use Prim.Native.Nat.{ℕ, suc, _+_, _-_, _*_, _≤_, _<_}
 use native.Mathlib.Omega.{arith}
 use lib.ListN.{length}
 use Rattle.words.proofs.Going.{Goes, goes-start, goes-as, goes-on, goes-room, goes-end}
-use Rattle.circuit.specs.Nearest.{stride, probeSpan, either, eitherSpan, firstOf}
+use Rattle.circuit.specs.Nearest.{stride, sideSpan, either, eitherSpan, firstOf}
 use Rattle.circuit.proofs.NearestLaws.{either-block, first-of-block}
 use Rattle.keys.proofs.Steps.{product-most, one-less, fewer, first-step, first-none}
 use Rattle.keys.proofs.nearest.first_of.Statement.{statement}
@@ -27,15 +27,15 @@ loop-holds c =
 
 -- the next words stand before the writer
 
-there : (c : tie.In-loop Inv-loop μ-loop) → ((c .before .before .before .args) .f + ((c .before .loop) .more - 1) * probeSpan ((c .before .before .before .args) .above) < (c .before .loop) .next .wire) × ((c .before .before .before .args) .x + ((c .before .loop) .more - 1) * stride ((c .before .before .before .args) .above) + stride ((c .before .before .before .args) .above) ≤ (c .before .loop) .next .wire) × ((c .before .before .before .args) .y + ((c .before .loop) .more - 1) * stride ((c .before .before .before .args) .above) + stride ((c .before .before .before .args) .above) ≤ (c .before .loop) .next .wire)
+there : (c : tie.In-loop Inv-loop μ-loop) → ((c .before .before .before .args) .f + ((c .before .loop) .more - 1) * sideSpan ((c .before .before .before .args) .above) < (c .before .loop) .next .wire) × ((c .before .before .before .args) .x + ((c .before .loop) .more - 1) * stride ((c .before .before .before .args) .above) + stride ((c .before .before .before .args) .above) ≤ (c .before .loop) .next .wire) × ((c .before .before .before .args) .y + ((c .before .loop) .more - 1) * stride ((c .before .before .before .args) .above) + stride ((c .before .before .before .args) .above) ≤ (c .before .loop) .next .wire)
 there c =
     let l = (c .before .loop) in
     let a = (c .before .before .before .args) in
     let q = (c .before .before .before) .pre .1 in
     let e = one-less (l .more) (stride (a .above)) ((c .loop-test) .taken) in
-    let e′ = one-less (l .more) (probeSpan (a .above)) ((c .loop-test) .taken) in
+    let e′ = one-less (l .more) (sideSpan (a .above)) ((c .loop-test) .taken) in
     let h = fewer (l .more) (a .count) (stride (a .above)) (l .inv .0) in
-    let h′ = fewer (l .more) (a .count) (probeSpan (a .above)) (l .inv .0) in
+    let h′ = fewer (l .more) (a .count) (sideSpan (a .above)) (l .inv .0) in
     (omega (arith, q .0, l .inv .1), omega (arith, q .1, l .inv .1), omega (arith, q .2, l .inv .1))
 
 small : (c : tie.In-loop Inv-loop μ-loop) → (((c .before .loop) .more - 1) * ((c .before .before .before .args) .above + 2) ≤ 45) × (((c .before .loop) .more - 1) * (2 * (c .before .before .before .args) .above + 3) ≤ 85)
@@ -59,7 +59,7 @@ left-long c =
     let i = l .inv in
     let q = (c .before .before .before) .pre .1 in
     let h = fewer (l .more) (a .count) (stride (a .above)) (i .0) in
-    let h′ = fewer (l .more) (a .count) (probeSpan (a .above)) (i .0) in
+    let h′ = fewer (l .more) (a .count) (sideSpan (a .above)) (i .0) in
     first-of-block (l .next .wire) (a .f) (a .x) (a .y) (l .first) (l .second) (a .above) (l .more) (omega (arith, q .0, i .1)) (omega (arith, q .1, i .1)) (omega (arith, q .2, i .1)) (i .2) (i .3) .long
 
 near-limit : (c : tie.In-loop Inv-loop μ-loop) → (c .before .loop) .next .wire + (c .before .loop) .more * eitherSpan ((c .before .before .before .args) .above) ≡ (c .before .before .before .args) .w .wire + (c .before .before .before .args) .count * eitherSpan ((c .before .before .before .args) .above)
@@ -121,7 +121,7 @@ ends c =
     let a = (c .before .before .before .before .before .args) in
     let q = there (c .before .before) in
     let i = l .more - 1 in
-    let e : i * (2 * a .above + 3) ≡ i * probeSpan (a .above) = let k : 2 * a .above + 3 ≡ probeSpan (a .above) = omega arith in ap (λ (j : ℕ). i * j) k in
+    let e : i * (2 * a .above + 3) ≡ i * sideSpan (a .above) = let k : 2 * a .above + 3 ≡ sideSpan (a .above) = omega arith in ap (λ (j : ℕ). i * j) k in
     omega (arith, (c .either) .ensures .wires, either-block (l .next .wire) (a .f + i * (2 * a .above + 3)) (a .x + i * (a .above + 2)) (a .y + i * (a .above + 2)) (l .first) (l .second) (a .above) (omega (arith, q .0)) (omega (arith, q .1)) (omega (arith, q .2)) (l .inv .2) (l .inv .3) .long)
 
 add-second : tie.Need-add-second Inv-loop μ-loop
@@ -146,7 +146,7 @@ loop-again c =
     let n = l .next .wire in
     let i = l .more - 1 in
     let whole = firstOf (a .w .wire) (a .f) (a .x) (a .y) (a .u) (a .v) r (a .count) in
-    let e₁ : probeSpan r ≡ 2 * r + 3 = omega arith in
+    let e₁ : sideSpan r ≡ 2 * r + 3 = omega arith in
     let e₂ : n + suc r ≡ n + r + 1 = omega arith in
     let e₅ = ends (c .before .before) in
     let rest = firstOf (n + eitherSpan r) (a .f) (a .x) (a .y) n (n + suc r) r i in (

@@ -6,7 +6,7 @@ use Prim.Native.Nat.{ℕ, suc, _+_, _-_, _*_, _≤_, _<_}
 use native.Mathlib.Omega.{arith}
 use lib.ListN.{length}
 use Rattle.words.proofs.Going.{Goes, goes-start, goes-as, goes-on, goes-room, goes-end}
-use Rattle.circuit.specs.Nearest.{stride, probeSpan, either, eitherSpan, lastOf}
+use Rattle.circuit.specs.Nearest.{stride, sideSpan, either, eitherSpan, lastOf}
 use Rattle.circuit.proofs.NearestLaws.{either-block, last-of-block}
 use Rattle.keys.proofs.Steps.{one-less, last-step, last-none}
 use Rattle.keys.proofs.nearest.last_of.Statement.{statement}
@@ -14,7 +14,7 @@ use Rattle.keys.proofs.nearest.last_of.Tie as tie
 
 abbrev Inv-loop : tie.InvT-loop
 Inv-loop table₀ f x y u v above count next₀ flag₀ left₀ right₀ first₀ second₀ more₀ table next flag left right first second more =
-    (flag + more * probeSpan above < next .wire + probeSpan above) × (left + more * stride above ≤ next .wire) × (right + more * stride above ≤ next .wire)
+    (flag + more * sideSpan above < next .wire + sideSpan above) × (left + more * stride above ≤ next .wire) × (right + more * stride above ≤ next .wire)
     × (first + suc above ≤ next .wire) × (second + suc above ≤ next .wire)
     × Goes next₀ table₀ (lastOf (next₀ .wire) f x y u v above count) next table (lastOf (next .wire) flag left right first second above more)
 
@@ -31,7 +31,7 @@ loop-holds c =
 there : (c : tie.In-loop Inv-loop μ-loop) → ((c .before .loop) .flag < (c .before .loop) .next .wire) × ((c .before .loop) .left + stride ((c .before .before .before .args) .above) ≤ (c .before .loop) .next .wire) × ((c .before .loop) .right + stride ((c .before .before .before .args) .above) ≤ (c .before .loop) .next .wire)
 there c =
     let e = one-less ((c .before .loop) .more) (stride ((c .before .before .before .args) .above)) ((c .loop-test) .taken) in
-    let e′ = one-less ((c .before .loop) .more) (probeSpan ((c .before .before .before .args) .above)) ((c .loop-test) .taken) in
+    let e′ = one-less ((c .before .loop) .more) (sideSpan ((c .before .before .before .args) .above)) ((c .loop-test) .taken) in
     (omega (arith, (c .before .loop) .inv .0), omega (arith, (c .before .loop) .inv .1), omega (arith, (c .before .loop) .inv .2))
 
 all-long : (c : tie.In-loop Inv-loop μ-loop) → length (lastOf ((c .before .before .before .args) .w .wire) ((c .before .before .before .args) .f) ((c .before .before .before .args) .x) ((c .before .before .before .args) .y) ((c .before .before .before .args) .u) ((c .before .before .before .args) .v) ((c .before .before .before .args) .above) ((c .before .before .before .args) .count)) ≡ (c .before .before .before .args) .count * eitherSpan ((c .before .before .before .args) .above)
@@ -122,10 +122,10 @@ loop-again c =
     let r = a .above in
     let n = l .next .wire in
     let whole = lastOf (a .w .wire) (a .f) (a .x) (a .y) (a .u) (a .v) r (a .count) in
-    let e₁ : l .flag + probeSpan r ≡ l .flag + (2 * r + 3) = omega arith in
+    let e₁ : l .flag + sideSpan r ≡ l .flag + (2 * r + 3) = omega arith in
     let e₂ : n + suc r ≡ n + r + 1 = omega arith in
     let e₃ = one-less (l .more) (stride r) t in
-    let e₄ = one-less (l .more) (probeSpan r) t in
+    let e₄ = one-less (l .more) (sideSpan r) t in
     let e₅ = ends (c .before .before) in (
       omega (arith, l .inv .0),
       omega (arith, l .inv .1),
@@ -133,7 +133,7 @@ loop-again c =
       omega arith,
       omega arith,
       goes-as (a .w) (a .table .now) whole (h .result) (h .last .1 .0) _ _
-          (ap (λ (k : ℕ). lastOf k (l .flag + probeSpan r) (l .left + stride r) (l .right + stride r) n (n + suc r) r (l .more - 1)) (sym e₅)
+          (ap (λ (k : ℕ). lastOf k (l .flag + sideSpan r) (l .left + stride r) (l .right + stride r) n (n + suc r) r (l .more - 1)) (sym e₅)
           ∙ ap (λ (k : ℕ). lastOf (h .result .wire) k (l .left + stride r) (l .right + stride r) n (n + suc r) r (l .more - 1)) e₁
           ∙ ap (λ (k : ℕ). lastOf (h .result .wire) (l .flag + (2 * r + 3)) (l .left + stride r) (l .right + stride r) n k r (l .more - 1)) e₂)
           (goes-on (a .w) (a .table .now) whole (l .next) (l .table) _ _ (h .last .1 .0) (h .result)

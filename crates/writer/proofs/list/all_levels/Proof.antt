@@ -1,4 +1,4 @@
--- `writer::list::all_levels` meets its contract: three levels of meetings behind the candidates.
+-- `writer::list::all_levels` meets its contract: three levels of merges behind the candidates.
 -- Assumes nothing.
 use mathlib.Core.Path.{_≡_, ap}
 use mathlib.Core.List.{List}
@@ -7,11 +7,11 @@ use native.Mathlib.Omega.{arith}
 use borrow.Author.Needs.{needs}
 use Rattle.words.proofs.Writing.{wrote-as, room-less}
 use Rattle.circuit.specs.declared.plan.Plan.{Plan}
-use Rattle.circuit.specs.Meeting.{meetingSpan}
+use Rattle.circuit.specs.Merge.{mergeSpan}
 use Rattle.circuit.specs.OwnList.{levelsSpan, levels, levelsAt}
 use Rattle.circuit.proofs.LevelsLaws.{levels-block}
 use Rattle.circuit.proofs.Writers.{Stands, stands, stands-after, room-of, wrote-then}
-use Rattle.writer.proofs.ListWriters.{span-least, meet-same, allLevelsSpan}
+use Rattle.writer.proofs.ListWriters.{span-least, merge-same, allLevelsSpan}
 use Rattle.writer.proofs.list.all_levels.Statement.{statement}
 use Rattle.writer.proofs.list.all_levels.Tie as tie
 
@@ -22,7 +22,7 @@ abbrev highSpan : Plan → ℕ
 highSpan p = levelsSpan p 2 (p .candidates - p .candidates / 2)
 
 abbrev lastSpan : Plan → ℕ
-lastSpan p = meetingSpan p (p .candidates / 2) (p .candidates - p .candidates / 2)
+lastSpan p = mergeSpan p (p .candidates / 2) (p .candidates - p .candidates / 2)
 
 all : (c : tie.Start) → Stands (c .args .all) (levelsAt (c .args .p)) (allLevelsSpan (c .args .p))
 all c = stands (c .args .all) (levelsAt (c .args .p)) (allLevelsSpan (c .args .p)) (allLevelsSpan (c .args .p)) (c .pre .1 .1 .1) (omega arith) (c .pre .1 .0)
@@ -98,7 +98,7 @@ returns c =
     (wrote-then (a .all) (a .table .now) _ (f .last .1 .0) (f .result) _ _ _ _
     (wrote-as (a .all) (a .table .now) _ _ _ _ (ap (λ (i : ℕ). levels p 2 i 0 (k / 2)) (s .pre .1 .1 .1)) (f .ensures))
     (g .ensures) (ap (λ (i : ℕ). levels p 2 i (k / 2) (k - k / 2)) (l .place)))
-    (c .before .before .halves .ensures) (meet-same p 1 (levelsAt p) 0 k (g .result .wire) (f .result .wire) (g .result .wire) (h .place) (l .place) (h .place))
+    (c .before .before .halves .ensures) (merge-same p 1 (levelsAt p) 0 k (g .result .wire) (f .result .wire) (g .result .wire) (h .place) (l .place) (h .place))
 
 pub all-levels-spec : {M : Type 1} → statement M
 all-levels-spec = tie.close (tie.spec sub-second four-requires four-requires-2 halves-requires same-length returns)

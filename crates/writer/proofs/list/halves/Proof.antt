@@ -1,4 +1,4 @@
--- `writer::list::halves` meets its contract: a meeting at the places of both groups.
+-- `writer::list::halves` meets its contract: a merge at the places of both groups.
 -- Assumes nothing.
 use mathlib.Core.Path.{_≡_, _∙_, refl, ap}
 use mathlib.Core.Bool.{cond}
@@ -8,7 +8,7 @@ use lib.Dec.{leb}
 use borrow.Author.Needs.{needs}
 use Rattle.words.proofs.Writing.{wrote-as}
 use Rattle.circuit.specs.Key.{keySpan}
-use Rattle.circuit.specs.Meeting.{meeting}
+use Rattle.circuit.specs.Merge.{merge}
 use Rattle.circuit.specs.OwnList.{keyAt}
 use Rattle.writer.proofs.ListWriters.{key-below, won-below}
 use Rattle.writer.proofs.list.halves.Statement.{statement}
@@ -38,8 +38,8 @@ group-won-requires-2 c κs =
     let q = (c .before .before .before .before) .pre .1 .1 in
     ((c .before .before .before .before) .pre .0, λ z. let k = q .1 .1 z in omega arith)
 
-meeting-requires : tie.Need-meeting-requires
-meeting-requires c κs =
+merge-requires : tie.Need-merge-requires
+merge-requires c κs =
     let a = (c .before .before .before .before .before .before .args) in
     let f = (c .before .before .before .before .before .before) .pre .0 in
     let q = (c .before .before .before .before .before .before) .pre .1 .1 in
@@ -71,14 +71,14 @@ returns c =
     let y = cond (leb (a .second) 1) (keyAt p (a .c + a .first)) (n - keySpan p) in
     let u = cond (leb (a .first) 1) 0 (a .middle - keySpan p - a .first) in
     wrote-as (a .w) (a .table .now) _ _ _ _
-    (ap (λ (k : ℕ). meeting p n k ((c .before .before .before .before .before .before .best-key2) .result) ((c .before .before .before .before .before .group-won) .result) ((c .before .before .before .before .group-won2) .result) (a .first) (a .second)) ((c .before .before .before .before .before .before .before .best-key) .ensures)
-    ∙ ap (λ (k : ℕ). meeting p n x k ((c .before .before .before .before .before .group-won) .result) ((c .before .before .before .before .group-won2) .result) (a .first) (a .second)) ((c .before .before .before .before .before .before .best-key2) .ensures)
-    ∙ ap (λ (k : ℕ). meeting p n x y k ((c .before .before .before .before .group-won2) .result) (a .first) (a .second)) ((c .before .before .before .before .before .group-won) .ensures)
-    ∙ ap (λ (k : ℕ). meeting p n x y u k (a .first) (a .second)) ((c .before .before .before .before .group-won2) .ensures))
-    ((c .before .before .meeting) .ensures)
+    (ap (λ (k : ℕ). merge p n k ((c .before .before .before .before .before .before .best-key2) .result) ((c .before .before .before .before .before .group-won) .result) ((c .before .before .before .before .group-won2) .result) (a .first) (a .second)) ((c .before .before .before .before .before .before .before .best-key) .ensures)
+    ∙ ap (λ (k : ℕ). merge p n x k ((c .before .before .before .before .before .group-won) .result) ((c .before .before .before .before .group-won2) .result) (a .first) (a .second)) ((c .before .before .before .before .before .before .best-key2) .ensures)
+    ∙ ap (λ (k : ℕ). merge p n x y k ((c .before .before .before .before .group-won2) .result) (a .first) (a .second)) ((c .before .before .before .before .before .group-won) .ensures)
+    ∙ ap (λ (k : ℕ). merge p n x y u k (a .first) (a .second)) ((c .before .before .before .before .group-won2) .ensures))
+    ((c .before .before .merge) .ensures)
 
 same-length : tie.Need-same-length
 same-length c = search needs
 
 pub halves-spec : {M : Type 1} → statement M
-halves-spec = tie.close (tie.spec best-key-requires add-best-key best-key-requires-2 group-won-requires group-won-requires-2 meeting-requires same-length returns)
+halves-spec = tie.close (tie.spec best-key-requires add-best-key best-key-requires-2 group-won-requires group-won-requires-2 merge-requires same-length returns)

@@ -1,4 +1,4 @@
--- `writer::list::pair` meets its contract: nothing for one candidate; for two, their meeting and the better key.
+-- `writer::list::pair` meets its contract: nothing for one candidate; for two, their merge and the better key.
 -- Assumes nothing.
 use mathlib.Core.Path.{_≡_, _∙_, refl, sym, ap, subst}
 use mathlib.Core.List.{List, [], _++_}
@@ -8,9 +8,9 @@ use Rattle.words.specs.Choice.{choose}
 use Rattle.words.proofs.Writing.{wrote-nothing, wrote-as, wrote-long, room-less}
 use Rattle.circuit.specs.Key.{keySpan}
 use Rattle.circuit.specs.Contest.{resultAt}
-use Rattle.circuit.specs.Meeting.{meeting, meetingSpan}
+use Rattle.circuit.specs.Merge.{merge, mergeSpan}
 use Rattle.circuit.specs.OwnList.{keyAt, levelsSpan, levels, levelsAt}
-use Rattle.circuit.proofs.MeetingLaws.{meeting-block}
+use Rattle.circuit.proofs.MergeLaws.{merge-block}
 use Rattle.circuit.proofs.LevelsLaws.{key-before, levels-one}
 use Rattle.circuit.proofs.Writers.{Stands, stands, stands-after, room-of, wrote-then}
 use Rattle.writer.proofs.ListWriters.{pair-is, pair-span}
@@ -26,7 +26,7 @@ two : (c : tie.Else1) → (c .before .before .args) .count ≡ 2
 two c =
     omega (arith, (c .if1) .left, (c .before .before) .pre .1 .1)
 
-spans : (c : tie.Else1) → levelsSpan ((c .before .before .args) .p) 1 ((c .before .before .args) .count) ≡ meetingSpan ((c .before .before .args) .p) 1 1 + keySpan ((c .before .before .args) .p)
+spans : (c : tie.Else1) → levelsSpan ((c .before .before .args) .p) 1 ((c .before .before .args) .count) ≡ mergeSpan ((c .before .before .args) .p) 1 1 + keySpan ((c .before .before .args) .p)
 spans c =
     ap (levelsSpan ((c .before .before .args) .p) 1) (two c) ∙ pair-span ((c .before .before .args) .p)
 
@@ -49,16 +49,16 @@ key-at-requires-2 c κs =
     let q = (c .before .before .before) .pre .1 .1 in
     ((c .before .before .before) .pre .0, (q .0, omega (arith, q, two (c .before)), omega (arith, q .1, (c .before .before .before) .pre .1 .0 .small)))
 
-meeting-requires : tie.Need-meeting-requires
-meeting-requires c κs =
+merge-requires : tie.Need-merge-requires
+merge-requires c κs =
     let k = keys (c .before .before .before) in
     ((c .before .before .before .before .before) .pre .0, (room-less ((c .before .before .before .before .before .args) .w) _ _ (omega (arith, spans (c .before .before .before))) ((c .before .before .before .before .before) .pre .1 .0), ((omega (arith, k .0, (c .before .before .key-at) .ensures), omega (arith, k .1, (c .before .key-at2) .ensures), omega arith, omega arith), (λ z. absurd (omega arith), λ z. absurd (omega arith)))))
 
-met : (c : tie.After-meeting) → Stands ((c .meeting) .result) ((c .before .before .before .before .before .before .args) .w .wire + meetingSpan ((c .before .before .before .before .before .before .args) .p) 1 1) (keySpan ((c .before .before .before .before .before .before .args) .p))
+met : (c : tie.After-merge) → Stands ((c .merge) .result) ((c .before .before .before .before .before .before .args) .w .wire + mergeSpan ((c .before .before .before .before .before .before .args) .p) 1 1) (keySpan ((c .before .before .before .before .before .before .args) .p))
 met c =
     let k = keys (c .before .before .before .before) in
-    stands-after ((c .before .before .before .before .before .before .args) .w) ((c .before .before .before .before .before .before .args) .table .now) _ ((c .meeting) .last .1 .0) ((c .meeting) .result) _ _ _ ((c .meeting) .ensures)
-    (meeting-block ((c .before .before .before .before .before .before .args) .p) ((c .before .before .before .before .before .before) .pre .0) ((c .before .before .before .before .before .before .args) .w .wire) ((c .before .before .before .key-at) .result) ((c .before .before .key-at2) .result) 0 0 1 1 (omega (arith, k .0, (c .before .before .before .key-at) .ensures)) (omega (arith, k .1, (c .before .before .key-at2) .ensures)) (λ z. absurd (omega arith)) (λ z. absurd (omega arith)) .long)
+    stands-after ((c .before .before .before .before .before .before .args) .w) ((c .before .before .before .before .before .before .args) .table .now) _ ((c .merge) .last .1 .0) ((c .merge) .result) _ _ _ ((c .merge) .ensures)
+    (merge-block ((c .before .before .before .before .before .before .args) .p) ((c .before .before .before .before .before .before) .pre .0) ((c .before .before .before .before .before .before .args) .w .wire) ((c .before .before .before .key-at) .result) ((c .before .before .key-at2) .result) 0 0 1 1 (omega (arith, k .0, (c .before .before .before .key-at) .ensures)) (omega (arith, k .1, (c .before .before .key-at2) .ensures)) (λ z. absurd (omega arith)) (λ z. absurd (omega arith)) .long)
     (stands ((c .before .before .before .before .before .before .args) .w) ((c .before .before .before .before .before .before .args) .w .wire) _ _ refl (omega (arith, spans (c .before .before .before .before))) ((c .before .before .before .before .before .before) .pre .1 .0))
 
 sub-better : tie.Need-sub-better
@@ -78,10 +78,10 @@ returns-2 c =
     let n = a .w .wire in
     let x = keyAt p (a .c) in
     let y = keyAt p (a .c + 1) in
-    let e : (c .before .before .before .before .before .before .before .meeting) .result .wire - 8 + 1 ≡ resultAt p n + 1 = omega (arith, met (c .before .before .before .before .before .before .before) .place) in
+    let e : (c .before .before .before .before .before .before .before .merge) .result .wire - 8 + 1 ≡ resultAt p n + 1 = omega (arith, met (c .before .before .before .before .before .before .before) .place) in
     wrote-as (a .w) (a .table .now) _ _ _ _ (sym (ap (levels p 1 n (a .c)) (two (c .before .before .before .before .before .before .before .before .before .before .before)) ∙ pair-is p n (a .c)))
-    (wrote-then (a .w) (a .table .now) _ ((c .before .before .before .before .before .before .before .meeting) .last .1 .0) ((c .before .before .before .before .before .before .before .meeting) .result) _ _ _ _
-    (wrote-as (a .w) (a .table .now) _ _ _ _ (ap (λ (k : ℕ). meeting p n k ((c .before .before .before .before .before .before .before .before .before .key-at2) .result) 0 0 1 1) ((c .before .before .before .before .before .before .before .before .before .before .key-at) .ensures) ∙ ap (λ (k : ℕ). meeting p n x k 0 0 1 1) ((c .before .before .before .before .before .before .before .before .before .key-at2) .ensures)) ((c .before .before .before .before .before .before .before .meeting) .ensures))
+    (wrote-then (a .w) (a .table .now) _ ((c .before .before .before .before .before .before .before .merge) .last .1 .0) ((c .before .before .before .before .before .before .before .merge) .result) _ _ _ _
+    (wrote-as (a .w) (a .table .now) _ _ _ _ (ap (λ (k : ℕ). merge p n k ((c .before .before .before .before .before .before .before .before .before .key-at2) .result) 0 0 1 1) ((c .before .before .before .before .before .before .before .before .before .before .key-at) .ensures) ∙ ap (λ (k : ℕ). merge p n x k 0 0 1 1) ((c .before .before .before .before .before .before .before .before .before .key-at2) .ensures)) ((c .before .before .before .before .before .before .before .merge) .ensures))
     ((c .before .before .better) .ensures)
     (ap (λ (k : ℕ). choose k ((c .before .before .before .before .before .before .before .before .before .before .key-at) .result) ((c .before .before .before .before .before .before .before .before .before .key-at2) .result) (keySpan p)) e ∙ ap (λ (k : ℕ). choose (resultAt p n + 1) k ((c .before .before .before .before .before .before .before .before .before .key-at2) .result) (keySpan p)) ((c .before .before .before .before .before .before .before .before .before .before .key-at) .ensures) ∙ ap (λ (k : ℕ). choose (resultAt p n + 1) x k (keySpan p)) ((c .before .before .before .before .before .before .before .before .before .key-at2) .ensures)))
 
@@ -90,4 +90,4 @@ same-length c =
     wrote-long ((c .before .before .before .before .before .before .before .before .before .before .before .before .before .args) .w) ((c .before .before .before .before .before .before .before .before .before .before .before .before .before .args) .table .now) (levels ((c .before .before .before .before .before .before .before .before .before .before .before .before .before .args) .p) 1 ((c .before .before .before .before .before .before .before .before .before .before .before .before .before .args) .w .wire) ((c .before .before .before .before .before .before .before .before .before .before .before .before .before .args) .c) ((c .before .before .before .before .before .before .before .before .before .before .before .before .before .args) .count)) ((c .before .before .better) .last .1 .0) ((c .before .before .better) .result) (returns-2 c)
 
 pub pair-spec : {M : Type 1} → statement M
-pair-spec = tie.close (tie.spec returns key-at-requires add-key-at key-at-requires-2 meeting-requires sub-better better-requires same-length returns-2)
+pair-spec = tie.close (tie.spec returns key-at-requires add-key-at key-at-requires-2 merge-requires sub-better better-requires same-length returns-2)

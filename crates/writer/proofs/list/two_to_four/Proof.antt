@@ -1,4 +1,4 @@
--- `writer::list::two_to_four` meets its contract: both halves, their meeting and the better key.
+-- `writer::list::two_to_four` meets its contract: both halves, their merge and the better key.
 -- Assumes nothing.
 use mathlib.Core.Path.{_≡_, _∙_, refl, sym, ap, subst}
 use mathlib.Core.Bool.{cond}
@@ -11,11 +11,11 @@ use Rattle.words.specs.Choice.{choose}
 use Rattle.words.proofs.Writing.{wrote-as, wrote-long, room-less}
 use Rattle.circuit.specs.Key.{keySpan}
 use Rattle.circuit.specs.Contest.{resultAt}
-use Rattle.circuit.specs.Meeting.{meeting, meetingSpan}
-use Rattle.circuit.specs.OwnList.{keyAt, levelsSpan, otherAt, meetAt, halvesMeet, levels, levelsAt}
-use Rattle.circuit.proofs.LevelsLaws.{span-more, levels-more, levels-block, halves-meet-block}
+use Rattle.circuit.specs.Merge.{merge, mergeSpan}
+use Rattle.circuit.specs.OwnList.{keyAt, levelsSpan, otherAt, mergeAt, halvesMerge, levels, levelsAt}
+use Rattle.circuit.proofs.LevelsLaws.{span-more, levels-more, levels-block, halves-merge-block}
 use Rattle.circuit.proofs.Writers.{Stands, stands, stands-after, room-of, wrote-then}
-use Rattle.writer.proofs.ListWriters.{span-least, key-below, meet-same, better-same}
+use Rattle.writer.proofs.ListWriters.{span-least, key-below, merge-same, better-same}
 use Rattle.writer.proofs.list.two_to_four.Statement.{statement}
 use Rattle.writer.proofs.list.two_to_four.Tie as tie
 
@@ -23,7 +23,7 @@ sub-second : tie.Need-sub-second
 sub-second c =
     omega arith
 
-spans : (c : tie.After-slice-known) → levelsSpan ((c .before .args) .p) 2 ((c .before .args) .count) ≡ levelsSpan ((c .before .args) .p) 1 ((c .before .args) .count / 2) + (levelsSpan ((c .before .args) .p) 1 ((c .before .args) .count - (c .before .args) .count / 2) + (meetingSpan ((c .before .args) .p) ((c .before .args) .count / 2) ((c .before .args) .count - (c .before .args) .count / 2) + keySpan ((c .before .args) .p)))
+spans : (c : tie.After-slice-known) → levelsSpan ((c .before .args) .p) 2 ((c .before .args) .count) ≡ levelsSpan ((c .before .args) .p) 1 ((c .before .args) .count / 2) + (levelsSpan ((c .before .args) .p) 1 ((c .before .args) .count - (c .before .args) .count / 2) + (mergeSpan ((c .before .args) .p) ((c .before .args) .count / 2) ((c .before .args) .count - (c .before .args) .count / 2) + keySpan ((c .before .args) .p)))
 spans c =
     omega (arith, span-more ((c .before .args) .p) 1 ((c .before .args) .count) ((c .before) .pre .1 .1 .2))
 
@@ -33,7 +33,7 @@ pair-requires c κs =
     let t = (c .before .before) .pre .1 .1 .2 in
     ((c .before .before) .pre .0, (room-less ((c .before .before .args) .w) _ _ (omega (arith, spans (c .before))) ((c .before .before) .pre .1 .0), (q .0, q .1, omega (arith, t), omega (arith, q .3), omega (arith, q .4))))
 
-low : (c : tie.After-pair) → Stands ((c .pair) .result) ((c .before .before .before .args) .w .wire + levelsSpan ((c .before .before .before .args) .p) 1 ((c .before .before .before .args) .count / 2)) (levelsSpan ((c .before .before .before .args) .p) 1 ((c .before .before .before .args) .count - (c .before .before .before .args) .count / 2) + (meetingSpan ((c .before .before .before .args) .p) ((c .before .before .before .args) .count / 2) ((c .before .before .before .args) .count - (c .before .before .before .args) .count / 2) + keySpan ((c .before .before .before .args) .p)))
+low : (c : tie.After-pair) → Stands ((c .pair) .result) ((c .before .before .before .args) .w .wire + levelsSpan ((c .before .before .before .args) .p) 1 ((c .before .before .before .args) .count / 2)) (levelsSpan ((c .before .before .before .args) .p) 1 ((c .before .before .before .args) .count - (c .before .before .before .args) .count / 2) + (mergeSpan ((c .before .before .before .args) .p) ((c .before .before .before .args) .count / 2) ((c .before .before .before .args) .count - (c .before .before .before .args) .count / 2) + keySpan ((c .before .before .before .args) .p)))
 low c =
     let a = (c .before .before .before .args) in
     let q = (c .before .before .before) .pre .1 .1 in
@@ -51,7 +51,7 @@ pair-requires-2 c κs =
     let t = (c .before .before .before .before .before .before) .pre .1 .1 .2 in
     ((c .before .before .before .before .before .before) .pre .0, (room-of ((c .before .before .before .pair) .result) _ _ _ (low (c .before .before .before)) (omega arith), (q .0, omega (arith, q .1, low (c .before .before .before) .place), omega (arith, t), omega (arith, q .3), omega (arith, q .4))))
 
-high : (c : tie.After-pair2) → Stands ((c .pair2) .result) ((c .before .before .before .before .before .before .before .args) .w .wire + levelsSpan ((c .before .before .before .before .before .before .before .args) .p) 1 ((c .before .before .before .before .before .before .before .args) .count / 2) + levelsSpan ((c .before .before .before .before .before .before .before .args) .p) 1 ((c .before .before .before .before .before .before .before .args) .count - (c .before .before .before .before .before .before .before .args) .count / 2)) (meetingSpan ((c .before .before .before .before .before .before .before .args) .p) ((c .before .before .before .before .before .before .before .args) .count / 2) ((c .before .before .before .before .before .before .before .args) .count - (c .before .before .before .before .before .before .before .args) .count / 2) + keySpan ((c .before .before .before .before .before .before .before .args) .p))
+high : (c : tie.After-pair2) → Stands ((c .pair2) .result) ((c .before .before .before .before .before .before .before .args) .w .wire + levelsSpan ((c .before .before .before .before .before .before .before .args) .p) 1 ((c .before .before .before .before .before .before .before .args) .count / 2) + levelsSpan ((c .before .before .before .before .before .before .before .args) .p) 1 ((c .before .before .before .before .before .before .before .args) .count - (c .before .before .before .before .before .before .before .args) .count / 2)) (mergeSpan ((c .before .before .before .before .before .before .before .args) .p) ((c .before .before .before .before .before .before .before .args) .count / 2) ((c .before .before .before .before .before .before .before .args) .count - (c .before .before .before .before .before .before .before .args) .count / 2) + keySpan ((c .before .before .before .before .before .before .before .args) .p))
 high c =
     let a = (c .before .before .before .before .before .before .before .args) in
     let q = (c .before .before .before .before .before .before .before) .pre .1 .1 in
@@ -76,16 +76,16 @@ halves-requires c κs =
       ),
     )
 
-meet-wrote : (c : tie.After-halves) → halvesMeet ((c .before .before .before .before .before .before .before .before .before .before .before .args) .p) 1 ((c .before .before .before .before .before .before .before .before .before .before .before .args) .w .wire) ((c .before .before .before .before .before .before .before .before .before .before .before .args) .c) ((c .before .before .before .before .before .before .before .before .before .before .before .args) .count) ≡ meeting ((c .before .before .before .before .before .before .before .before .before .before .before .args) .p) ((c .before .before .before .before .pair2) .result .wire) (cond (leb ((c .before .before .before .before .before .before .before .before .before .before .before .args) .count / 2) 1) (keyAt ((c .before .before .before .before .before .before .before .before .before .before .before .args) .p) ((c .before .before .before .before .before .before .before .before .before .before .before .args) .c)) ((c .before .before .before .before .before .before .before .before .pair) .result .wire - keySpan ((c .before .before .before .before .before .before .before .before .before .before .before .args) .p))) (cond (leb ((c .before .before .before .before .before .before .before .before .before .before .before .args) .count - (c .before .before .before .before .before .before .before .before .before .before .before .args) .count / 2) 1) (keyAt ((c .before .before .before .before .before .before .before .before .before .before .before .args) .p) ((c .before .before .before .before .before .before .before .before .before .before .before .args) .c + (c .before .before .before .before .before .before .before .before .before .before .before .args) .count / 2)) ((c .before .before .before .before .pair2) .result .wire - keySpan ((c .before .before .before .before .before .before .before .before .before .before .before .args) .p))) (cond (leb ((c .before .before .before .before .before .before .before .before .before .before .before .args) .count / 2) 1) 0 ((c .before .before .before .before .before .before .before .before .pair) .result .wire - keySpan ((c .before .before .before .before .before .before .before .before .before .before .before .args) .p) - (c .before .before .before .before .before .before .before .before .before .before .before .args) .count / 2)) (cond (leb ((c .before .before .before .before .before .before .before .before .before .before .before .args) .count - (c .before .before .before .before .before .before .before .before .before .before .before .args) .count / 2) 1) 0 ((c .before .before .before .before .pair2) .result .wire - keySpan ((c .before .before .before .before .before .before .before .before .before .before .before .args) .p) - ((c .before .before .before .before .before .before .before .before .before .before .before .args) .count - (c .before .before .before .before .before .before .before .before .before .before .before .args) .count / 2))) ((c .before .before .before .before .before .before .before .before .before .before .before .args) .count / 2) ((c .before .before .before .before .before .before .before .before .before .before .before .args) .count - (c .before .before .before .before .before .before .before .before .before .before .before .args) .count / 2)
-meet-wrote c =
-    sym (meet-same ((c .before .before .before .before .before .before .before .before .before .before .before .args) .p) 0 ((c .before .before .before .before .before .before .before .before .before .before .before .args) .w .wire) ((c .before .before .before .before .before .before .before .before .before .before .before .args) .c) ((c .before .before .before .before .before .before .before .before .before .before .before .args) .count) ((c .before .before .before .before .pair2) .result .wire) ((c .before .before .before .before .before .before .before .before .pair) .result .wire) ((c .before .before .before .before .pair2) .result .wire) (high (c .before .before .before .before) .place) (low (c .before .before .before .before .before .before .before .before) .place) (high (c .before .before .before .before) .place))
+merge-wrote : (c : tie.After-halves) → halvesMerge ((c .before .before .before .before .before .before .before .before .before .before .before .args) .p) 1 ((c .before .before .before .before .before .before .before .before .before .before .before .args) .w .wire) ((c .before .before .before .before .before .before .before .before .before .before .before .args) .c) ((c .before .before .before .before .before .before .before .before .before .before .before .args) .count) ≡ merge ((c .before .before .before .before .before .before .before .before .before .before .before .args) .p) ((c .before .before .before .before .pair2) .result .wire) (cond (leb ((c .before .before .before .before .before .before .before .before .before .before .before .args) .count / 2) 1) (keyAt ((c .before .before .before .before .before .before .before .before .before .before .before .args) .p) ((c .before .before .before .before .before .before .before .before .before .before .before .args) .c)) ((c .before .before .before .before .before .before .before .before .pair) .result .wire - keySpan ((c .before .before .before .before .before .before .before .before .before .before .before .args) .p))) (cond (leb ((c .before .before .before .before .before .before .before .before .before .before .before .args) .count - (c .before .before .before .before .before .before .before .before .before .before .before .args) .count / 2) 1) (keyAt ((c .before .before .before .before .before .before .before .before .before .before .before .args) .p) ((c .before .before .before .before .before .before .before .before .before .before .before .args) .c + (c .before .before .before .before .before .before .before .before .before .before .before .args) .count / 2)) ((c .before .before .before .before .pair2) .result .wire - keySpan ((c .before .before .before .before .before .before .before .before .before .before .before .args) .p))) (cond (leb ((c .before .before .before .before .before .before .before .before .before .before .before .args) .count / 2) 1) 0 ((c .before .before .before .before .before .before .before .before .pair) .result .wire - keySpan ((c .before .before .before .before .before .before .before .before .before .before .before .args) .p) - (c .before .before .before .before .before .before .before .before .before .before .before .args) .count / 2)) (cond (leb ((c .before .before .before .before .before .before .before .before .before .before .before .args) .count - (c .before .before .before .before .before .before .before .before .before .before .before .args) .count / 2) 1) 0 ((c .before .before .before .before .pair2) .result .wire - keySpan ((c .before .before .before .before .before .before .before .before .before .before .before .args) .p) - ((c .before .before .before .before .before .before .before .before .before .before .before .args) .count - (c .before .before .before .before .before .before .before .before .before .before .before .args) .count / 2))) ((c .before .before .before .before .before .before .before .before .before .before .before .args) .count / 2) ((c .before .before .before .before .before .before .before .before .before .before .before .args) .count - (c .before .before .before .before .before .before .before .before .before .before .before .args) .count / 2)
+merge-wrote c =
+    sym (merge-same ((c .before .before .before .before .before .before .before .before .before .before .before .args) .p) 0 ((c .before .before .before .before .before .before .before .before .before .before .before .args) .w .wire) ((c .before .before .before .before .before .before .before .before .before .before .before .args) .c) ((c .before .before .before .before .before .before .before .before .before .before .before .args) .count) ((c .before .before .before .before .pair2) .result .wire) ((c .before .before .before .before .before .before .before .before .pair) .result .wire) ((c .before .before .before .before .pair2) .result .wire) (high (c .before .before .before .before) .place) (low (c .before .before .before .before .before .before .before .before) .place) (high (c .before .before .before .before) .place))
 
-met : (c : tie.After-halves) → Stands ((c .halves) .result) ((c .before .before .before .before .before .before .before .before .before .before .before .args) .w .wire + levelsSpan ((c .before .before .before .before .before .before .before .before .before .before .before .args) .p) 1 ((c .before .before .before .before .before .before .before .before .before .before .before .args) .count / 2) + levelsSpan ((c .before .before .before .before .before .before .before .before .before .before .before .args) .p) 1 ((c .before .before .before .before .before .before .before .before .before .before .before .args) .count - (c .before .before .before .before .before .before .before .before .before .before .before .args) .count / 2) + meetingSpan ((c .before .before .before .before .before .before .before .before .before .before .before .args) .p) ((c .before .before .before .before .before .before .before .before .before .before .before .args) .count / 2) ((c .before .before .before .before .before .before .before .before .before .before .before .args) .count - (c .before .before .before .before .before .before .before .before .before .before .before .args) .count / 2)) (keySpan ((c .before .before .before .before .before .before .before .before .before .before .before .args) .p))
+met : (c : tie.After-halves) → Stands ((c .halves) .result) ((c .before .before .before .before .before .before .before .before .before .before .before .args) .w .wire + levelsSpan ((c .before .before .before .before .before .before .before .before .before .before .before .args) .p) 1 ((c .before .before .before .before .before .before .before .before .before .before .before .args) .count / 2) + levelsSpan ((c .before .before .before .before .before .before .before .before .before .before .before .args) .p) 1 ((c .before .before .before .before .before .before .before .before .before .before .before .args) .count - (c .before .before .before .before .before .before .before .before .before .before .before .args) .count / 2) + mergeSpan ((c .before .before .before .before .before .before .before .before .before .before .before .args) .p) ((c .before .before .before .before .before .before .before .before .before .before .before .args) .count / 2) ((c .before .before .before .before .before .before .before .before .before .before .before .args) .count - (c .before .before .before .before .before .before .before .before .before .before .before .args) .count / 2)) (keySpan ((c .before .before .before .before .before .before .before .before .before .before .before .args) .p))
 met c =
     let a = (c .before .before .before .before .before .before .before .before .before .before .before .args) in
     let q = (c .before .before .before .before .before .before .before .before .before .before .before) .pre .1 .1 in
     stands-after ((c .before .before .before .before .pair2) .result) ((c .before .before .before .before .pair2) .last .1 .0) _ ((c .halves) .last .1 .0) ((c .halves) .result) _ _ _ ((c .halves) .ensures)
-    (sym (ap length (meet-wrote c)) ∙ halves-meet-block (a .p) ((c .before .before .before .before .before .before .before .before .before .before .before) .pre .0) 1 (a .w .wire) (a .c) (a .count) (q .1) ((c .before .before .before .before .before .before .before .before .before .before .before) .pre .1 .1 .2) (q .3) (q .4) .long) (high (c .before .before .before .before))
+    (sym (ap length (merge-wrote c)) ∙ halves-merge-block (a .p) ((c .before .before .before .before .before .before .before .before .before .before .before) .pre .0) 1 (a .w .wire) (a .c) (a .count) (q .1) ((c .before .before .before .before .before .before .before .before .before .before .before) .pre .1 .1 .2) (q .3) (q .4) .long) (high (c .before .before .before .before))
 
 best-key-requires : tie.Need-best-key-requires
 best-key-requires c κs =
@@ -139,12 +139,12 @@ returns c =
     let n = a .w .wire in
     let m = a .count in
     let x = cond (leb (m / 2) 1) (keyAt p (a .c)) ((c .before .before .before .before .before .before .before .before .before .before .before .before .before .before .before .before .before .pair) .result .wire - keySpan p) in
-    let e : (c .before .before .before .before .before .before .before .before .before .halves) .result .wire - m - 6 + 1 ≡ resultAt p (meetAt p 1 n m) + 1 = omega (arith, met (c .before .before .before .before .before .before .before .before .before) .place) in
+    let e : (c .before .before .before .before .before .before .before .before .before .halves) .result .wire - m - 6 + 1 ≡ resultAt p (mergeAt p 1 n m) + 1 = omega (arith, met (c .before .before .before .before .before .before .before .before .before) .place) in
     wrote-as (a .w) (a .table .now) _ _ _ _ (sym (levels-more p 1 m n (a .c) ((c .before .before .before .before .before .before .before .before .before .before .before .before .before .before .before .before .before .before .before .before) .pre .1 .1 .2)))
     (wrote-then (a .w) (a .table .now) _ ((c .before .before .before .before .before .before .before .before .before .halves) .last .1 .0) ((c .before .before .before .before .before .before .before .before .before .halves) .result) _ _ _ _
     (wrote-then (a .w) (a .table .now) _ ((c .before .before .before .before .before .before .before .before .before .before .before .before .before .pair2) .last .1 .0) ((c .before .before .before .before .before .before .before .before .before .before .before .before .before .pair2) .result) _ _ _ _
     (wrote-then (a .w) (a .table .now) _ ((c .before .before .before .before .before .before .before .before .before .before .before .before .before .before .before .before .before .pair) .last .1 .0) ((c .before .before .before .before .before .before .before .before .before .before .before .before .before .before .before .before .before .pair) .result) _ _ _ _ ((c .before .before .before .before .before .before .before .before .before .before .before .before .before .before .before .before .before .pair) .ensures) ((c .before .before .before .before .before .before .before .before .before .before .before .before .before .pair2) .ensures) (ap (λ (k : ℕ). levels p 1 k (a .c + m / 2) (m - m / 2)) (low (c .before .before .before .before .before .before .before .before .before .before .before .before .before .before .before .before .before) .place)))
-    ((c .before .before .before .before .before .before .before .before .before .halves) .ensures) (sym (meet-wrote (c .before .before .before .before .before .before .before .before .before))))
+    ((c .before .before .before .before .before .before .before .before .before .halves) .ensures) (sym (merge-wrote (c .before .before .before .before .before .before .before .before .before))))
     ((c .before .before .better) .ensures)
     (ap (λ (k : ℕ). choose ((c .before .before .before .before .before .before .before .before .before .halves) .result .wire - m - 6 + 1) k ((c .before .before .before .before .before .best-key2) .result) (keySpan p)) ((c .before .before .before .before .before .before .best-key) .ensures) ∙ ap (λ (k : ℕ). choose ((c .before .before .before .before .before .before .before .before .before .halves) .result .wire - m - 6 + 1) x k (keySpan p)) ((c .before .before .before .before .before .best-key2) .ensures)
     ∙ better-same p 0 n (a .c) m ((c .before .before .before .before .before .before .before .before .before .halves) .result .wire - m - 6 + 1) ((c .before .before .before .before .before .before .before .before .before .before .before .before .before .before .before .before .before .pair) .result .wire) ((c .before .before .before .before .before .before .before .before .before .before .before .before .before .pair2) .result .wire) e (low (c .before .before .before .before .before .before .before .before .before .before .before .before .before .before .before .before .before) .place) (high (c .before .before .before .before .before .before .before .before .before .before .before .before .before) .place)))

@@ -1,4 +1,4 @@
--- `keys::nearest::probe` meets its contract: whether the words differ, and on which side of the median.
+-- `keys::nearest::side` meets its contract: whether the words differ, and on which side of the median.
 -- Assumes nothing.
 use mathlib.Core.Path.{_≡_, _∙_, refl, ap}
 use mathlib.Core.List.{List, [], _∷_}
@@ -10,11 +10,11 @@ use Rattle.words.specs.Gates.{andOf, xorOf}
 use Rattle.words.proofs.Writing.{wrote-both, wrote-as, room-less}
 use Rattle.words.proofs.Emitting.{and-wrote, xor-wrote}
 use Rattle.circuit.specs.Versus.{unequalSpan, unequalAt}
-use Rattle.circuit.specs.Nearest.{probe}
+use Rattle.circuit.specs.Nearest.{side}
 use Rattle.circuit.proofs.VersusLaws.{length-unequal}
 use Rattle.circuit.proofs.Writers.{Stands, stands, stands-after, room-of, wrote-then}
-use Rattle.keys.proofs.nearest.probe.Statement.{statement}
-use Rattle.keys.proofs.nearest.probe.Tie as tie
+use Rattle.keys.proofs.nearest.side.Statement.{statement}
+use Rattle.keys.proofs.nearest.side.Tie as tie
 
 unequal-at-requires : tie.Need-unequal-at-requires
 unequal-at-requires c κs =
@@ -47,7 +47,7 @@ emit-requires-2 c κs =
     stands-after ((c .before .before .before .before .before .before .before .unequal) .result) ((c .before .before .before .before .before .before .before .unequal) .last .1 .0) _ ((c .before .before .before .emit) .last .1 .0) ((c .before .before .before .emit) .result) _ 1 1 ((c .before .before .before .emit) .ensures) refl (differ (c .before .before .before .before .before .before .before)) .left
 
 returns : tie.Need-returns
-unfolding probe
+unfolding side
 returns c =
     let a = (c .before .before .before .before .before .before .before .before .before .before .before .before .before .before .args) in
     let e = (c .before .before .before .before .before .before .before .before .before .before .before .before .unequal-at) .ensures in
@@ -63,5 +63,5 @@ returns c =
 same-length : tie.Need-same-length
 same-length c = search needs
 
-pub probe-spec : {M : Type 1} → statement M
-probe-spec = tie.close (tie.spec unequal-at-requires unequal-requires add-emit add-emit-2 emit-requires emit-requires-2 same-length returns)
+pub side-spec : {M : Type 1} → statement M
+side-spec = tie.close (tie.spec unequal-at-requires unequal-requires add-emit add-emit-2 emit-requires emit-requires-2 same-length returns)

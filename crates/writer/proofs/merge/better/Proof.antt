@@ -1,4 +1,4 @@
--- `writer::meeting::better` meets its contract: a choice of the keys' wires.
+-- `writer::merge::better` meets its contract: a choice of the keys' wires.
 -- Assumes nothing.
 use mathlib.Core.Path.{_≡_, ap}
 use Prim.Native.Nat.{ℕ, _+_}
@@ -6,8 +6,8 @@ use native.Mathlib.Omega.{arith}
 use borrow.Author.Needs.{needs}
 use Rattle.words.specs.Choice.{choose}
 use Rattle.words.proofs.Writing.{wrote-as, room-less}
-use Rattle.writer.proofs.meeting.better.Statement.{statement}
-use Rattle.writer.proofs.meeting.better.Tie as tie
+use Rattle.writer.proofs.merge.better.Statement.{statement}
+use Rattle.writer.proofs.merge.better.Tie as tie
 
 key-span-requires : tie.Need-key-span-requires
 key-span-requires c κs =

@@ -1,14 +1,14 @@
--- `writer::meeting::verdict` meets its contract: four gates.
+-- `writer::merge::verdict` meets its contract: four gates.
 -- Assumes nothing.
 use mathlib.Core.Path.{_≡_, refl}
 use Prim.Native.Nat.{_+_}
 use native.Mathlib.Omega.{arith}
 use Rattle.words.proofs.Writing.{room-less, wrote-long}
 use Rattle.words.proofs.Emitting.{and-wrote, xor-wrote, not-wrote, wrote-four}
-use Rattle.circuit.specs.Meeting.{verdict}
+use Rattle.circuit.specs.Merge.{verdict}
 use Rattle.circuit.proofs.Writers.{Stands, stands, stands-after, room-of}
-use Rattle.writer.proofs.meeting.verdict.Statement.{statement}
-use Rattle.writer.proofs.meeting.verdict.Tie as tie
+use Rattle.writer.proofs.merge.verdict.Statement.{statement}
+use Rattle.writer.proofs.merge.verdict.Tie as tie
 
 add-emit : tie.Need-add-emit
 add-emit c =

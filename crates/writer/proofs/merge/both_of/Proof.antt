@@ -1,4 +1,4 @@
--- `writer::meeting::both_of` meets its contract: after each gate, the gates that are left make the whole.
+-- `writer::merge::both_of` meets its contract: after each gate, the gates that are left make the whole.
 -- Assumes nothing.
 use mathlib.Core.Path.{_≡_, _∙_, refl, sym, ap}
 use mathlib.Core.List.{List, [], _∷_, _++_}
@@ -7,10 +7,10 @@ use native.Mathlib.Nat.{add-zero}
 use native.Mathlib.Omega.{arith}
 use Rattle.words.proofs.Emitting.{and-wrote}
 use Rattle.words.proofs.Going.{Goes, goes-start, goes-as, goes-on, goes-room, goes-end}
-use Rattle.circuit.specs.Meeting.{bothOf}
+use Rattle.circuit.specs.Merge.{bothOf}
 use Rattle.writer.proofs.ListWriters.{both-step, both-none, length-both}
-use Rattle.writer.proofs.meeting.both_of.Statement.{statement}
-use Rattle.writer.proofs.meeting.both_of.Tie as tie
+use Rattle.writer.proofs.merge.both_of.Statement.{statement}
+use Rattle.writer.proofs.merge.both_of.Tie as tie
 
 abbrev Inv-loop : tie.InvT-loop
 Inv-loop table₀ at stays count next₀ i₀ table next i = (i ≤ count) × Goes next₀ table₀ (bothOf at stays count) next table (bothOf (at + i) stays (count - i))

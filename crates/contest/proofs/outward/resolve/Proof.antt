@@ -1,4 +1,4 @@
--- `contest::outward::settle` meets its contract: the wires of the comparisons and sums, and ten gates.
+-- `contest::outward::resolve` meets its contract: the wires of the comparisons and sums, and ten gates.
 -- Assumes nothing.
 use mathlib.Core.Path.{_≡_, _∙_, refl, ap}
 use mathlib.Core.List.{List, [], _∷_}
@@ -11,10 +11,10 @@ use Rattle.words.specs.Writing.{Wrote}
 use Rattle.words.specs.Gates.{notOf, andOf, xorOf, muxOf}
 use Rattle.words.proofs.Writing.{wrote-as, room-less}
 use Rattle.circuit.specs.Versus.{versusSpan, unequalAt, aboveAt}
-use Rattle.circuit.specs.Outward.{leftCarry, rightCarry, settle}
+use Rattle.circuit.specs.Outward.{leftCarry, rightCarry, resolve}
 use Rattle.circuit.proofs.Writers.{Stands, stands, stands-after, wrote-then}
-use Rattle.contest.proofs.outward.settle.Statement.{statement}
-use Rattle.contest.proofs.outward.settle.Tie as tie
+use Rattle.contest.proofs.outward.resolve.Statement.{statement}
+use Rattle.contest.proofs.outward.resolve.Tie as tie
 
 -- the last six gates, by the wire before them
 last-six : ℕ → ℕ → ℕ → ℕ → ℕ → List Gate
@@ -34,21 +34,21 @@ six-same k n e₁ s₁ e₂ s₂ e =
     ∙ ap (λ (j : ℕ). andOf e₁ e₂ ∷ andOf (n + 4) (n + 3) ∷ xorOf e₁ (n + 5) ∷ xorOf e₁ e₂ ∷ xorOf j (n + 4) ∷ muxOf (n + 4 + 2) s₁ s₂ ∷ []) p₇
     ∙ ap (λ (j : ℕ). andOf e₁ e₂ ∷ andOf (n + 4) (n + 3) ∷ xorOf e₁ (n + 5) ∷ xorOf e₁ e₂ ∷ xorOf (n + 7) (n + 4) ∷ muxOf j s₁ s₂ ∷ []) p₆
 
-settle-wrote : (w : Writer) (t t₁ : List ℕ) (w₁ : Writer) (t₂ : List ℕ) (w₂ : Writer) (e₁ s₁ e₂ s₂ j k f g : ℕ) → w₁ .wire ≡ w .wire + 4
+resolve-wrote : (w : Writer) (t t₁ : List ℕ) (w₁ : Writer) (t₂ : List ℕ) (w₂ : Writer) (e₁ s₁ e₂ s₂ j k f g : ℕ) → w₁ .wire ≡ w .wire + 4
     → Wrote w t (muxOf s₁ j k ∷ notOf (w .wire) ∷ xorOf f g ∷ muxOf (w .wire + 2) (w .wire + 1) f ∷ []) t₁ w₁
-    → Wrote w₁ t₁ (last-six (w₁ .wire) e₁ s₁ e₂ s₂) t₂ w₂ → Wrote w t (settle (w .wire) e₁ s₁ e₂ s₂ j k f g) t₂ w₂
-unfolding settle
-settle-wrote w t t₁ w₁ t₂ w₂ e₁ s₁ e₂ s₂ j k f g p h₁ h₂ = wrote-then w t _ t₁ w₁ _ _ t₂ w₂ h₁ h₂ (six-same (w₁ .wire) (w .wire) e₁ s₁ e₂ s₂ p)
+    → Wrote w₁ t₁ (last-six (w₁ .wire) e₁ s₁ e₂ s₂) t₂ w₂ → Wrote w t (resolve (w .wire) e₁ s₁ e₂ s₂ j k f g) t₂ w₂
+unfolding resolve
+resolve-wrote w t t₁ w₁ t₂ w₂ e₁ s₁ e₂ s₂ j k f g p h₁ h₂ = wrote-then w t _ t₁ w₁ _ _ t₂ w₂ h₁ h₂ (six-same (w₁ .wire) (w .wire) e₁ s₁ e₂ s₂ p)
 
-same-settle : (n e₁ e₁′ s₁ s₁′ e₂ e₂′ s₂ s₂′ j j′ k k′ f g : ℕ) → e₁ ≡ e₁′ → s₁ ≡ s₁′ → e₂ ≡ e₂′ → s₂ ≡ s₂′ → j ≡ j′ → k ≡ k′
-    → settle n e₁ s₁ e₂ s₂ j k f g ≡ settle n e₁′ s₁′ e₂′ s₂′ j′ k′ f g
-same-settle n e₁ e₁′ s₁ s₁′ e₂ e₂′ s₂ s₂′ j j′ k k′ f g a b c d x y =
-    ap (λ (i : ℕ). settle n i s₁ e₂ s₂ j k f g) a
-    ∙ ap (λ (i : ℕ). settle n e₁′ i e₂ s₂ j k f g) b
-    ∙ ap (λ (i : ℕ). settle n e₁′ s₁′ i s₂ j k f g) c
-    ∙ ap (λ (i : ℕ). settle n e₁′ s₁′ e₂′ i j k f g) d
-    ∙ ap (λ (i : ℕ). settle n e₁′ s₁′ e₂′ s₂′ i k f g) x
-    ∙ ap (λ (i : ℕ). settle n e₁′ s₁′ e₂′ s₂′ j′ i f g) y
+same-resolve : (n e₁ e₁′ s₁ s₁′ e₂ e₂′ s₂ s₂′ j j′ k k′ f g : ℕ) → e₁ ≡ e₁′ → s₁ ≡ s₁′ → e₂ ≡ e₂′ → s₂ ≡ s₂′ → j ≡ j′ → k ≡ k′
+    → resolve n e₁ s₁ e₂ s₂ j k f g ≡ resolve n e₁′ s₁′ e₂′ s₂′ j′ k′ f g
+same-resolve n e₁ e₁′ s₁ s₁′ e₂ e₂′ s₂ s₂′ j j′ k k′ f g a b c d x y =
+    ap (λ (i : ℕ). resolve n i s₁ e₂ s₂ j k f g) a
+    ∙ ap (λ (i : ℕ). resolve n e₁′ i e₂ s₂ j k f g) b
+    ∙ ap (λ (i : ℕ). resolve n e₁′ s₁′ i s₂ j k f g) c
+    ∙ ap (λ (i : ℕ). resolve n e₁′ s₁′ e₂′ i j k f g) d
+    ∙ ap (λ (i : ℕ). resolve n e₁′ s₁′ e₂′ s₂′ i k f g) x
+    ∙ ap (λ (i : ℕ). resolve n e₁′ s₁′ e₂′ s₂′ j′ i f g) y
 
 add-up : tie.Need-add-up
 add-up c =
@@ -117,14 +117,14 @@ returns c =
     let r = a .above in
     let up : a .m + r + 1 + r + r ≡ a .m + versusSpan r = omega arith in
     wrote-as (a .w) (a .table .now) _ _ _ _
-    (same-settle (a .w .wire) _ (unequalAt (a .m) r) _ (aboveAt (a .m) (a .a) r) _ (unequalAt (a .m + versusSpan r) r) _ (aboveAt (a .m + versusSpan r) (a .u) r) _ (leftCarry (a .m) r) _ (rightCarry (a .m) r) (a .f) (a .g)
+    (same-resolve (a .w .wire) _ (unequalAt (a .m) r) _ (aboveAt (a .m) (a .a) r) _ (unequalAt (a .m + versusSpan r) r) _ (aboveAt (a .m + versusSpan r) (a .u) r) _ (leftCarry (a .m) r) _ (rightCarry (a .m) r) (a .f) (a .g)
     ((c .before .before .before .before .before .before .before .before .before .before .before .before .unequal-at) .ensures) ((c .before .before .before .before .before .before .before .before .before .before .before .above-at) .ensures) ((c .before .before .before .before .before .before .before .before .before .before .unequal-at2) .ensures ∙ ap (λ (k : ℕ). unequalAt k r) up) ((c .before .before .before .before .before .before .before .before .before .above-at2) .ensures ∙ ap (λ (k : ℕ). aboveAt k (a .u) r) up)
     (omega (arith, (c .before .before .before .before .before .before .before .before .before .before .before .before .before .before) .pre .1 .0)) (omega (arith, (c .before .before .before .before .before .before .before .before .before .before .before .before .before .before) .pre .1 .0)))
-    (settle-wrote (a .w) (a .table .now) ((c .before .before .before .before .before .before .second) .last .1 .0) ((c .before .before .before .before .before .before .second) .result) ((c .before .before .decide) .last .1 .0) ((c .before .before .decide) .result) ((c .before .before .before .before .before .before .before .before .before .before .before .before .unequal-at) .result) ((c .before .before .before .before .before .before .before .before .before .before .before .above-at) .result) ((c .before .before .before .before .before .before .before .before .before .before .unequal-at2) .result) ((c .before .before .before .before .before .before .before .before .before .above-at2) .result) (a .w .wire - 1 - (3 * r + 3)) (a .w .wire - 1) (a .f) (a .g)
+    (resolve-wrote (a .w) (a .table .now) ((c .before .before .before .before .before .before .second) .last .1 .0) ((c .before .before .before .before .before .before .second) .result) ((c .before .before .decide) .last .1 .0) ((c .before .before .decide) .result) ((c .before .before .before .before .before .before .before .before .before .before .before .before .unequal-at) .result) ((c .before .before .before .before .before .before .before .before .before .before .before .above-at) .result) ((c .before .before .before .before .before .before .before .before .before .before .unequal-at2) .result) ((c .before .before .before .before .before .before .before .before .before .above-at2) .result) (a .w .wire - 1 - (3 * r + 3)) (a .w .wire - 1) (a .f) (a .g)
     (struck (c .before .before .before .before .before .before) .place) ((c .before .before .before .before .before .before .second) .ensures) ((c .before .before .decide) .ensures))
 
 same-length : tie.Need-same-length
 same-length c = search needs
 
-pub settle-spec : {M : Type 1} → statement M
-settle-spec = tie.close (tie.spec add-up add-up-2 add-up-3 add-up-4 unequal-at-requires above-at-requires unequal-at-requires-2 above-at-requires-2 sub-right mul-left add-left sub-left second-requires decide-requires same-length returns)
+pub resolve-spec : {M : Type 1} → statement M
+resolve-spec = tie.close (tie.spec add-up add-up-2 add-up-3 add-up-4 unequal-at-requires above-at-requires unequal-at-requires-2 above-at-requires-2 sub-right mul-left add-left sub-left second-requires decide-requires same-length returns)

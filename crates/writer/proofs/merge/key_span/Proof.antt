@@ -1,4 +1,4 @@
--- `writer::meeting::key_span` meets its contract: a word for each grade but the worst.
+-- `writer::merge::key_span` meets its contract: a word for each grade but the worst.
 -- Assumes nothing.
 use mathlib.Core.Path.{_≡_, refl}
 use Prim.Native.Nat.{ℕ, _+_, _-_, _*_, _≤_}
@@ -7,8 +7,8 @@ use native.Mathlib.Omega.{arith}
 use Rattle.circuit.specs.declared.plan.Plan.{Plan}
 use Rattle.circuit.specs.Plan.{Planned}
 use Rattle.circuit.proofs.BoundLaws.{digits-most}
-use Rattle.writer.proofs.meeting.key_span.Statement.{statement}
-use Rattle.writer.proofs.meeting.key_span.Tie as tie
+use Rattle.writer.proofs.merge.key_span.Statement.{statement}
+use Rattle.writer.proofs.merge.key_span.Tie as tie
 
 small : (p : Plan) → Planned p → (p .grades - 1) * (p .digits + 1) ≤ 48
 small p f =

@@ -1,4 +1,4 @@
-// Two groups of candidates meet.
+// Two groups of candidates are merged.
 use circuit::plan::Plan;
 use contest::contest::contest;
 use gates::kind;
@@ -9,7 +9,7 @@ ghost use Rattle.words.specs.Writing.{Room, Wrote};
 ghost use Rattle.circuit.specs.Plan.{Planned};
 ghost use Rattle.circuit.specs.Key.{keySpan};
 ghost use Rattle.words.specs.Choice.{choose};
-ghost use Rattle.circuit.specs.Meeting.{bothOf, stillWon, verdict, meeting, meetingSpan};
+ghost use Rattle.circuit.specs.Merge.{bothOf, stillWon, verdict, merge, mergeSpan};
 
 // Each of so many wires from `at` on, and the wire `stays`.
 fn both_of(w: Writer, table: &mut [u32], at: u32, stays: u32, count: u32) -> Writer
@@ -50,8 +50,8 @@ fn verdict(w: Writer, table: &mut [u32], q: u32) -> Writer
     left.emit(table, kind::NOT, q + 2, 0, 0)
 }
 
-// The meeting of groups of l and m candidates with keys x and y and wires at u and v.
-pub(crate) fn meeting(
+// The merge of groups of l and m candidates with keys x and y and wires at u and v.
+pub(crate) fn merge(
     w: Writer,
     table: &mut [u32],
     p: Plan,
@@ -63,10 +63,10 @@ pub(crate) fn meeting(
     m: u32,
 ) -> Writer
     requires { ⌜ Planned p ⌝ }
-    requires { ⌜ Room w (meetingSpan p l m) ⌝ }
+    requires { ⌜ Room w (mergeSpan p l m) ⌝ }
     requires { ⌜ (x + keySpan p ≤ w .wire) × (y + keySpan p ≤ w .wire) × (0 < l) × (0 < m) ⌝ }
     requires { ⌜ (1 < l → u + l ≤ w .wire) × (1 < m → v + m ≤ w .wire) ⌝ }
-    ensures { λ r. ⌜ Wrote w (now (table .entry)) (meeting p (w .wire) x y u v l m) (now (table .exit)) r ⌝ }
+    ensures { λ r. ⌜ Wrote w (now (table .entry)) (merge p (w .wire) x y u v l m) (now (table .exit)) r ⌝ }
 {
     let compared = contest(w, table, p, x, y);
     let q = compared.wire - 2;

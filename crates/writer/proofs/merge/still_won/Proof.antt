@@ -1,4 +1,4 @@
--- `writer::meeting::still_won` meets its contract: a copy for a single candidate, else a gate for each.
+-- `writer::merge::still_won` meets its contract: a copy for a single candidate, else a gate for each.
 -- Assumes nothing.
 use mathlib.Core.Path.{_≡_}
 use mathlib.Core.Logic.{⊎-elim}
@@ -9,8 +9,8 @@ use Rattle.jury.proofs.Cases.{below-or-not}
 use Rattle.words.proofs.Writing.{wrote-as, room-less}
 use Rattle.words.proofs.Emitting.{copy-wrote}
 use Rattle.writer.proofs.ListWriters.{won-single, won-many}
-use Rattle.writer.proofs.meeting.still_won.Statement.{statement}
-use Rattle.writer.proofs.meeting.still_won.Tie as tie
+use Rattle.writer.proofs.merge.still_won.Statement.{statement}
+use Rattle.writer.proofs.merge.still_won.Tie as tie
 
 more-than-one : (m : ℕ) → 0 < m → (m ≡ 1 → ⊥) → 1 < m
 more-than-one m h e = ⊎-elim (λ (z : 1 < m). z) (λ (z : m ≤ 1). absurd (e (omega arith))) (below-or-not 1 m)

@@ -1,4 +1,4 @@
--- Two groups of candidates meet, each with the key of its best candidate and, for more than one, a wire a candidate that says who is as good as that.
+-- Two groups of candidates are merged, each with the key of its best candidate and, for more than one, a wire a candidate that says who is as good as that.
 use mathlib.Core.List.{List, [], _∷_, _++_}
 use Prim.Native.Nat.{ℕ, zero, suc, _+_, _-_, _*_}
 use Rattle.gates.specs.Gate.{Gate}
@@ -31,19 +31,19 @@ leftStays p n = resultAt p n + 4
 abbrev pub rightStays : Plan → ℕ → ℕ
 rightStays p n = resultAt p n + 5
 
--- The meeting of groups of l and m candidates, whose wires stand at u and v. The wires of both groups together stand at `wonAt`.
+-- The merge of groups of l and m candidates, whose wires stand at u and v. The wires of both groups together stand at `wonAt`.
 abbrev pub wonAt : Plan → ℕ → ℕ
 wonAt p n = resultAt p n + 6
 
-unfoldable pub meeting : Plan → ℕ → ℕ → ℕ → ℕ → ℕ → ℕ → ℕ → List Gate
-meeting p n x y u v l m =
+unfoldable pub merge : Plan → ℕ → ℕ → ℕ → ℕ → ℕ → ℕ → ℕ → List Gate
+merge p n x y u v l m =
     contest p n x y
     ++ verdict (resultAt p n)
     ++ stillWon u (leftStays p n) l
     ++ stillWon v (rightStays p n) m
 
-abbrev pub meetingSpan : Plan → ℕ → ℕ → ℕ
-meetingSpan p l m = contestSpan p + 4 + l + m
+abbrev pub mergeSpan : Plan → ℕ → ℕ → ℕ
+mergeSpan p l m = contestSpan p + 4 + l + m
 
 -- The better key. Where the keys are equal it does not matter which is taken.
 unfoldable pub better : Plan → ℕ → ℕ → ℕ → List Gate

@@ -1,16 +1,16 @@
--- `writer::meeting::meeting` meets its contract: the contest, its verdict, and who stays of either group.
+-- `writer::merge::merge` meets its contract: the contest, its verdict, and who stays of either group.
 -- Assumes nothing.
 use mathlib.Core.Path.{_≡_, _∙_, refl, ap}
 use Prim.Native.Nat.{ℕ, _+_, _-_, _≤_, _<_}
 use native.Mathlib.Omega.{arith}
 use Rattle.words.proofs.Writing.{room-less, wrote-long}
 use Rattle.circuit.specs.Contest.{resultAt, contestSpan}
-use Rattle.circuit.specs.Meeting.{stillWon, verdict, meeting}
+use Rattle.circuit.specs.Merge.{stillWon, verdict, merge}
 use Rattle.circuit.proofs.ContestLaws.{contest-block}
-use Rattle.circuit.proofs.MeetingLaws.{verdict-block, still-won-block}
+use Rattle.circuit.proofs.MergeLaws.{verdict-block, still-won-block}
 use Rattle.circuit.proofs.Writers.{Stands, stands, stands-after, room-of, wrote-then}
-use Rattle.writer.proofs.meeting.meeting.Statement.{statement}
-use Rattle.writer.proofs.meeting.meeting.Tie as tie
+use Rattle.writer.proofs.merge.merge.Statement.{statement}
+use Rattle.writer.proofs.merge.merge.Tie as tie
 
 contest-requires : tie.Need-contest-requires
 contest-requires c κs =
@@ -62,7 +62,7 @@ still-won-requires-2 c κs =
     (first (c .before .before .before) .left, (q .0 .3, λ k. let z = q .1 .1 k in omega arith))
 
 returns : tie.Need-returns
-unfolding meeting
+unfolding merge
 returns c =
     let a = (c .before .before .before .before .before .before .before .before .before .before .before .before .before .before .before .before .before .before .args) in
     let e : (c .before .before .before .before .before .before .before .before .before .before .before .before .before .before .before .contest) .result .wire - 2 ≡ resultAt (a .p) (a .w .wire) = omega (arith, compared (c .before .before .before .before .before .before .before .before .before .before .before .before .before .before .before) .place) in
@@ -74,7 +74,7 @@ returns c =
 
 same-length : tie.Need-same-length
 same-length c =
-    wrote-long ((c .before .before .before .before .before .before .before .before .before .before .before .before .before .before .before .before .before .before .args) .w) ((c .before .before .before .before .before .before .before .before .before .before .before .before .before .before .before .before .before .before .args) .table .now) (meeting ((c .before .before .before .before .before .before .before .before .before .before .before .before .before .before .before .before .before .before .args) .p) ((c .before .before .before .before .before .before .before .before .before .before .before .before .before .before .before .before .before .before .args) .w .wire) ((c .before .before .before .before .before .before .before .before .before .before .before .before .before .before .before .before .before .before .args) .x) ((c .before .before .before .before .before .before .before .before .before .before .before .before .before .before .before .before .before .before .args) .y) ((c .before .before .before .before .before .before .before .before .before .before .before .before .before .before .before .before .before .before .args) .u) ((c .before .before .before .before .before .before .before .before .before .before .before .before .before .before .before .before .before .before .args) .v) ((c .before .before .before .before .before .before .before .before .before .before .before .before .before .before .before .before .before .before .args) .l) ((c .before .before .before .before .before .before .before .before .before .before .before .before .before .before .before .before .before .before .args) .m)) ((c .before .before .still-won2) .last .1 .0) ((c .before .before .still-won2) .result) (returns c)
+    wrote-long ((c .before .before .before .before .before .before .before .before .before .before .before .before .before .before .before .before .before .before .args) .w) ((c .before .before .before .before .before .before .before .before .before .before .before .before .before .before .before .before .before .before .args) .table .now) (merge ((c .before .before .before .before .before .before .before .before .before .before .before .before .before .before .before .before .before .before .args) .p) ((c .before .before .before .before .before .before .before .before .before .before .before .before .before .before .before .before .before .before .args) .w .wire) ((c .before .before .before .before .before .before .before .before .before .before .before .before .before .before .before .before .before .before .args) .x) ((c .before .before .before .before .before .before .before .before .before .before .before .before .before .before .before .before .before .before .args) .y) ((c .before .before .before .before .before .before .before .before .before .before .before .before .before .before .before .before .before .before .args) .u) ((c .before .before .before .before .before .before .before .before .before .before .before .before .before .before .before .before .before .before .args) .v) ((c .before .before .before .before .before .before .before .before .before .before .before .before .before .before .before .before .before .before .args) .l) ((c .before .before .before .before .before .before .before .before .before .before .before .before .before .before .before .before .before .before .args) .m)) ((c .before .before .still-won2) .last .1 .0) ((c .before .before .still-won2) .result) (returns c)
 
-pub meeting-spec : {M : Type 1} → statement M
-meeting-spec = tie.close (tie.spec contest-requires sub-q verdict-requires add-still-won still-won-requires add-still-won-2 still-won-requires-2 same-length returns)
+pub merge-spec : {M : Type 1} → statement M
+merge-spec = tie.close (tie.spec contest-requires sub-q verdict-requires add-still-won still-won-requires add-still-won-2 still-won-requires-2 same-length returns)

@@ -1,4 +1,4 @@
--- `contest::outward::weigh` meets its contract: two comparisons, and two sums.
+-- `contest::outward::compare_and_add` meets its contract: two comparisons, and two sums.
 -- Assumes nothing.
 use mathlib.Core.Path.{_≡_, _∙_, refl, ap}
 use Prim.Native.Nat.{ℕ, suc, _+_, _*_}
@@ -9,11 +9,11 @@ use Rattle.words.specs.Adder.{addWithBit}
 use Rattle.words.proofs.Laws.{length-add-bit}
 use Rattle.words.proofs.Writing.{room-less}
 use Rattle.circuit.specs.Versus.{versus, versusSpan}
-use Rattle.circuit.specs.Outward.{weigh}
+use Rattle.circuit.specs.Outward.{compareAndAdd}
 use Rattle.circuit.proofs.VersusLaws.{versus-block}
 use Rattle.circuit.proofs.Writers.{Stands, stands, stands-after, room-of, wrote-then}
-use Rattle.contest.proofs.outward.weigh.Statement.{statement}
-use Rattle.contest.proofs.outward.weigh.Tie as tie
+use Rattle.contest.proofs.outward.compare_and_add.Statement.{statement}
+use Rattle.contest.proofs.outward.compare_and_add.Tie as tie
 
 versus-requires : tie.Need-versus-requires
 versus-requires c κs =
@@ -56,7 +56,7 @@ add-with-bit-requires-2 c κs =
     (room-of ((c .before .before .before .add-with-bit) .result) _ _ _ (third (c .before .before .before)) (omega (arith, length-add-bit ((c .before .before .before .add-with-bit) .result .wire) ((c .before .before .before .before .before .before .before .before .before .before .before .before .before .before .args) .c) ((c .before .before .before .before .before .before .before .before .before .before .before .before .before .before .args) .v) ((c .before .before .before .before .before .before .before .before .before .before .before .before .before .before .args) .bit) ((c .before .before .before .before .before .before .before .before .before .before .before .before .before .before .args) .above + 1))), (omega (arith, (c .before .before .before .before .before .before .before .before .before .before .before .before .before .before) .pre .1 .1, p), omega (arith, (c .before .before .before .before .before .before .before .before .before .before .before .before .before .before) .pre .1 .3, p)))
 
 returns : tie.Need-returns
-unfolding weigh
+unfolding compareAndAdd
 returns c =
     let a = (c .before .before .before .before .before .before .before .before .before .before .before .before .before .before .before .before .before .args) in
     let r = a .above in
@@ -72,5 +72,5 @@ returns c =
 same-length : tie.Need-same-length
 same-length c = search needs
 
-pub weigh-spec : {M : Type 1} → statement M
-weigh-spec = tie.close (tie.spec versus-requires versus-requires-2 add-add-with-bit add-with-bit-requires add-add-with-bit-2 add-with-bit-requires-2 same-length returns)
+pub compare-and-add-spec : {M : Type 1} → statement M
+compare-and-add-spec = tie.close (tie.spec versus-requires versus-requires-2 add-add-with-bit add-with-bit-requires add-add-with-bit-2 add-with-bit-requires-2 same-length returns)

@@ -1,4 +1,4 @@
--- Two groups of candidates meet: who is best of both, and who is as good as that.
+-- Two groups of candidates are merged: who is best of both, and who is as good as that.
 -- Assumes nothing.
 use mathlib.Core.Path.{_≡_, _∙_, refl, sym, ap, subst}
 use mathlib.Core.Logic.{_⊎_, inl, inr, ⊎-elim, _≢_}
@@ -19,7 +19,7 @@ use Rattle.circuit.specs.Plan.{Planned}
 use Rattle.circuit.specs.RunningSums.{wordSpan}
 use Rattle.circuit.specs.Key.{keySpan, lowAt}
 use Rattle.circuit.specs.Contest.{contest, contestSpan, resultAt}
-use Rattle.circuit.specs.Meeting.{bothOf, stillWon, verdict, verdictAt, leftStays, rightStays, wonAt, meeting, meetingSpan, better}
+use Rattle.circuit.specs.Merge.{bothOf, stillWon, verdict, verdictAt, leftStays, rightStays, wonAt, merge, mergeSpan, better}
 use Rattle.circuit.proofs.Blocks.{Block, none-block, both-block, sized, gate-block, choose-block, copy-good, not-good, and-good, xor-good}
 use Rattle.circuit.proofs.Cutting.{cut4}
 use Rattle.circuit.proofs.SumLaws.{Sums, Word, Spells}
@@ -46,9 +46,9 @@ verdict-block q =
     (gate-block (not-good (suc (suc (suc (q + 2)))) (q + 2) (omega arith)) (none-block (suc (suc (suc (suc (q + 2)))))))))
 
 module _ (p : Plan) (f : Planned p) where
-  pub meeting-block : (n x y u v l m : ℕ) → x + keySpan p ≤ n → y + keySpan p ≤ n → (1 < l → u + l ≤ n) → (1 < m → v + m ≤ n) → Block n (meeting p n x y u v l m) (meetingSpan p l m)
-  unfolding meeting
-  meeting-block n x y u v l m hx hy hu hv =
+  pub merge-block : (n x y u v l m : ℕ) → x + keySpan p ≤ n → y + keySpan p ≤ n → (1 < l → u + l ≤ n) → (1 < m → v + m ≤ n) → Block n (merge p n x y u v l m) (mergeSpan p l m)
+  unfolding merge
+  merge-block n x y u v l m hx hy hu hv =
       let q = resultAt p n in
       both-block (both-block (both-block (contest-block p f n x y hx hy) (omega arith)
       (verdict-block q)) (omega arith)
@@ -175,7 +175,7 @@ module _ (p : Plan) (f : Planned p) (S : ℕ → ℕ → ℕ) (Before : ℕ → 
   abbrev pub Standing : ℕ → ℕ → ℕ → Type 0
   Standing bit j o = ((bit ≡ 1) × Same (p .grades - 1) S j o) ⊎ ((bit ≡ 0) × Before o j)
 
-  -- a candidate of a group whose best one meets another
+  -- a candidate of a group whose best one is compared with another
   next-standing : (bit stays j o best : ℕ) → j < p .candidates → o < p .candidates → best < p .candidates → Standing bit j o → Standing stays o best → Standing (min bit stays) j best
   next-standing bit stays j o best hj ho hb a c =
       ⊎-elim
@@ -274,11 +274,11 @@ module _ (p : Plan) (f : Planned p) (S : ℕ → ℕ → ℕ) (Before : ℕ → 
             (subst (λ (w : ℕ). Standing w (c + l + (g - l)) (t .best)) (sym (still-won-law W b (resultAt p n + 6 + l) v (rightStays p n) m (g - l) (omega arith) two) ∙ ap W at)
             (next-standing (wonBit W v m (g - l)) (W (rightStays p n)) (c + l + (g - l)) (d .best) (t .best) (omega arith) (omega (arith, d .most)) (omega (arith, within .1)) (d .standing (g - l) (omega arith)) (t .right)))
 
-    pub meeting-law : (medians : ℕ → ℕ) → ((i : ℕ) → i < p .candidates → Sums (p .ballots) (p .grades) (S i) (medians i))
+    pub merge-law : (medians : ℕ → ℕ) → ((i : ℕ) → i < p .candidates → Sums (p .ballots) (p .grades) (S i) (medians i))
         → (n c x y u v l m : ℕ) → c + (l + m) ≤ p .candidates → x + keySpan p ≤ n → y + keySpan p ≤ n → (1 < l → u + l ≤ n) → (1 < m → v + m ≤ n)
-        → Group c l x u → Group (c + l) m y v → Holds W n (meeting p n x y u v l m) → Joined c l m (resultAt p n) x y (wonAt p n)
-    unfolding meeting
-    meeting-law medians sums n c x y u v l m inside hx hy hu hv a d h =
+        → Group c l x u → Group (c + l) m y v → Holds W n (merge p n x y u v l m) → Joined c l m (resultAt p n) x y (wonAt p n)
+    unfolding merge
+    merge-law medians sums n c x y u v l m inside hx hy hu hv a d h =
         let q = resultAt p n in
         let o = cut4 W n (contest p n x y) (verdict q) (stillWon u (leftStays p n) l) (stillWon v (rightStays p n) m) (q + 2) (q + 6) (q + 6 + l)
         (omega (arith, contest-block p f n x y hx hy .long)) (omega (arith, verdict-block q .long))
