@@ -34,7 +34,7 @@ levels-product r n =
     let first : suc r * (2 * n) ≡ 2 * (n * suc r) = mul-comm (suc r) (2 * n) ∙ mul-assoc 2 n (suc r) in
     omega (arith, suc-mul r (2 * n + 2))
 
-median-size-most : (m r : ℕ) → medianSize m r ≤ 2 * m
+pub median-size-most : (m r : ℕ) → medianSize m r ≤ 2 * m
 unfolding medianSize
 median-size-most m zero = omega arith
 median-size-most m (suc r) = omega (arith, median-size-most (m / 2) r)
@@ -104,7 +104,7 @@ module _ (p : Plan) (f : Planned p) where
           let high : 2 ^ 8 ≤ 2 ^ p .digits = pow-mono {i = 8} {j = p .digits} eight in
           omega (arith, f .low, f .n-most)
 
-  places-most : p .places ≤ 2
+  pub places-most : p .places ≤ 2
   places-most = let no : ¬ (3 ≤ p .places) = not-three in omega arith
     where
       not-three : ¬ (3 ≤ p .places)
@@ -227,3 +227,20 @@ module _ (p : Plan) (f : Planned p) where
       let all : p .candidates * (p .grades * share) ≤ 8 * 35000 = mul-le-mul (f .k-most) each in
       let met : p .candidates * merge ≤ 8 * 500 = mul-le-mul (f .k-most) merge-small in
       omega (arith, all-most two)
+
+  -- and its parts
+  pub candidate-small : candidateSpan p ≤ 35000
+  candidate-small =
+      let each : p .grades * share ≤ 7 * 5000 = mul-le-mul (f .d-most) share-small in
+      omega (arith, candidate-most)
+
+  pub middle-small : middleSpan p ≤ 5000
+  unfolding grade share
+  middle-small = omega (arith, middle-most, share-small)
+
+  pub last-small : lastSpan p ≤ 5000
+  unfolding grade share
+  last-small = omega (arith, last-most, share-small)
+
+  pub merge-few : (l m : ℕ) → l + m ≤ 8 → mergeSpan p l m + keySpan p ≤ 500
+  merge-few l m h = omega (arith, merge-most l m h, merge-small)

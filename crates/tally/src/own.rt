@@ -30,7 +30,7 @@ pub fn measure(shape: Shape) -> Writer
     own_list(shape, &mut [])
 }
 
-// G alone: of grades without writing each candidate's circuit, since all of them are as long.
+// G alone: of grades by the spans of the circuit's parts, without writing them.
 pub fn gates(shape: Shape) -> usize
     requires { ⌜ T (withinLimits shape) ⌝ }
     ensures { λ r. ⌜ r ≡ length (ownList shape) ⌝ }
@@ -38,5 +38,5 @@ pub fn gates(shape: Shape) -> usize
     if shape.is_ranking() {
         return measure(shape).gate;
     }
-    writer::list::gates(shape)
+    sizes::list::gates(shape)
 }

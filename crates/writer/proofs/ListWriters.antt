@@ -5,11 +5,11 @@ use mathlib.Core.Bool.{Bool, true, false, cond}
 use mathlib.Core.Logic.{⊎-elim}
 use mathlib.Core.List.{List, [], _∷_, _++_, append-assoc}
 use Prim.Native.Nat.{ℕ, zero, suc, _+_, _-_, _*_, _/_, _≤_, _<_}
-use native.Mathlib.Nat.{suc-mul, one-mul, mul-comm, mul-le-mul-right, mul-div-cancel}
+use native.Mathlib.Nat.{suc-mul, mul-comm, mul-div-cancel}
 use native.Mathlib.Numerals.{add-one}
 use native.Mathlib.Omega.{arith}
 use lib.Dec.{T, leb, eqb}
-use lib.ListN.{length, length-append}
+use lib.ListN.{length}
 use borrow.Author.Tests.{eq-eqb, ne-eqb, le-leb, lt-leb}
 use Rattle.gates.specs.Gate.{Gate}
 use Rattle.words.specs.Gates.{constant, copyOf, andOf}
@@ -28,7 +28,7 @@ use Rattle.circuit.specs.Merge.{bothOf, stillWon, merge, mergeSpan, wonAt, bett
 use Rattle.circuit.specs.OwnList.{candidates, keyAt, levelsSpan, bestKey, groupWon, otherAt, mergeAt, halvesMerge, halvesBetter, levels, lowLevels, levelsAt, circuit, ownList}
 use Rattle.circuit.proofs.Planning.{planned}
 use Rattle.circuit.proofs.CandidateBlocks.{key-of}
-use Rattle.circuit.proofs.LevelsLaws.{candidates-block, key-before, span-one, span-more, key-one, key-more, won-more, levels-one, levels-more}
+use Rattle.circuit.proofs.LevelsLaws.{key-before, span-one, span-more, key-one, key-more, won-more, levels-one, levels-more}
 use Rattle.circuit.proofs.CircuitLaws.{circuit-block}
 use Rattle.circuit.proofs.OwnListLaws.{own-list-short}
 
@@ -59,19 +59,6 @@ circuit-parts p = simp append-assoc
 -- and how long both are
 pub circuit-long : (p : Plan) → Planned p → 1 < p .candidates → length (circuit p) ≡ p .candidates * candidateSpan p + allLevelsSpan p
 circuit-long p f h = omega (arith, circuit-block p f h .long)
-
-pub levels-long : (p : Plan) → Planned p → 1 < p .candidates → p .candidates * candidateSpan p + length (allLevels p) ≡ length (circuit p)
-levels-long p f h =
-    omega (
-      arith,
-      ap length (circuit-parts p),
-      length-append (candidates p (p .inputs) 0 (p .candidates)) (allLevels p),
-      candidates-block p f (p .inputs) 0 (p .candidates) (omega arith) (omega arith) .long,
-    )
-
--- a candidate's circuit is no longer than all of them
-pub one-of-all : (p : Plan) → Planned p → candidateSpan p ≤ p .candidates * candidateSpan p
-one-of-all p f = omega (arith, one-mul (candidateSpan p), mul-le-mul-right {m = 1} {n = p .candidates} (candidateSpan p) (f .k-least))
 
 -- before the first gate of the own list
 pub first-writer : (s : Shape) (p : Plan) (w : Writer) → p ≡ planOf s → w ≡ record { gate = 0; wire = p .inputs; conditional = 0 } → w ≡ record { gate = 0; wire = ballotBytes s; conditional = 0 }

@@ -169,26 +169,6 @@ fn circuit(w: Writer, table: &mut [u32], p: Plan) -> Writer
     all_levels(all, table, p, span)
 }
 
-// G of the own list of a shape, by the circuit of one candidate, as all have the same number of gates, and the levels.
-pub fn gates(shape: Shape) -> usize
-    requires { ⌜ T (gradedLimits shape) ⌝ }
-    ensures { λ r. ⌜ r ≡ length (ownList shape) ⌝ }
-{
-    let p = Plan::new(shape);
-    let w = Writer::new(p.inputs);
-    if shape.candidates == 1 {
-        return 1;
-    }
-    let one = candidate(w, &mut [], p, 0);
-    let span = one.wire - p.inputs;
-    let all = Writer {
-        gate: shape.candidates * one.gate,
-        wire: p.inputs + p.candidates * span,
-        conditional: 0,
-    };
-    all_levels(all, &mut [], p, span).gate
-}
-
 // Writes the own list of a shape from the table's first number on, as far as the table goes. The writer says how many
 // gates the list has, and how many of them are conditional, whatever the table.
 pub fn own_list(shape: Shape, table: &mut [u32]) -> Writer
