@@ -1,4 +1,4 @@
--- The majority gauge of document 01, over grade counts of any size.
+-- The majority gauge [gauge], over grade counts of any size.
 use mathlib.Core.Bool.{Bool, true, cond, _&&_, _||_}
 use mathlib.Core.List.{List, [], _∷_, _++_}
 use Prim.Native.Nat.{ℕ, suc, _+_, _*_}
@@ -32,15 +32,15 @@ betterMedian a b = ltb (medianOf a) (medianOf b)
 unfoldable pub equalMedians : List ℕ → List ℕ → Bool
 equalMedians a b = eqb (medianOf a) (medianOf b)
 
--- Condition 2: equal medians; a leans to the better side of it, b to the worse.
+-- Condition 2: equal medians; p is above q for a, and below q for b.
 unfoldable pub strongerMedian : List ℕ → List ℕ → Bool
 strongerMedian a b = equalMedians a b && ltb (qOf a) (pOf a) && ltb (pOf b) (qOf b)
 
--- Condition 3: equal medians, both lean to the better side, a by more grades.
+-- Condition 3: equal medians; p is above q for both, and a has the larger p.
 unfoldable pub largerP : List ℕ → List ℕ → Bool
 largerP a b = equalMedians a b && ltb (qOf a) (pOf a) && ltb (qOf b) (pOf b) && ltb (pOf b) (pOf a)
 
--- Condition 4: equal medians, both lean to the worse side, a by fewer grades.
+-- Condition 4: equal medians; p is below q for both, and a has the smaller q.
 unfoldable pub smallerQ : List ℕ → List ℕ → Bool
 smallerQ a b = equalMedians a b && ltb (pOf a) (qOf a) && ltb (pOf b) (qOf b) && ltb (qOf a) (qOf b)
 
