@@ -79,7 +79,7 @@ by-kind s xs size bits =
     judged-by s xs true Nowhere (kindReason s xs) (eq-eqb (length xs) (ballotBytes s) size) (none-above 0 xs bits) refl ∙ judged-kind (kindReason s xs)
 
 module _ (s : Shape) (table ballots tape wires board : List ℕ) where
-  -- a call that answers G and C is one to which no reason applies, and these are the list's own
+  -- a call that answers G and C is one to which no reason applies, and both numbers are those of the list
   answered : (size : Size) (o : Option Reason) → firstOf (batchReasons s table ballots tape wires board) ≡ o
       → batchAfter o s (gatesOf table) ballots tape wires board .answer ≡ accepted size → (firstOf (batchReasons s table ballots tape wires board) ≡ none) × (size ≡ sizeOf (gatesOf table))
   unfolding batchAfter

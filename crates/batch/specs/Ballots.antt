@@ -27,7 +27,7 @@ firstJury search words = firstOver laneCount (λ j. inJury j (search (laneOf j w
 unfoldable pub wordGradedReasons : Shape → List ℕ → List (Option Reason)
 wordGradedReasons s words = foundAt 6 (firstJury (λ xs. firstBadRow 0 (rowsOf (s .grades) (s .ballots * s .candidates) xs)) words) ∷ []
 
--- What rankings must say: 11 over all juries, then 12.
+-- What rankings must say, over all juries: first 11, then 12.
 unfoldable pub wordRankedReasons : Shape → List ℕ → List (Option Reason)
 wordRankedReasons s words = foundAt 11 (firstJury (firstClash (s .candidates) (s .ballots)) words) ∷ foundAt 12 (firstJury (firstGap (s .candidates) (s .ballots)) words) ∷ []
 

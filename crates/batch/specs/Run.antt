@@ -1,4 +1,4 @@
--- The entry point [lanes]: one list run on 64 juries of one shape, bit j of each number being jury j's (request 2.11).
+-- The entry point [lanes]: one list run on 64 juries that share a shape, bit j of each number being jury j's (request 2.11).
 use mathlib.Core.Option.{Option, none, some}
 use mathlib.Core.List.{List, [], _∷_, _++_}
 use Prim.Native.Nat.{ℕ, _+_}
@@ -29,7 +29,7 @@ unfoldable pub batchReasons : Shape → List ℕ → List ℕ → List ℕ → L
 batchReasons s table ballots tape wires board =
     testReasons s table ++ wordBallotReasons s ballots ++ wordLentReasons (ballotBytes s) (s .candidates) (sizeOf (gatesOf table)) tape wires board
 
--- A refusal alters nothing that is lent. An accepted call answers the list's own G and C, leaves the wire table all zero, and on the board words in which each jury has the board of its own ballots and tape.
+-- A refusal alters nothing that is lent. An accepted call answers the list's own G and C, leaves zeros in the wire table, and on the board words in which each jury has the board of its own ballots and tape.
 unfoldable pub batchAfter : Option Reason → Shape → List Gate → List ℕ → List ℕ → List ℕ → List ℕ → Ran
 batchAfter (some r) s gs ballots tape wires board = record { answer = refused r; wires = wires; board = board }
 batchAfter none s gs ballots tape wires board =

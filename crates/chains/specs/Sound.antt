@@ -65,7 +65,7 @@ allZero bytes = all (λ x. eqb x 0) bytes
 unfoldable pub emptySlot : Slot → Bool
 emptySlot s = eqb (s .juror) 0 && allZero (s .ballot)
 
--- Both chains end; they are as they have to be; there are zeros after byte 1 in slot 0 and after byte 0 in free slots.
+-- Both chains end; they are as they have to be; behind the two indexes of slot 0, and behind the index of a free slot, all bytes are 0 [urn-sound].
 unfoldable pub soundSlots : ℕ → ℕ → List Slot → Bool
 soundSlots k d slots =
     ends (length slots) (slotAt slots 0 .next) slots

@@ -138,7 +138,7 @@ module _ (W : ℕ → ℕ) (b : Binary W) where
         let same : suc r + 1 ≡ stride r = omega arith in
         subst (λ (i : ℕ). Word W b p f (suc r) (z + g * i) (S g)) same (subst (λ (i : ℕ). Word W b p f i (z + g * (i + 1)) (S g)) er (k g (omega arith)))
 
-    -- the low digits of both keys differ just as their sums do
+    -- as both sums differ, so do the low digits of the two keys
     matched : (g : ℕ) → g < suc (suc t) → wordOf W b x r g + C g ≡ wordOf W b y r g + A g
     matched g l = ⊎-elim
         (λ (m : g < median). omega (arith, word x A kx g l .low-worse (a .passed g m), word y C ky g l .low-worse (c .passed g m)))

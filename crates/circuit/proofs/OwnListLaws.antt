@@ -53,7 +53,7 @@ least-bound : (s : Shape) → 1 ≤ gateBound s
 unfolding gateBound boundOf
 least-bound s = omega arith
 
--- the bound of document 01 with what request 2.1 adds
+-- the bound [bound] with what [judgment-bound] adds
 pub own-list-keeps-the-bound : (s : Shape) → gradedLimits s ≡ true → length (ownList s) ≤ gateBound s
 own-list-keeps-the-bound s e = either s (gateBound s) e (least-bound s) bound
   where

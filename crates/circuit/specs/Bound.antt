@@ -1,4 +1,4 @@
--- The bound on the number of gates: document 01's, with what request 2.1 adds.
+-- The bound on the number of gates: [bound], with what [judgment-bound] adds.
 use Prim.Native.Nat.{ℕ, _+_, _*_}
 use Rattle.jury.specs.declared.shape.Shape.{Shape}
 use Rattle.jury.specs.Width.{widthOf}

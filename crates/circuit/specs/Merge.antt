@@ -45,6 +45,6 @@ merge p n x y u v l m =
 abbrev pub mergeSpan : Plan → ℕ → ℕ → ℕ
 mergeSpan p l m = contestSpan p + 4 + l + m
 
--- The better key. Where the keys are equal it does not matter which is taken.
+-- The better key. Of equal keys either one may be taken.
 unfoldable pub better : Plan → ℕ → ℕ → ℕ → List Gate
 better p n x y = choose (resultAt p n + 1) x y (keySpan p)

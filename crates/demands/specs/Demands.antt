@@ -11,7 +11,7 @@ use Rattle.dispatcher.specs.Theorems.{Dispatching}
 use Rattle.demands.specs.Dispatched.{DispatchAccuracy}
 use Rattle.batch.specs.Theorems.{EachAsAlone, BatchMemory, BatchAccuracy, BatchHiding}
 
--- The demand [memory], for each table that a call is lent: gate table, ballots, tape, wire table and board; a text and its output; the bytes of a season; an urn. Those of a run on an urn, of trustees, of a dispatched call and of 64 juries stand with the other demands below.
+-- The demand [memory], for each table that a call is lent: ballots, gate and wire table, tape and board; a text and its output; the bytes of a season; an urn. Those of a run on an urn, of trustees, of a dispatched call and of 64 juries stand with the other demands below.
 pub record Memory : Type 0 where
   pub base : run.Memory
   pub text : TextMemory

@@ -14,7 +14,7 @@ use Rattle.rounds.specs.Rounds.{eightOf, roundsFor}
 unfoldable pub ranBoard : Statement → Tables → List ℕ
 ranBoard s p = ran (shapeOf s) (p .lists) (p .ballots) (p .tapes) (p .wires) (p .boards) .board
 
--- What a call leaves: its reason, if any, each jury's number of rounds, the wire table and the boards.
+-- What a call leaves: its reason, if any, how many rounds each jury took, the wire table and the boards.
 pub record Dispatch : Type 0 where
   pub reason : Option Reason
   pub rounds : List ℕ

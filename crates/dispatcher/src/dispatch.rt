@@ -23,7 +23,7 @@ pub const LEAST_SHARE: usize = 1;
 
 pub const MOST_SHARE: usize = 65536;
 
-// The answer of a call: its outcome, and each jury's number of rounds, 0 past the last and all 0 on a refusal.
+// The answer of a call: its outcome, and how many rounds each jury took; 0 where there is no jury, and all 0 on a refusal.
 pub struct Dispatched {
     pub outcome: Outcome,
     pub rounds: [usize; 8],
@@ -58,7 +58,7 @@ fn most_gates(count: usize, statements: [Statement; 8]) -> usize
     most
 }
 
-// Each jury's number of rounds, which no other jury changes.
+// How many rounds each jury takes, which no other jury changes.
 fn rounds_of(count: usize, statements: [Statement; 8], share: usize) -> [usize; 8]
     requires { ⌜ (count ≤ 8) × (1 ≤ share) × (share ≤ 65536) × (mostGates (take count statements) ≤ 1048576) ⌝ }
     ensures { λ r. ⌜ ((t : Tables) → r ≡ eightOf (λ (s : Statement) (p : Tables). roundsFor (s .gates) share) (take count statements) t) ⌝ }
@@ -110,7 +110,7 @@ fn run_rounds(
     }
 }
 
-// Runs up to eight juries in rounds of up to share gates each. Their pieces follow each other in the five tables, and statements
+// Runs up to eight juries in rounds of up to share gates each. Their pieces lie one behind the other in the five tables, and statements
 // past the number of juries are not looked at. The wire tables are emptied after the last round.
 pub fn dispatch(
     count: usize,

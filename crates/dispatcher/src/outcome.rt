@@ -1,7 +1,7 @@
 // What the tests of all juries answer.
 use jury::reason::Refusal;
 
-// The outcome of a call, or of its tests: accepted, or the first bad jury's first reason. A reason that concerns no jury stands at
+// The outcome of a call, or of its tests: accepted, or the reason that the first refused jury meets first. A reason that concerns no jury stands at
 // jury 0.
 pub enum Outcome {
     Accepted,

@@ -28,7 +28,7 @@ pub const OPERANDS: [u32; 8] = [0, 0, 1, 1, 2, 2, 2, 3];
 // The conditional mark of each kind.
 pub const CONDITIONAL: [bool; 8] = [false, false, false, false, true, true, false, true];
 
-// A gate's value, or its refusal: no kind above 7 has a value.
+// What a gate comes to: its value, or a refusal, as no kind above 7 has a value.
 pub enum Applied {
     Value(u8),
     NoSuchKind,

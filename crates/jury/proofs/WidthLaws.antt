@@ -41,7 +41,7 @@ unfolding widthOf
 width-half zero h = absurd (omega arith)
 width-half (suc m) h = within-step m (suc m) h ∙ ap suc (enough m (suc m / 2) (suc m / 2) (omega arith) (omega arith))
 
--- the widths that document 01 gives as examples
+-- the widths of some numbers of ballots, the largest among them
 pub width-examples : (widthOf 1 ≡ 1) × (widthOf 3 ≡ 2) × (widthOf 4 ≡ 3) × (widthOf 255 ≡ 8)
 unfolding widthOf widthWithin
 width-examples = (refl, refl, refl, refl)

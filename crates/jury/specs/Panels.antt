@@ -1,4 +1,4 @@
--- The panels P1 to P11 of document 01: counts, best grade first, and their closing bytes.
+-- The panels P1 to P11 [panels]: counts, best grade first, and their closing bytes.
 use mathlib.Core.Path.{_≡_, refl}
 use mathlib.Core.List.{List, [], _∷_, map}
 use Prim.Native.Nat.{ℕ}

@@ -44,11 +44,11 @@ clashInBallot k xs b = firstOver k (clashInRow k xs b)
 unfoldable pub firstClash : ℕ → ℕ → List ℕ → Place
 firstClash k n xs = firstOver n (clashInBallot k xs)
 
--- Some l is put neither after i nor before j.
+-- Some l is put neither behind i nor before j.
 unfoldable pub apart : ℕ → List ℕ → ℕ → ℕ → ℕ → Bool
 apart k xs b i j = someBelow k (λ l. not (before k xs b i l) && not (before k xs b l j))
 
--- Some i is put before some j while some l is put neither after i nor before j. (Where no byte clashes, l is neither of the two.)
+-- Some i is put before some j while some l is put neither behind i nor before j. (Where no byte clashes, l is neither of the two.)
 unfoldable pub gapAfter : ℕ → List ℕ → ℕ → ℕ → Bool
 gapAfter k xs b i = someBelow k (λ j. before k xs b i j && apart k xs b i j)
 

@@ -1,4 +1,4 @@
--- The reasons to turn a call away, by their numbers in the two documents, and the order of tests.
+-- The reasons for which a call is refused, by their numbers, and the order of tests [order].
 use mathlib.Core.Bool.{Bool, true, false}
 use mathlib.Core.Option.{Option, none, some}
 use mathlib.Core.List.{List, [], _∷_}
@@ -66,7 +66,7 @@ unfoldable pub foundAt : ℕ → Place → Option Reason
 foundAt number Nowhere = none
 foundAt number (At place) = some (reasonAt number place)
 
--- Document 01's number and place for each answer of the gate layer's test of a list: 2 where its length is not that of a list of so many gates as there may be, 3 at the first bad gate.
+-- The number and place [order] of each answer of the gate layer's test of a list: 2 where its length is that of no list with as many gates as there may be, 3 at the first bad gate.
 unfoldable pub listReason : Tested → Option Reason
 listReason (tested.Accepted gates conditional) = none
 listReason tested.PartOfAGate = some (reasonAt 2 0)

@@ -54,7 +54,7 @@ fn test_rankings(shape: Shape, ballots: &[u8]) -> Verdict
     }
 }
 
-// The first of so many rows of d bytes that does not hold exactly one 1.
+// The first of so many rows of d bytes that has no 1, or more than one.
 fn first_bad_row(bytes: &[u8], d: usize, rows: usize) -> Place
     requires { ⌜ length (now bytes) ≡ rows * d ⌝ }
     ensures { λ r. ⌜ r ≡ firstBadRow 0 (rowsOf d rows (now (bytes .entry))) ⌝ }

@@ -82,7 +82,7 @@ fn has_gap(ballots: &[u8], k: usize, b: usize) -> bool
     false
 }
 
-// Whether i is before some candidate while a third is neither after i nor before that one.
+// Whether i is before some candidate while a third stands neither behind i nor before that one.
 fn gap_after(ballots: &[u8], k: usize, b: usize, i: usize) -> bool
     requires { ⌜ ((b + 1) * k * k ≤ length (now ballots)) × (i < k) ⌝ }
     ensures { λ r. ⌜ r ≡ spec.gapAfter k (now (ballots .entry)) b i ⌝ }

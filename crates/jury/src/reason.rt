@@ -1,4 +1,4 @@
-// The reasons to turn a call away.
+// The reasons for which a call is refused [order].
 ghost use mathlib.Core.Path.{_≡_};
 ghost use Rattle.jury.specs.Reason.{reasonOf};
 

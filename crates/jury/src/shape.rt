@@ -7,7 +7,7 @@ ghost use Rattle.jury.specs.Reason.{shapedFor, unless};
 ghost use Rattle.jury.specs.Shape.{isRanking, gradedLimits, rankedLimits, withinLimits, ballotBytes};
 ghost use Rattle.jury.specs.Shape as spec;
 
-// A candidate is a blend. The numbers are wide enough to hold what lies outside the limits.
+// Candidates are blends [limits]. The numbers are wide enough to hold what lies outside the limits.
 pub struct Shape {
     pub candidates: usize,
     pub grades: usize,

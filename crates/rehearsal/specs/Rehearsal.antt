@@ -25,7 +25,7 @@ shapeIn input = record { candidates = getD input 0 0; grades = getD input 1 0; b
 unfoldable pub ballotsIn : List ℕ → List ℕ
 ballotsIn input = drop 3 input
 
--- The list is written, then run: the reasons that concern writing come first. The list that was written passes its test, and tape, wire table and board are cut to their lengths, so only the ballots can turn the run away.
+-- The list is written, then run: the reasons that concern writing come first. The list that was written passes its test, and wire table, tape and board are cut to their lengths, so only the ballots can turn the run away.
 unfoldable pub rehearsalReasons : List ℕ → List ℕ → List (Option Reason)
 rehearsalReasons input table = writeReasons (shapeIn input) table ++ ballotReasons (shapeIn input) (ballotsIn input)
 

@@ -1,4 +1,4 @@
--- What stands in the wire table and on the boards after a round (request 2.8). After r rounds of S gates each jury has done r × S of its gates, or all where it has fewer.
+-- What stands in the wire table and on the boards after a round (request 2.8). After r rounds of S gates each jury has done r × S of its gates, or all if these are fewer [round].
 use mathlib.Core.Bool.{cond}
 use mathlib.Core.List.{List, [], _∷_, _++_}
 use Prim.Native.Nat.{ℕ, zero, suc, _+_, _-_, _/_, min}

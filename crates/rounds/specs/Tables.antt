@@ -27,7 +27,7 @@ shapeOf s = record { candidates = s .candidates; grades = s .grades; ballots = s
 unfoldable pub fitting : ℕ → ℕ → ℕ
 fitting n m = cond (leb n m) n 0
 
--- The first n elements where there are so many. A piece that does not fit is empty; it is too short then, since no jury has an empty piece but a tape for no conditional gate, which always fits.
+-- The first n elements where there are so many. A piece without room is empty; it is too short then, since no jury has an empty piece but a tape for no conditional gate, which always fits.
 unfoldable pub pieceOf : ℕ → List ℕ → List ℕ
 pieceOf n xs = take (fitting n (length xs)) xs
 

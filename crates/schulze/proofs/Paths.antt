@@ -1,5 +1,5 @@
 -- The paths theorem: detours over all candidates, one after another, give the strength of the strongest simple path.
--- Strengths are compared by thresholds: a path is at least as strong as T where each of its links is. Assumes nothing.
+-- Strengths are compared by thresholds: a path has strength T or more where each of its links has. Assumes nothing.
 use mathlib.Core.Path.{_≡_, _∙_, refl, sym}
 use mathlib.Core.Bool.{Bool, true, false, cond, _||_}
 use mathlib.Core.Logic.{_⊎_, inl, inr, ⊎-elim, _≢_}

@@ -5,7 +5,7 @@ use Prim.Native.Nat.{ℕ, zero, suc, min, max}
 use lib.Dec.{leb, ltb, eqb}
 use Rattle.jury.specs.Counts.{tabulate}
 
--- The strength of the link from i to j: all that speaks for i, where it is more than what speaks for j, and nothing otherwise.
+-- How strong the link of i to j is [schulze]: v i j where that is above v j i, else 0.
 unfoldable pub link : (ℕ → ℕ → ℕ) → ℕ → ℕ → ℕ
 link v i j = cond (ltb (v j i) (v i j)) (v i j) 0
 
@@ -44,7 +44,7 @@ unfoldable pub every : (ℕ → Bool) → List ℕ → Bool
 every test [] = true
 every test (x ∷ xs) = test x && every test xs
 
--- i wins where its strongest path to each other candidate is at least as strong as that candidate's strongest path back.
+-- i wins where no other candidate has a path to it that is stronger than its own strongest path to that one.
 unfoldable pub wins : (ℕ → ℕ → ℕ) → ℕ → ℕ → Bool
 wins v k i = every (λ j. eqb j i || leb (strongest (link v) k j i) (strongest (link v) k i j)) (candidates k)
 

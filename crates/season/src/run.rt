@@ -13,7 +13,7 @@ pub const RUN_BYTES: usize = 12;
 // The bits of a mask.
 const MASK_BITS: usize = 8;
 
-// The shape of a jury, its closing bytes as a mask with candidate 0 in the lowest bit, and its list's G and C.
+// The shape of a jury, its closing bytes as a mask whose lowest bit is candidate 0, and its list's G and C.
 pub struct Run {
     pub candidates: usize,
     pub grades: usize,

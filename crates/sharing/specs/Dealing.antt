@@ -16,7 +16,7 @@ allBelow (suc n) passes = allBelow n passes && passes n
 unfoldable pub onlyBits : List ℕ → Bool
 onlyBits parts = allBelow (length parts) (λ i. leb (getD parts i 0) 1)
 
--- The parts of each ballot byte add up to it modulo 2.
+-- Modulo 2, each ballot byte is the sum of its parts.
 unfoldable pub addsUp : ℕ → List ℕ → List ℕ → Bool
 addsUp t ballots parts = allBelow (length ballots) (λ x. eqb (opened t (λ p. part (piece (length ballots) parts p) x)) (getD ballots x 0))
 

@@ -1,4 +1,4 @@
--- The edges of document 01 that concern a plain count, and the jury of its rehearsal program, computed by the definitions; and the edge of a list's length, for every list that long.
+-- Those of the edges [edges] that concern a plain count, and the jury that [rehearsal] gives, computed by the definitions; and the edge of a list's length, for every list that long.
 -- Assumes nothing.
 use mathlib.Core.Path.{_≡_, refl}
 use mathlib.Core.Bool.{Bool, true, false}

@@ -23,7 +23,7 @@ use Rattle.tally.proofs.TestReasons.{never}
 use Rattle.tally.proofs.RunReasons.{RunPassed, run-passed, run-passed-back, ran-by}
 
 module _ (s : Shape) (table ballots wires board : List ℕ) where
-  -- a run that answers G and C is one to which no reason applies, and these are the list's own
+  -- a run that answers G and C is one to which no reason applies, and both numbers are those of the list
   answered : (t : List ℕ) (size : Size) (o : Option Reason) → firstOf (runReasons s table ballots t wires board) ≡ o
       → ranAfter o s (gatesOf table) ballots t wires board .answer ≡ accepted size → (firstOf (runReasons s table ballots t wires board) ≡ none) × (size ≡ sizeOf (gatesOf table))
   unfolding ranAfter

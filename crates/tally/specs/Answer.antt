@@ -1,4 +1,4 @@
--- What the entry points answer, in document 01's terms.
+-- What the entry points answer: a reason with its place [order], or the values that [accepted] and [measure] name.
 use mathlib.Core.Option.{Option, none, some}
 use mathlib.Core.Bool.{Bool, false, _||_}
 use mathlib.Core.List.{List, [], _∷_}

@@ -9,7 +9,7 @@ ghost use Rattle.jury.specs.Gauge.{eightBytes};
 ghost use Rattle.tally.specs.Rule.{closingFor};
 ghost use Rattle.tally.specs.Count.{countReason, plainClosing};
 
-// The outcome of a count, and the closing bytes: 0 from place k on, and eight zeros on a refusal.
+// The outcome of a count, and the closing bytes: those behind the first k are 0, and on a refusal all eight are.
 pub struct Counted {
     pub verdict: Verdict,
     pub closing: [u8; 8],

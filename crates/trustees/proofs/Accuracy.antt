@@ -48,7 +48,7 @@ wires-split t gs xs d least good bits g =
     })
 
 module _ (s : Shape) (table ballots : List ℕ) (t : ℕ) (d : Dealing) (wireParts published : List ℕ) where
-  -- a call that answers G and C is one to which no reason applies, and these are the list's own
+  -- a call that answers G and C is one to which no reason applies, and both numbers are those of the list
   answered : (size : Size) (o : Option Reason) → firstOf (sharedReasons s table ballots t d wireParts published) ≡ o
       → sharedAfter o (s .candidates) (gatesOf table) ballots t d wireParts published .answer ≡ accepted size
       → (firstOf (sharedReasons s table ballots t d wireParts published) ≡ none) × (size ≡ sizeOf (gatesOf table))

@@ -50,7 +50,7 @@ pub record OwnList (s : Shape) (table : List ℕ) (size : Size) : Type 0 where
   pub winners : (ballots : List ℕ) (t : ℕ) (d : Dealing) (wireParts published : List ℕ) (answer : Size) → shared s (listIn s size table) ballots t d wireParts published .answer ≡ accepted answer
       → (i : ℕ) → i < s .candidates → (getD (shared s (listIn s size table) ballots t d wireParts published .closing) i 0 ≡ 1) ↔ Wins s ballots i
 
--- Demand 3 for trustees. Two accepted elections xs and ys of one t, shape and list whose closing bytes are equal: whichever trustee q is left out, each accepted dealing d of the first has exactly one accepted dealing e of the second under which all that the others hold and see is the same. What a view holds of published bits is the table that the call leaves.
+-- Demand 3 for trustees. Two accepted elections xs and ys of one t, shape and list whose closing bytes are equal: whichever trustee q is left out, for each accepted dealing d of the first, one accepted dealing e of the second, and no other, lets the trustees but q hold and see the same [trustees-hiding]. What a view holds of published bits is the table that the call leaves.
 pub record Hidden (s : Shape) (table xs ys : List ℕ) (t : ℕ) (vs ws bs ds : List ℕ) : Type 0 where
   pub same-view : (q : ℕ) → q < t → (d : Dealing) → shared s table xs t d vs bs .answer ≡ accepted (sizeOf (gatesOf table))
       → ExactlyOne (λ (e : Dealing). (shared s table ys t e ws ds .answer ≡ accepted (sizeOf (gatesOf table)))

@@ -25,7 +25,7 @@ use Rattle.tally.specs.Demands.{listIn}
 use Rattle.chains.specs.Sound.{sound}
 use Rattle.urn_run.specs.Run.{chainBallots, ballotsIn, ranOnUrn}
 
--- A run on the urn is the run on the ballots of its chain: answer, wire table and board, refusals too.
+-- A run on an urn equals the run on the ballots of its chain: answer, wire table and board, refusals too.
 pub record SameAsRun : Type 0 where
   -- of a shape that grades and a sound urn, whatever n is
   pub on-chain : (s : Shape) (table urn tape wires board : List ℕ) → gradedLimits s ≡ true → sound (s .candidates) (s .grades) urn ≡ true

@@ -6,7 +6,7 @@ unfoldable pub ones : (ℕ → ℕ) → ℕ → ℕ → ℕ → ℕ
 ones W at d zero = 0
 ones W at d (suc m) = W at + ones W (at + d) d m
 
--- The number that w wires spell in binary, lowest digit first.
+-- What w wires are as a binary number, lowest digit first.
 unfoldable pub number : (ℕ → ℕ) → ℕ → ℕ → ℕ → ℕ
 number W at d zero = 0
 number W at d (suc w) = W at + 2 * number W (at + d) d w

@@ -33,7 +33,7 @@ boardOf ws gs k tape = shownBits ws gs tape ++ outputsOf k ws
 abbrev pub Bits : List ℕ → Type 0
 Bits xs = (i : ℕ) → getD xs i 0 ≤ 1
 
--- A mask tape of a list: C bytes, all of them bits.
+-- A list's mask tape [tape]: C bytes, all of them bits.
 pub record MaskTape (gs : List Gate) (tape : List ℕ) : Type 0 where
   pub size : length tape ≡ conditionalCount gs
   pub bits : Bits tape

@@ -1,4 +1,4 @@
--- The eight kinds of gates, as the table of kinds in document 01 has them, with the marks of request 2.6.
+-- The eight kinds of gates, as the table in [kinds] has them, with the marks of request 2.6 [free-xor].
 use mathlib.Core.Bool.{Bool, true, false, cond}
 use mathlib.Core.List.{List, [], _∷_}
 use Prim.Native.Nat.{ℕ, _-_, min, max}

@@ -13,7 +13,7 @@ use Rattle.jury.proofs.Searches.{some-later, some-here}
 use Rattle.jury.proofs.rankings.gap_after.Statement.{statement}
 use Rattle.jury.proofs.rankings.gap_after.Tie as tie
 
--- i is before j while some candidate is neither after i nor before j
+-- i is before j while some candidate stands neither behind i nor before j
 abbrev test : ℕ → List ℕ → ℕ → ℕ → ℕ → Bool
 test k xs b i j = before k xs b i j && apart k xs b i j
 

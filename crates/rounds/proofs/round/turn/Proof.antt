@@ -40,7 +40,7 @@ load-requires c κs =
 sub-if2 : tie.Need-sub-if2
 sub-if2 c = search needs
 
--- once the ballots are in the wire table
+-- once the wire table holds the ballots
 begun : (c : tie.After-load) (ws bs : List ℕ) → Entry (c .before .before .before .before .before .before .before .before) ws bs → let a = c .before .before .before .before .before .before .before .before .args in
     Stands (a .ballots .now) (a .list .now) (a .tape .now) ws bs (a .given) (c .load .last .1 .1 .0) (a .board .now) (a .shown)
 begun c ws bs j =
