@@ -1,4 +1,4 @@
-"""Runs for 64 juries at once, through the library: each jury against its single run and against document 01, written apart.
+"""Runs for 64 juries at once, through the library: each jury against its single run and against the requirements, written apart.
 
     python3 tests/batch.py    prints how many calls there were, by answer
 

@@ -1,8 +1,8 @@
-"""Counting plainly, through the library: accepted and refused juries against document 01, written apart.
+"""Counting plainly, through the library: accepted and refused juries against the requirements, written apart.
 
     python3 tests/counting.py    prints how many calls there were, by answer
 
-Shapes at their limits, each reason at its edges, all pairs of faults, document 01's panels, random and damaged juries.
+Shapes at their limits, each reason at its edges, all pairs of faults, the panels, random and damaged juries.
 """
 
 import collections
@@ -105,7 +105,7 @@ def bad_rows():
                 set_row(case, place, bad)
                 yield case
     yield Case(8, 7, 255, grades=[0] * 2039 + [7])           # the last row of the largest jury is empty
-    yield Case(1, 2, 2, ballots=[0, 0, 2, 1])                # 5 before 6: byte 2 in the last ballot, no 1 in row 0
+    yield Case(1, 2, 2, ballots=[0, 0, 2, 1])                # 5 before 6: the last ballot has a byte 2, row 0 no 1
 
 
 # In an order in which a later fault leaves an earlier one in place as far as it can.

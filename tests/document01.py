@@ -1,4 +1,4 @@
-"""Document 01 in Python: a second program, written apart from the Rattle code, that says what the core must answer.
+"""The requirements in Python: a second program, written apart from the Rattle code, that says what the core must answer.
 
 It is written for plainness and not for speed. Nothing here is shared with the crates.
 """
@@ -188,7 +188,7 @@ def simple_paths(start, end, others):
 
 
 def strongest_path(strength, i, j):
-    """A path is as strong as its weakest link."""
+    """The largest strength of a path, which is that of its weakest link."""
     others = [c for c in range(len(strength)) if c not in (i, j)]
     return max(min(strength[x][y] for x, y in zip(path, path[1:])) for path in simple_paths(i, j, others))
 
@@ -253,12 +253,12 @@ def answer(fault, table):
 
 
 def test_list(k, d, n, table):
-    """The entry point "Test a list"."""
+    """Testing a list."""
     return answer(test_fault(k, d, n, table), table)
 
 
 def run_list(k, d, n, table, ballots, tape, wires, board):
-    """The entry point "Run a list": its answer, and wire table and board afterwards."""
+    """Running a list: its answer, and wire table and board afterwards."""
     fault = run_fault(k, d, n, table, ballots, tape, wires, board)
     if fault is not None:
         return answer(fault, table), wires, board

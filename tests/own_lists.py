@@ -4,7 +4,7 @@
 
 A list is taken as the library writes it, evaluated here on many juries at once, and its closing bytes are compared with the
 rule, read plainly (document01.py) and in another way (sorted_judgment.py): random juries of all k and d and 16 sizes of all
-widths, all ballots of the small shapes, all pairs of grade counts of two candidates for ten shapes, and document 01's
+widths, all ballots of the small shapes, all pairs of grade counts of two candidates for ten shapes, and the
 panels. `library_test shapes` in C has every shape there is, on a jury each.
 """
 
@@ -21,7 +21,7 @@ MOST_SIZE = 2 ** 64 - 1
 
 
 def bound(k, d, n):
-    """Document 01's bound on G."""
+    """The bound on G: [bound] and [judgment-bound]."""
     w = n.bit_length()
     return 2 * k * d * n * w + k * d * (30 * w + 20) + k * k * (20 * w + 6 * d + 20) + 2 + k * d * (400 * w + 400)
 

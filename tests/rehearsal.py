@@ -1,9 +1,9 @@
 #!/usr/bin/env python3
-"""Runs the rehearsal program on many inputs and compares what it prints with document 01, written apart.
+"""Runs the rehearsal program on many inputs and compares what it prints with the requirements, written apart.
 
     python3 tests/rehearsal.py    needs target/bin/rehearsal (rt check rehearsal builds it), and the library for the size of a list
 
-Inputs: document 01's own example, the examples of the repository with what they are said to show, empty and short inputs,
+Inputs: the example in [rehearsal], the examples of the repository with what they are said to show, empty and short inputs,
 inputs that come in pieces, inputs longer than what is kept, faults in shape and ballots, lists too large for the table
 beside faulty ballots, and random juries.
 """
@@ -68,7 +68,7 @@ def fits(k, d, n):
 
 
 def expected(data):
-    """What document 01 has the program print for this input."""
+    """What [rehearsal] has the program print for this input."""
     kept = data[:KEPT]
     k, d, n = [kept[i] if i < len(kept) else 0 for i in range(3)]
     fault = None

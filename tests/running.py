@@ -1,5 +1,5 @@
-"""Testing and running lists, through the library: anyone's lists for juries, accepted and refused, against document 01,
-written apart.
+"""Testing and running lists, through the library: anyone's lists for juries, accepted and refused, against the
+requirements, written apart.
 
     python3 tests/running.py    prints how many calls there were, by answer
 
@@ -197,7 +197,7 @@ def ballots():
         for place in (0, n * k // 2, n * k - 1):
             for bad in ([0] * d, [1] * d, [1] + row(d - 1, d - 2)):
                 yield good.but(ballots=whole[:place * d] + bad + whole[place * d + d:])
-    yield Case(1, 2, 2, [(6, 0, 2, 0)], ballots=[0, 0, 2, 1])  # 5 before 6: byte 2 in the last ballot, no 1 in row 0
+    yield Case(1, 2, 2, [(6, 0, 2, 0)], ballots=[0, 0, 2, 1])  # 5 before 6: the last ballot has a byte 2, row 0 no 1
     largest = jury(8, 7, 255)
     yield largest.but(ballots=any_ballots(8, 7, 256)[:14_281])
     yield largest.but(ballots=largest.ballots[:-1])
@@ -218,7 +218,7 @@ def lent():
         for board in (good.board - 1, good.board + 1, 0, good.board - k, 2 * good.board):
             yield good.but(board=board)
     free = [(0, 0, 0, 0), (1, 0, 0, 0), (2, 1, 0, 0), (3, 1, 0, 0)]
-    for k in (1, 2):                                         # C = 0 with an empty tape
+    for k in (1, 2):                                         # no conditional gate, so an empty tape
         good = Case(k, 2, 1, free)
         yield from both(good)
         for changes in ({"tape": [0]}, {"tape": [2]}, {"board": 0}, {"board": k + 1}, {"wires": 4}):

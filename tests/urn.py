@@ -273,7 +273,7 @@ def edges():
     assert compare(k, d, sound, 9, good_ballot(k, d))[0] == (0, 0, 4)
     # its rows of three bytes are no rows of two
     assert compare(d, k, sound, 9, good_ballot(d, k))[0] == (13, 0, 0)
-    places = {"equal jurors in first and last": (5 * size + 1, 1), "juror 0": (size + 1, 0), "chain into the free one": (5 * size, 2),
+    places = {"one juror in the first and the last": (5 * size + 1, 1), "juror 0": (size + 1, 0), "chain into the free one": (5 * size, 2),
               "free chain into the ballots": (4 * size, 3), "self loop": (size, 1), "long loop": (5 * size, 3),
               "past the last slot": (5 * size, 6), "both chains begin alike": (0, 2), "slots in no chain": (2 * size, 0),
               "slot 0 not zero": (size - 1, 1), "free slot's juror": (4 * size + 1, 9), "free slot's last byte": (5 * size - 1, 1),

@@ -1,7 +1,7 @@
 /* The five exported functions against the reference, on exact-size heap buffers.
  *   library_test edges          each entry point, accepted and for each reason
  *   library_test shapes         each shape there is: measured, its list written, tested, and run on a jury
- *   library_test random N SEED  N random juries, each with calls of every kind, long and short, valid and damaged
+ *   library_test random N SEED  N random juries, each with calls of every kind, good and damaged, of right and wrong lengths
  * It prints how many calls it compared, and ends with 1 at the first that differs. */
 #include "../../c/jugyvaros.h"
 #include "kinds.h"
@@ -332,7 +332,7 @@ static void edges(void) {
         call_count(2, 3, 3, (uint8_t *)none, 6, al);
         call_run(2, 3, 3, none, 4, (uint8_t *)none, 6, (uint8_t *)none, 0, 1, 1, al, NULL);
     }
-    /* document 01's jury: writing into tables around its length, running */
+    /* the jury that [rehearsal] gives: writing into tables around its length, running */
     uint32_t *list = own_list(2, 3, 3, &m);
     CHECK(list != NULL);
     for (size_t length = 0; length <= 8; length++)
@@ -371,7 +371,7 @@ static void edges(void) {
     }
     uint8_t bad[18];
     memcpy(bad, ballots, 18);
-    bad[17] = 2, bad[0] = 0; /* 5 before 6: byte 2 in the last ballot, no 1 in row 0 */
+    bad[17] = 2, bad[0] = 0; /* 5 before 6: the last ballot has a byte 2, row 0 no 1 */
     s = call_count(2, 3, 3, bad, 18, 10);
     CHECK(s.reason == 5 && s.place == 17);
     bad[17] = 1;

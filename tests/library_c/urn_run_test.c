@@ -85,7 +85,7 @@ static void one_call(size_t k, size_t d, size_t n, const uint8_t *urn, size_t le
         uint8_t *run_wires = filled(wires_length, 7), *run_board = filled(board_length, 7);
         jugy_run(k, d, n, table, numbers, ballots, count * k * d, tape, tape_length, run_wires, wires_length, run_board,
                  board_length, other, JUGY_RUN_ANSWER);
-        expect(!memcmp(said, other, sizeof said), "another answer than that of the run on the chain's ballots");
+        expect(!memcmp(said, other, sizeof said), "another answer than jugy_run has on the ballots of the chain");
         expect(!memcmp(wires, run_wires, wires_length) && !memcmp(board, run_board, board_length), "other buffers");
         free(chain);
         free(ballots);
