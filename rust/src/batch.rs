@@ -1,4 +1,4 @@
-//! One list run on 64 juries of one shape at once: each number holds a bit for each jury, jury 0 in the lowest.
+//! A list that 64 juries of one shape run at once: each number holds a bit for each jury, jury 0 in the lowest.
 //!
 //! [`pack`] and [`unpack`] go from the bytes of 64 juries to such numbers and back.
 
@@ -53,7 +53,7 @@ pub fn unpack(words: &[u64], j: usize) -> Vec<u8> {
 }
 
 /// Runs a list on the ballots of 64 juries, with one tape number for each conditional gate. Lengths count numbers: as many as a
-/// single run has bytes. Of reasons 6, 11 and 12 the place is the first jury with the fault; reasons 5 and 8 never come. `wires`
+/// single run has bytes. The first jury with the fault is the place of reasons 6, 11 and 12; reasons 5 and 8 never come. `wires`
 /// is all zero afterwards.
 pub fn run(
     shape: Shape,

@@ -35,7 +35,7 @@ pub struct Jury<'a> {
     pub tape: &'a [u8],
 }
 
-/// What a jury got: the number of rounds in which it was given a gate, and its finished board.
+/// What a jury got: how many rounds had gates of its list, and its finished board.
 #[derive(Clone, Debug, PartialEq, Eq)]
 pub struct Finished {
     pub rounds: usize,

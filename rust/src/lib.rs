@@ -167,7 +167,7 @@ impl Reason {
     /// What is wrong, in words. Where the place counts something, the words end in what it counts.
     pub fn words(self) -> &'static str {
         match self {
-            Reason::Shape => "the shape is outside its limits",
+            Reason::Shape => "candidates, grades or ballots are outside their limits",
             Reason::Table => "the gate table has a length that no list of this shape has",
             Reason::Gate => "bad kind or operand in gate",
             Reason::BallotsLength => "the ballots have another length than the shape needs",
@@ -183,12 +183,12 @@ impl Reason {
             Reason::Juror => "none of a juror's numbers (1 to 255), or in already, or not in",
             Reason::FullUrn => "no slot of the urn is free",
             Reason::Trustees => "there are fewer than 2 or more than 5 trustees",
-            Reason::PartTables => "a table of the trustees has another length than list and shape need",
-            Reason::Dealing => "a part is neither 0 nor 1, or the parts do not add up",
-            Reason::Juries => "the number of juries is outside 1 to 8",
+            Reason::PartTables => "a table of the trustees is too long or too short for the list and the shape",
+            Reason::Dealing => "a part is neither 0 nor 1, or parts have a wrong sum",
+            Reason::Juries => "there are no juries, or more than 8",
             Reason::GatesPerRound => "the gates of a round are outside 1 to 65,536",
             Reason::Line => "another form than a gate's, or a number that is too large, in line",
-            Reason::Output => "the lent output is too short",
+            Reason::Output => "what would be written has no room in the output",
         }
     }
 
@@ -352,7 +352,7 @@ pub fn run(
     size(status, &answer)
 }
 
-/// Counts plainly: eight closing bytes, 0 from place k on.
+/// Counts plainly: a closing byte for each candidate, and zeros behind them up to eight.
 pub fn count(shape: Shape, ballots: &[u8]) -> Result<[u8; 8], Refusal> {
     let mut answer = [0; 10];
     // SAFETY: as in `write`; the ballots are only read.

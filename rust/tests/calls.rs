@@ -61,7 +61,7 @@ fn refusals_have_number_and_place_and_alter_nothing() {
 #[test]
 fn a_refusal_says_what_is_wrong() {
     assert_eq!(refusal(3, 7).to_string(), "refused 3 7: bad kind or operand in gate 7");
-    assert_eq!(refusal(1, 0).to_string(), "refused 1 0: the shape is outside its limits");
+    assert_eq!(refusal(1, 0).to_string(), "refused 1 0: candidates, grades or ballots are outside their limits");
     assert_eq!(Reason::of(0), None);
     assert_eq!(Reason::of(255), None);
 }

@@ -1,4 +1,4 @@
-//! A run on an urn through the wrapper: it is the run on the chain's ballots, and the urn stays as it was.
+//! A run on an urn through the wrapper: it equals the run on the ballots of its chain, and the urn stays as it was.
 use jugyvaros::urn::{self, admit};
 use jugyvaros::urn_run::run_urn;
 use jugyvaros::{measure, run, write, Reason, Refusal, Shape};
