@@ -37,7 +37,7 @@ def bound(k, d, n):
 
 
 def source_gates(k, d, n):
-    """Source 001, figure 3, ElGamal: 60nkda + 40kmda(10 + d) exponentiations, at 20a for a conditional gate (figure 9)."""
+    """Cortier, Gaudry and Yang, figure 3, ElGamal: 60nkda + 40kmda(10 + d) exponentiations, at 20a for a conditional gate (figure 9)."""
     m = n.bit_length()
     return 3 * n * k * d + 2 * k * m * d * (10 + d)
 
@@ -72,7 +72,7 @@ def sheet(costs):
         "Each conditional gate costs the sealing layer one opening, so C is the price of a jury, and the rounds, the longest",
         "chain of conditional gates, say how often its openings wait for each other.",
         "",
-        "| k d n | G | C | rounds | I | list, bytes | a run is lent, bytes | bound on G | G of the bound | 001's gates | C of 001's | 001's rounds |",
+        "| k d n | G | C | rounds | I | list, bytes | a run is lent, bytes | bound on G | G of the bound | CGY's gates | C of CGY's | CGY's rounds |",
         "|---|--:|--:|--:|--:|--:|--:|--:|--:|--:|--:|--:|",
     ]
     for shape in SHAPES:
@@ -87,10 +87,11 @@ def sheet(costs):
     lines += [
         "",
         "- **Bound on G**: 2kdnw + kd(30w + 20) + k²(20w + 6d + 20) + 2 + kd(400w + 400).",
-        "- **001's gates**: source 001, figure 3, prices its majority judgment under ElGamal at 60nkda + 40kmda(10 + d)",
-        "  exponentiations with a authorities, and a conditional gate at 20a (figure 9): 3nkd + 2kmd(10 + d) conditional gates,",
-        "  m being the width w. These are its leading terms.",
-        "- **001's rounds**: the same row's communications, read as the sum m(m + 1) + d(6m + 2 log k log m); the first term is",
+        "- **CGY's gates**: Cortier, Gaudry and Yang (A toolbox for verifiable tally-hiding e-voting systems, 2021), figure 3,",
+        "  price their majority judgment under ElGamal at 60nkda + 40kmda(10 + d) exponentiations with a authorities, and a",
+        "  conditional gate at 20a (figure 9): 3nkd + 2kmd(10 + d) conditional gates, m being the width w. These are the leading",
+        "  terms.",
+        "- **CGY's rounds**: the same row's communications, read as the sum m(m + 1) + d(6m + 2 log k log m); the first term is",
         "  the aggregation's.",
         "- **A run is lent**: 16 G bytes of list, I of ballots, C of tape, I + G of wires, C + k of board.",
         "",
@@ -133,7 +134,7 @@ def plot(costs):
         theirs = " ".join(f"{x(n):.1f},{y(source_gates(k, d, n)):.1f}" for n in range(1, 256))
         out.append(f'<polyline points="{own}" fill="none" stroke="{colours[i]}" stroke-width="2"/>')
         out.append(f'<polyline points="{theirs}" fill="none" stroke="{colours[i]}" stroke-dasharray="5 4"/>')
-        for j, (text, dash) in enumerate(((f"k {k}, d {d}", ' stroke-width="2"'), ("source 001's formula", ' stroke-dasharray="5 4"'))):
+        for j, (text, dash) in enumerate(((f"k {k}, d {d}", ' stroke-width="2"'), ("CGY's formula", ' stroke-dasharray="5 4"'))):
             at = top + 20 + 50 * i + 18 * j
             out.append(f'<line x1="{left + width + 15}" x2="{left + width + 40}" y1="{at}" y2="{at}" stroke="{colours[i]}"{dash}/>')
             out.append(f'<text x="{left + width + 46}" y="{at + 4}">{text}</text>')
