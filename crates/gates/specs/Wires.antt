@@ -1,2 +1,2 @@
--- The values that run along the wires.
+-- The values of the wires.
 pub use Rattle.gates.specs.Open.Wires.{wire, value, wiresOf, outputsOf}

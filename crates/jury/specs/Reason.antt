@@ -23,7 +23,7 @@ pub record Reason : Type 0 where
 unfoldable pub reasonAt : ℕ → ℕ → Reason
 reasonAt number place = record { number = number; place = place }
 
--- The documents' number and place for each case of the program's enum.
+-- The number and place [order] of each case of the program's enum.
 unfoldable pub reasonOf : Refusal → Reason
 reasonOf Shape = reasonAt 1 0
 reasonOf Table = reasonAt 2 0

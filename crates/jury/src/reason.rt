@@ -34,7 +34,7 @@ pub enum Verdict {
 }
 
 impl Refusal {
-    // The documents' number of a reason.
+    // The number of a reason [order].
     pub fn number(self) -> usize
         ensures { λ r. ⌜ r ≡ (reasonOf self) .number ⌝ }
     {

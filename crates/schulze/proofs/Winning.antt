@@ -83,7 +83,7 @@ module _ (v : ℕ → ℕ → ℕ) (k i : ℕ) where
       go true e f = e
       go false e f = let z : _≡_ {A = ℕ} 0 1 = sym (closing-at h ∙ ap (λ (t : Bool). cond {A = ℕ} t 1 0) e) ∙ f in absurd (omega arith)
 
--- a link is as strong as what speaks for it where that is more, and has no strength otherwise
+-- the strength of a link is v i j where that is above v j i, and 0 otherwise
 pub link-won : (v : ℕ → ℕ → ℕ) (i j : ℕ) → v j i < v i j → link v i j ≡ v i j
 unfolding link
 link-won v i j h = rw (lt-ltb (v j i) (v i j) h)

@@ -78,7 +78,7 @@ slots-append : (xs ys : List Entry) → slotsIn (xs ++ ys) ≡ slotsIn xs ++ slo
 slots-append [] ys = refl
 slots-append (x ∷ xs) ys = ap (λ (is : List ℕ). x .slot ∷ is) (slots-append xs ys)
 
--- a test that does not mind where a number stands
+-- a test that does not depend on where a number stands
 moves : (f : List ℕ → Bool) → ((xs : List ℕ) (y : ℕ) (ys : List ℕ) → f (xs ++ (y ∷ ys)) ≡ f (y ∷ (xs ++ ys))) → (pre : List Entry) (e : Entry) (post : List Entry) (is : List ℕ) →
     f (slotsIn (pre ++ (e ∷ post)) ++ is) ≡ f (slotsIn (pre ++ post) ++ (e .slot ∷ is))
 moves f m pre e post is =

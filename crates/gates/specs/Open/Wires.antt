@@ -1,4 +1,4 @@
--- The values that run along the wires.
+-- The values of the wires.
 use mathlib.Core.List.{List, [], _∷_, _++_}
 use Prim.Native.Nat.{ℕ, _-_}
 use lib.ListN.{length, getD, drop}
