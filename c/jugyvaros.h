@@ -3,8 +3,8 @@
  * Shape: candidates (k) 1 to 8, grades (d) 2 to 7, or 0 where the candidates are ranked, ballots (n) 1 to 255; other numbers
  * are refused with reason 1.
  *
- * Graded ballots: I = n k d bytes of 0 or 1. Each ballot has a row for each candidate in order, each row a byte for each grade, the best
- * first; a row holds one 1. The byte of ballot b, candidate c and grade g is bytes[(b k + c) d + g].
+ * Graded ballots: I = n k d bytes of 0 or 1. Each ballot has a row for each candidate in order, each row a byte for each
+ * grade, the best first; a row holds one 1. The byte of ballot b, candidate c and grade g is bytes[(b k + c) d + g].
  *
  * Ranked ballots (d = 0): I = n k k bytes of 0 or 1. The byte of ballot b, row i and column j, bytes[(b k + i) k + j], is 1
  * where the juror puts candidate i strictly before candidate j, and 0 where i is behind j or level with it.
@@ -47,8 +47,8 @@
 extern "C" {
 #endif
 
-/* The reasons, with what their place counts. A call makes those tests that concern it, in the order 19, 20, 1, 13, 14, 2, 23, 3, 24, 4, 5,
- * 6 of graded ballots or 11 and 12 of ranked ones, 15, 16 to 18, 7 to 10. */
+/* The reasons, with what their place counts. A call makes those tests that concern it, in the order 19, 20, 1, 13, 14, 2,
+ * 23, 3, 24, 4, 5, 6 of graded ballots or 11 and 12 of ranked ones, 15, 16 to 18, 7 to 10. */
 #define JUGY_ACCEPTED 0
 #define JUGY_SHAPE 1          /* k, d or n is outside its limits */
 #define JUGY_TABLE 2          /* no room in the gate table to write, or no list of k to 1,048,576 whole gates */
@@ -60,18 +60,18 @@ extern "C" {
 #define JUGY_TAPE_BYTE 8      /* a byte of the tape is no bit; place: the byte */
 #define JUGY_WIRES_LENGTH 9   /* the wire table's length is not I + G */
 #define JUGY_BOARD_LENGTH 10  /* the board's length is not C + k */
-#define JUGY_BALLOT_CLASH 11  /* ranked: a byte and its opposite, or one of the diagonal, are 1; place: the first such byte */
-#define JUGY_BALLOT_GAP 12    /* ranked: i is before j, a third neither behind i nor before j; place: the ballot */
+#define JUGY_BALLOT_CLASH 11  /* ranked: a byte and its opposite, or one of the diagonal, are 1; place: the earliest such byte */
+#define JUGY_BALLOT_GAP 12    /* ranked: i is before j, a third one is not behind i and not before j; place: the ballot */
 #define JUGY_URN 13           /* the urn is not sound */
 #define JUGY_JUROR 14         /* none of a juror's numbers, 1 to 255; or in already (admission), or not in (withdrawal) */
 #define JUGY_FULL_URN 15      /* no slot of the urn is free */
 #define JUGY_TRUSTEES 16      /* there are fewer than 2 or more than 5 trustees */
 #define JUGY_PART_TABLES 17   /* one of the trustees' four tables has a wrong length */
-#define JUGY_DEALING 18       /* a ballot or dealer part is no bit, or parts sum up to something else than their ballot byte or product */
-#define JUGY_JURIES 19        /* the number of juries is outside 1 to 8 */
-#define JUGY_GATES_PER_ROUND 20 /* the share of a round is outside 1 to 65,536 gates */
+#define JUGY_DEALING 18       /* a ballot or dealer part is no bit, or the sum modulo 2 of parts is not their ballot byte or product */
+#define JUGY_JURIES 19        /* there are no juries, or more than 8 */
+#define JUGY_GATES_PER_ROUND 20 /* the share, a jury's gates of a round, is 0 or above 65,536 */
 #define JUGY_LINE 23          /* a line of text of another form, of a kind that is none, or with a number of 2^32 or more; place: the line */
-#define JUGY_OUTPUT 24        /* the lent output is too short */
+#define JUGY_OUTPUT 24        /* what would be written has no room in the output */
 
 /* What a function returns where its answer array is too short: none of the reasons. */
 #define JUGY_SHORT_ANSWER 255
@@ -118,29 +118,31 @@ size_t jugy_run(size_t candidates, size_t grades, size_t ballots, const uint32_t
                 const uint8_t *bytes, size_t bytes_length, const uint8_t *tape, size_t tape_length, uint8_t *wires,
                 size_t wires_length, uint8_t *board, size_t board_length, size_t *answer, size_t answer_length);
 
-/* Runs a list for 64 juries at once, all of this shape. Bit j of each 64-bit number, the lowest being bit 0, belongs to jury j, and
- * jury j's bits are what jugy_run makes of its own: answer[2] is G, answer[3] is C, as for a single run. Lengths count
- * numbers, not bytes.
+/* Runs a list for 64 juries at once, all of this shape. Bit j of each 64-bit number, the lowest being bit 0, belongs to
+ * jury j, and jury j's bits are what jugy_run makes of its own: answer[2] is G, answer[3] is C, as for a single run.
+ * Lengths count numbers, not bytes.
  *   table  4 G numbers, the list's own length, as for jugy_run
  *   words  I numbers, as many as jugy_run has ballot bytes: bit j of words[i] is ballot byte i of jury j
  *   tape   C numbers, any: bit j of tape[i] masks the i-th conditional gate of jury j. Each bit is to be fresh, secret and random
  *   wires  I + G numbers, whatever they held; all zero afterwards
  *   board  C + k numbers, whatever they held: bit j of board[C + i] is candidate i's closing byte in jury j
- * Reasons 1, 2, 3, 4, then 6 or, of rankings, 11 and 12, then 7, 9 and 10; the place of 6, 11 and 12 is the first jury, 0 to 63, that
- * has the fault. Reasons 5 and 8 do not concern these numbers. All 64 juries are tested and run: whoever has fewer fills the others up with copies. */
+ * Reasons 1, 2, 3, 4, then 6 or, of rankings, 11 and 12, then 7, 9 and 10; the place of 6, 11 and 12 is the first jury, 0
+ * to 63, that has the fault. Reasons 5 and 8 do not concern these numbers. All 64 juries are tested and run: whoever has
+ * fewer fills the others up with copies. */
 size_t jugy_run_batch(size_t candidates, size_t grades, size_t ballots, const uint32_t *table, size_t table_length,
                       const uint64_t *words, size_t words_length, const uint64_t *tape, size_t tape_length, uint64_t *wires,
                       size_t wires_length, uint64_t *board, size_t board_length, size_t *answer, size_t answer_length);
 
-/* Counts I ballot bytes plainly: answer[2 + i], i below 8, is candidate i's closing byte: 1 where it wins by full majority judgment
- * or, of rankings, by Schulze's rule, else 0, and 0 from place k on; several may win. Reasons 1, 4, 5, and 6 or 11 and 12. */
+/* Counts I ballot bytes plainly: answer[2 + i], i below 8, is candidate i's closing byte: 1 where it wins by full
+ * majority judgment or, of rankings, by Schulze's rule, else 0, and 0 from place k on; several may win. Reasons 1, 4, 5,
+ * and 6 or 11 and 12. */
 size_t jugy_count(size_t candidates, size_t grades, size_t ballots, const uint8_t *bytes, size_t bytes_length,
                   size_t *answer, size_t answer_length);
 
-/* Gate lists on paper. A gate is a line: its kind, then the operands that the kind uses, in decimal with no zero in front,
- * spaces single, each line closed by a line feed. The order of reasons is 1, 2, 23, 3, 24; the place of 23 is the first such
- * line, from 0. Characters behind the last line feed are a line, and no gate.
- * Reading counts a line as a gate for reasons 2 and 3. */
+/* Gate lists on paper. A gate is a line: its kind, then the operands that the kind uses, in decimal with no zero in
+ * front, spaces single, each line closed by a line feed. The order of reasons is 1, 2, 23, 3, 24; the place of 23 is the
+ * first such line, from 0. Characters behind the last line feed are a line, and no gate. Reading counts a line as a gate
+ * for reasons 2 and 3. */
 
 /* Writes the text of anyone's list for a shape; table_length is the list's own, 4 G: answer[2] is the number of
  * characters written, at most 44 G. Characters behind them are not touched. Reasons 1, 2, 3, 24. */
@@ -152,8 +154,10 @@ size_t jugy_write_text(size_t candidates, size_t grades, size_t ballots, const u
 size_t jugy_read_text(size_t candidates, size_t grades, size_t ballots, const uint8_t *text, size_t text_length,
                       uint32_t *output, size_t output_length, size_t *answer, size_t answer_length);
 
-/* An urn for graded ballots is a table that the caller keeps: slots of 2 + k d bytes each, at least 2 and at most 256 of them.
- *   slot 0           first slot of the ballot chain, first slot of the free chain, k d zeros
+/* An urn for graded ballots is a table that the caller keeps: slots of 2 + k d bytes each, at least 2 and at most 256 of
+ * them.
+ *   slot 0           index of the slot that begins the ballot chain, then of the one that begins the free chain (0: the chain
+ *                    is empty), k d zeros
  *   a ballot's slot  index of the next slot in the ballot chain (0: it is the last), juror 1 to 255, k d ballot bytes
  *   a free slot      index of the next free slot (0: it is the last), 1 + k d zeros
  * Only k = candidates and d = grades are handed; answer[2] is the number of ballots afterwards. */
@@ -163,13 +167,13 @@ size_t jugy_read_text(size_t candidates, size_t grades, size_t ballots, const ui
 size_t jugy_empty_urn(size_t candidates, size_t grades, uint8_t *bytes, size_t bytes_length, size_t *answer,
                       size_t answer_length);
 
-/* Admits the ballot of a juror: it goes to the first free slot and becomes the first of the ballot chain. Reasons 1, 13 (the urn
- * is not sound), 14 (the juror is 0, above 255 or in already), 4, 5, 6 (the ballot as that of a jury of one), 15 (no slot
+/* Admits the ballot of a juror: it goes to the first free slot and becomes the first of the ballot chain. Reasons 1, 13 (an
+ * unsound urn), 14 (the juror is 0, above 255 or in already), 4, 5, 6 (the ballot as that of a jury of one), 15 (no slot
  * is free), in this order. */
 size_t jugy_admit(size_t candidates, size_t grades, uint8_t *bytes, size_t bytes_length, size_t juror,
                   const uint8_t *ballot, size_t ballot_length, size_t *answer, size_t answer_length);
 
-/* Withdraws the ballot of a juror: its slot is zeroed and becomes the first of the free chain. Reasons 1, 13, 14 (the juror is 0,
+/* Withdraws the ballot of a juror: its slot is zeroed and becomes the first free one. Reasons 1, 13, 14 (the juror is 0,
  * above 255 or not in). */
 size_t jugy_withdraw(size_t candidates, size_t grades, uint8_t *bytes, size_t bytes_length, size_t juror, size_t *answer,
                      size_t answer_length);
@@ -180,12 +184,13 @@ size_t jugy_preview_admit(size_t candidates, size_t grades, const uint8_t *bytes
 size_t jugy_preview_withdraw(size_t candidates, size_t grades, const uint8_t *bytes, size_t bytes_length, size_t juror,
                              size_t *answer, size_t answer_length);
 
-/* Runs a list on the ballots in an urn, in the order of its ballot chain: answer[2] is G, answer[3] is C. It answers and leaves what
- * jugy_run does on these ballots one after the other. Reasons 1 (a ranking shape gives it too), 13 (the urn is not sound), 2, 3, 4 (ballots is not the number of
- * ballots in the urn), 7, 8, 9, 10, in this order; 5 and 6 never, as the ballots of a sound urn are good.
+/* Runs a list on the ballots in an urn, in the order of its ballot chain: answer[2] is G, answer[3] is C. It answers and
+ * leaves what jugy_run does on these ballots one after the other. Reasons 1 (a ranking shape gives it too), 13 (an
+ * unsound urn), 2, 3, 4 (ballots is not the number of ballots in the urn), 7, 8, 9, 10, in this order; 5 and 6 never, as
+ * the ballots of a sound urn are good.
  *   table  4 G numbers, the list's own length
  *   bytes  an urn of s slots, 2 to 256: s (2 + k d) bytes, which are read and not altered. It holds the ballots in clear
- *   tape   C bytes of 0 or 1, as for jugy_run
+ *   tape   C bits, a byte each, as for jugy_run
  *   wires  I + G bytes, I = n k d, whatever they held; all zero afterwards
  *   board  C + k bytes, whatever they held; afterwards as after jugy_run */
 size_t jugy_run_urn(size_t candidates, size_t grades, size_t ballots, const uint32_t *table, size_t table_length,
@@ -201,34 +206,35 @@ size_t jugy_run_urn(size_t candidates, size_t grades, size_t ballots, const uint
  *              afterwards they are all zero
  *   published  t (2 C + k) bytes, whatever they held: for each conditional gate in order a trustee's bits of the first
  *              factor plus u and of the second plus v, then its bits of the k closing wires. This may be published
- * Each byte of parts and dealt is 0 or 1. Whoever sees all but one trustee's bits, and all that is published, learns of the ballots
- * what the closing bytes tell and no more. A dealing, parts and dealt, serves one call only. */
+ * Each byte of parts and dealt is 0 or 1. Whoever sees all but one trustee's bits, and all that is published, learns of
+ * the ballots what the closing bytes tell and no more. A dealing, parts and dealt, serves one call only. */
 
-/* Runs a list on ballots that trustees hold in parts: answer[2] is G, answer[3] is C, answer[4 + i], i below 8, is the sum of the closing bits of
- * candidate i, which is the closing byte of a plain run, and 0 from place k on. Reasons 1 to 5, 6 of graded
- * ballots or 11 and 12 of ranked ones, 16, 17, 18. */
+/* Runs a list on ballots that trustees hold in parts: answer[2] is G, answer[3] is C, answer[4 + i], i below 8, is the
+ * sum modulo 2 of the closing bits of candidate i, which is the closing byte of a plain run, and 0 from place k on.
+ * Reasons 1 to 5, 6 of graded ballots or 11 and 12 of ranked ones, 16, 17, 18. */
 size_t jugy_trustees(size_t candidates, size_t grades, size_t ballots, const uint32_t *table, size_t table_length,
                      const uint8_t *bytes, size_t bytes_length, size_t trustees, const uint8_t *parts, size_t parts_length,
                      const uint8_t *dealt, size_t dealt_length, uint8_t *wires, size_t wires_length, uint8_t *published,
                      size_t published_length, size_t *answer, size_t answer_length);
 
-/* Up to eight juries in rounds: in each round every jury that is not finished gets up to `share` of its gates, in jury order.
+/* Up to eight juries in rounds: in each round every jury that is not finished gets up to `share` of its gates, in jury
+ * order.
  *   statements  4 numbers a jury: candidates k, grades d, 0 where they are ranked, ballots n and gates G. What the array lacks
  *               counts as 0, and what stands behind the statements of `juries` juries is not looked at
- * The juries' pieces follow each other in each of the five tables, in jury order with nothing between. I is n k d, or n k k where
- * candidates are ranked, and C is a list's own number of conditional gates. Of m juries, 0 to m - 1:
+ * The juries' pieces follow each other in each of the five tables, in jury order with nothing between. I is n k d, or
+ * n k k where candidates are ranked, and C is a list's own number of conditional gates. Of m juries, 0 to m - 1:
  *
- *   lists    | 4 G_0     | 4 G_1     | .. |  length 4 (G_0 + .. + G_(m-1)) or more, of numbers; operands count
- *                                            from the jury's own wire 0
+ *   lists    | 4 G_0     | 4 G_1     | .. |  length 4 (G_0 + .. + G_(m-1)) or more, of numbers; operands are wires
+ *                                            of this jury, counted from 0
  *   ballots  | I_0       | I_1       | .. |  length I_0 + .. + I_(m-1) or more
  *   tapes    | C_0       | C_1       | .. |  length C_0 + .. + C_(m-1) or more
  *   wires    | I_0 + G_0 | I_1 + G_1 | .. |  length (I_0 + G_0) + .. + (I_(m-1) + G_(m-1)) or more
  *   boards   | C_0 + k_0 | C_1 + k_1 | .. |  length (C_0 + k_0) + .. + (C_(m-1) + k_(m-1)) or more
  *
- * What stands behind the last piece is not touched. answer[2 + j], j below 8, is jury j's number of rounds, G_j divided by share
- * and rounded up, 0 past the last jury. Each jury's board is that of jugy_run on its pieces, and its wires are zero.
- * Reasons 19 and 20, then those of a run, jury after jury and each to its end before the next is looked at: the place is the
- * jury. A piece for which its table is too short counts as empty, which gives 2, 4, 7, 9 or 10. */
+ * What stands behind the pieces of all juries stays. answer[2 + j], j below 8, is jury j's number of rounds, G_j divided
+ * by share and rounded up, 0 past the last jury. Each jury's board is that of jugy_run on its pieces, and its wires are
+ * zero. Reasons 19 and 20, then those of a run, jury after jury and each to its end before the next is looked at: the
+ * place is the jury. A piece for which its table is too short counts as empty, which gives 2, 4, 7, 9 or 10. */
 size_t jugy_dispatch(size_t juries, size_t share, const size_t *statements, size_t statements_length, const uint32_t *lists,
                      size_t lists_length, const uint8_t *ballots, size_t ballots_length, const uint8_t *tapes,
                      size_t tapes_length, uint8_t *wires, size_t wires_length, uint8_t *boards, size_t boards_length,
