@@ -80,7 +80,7 @@ extern "C" {
 #define JUGY_MEASURE_ANSWER 5
 #define JUGY_WRITE_ANSWER 4
 #define JUGY_TEST_ANSWER 4
-#define JUGY_RUN_ANSWER 4
+#define JUGY_RUN_ANSWER 4 /* jugy_run, jugy_run_urn and jugy_run_batch */
 #define JUGY_COUNT_ANSWER 10
 #define JUGY_TEXT_ANSWER 3
 #define JUGY_URN_ANSWER 3

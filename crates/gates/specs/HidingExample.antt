@@ -2,7 +2,7 @@
 use mathlib.Core.Path.{_≡_, refl}
 use mathlib.Core.List.{List, [], _∷_, zipWith}
 use Prim.Native.Nat.{ℕ}
-use Rattle.gates.specs.Open.Kind.{operandsOf, conditionalOf, valueOf}
+use Rattle.gates.specs.Open.Kind.{operandsOf, conditionalOf, differ, valueOf}
 use Rattle.gates.specs.Open.Gate.{gatesOf}
 use Rattle.gates.specs.Open.Wires.{wire, value, wiresOf, outputsOf}
 use Rattle.gates.specs.Open.Board.{conditionals, conditionalCount, shownBit, shownBits, boardOf}
@@ -44,3 +44,15 @@ first-wires = refl
 pub second-wires : wiresOf (0 ∷ 1 ∷ []) (gatesOf oneGate) ≡ 0 ∷ 1 ∷ 0 ∷ []
 unfolding oneGate wiresOf value wire gatesOf valueOf
 second-wires = refl
+
+-- A gate of kind 6 in front of it, which is free: the tape still has one byte, and the board one shown bit.
+unfoldable pub freeGateFirst : List ℕ
+freeGateFirst = 6 ∷ 0 ∷ 1 ∷ 0 ∷ 4 ∷ 0 ∷ 2 ∷ 0 ∷ []
+
+pub free-gate-tested : tested 2 1 freeGateFirst ≡ Accepted 2 1
+unfolding freeGateFirst tested judged firstBad goodGate goodOperand conditionalCount conditionals gatesOf conditionalOf operandsOf
+free-gate-tested = refl
+
+pub free-gate-board : boardOf (wiresOf (1 ∷ 0 ∷ []) (gatesOf freeGateFirst)) (gatesOf freeGateFirst) 1 (1 ∷ []) ≡ 0 ∷ 1 ∷ []
+unfolding freeGateFirst boardOf shownBits shownBit conditionals outputsOf wiresOf value wire gatesOf valueOf differ conditionalOf zipWith
+free-gate-board = refl

@@ -51,7 +51,7 @@ unfoldable pub endOn : Rehearsed → ℕ
 endOn (Winners s first) = first + s .candidates
 endOn (Refused r) = 0
 
--- What the program lends: a zero tape, a table for at most 4,000 gates, and a wire table and a board that are long enough for them.
+-- What the program lends: a tape of bits, which the program fills with zeros, a table for at most 4,000 gates, and a wire table and a board that are long enough for them.
 pub record Lent (table tape wires board : List ℕ) : Type 0 where
   pub tableLength : length table ≤ 16000
   pub tapeLength : 4000 ≤ length tape

@@ -3,7 +3,7 @@ pub mod answer;
 pub mod count;
 pub mod empty;
 pub mod measure;
-pub mod own;
+mod own;
 pub mod run;
 pub mod test;
 pub mod write;
