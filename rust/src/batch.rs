@@ -2,32 +2,10 @@
 //!
 //! [`pack`] and [`unpack`] go from the bytes of 64 juries to such numbers and back.
 
-use crate::{size, Refusal, Shape, Size};
+use crate::{c, run_by, Refusal, Shape, Size};
 
 /// How many juries a call serves.
 pub const JURIES: usize = 64;
-
-mod c {
-    extern "C" {
-        pub fn jugy_run_batch(
-            k: usize,
-            d: usize,
-            n: usize,
-            table: *const u32,
-            table_length: usize,
-            words: *const u64,
-            words_length: usize,
-            tape: *const u64,
-            tape_length: usize,
-            wires: *mut u64,
-            wires_length: usize,
-            board: *mut u64,
-            board_length: usize,
-            answer: *mut usize,
-            answer_length: usize,
-        ) -> usize;
-    }
-}
 
 /// The numbers in which jury j has the bytes of list j, each of them 0 or 1. All lists are of one length; a jury that is not
 /// given has zeros.
@@ -63,28 +41,7 @@ pub fn run(
     wires: &mut [u64],
     board: &mut [u64],
 ) -> Result<Size, Refusal> {
-    let mut answer = [0; 4];
-    // SAFETY: a slice's pointer is aligned, not null and valid for its length; `&mut` overlaps nothing else that is lent.
-    let status = unsafe {
-        c::jugy_run_batch(
-            shape.candidates,
-            shape.grades,
-            shape.ballots,
-            table.as_ptr(),
-            table.len(),
-            ballots.as_ptr(),
-            ballots.len(),
-            tape.as_ptr(),
-            tape.len(),
-            wires.as_mut_ptr(),
-            wires.len(),
-            board.as_mut_ptr(),
-            board.len(),
-            answer.as_mut_ptr(),
-            answer.len(),
-        )
-    };
-    size(status, &answer)
+    run_by(c::jugy_run_batch, shape, table, ballots, tape, wires, board)
 }
 
 #[cfg(test)]

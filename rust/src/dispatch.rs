@@ -1,6 +1,6 @@
 //! Up to eight juries in rounds. `c/jugyvaros.h` draws the tables, which are made here from a list of juries.
 
-use crate::{Reason, Shape};
+use crate::{answered, Reason, Refusal, Shape};
 
 mod c {
     extern "C" {
@@ -68,8 +68,8 @@ pub fn dispatch(juries: &[Jury], share: usize) -> Result<Vec<Finished>, Refused>
     let statements: Vec<usize> = juries
         .iter()
         .flat_map(|jury| {
-            let shape = jury.shape;
-            [shape.candidates, shape.grades, shape.ballots, jury.table.len() / 4]
+            let [k, d, n] = jury.shape.numbers();
+            [k, d, n, jury.table.len() / 4]
         })
         .collect();
     let lists: Vec<u32> = juries.iter().flat_map(|jury| jury.table).copied().collect();
@@ -78,9 +78,8 @@ pub fn dispatch(juries: &[Jury], share: usize) -> Result<Vec<Finished>, Refused>
     let sizes: Vec<usize> = juries.iter().map(|jury| jury.tape.len() + jury.shape.candidates).collect();
     let mut wires = vec![0; ballots.len() + lists.len() / 4];
     let mut boards = vec![0; sizes.iter().sum()];
-    let mut answer = [0; 10];
     // SAFETY: every pointer comes from a vector or an array and is handed over with its length; what is written is borrowed mutably.
-    let status = unsafe {
+    let [_, _, rounds @ ..]: [usize; 10] = answered(|answer, length| unsafe {
         c::jugy_dispatch(
             juries.len(),
             share,
@@ -96,20 +95,16 @@ pub fn dispatch(juries: &[Jury], share: usize) -> Result<Vec<Finished>, Refused>
             wires.len(),
             boards.as_mut_ptr(),
             boards.len(),
-            answer.as_mut_ptr(),
-            answer.len(),
+            answer,
+            length,
         )
-    };
-    if status != 0 {
-        // the answer array is as long as the function needs, so the status is one of the reasons
-        let reason = Reason::of(status).expect("a reason of the list");
-        return Err(Refused { reason, jury: answer[1] });
-    }
+    })
+    .map_err(|Refusal { reason, place }| Refused { reason, jury: place })?;
     let mut left = boards.as_slice();
     Ok(sizes
         .iter()
-        .zip(&answer[2..])
-        .map(|(&size, &rounds)| {
+        .zip(rounds)
+        .map(|(&size, rounds)| {
             let (board, rest) = left.split_at(size);
             left = rest;
             Finished { rounds, board: board.to_vec() }

@@ -9,6 +9,35 @@ pub mod urn;
 pub mod urn_run;
 
 mod c {
+    /// Declares the entry points that run a list: they differ in name and in the items of ballots, tape, wires and board.
+    macro_rules! runs {
+        ($($name:ident($item:ty);)*) => {
+            extern "C" {
+                $(pub fn $name(
+                    k: usize,
+                    d: usize,
+                    n: usize,
+                    table: *const u32,
+                    table_length: usize,
+                    ballots: *const $item,
+                    ballots_length: usize,
+                    tape: *const $item,
+                    tape_length: usize,
+                    wires: *mut $item,
+                    wires_length: usize,
+                    board: *mut $item,
+                    board_length: usize,
+                    answer: *mut usize,
+                    answer_length: usize,
+                ) -> usize;)*
+            }
+        };
+    }
+    runs! {
+        jugy_run(u8);
+        jugy_run_urn(u8);
+        jugy_run_batch(u64);
+    }
     extern "C" {
         pub fn jugy_measure(k: usize, d: usize, n: usize, answer: *mut usize, answer_length: usize) -> usize;
         pub fn jugy_write(
@@ -26,23 +55,6 @@ mod c {
             n: usize,
             table: *const u32,
             table_length: usize,
-            answer: *mut usize,
-            answer_length: usize,
-        ) -> usize;
-        pub fn jugy_run(
-            k: usize,
-            d: usize,
-            n: usize,
-            table: *const u32,
-            table_length: usize,
-            bytes: *const u8,
-            bytes_length: usize,
-            tape: *const u8,
-            tape_length: usize,
-            wires: *mut u8,
-            wires_length: usize,
-            board: *mut u8,
-            board_length: usize,
             answer: *mut usize,
             answer_length: usize,
         ) -> usize;
@@ -89,6 +101,13 @@ pub struct Shape {
     pub grades: usize,
     /// n, from 1 to 255.
     pub ballots: usize,
+}
+
+impl Shape {
+    /// k, d and n.
+    fn numbers(self) -> [usize; 3] {
+        [self.candidates, self.grades, self.ballots]
+    }
 }
 
 /// Why a call is turned away. The numbers are those of docs/REQUIREMENTS.md.
@@ -241,80 +260,96 @@ pub struct Measures {
     pub inputs: usize,
 }
 
-fn checked(status: usize, answer: &[usize]) -> Result<(), Refusal> {
-    if status == 0 {
-        return Ok(());
+/// Lends an entry point an answer array of the length that it needs, and gives the array back where the call is accepted.
+fn answered<const N: usize>(call: impl FnOnce(*mut usize, usize) -> usize) -> Result<[usize; N], Refusal> {
+    let mut answer = [0; N];
+    match call(answer.as_mut_ptr(), N) {
+        0 => Ok(answer),
+        status => Err(Refusal {
+            // the array is not too short, so the status is one of the reasons
+            reason: Reason::of(status).expect("a reason of the list"),
+            place: answer[1],
+        }),
     }
-    // the answer arrays here are as long as the functions need, so the status is one of the reasons
-    Err(Refusal {
-        reason: Reason::of(status).expect("a reason of the list"),
-        place: answer[1],
-    })
 }
 
-fn size(status: usize, answer: &[usize; 4]) -> Result<Size, Refusal> {
-    checked(status, answer)?;
-    Ok(Size {
-        gates: answer[2],
-        conditional: answer[3],
-    })
+/// The same for an entry point that answers G and C.
+fn sized(call: impl FnOnce(*mut usize, usize) -> usize) -> Result<Size, Refusal> {
+    answered(call).map(|[_, _, gates, conditional]| Size { gates, conditional })
 }
 
 /// Measures a shape's own list.
 pub fn measure(shape: Shape) -> Result<Measures, Refusal> {
-    let mut answer = [0; 5];
-    // SAFETY: the answer array is a live local, borrowed by this call alone.
-    let status = unsafe {
-        c::jugy_measure(
-            shape.candidates,
-            shape.grades,
-            shape.ballots,
-            answer.as_mut_ptr(),
-            answer.len(),
-        )
-    };
-    checked(status, &answer)?;
-    Ok(Measures {
-        gates: answer[2],
-        conditional: answer[3],
-        inputs: answer[4],
-    })
+    let [k, d, n] = shape.numbers();
+    // SAFETY: the answer array is a live local of `answered`, borrowed by this call alone.
+    answered(|answer, length| unsafe { c::jugy_measure(k, d, n, answer, length) })
+        .map(|[_, _, gates, conditional, inputs]| Measures { gates, conditional, inputs })
 }
 
 /// Writes a shape's own list at the start of the table, four numbers a gate.
 pub fn write(shape: Shape, table: &mut [u32]) -> Result<Size, Refusal> {
-    let mut answer = [0; 4];
+    let [k, d, n] = shape.numbers();
     // SAFETY: a slice's pointer is aligned, not null and valid for its length; `&mut` overlaps nothing else.
-    let status = unsafe {
-        c::jugy_write(
-            shape.candidates,
-            shape.grades,
-            shape.ballots,
-            table.as_mut_ptr(),
-            table.len(),
-            answer.as_mut_ptr(),
-            answer.len(),
-        )
-    };
-    size(status, &answer)
+    sized(|answer, length| unsafe { c::jugy_write(k, d, n, table.as_mut_ptr(), table.len(), answer, length) })
 }
 
 /// Tests anyone's list for a shape.
 pub fn test(shape: Shape, table: &[u32]) -> Result<Size, Refusal> {
-    let mut answer = [0; 4];
+    let [k, d, n] = shape.numbers();
     // SAFETY: as in `write`; the table is only read.
-    let status = unsafe {
-        c::jugy_test(
-            shape.candidates,
-            shape.grades,
-            shape.ballots,
+    sized(|answer, length| unsafe { c::jugy_test(k, d, n, table.as_ptr(), table.len(), answer, length) })
+}
+
+/// An entry point that runs a list.
+type Run<T> = unsafe extern "C" fn(
+    usize,
+    usize,
+    usize,
+    *const u32,
+    usize,
+    *const T,
+    usize,
+    *const T,
+    usize,
+    *mut T,
+    usize,
+    *mut T,
+    usize,
+    *mut usize,
+    usize,
+) -> usize;
+
+/// Runs a list by one of these entry points.
+fn run_by<T>(
+    call: Run<T>,
+    shape: Shape,
+    table: &[u32],
+    ballots: &[T],
+    tape: &[T],
+    wires: &mut [T],
+    board: &mut [T],
+) -> Result<Size, Refusal> {
+    let [k, d, n] = shape.numbers();
+    // SAFETY: as in `write`; wires and board are borrowed mutably, so they overlap nothing else that is lent.
+    sized(|answer, length| unsafe {
+        call(
+            k,
+            d,
+            n,
             table.as_ptr(),
             table.len(),
-            answer.as_mut_ptr(),
-            answer.len(),
+            ballots.as_ptr(),
+            ballots.len(),
+            tape.as_ptr(),
+            tape.len(),
+            wires.as_mut_ptr(),
+            wires.len(),
+            board.as_mut_ptr(),
+            board.len(),
+            answer,
+            length,
         )
-    };
-    size(status, &answer)
+    })
 }
 
 /// Runs a list on the ballots, with one tape byte for each conditional gate. The tape is fresh, secret random bits, never
@@ -328,89 +363,34 @@ pub fn run(
     wires: &mut [u8],
     board: &mut [u8],
 ) -> Result<Size, Refusal> {
-    let mut answer = [0; 4];
-    // SAFETY: as in `write`; wires and board are borrowed mutably, so they overlap nothing else that is lent.
-    let status = unsafe {
-        c::jugy_run(
-            shape.candidates,
-            shape.grades,
-            shape.ballots,
-            table.as_ptr(),
-            table.len(),
-            ballots.as_ptr(),
-            ballots.len(),
-            tape.as_ptr(),
-            tape.len(),
-            wires.as_mut_ptr(),
-            wires.len(),
-            board.as_mut_ptr(),
-            board.len(),
-            answer.as_mut_ptr(),
-            answer.len(),
-        )
-    };
-    size(status, &answer)
+    run_by(c::jugy_run, shape, table, ballots, tape, wires, board)
 }
 
 /// Counts plainly: a closing byte for each candidate, and zeros behind them up to eight.
 pub fn count(shape: Shape, ballots: &[u8]) -> Result<[u8; 8], Refusal> {
-    let mut answer = [0; 10];
+    let [k, d, n] = shape.numbers();
     // SAFETY: as in `write`; the ballots are only read.
-    let status = unsafe {
-        c::jugy_count(
-            shape.candidates,
-            shape.grades,
-            shape.ballots,
-            ballots.as_ptr(),
-            ballots.len(),
-            answer.as_mut_ptr(),
-            answer.len(),
-        )
-    };
-    checked(status, &answer)?;
-    Ok(std::array::from_fn(|i| answer[2 + i] as u8))
+    let [_, _, closing @ ..]: [usize; 10] =
+        answered(|answer, length| unsafe { c::jugy_count(k, d, n, ballots.as_ptr(), ballots.len(), answer, length) })?;
+    Ok(closing.map(|byte| byte as u8))
 }
 
 /// Writes the text of a list, one line a gate, and answers the number of characters written.
 pub fn write_text(shape: Shape, table: &[u32], output: &mut [u8]) -> Result<usize, Refusal> {
-    let mut answer = [0; 3];
-    // SAFETY: a slice's pointer is aligned, not null and valid for its length; `&mut` overlaps nothing else.
-    let status = unsafe {
-        c::jugy_write_text(
-            shape.candidates,
-            shape.grades,
-            shape.ballots,
-            table.as_ptr(),
-            table.len(),
-            output.as_mut_ptr(),
-            output.len(),
-            answer.as_mut_ptr(),
-            answer.len(),
-        )
-    };
-    checked(status, &answer)?;
-    Ok(answer[2])
+    let [k, d, n] = shape.numbers();
+    let (to, room) = (output.as_mut_ptr(), output.len());
+    // SAFETY: as in `write`.
+    answered(|answer, length| unsafe { c::jugy_write_text(k, d, n, table.as_ptr(), table.len(), to, room, answer, length) })
+        .map(|[_, _, characters]| characters)
 }
 
 /// Reads a text as a list for a shape, and answers the count of numbers written, four a line.
 pub fn read_text(shape: Shape, text: &[u8], output: &mut [u32]) -> Result<usize, Refusal> {
-    let mut answer = [0; 3];
-    // SAFETY: a slice's pointer is aligned, not null and valid for its length; `&mut` overlaps nothing else.
-    let status = unsafe {
-        c::jugy_read_text(
-            shape.candidates,
-            shape.grades,
-            shape.ballots,
-            text.as_ptr(),
-            text.len(),
-            output.as_mut_ptr(),
-            output.len(),
-            answer.as_mut_ptr(),
-            answer.len(),
-        )
-    };
-    checked(status, &answer)?;
-    Ok(answer[2])
+    let [k, d, n] = shape.numbers();
+    let (to, room) = (output.as_mut_ptr(), output.len());
+    // SAFETY: as in `write`.
+    answered(|answer, length| unsafe { c::jugy_read_text(k, d, n, text.as_ptr(), text.len(), to, room, answer, length) })
+        .map(|[_, _, numbers]| numbers)
 }
 
 /// How many characters the text of a list takes. Numbers behind the last whole gate do not count.

@@ -2,7 +2,7 @@
 //!
 //! A dealing serves one tally only: its bits are secret, random and fresh, or the trustees learn more than the closing bytes.
 
-use crate::{checked, Refusal, Shape};
+use crate::{answered, Refusal, Shape};
 
 mod c {
     extern "C" {
@@ -83,13 +83,13 @@ pub fn tally(
     wires: &mut [u8],
     published: &mut [u8],
 ) -> Result<Tallied, Refusal> {
-    let mut answer = [0; 12];
+    let [k, d, n] = shape.numbers();
     // SAFETY: every pointer comes from a slice and is handed over with its length; what is written is borrowed mutably.
-    let status = unsafe {
+    let [_, _, gates, conditional, closing @ ..]: [usize; 12] = answered(|answer, length| unsafe {
         c::jugy_trustees(
-            shape.candidates,
-            shape.grades,
-            shape.ballots,
+            k,
+            d,
+            n,
             table.as_ptr(),
             table.len(),
             ballots.as_ptr(),
@@ -103,18 +103,10 @@ pub fn tally(
             wires.len(),
             published.as_mut_ptr(),
             published.len(),
-            answer.as_mut_ptr(),
-            answer.len(),
+            answer,
+            length,
         )
-    };
-    checked(status, &answer)?;
-    let mut closing = [0; 8];
-    for (byte, &number) in closing.iter_mut().zip(&answer[4..]) {
-        *byte = number as u8;
-    }
-    Ok(Tallied {
-        gates: answer[2],
-        conditional: answer[3],
-        closing,
-    })
+    })?;
+    let closing = closing.map(|byte| byte as u8);
+    Ok(Tallied { gates, conditional, closing })
 }

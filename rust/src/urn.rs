@@ -2,7 +2,7 @@
 //!
 //! Each call answers the number of ballots in the urn afterwards, or its refusal, in which case the urn is as it was.
 
-use crate::{Reason, Refusal};
+use crate::{answered, Refusal};
 
 mod c {
     extern "C" {
@@ -57,27 +57,15 @@ mod c {
     }
 }
 
-/// Reason, place and number of ballots.
-type Answer = [usize; 3];
-
-fn outcome(answer: Answer) -> Result<usize, Refusal> {
-    match answer {
-        [0, _, ballots] => Ok(ballots),
-        [reason, place, _] => Err(Refusal {
-            reason: Reason::of(reason).expect("a reason of the list"),
-            place,
-        }),
-    }
+/// The number of ballots that an entry point answers.
+fn ballots(call: impl FnOnce(*mut usize, usize) -> usize) -> Result<usize, Refusal> {
+    answered(call).map(|[_, _, ballots]| ballots)
 }
 
 /// Makes a table an empty urn, whatever its bytes are; all its slots are free, in order.
 pub fn empty(k: usize, d: usize, urn: &mut [u8]) -> Result<usize, Refusal> {
-    let mut answer: Answer = [0; 3];
     // SAFETY: every pointer comes from a slice and is handed over with its length; what is written is borrowed mutably.
-    unsafe {
-        c::jugy_empty_urn(k, d, urn.as_mut_ptr(), urn.len(), answer.as_mut_ptr(), answer.len());
-    }
-    outcome(answer)
+    ballots(|answer, length| unsafe { c::jugy_empty_urn(k, d, urn.as_mut_ptr(), urn.len(), answer, length) })
 }
 
 /// An empty urn of so many slots, 2 to 256, for k candidates and d grades.
@@ -90,60 +78,26 @@ pub fn new(k: usize, d: usize, slots: usize) -> Result<Vec<u8>, Refusal> {
 
 /// Admits the ballot of a juror.
 pub fn admit(k: usize, d: usize, urn: &mut [u8], juror: usize, ballot: &[u8]) -> Result<usize, Refusal> {
-    let mut answer: Answer = [0; 3];
+    let (bytes, size) = (ballot.as_ptr(), ballot.len());
     // SAFETY: as in `empty`.
-    unsafe {
-        c::jugy_admit(
-            k,
-            d,
-            urn.as_mut_ptr(),
-            urn.len(),
-            juror,
-            ballot.as_ptr(),
-            ballot.len(),
-            answer.as_mut_ptr(),
-            answer.len(),
-        );
-    }
-    outcome(answer)
+    ballots(|answer, length| unsafe { c::jugy_admit(k, d, urn.as_mut_ptr(), urn.len(), juror, bytes, size, answer, length) })
 }
 
 /// Withdraws the ballot of a juror.
 pub fn withdraw(k: usize, d: usize, urn: &mut [u8], juror: usize) -> Result<usize, Refusal> {
-    let mut answer: Answer = [0; 3];
     // SAFETY: as in `empty`.
-    unsafe {
-        c::jugy_withdraw(k, d, urn.as_mut_ptr(), urn.len(), juror, answer.as_mut_ptr(), answer.len());
-    }
-    outcome(answer)
+    ballots(|answer, length| unsafe { c::jugy_withdraw(k, d, urn.as_mut_ptr(), urn.len(), juror, answer, length) })
 }
 
 /// What `admit` would answer.
 pub fn preview_admit(k: usize, d: usize, urn: &[u8], juror: usize, ballot: &[u8]) -> Result<usize, Refusal> {
-    let mut answer: Answer = [0; 3];
+    let (bytes, size) = (ballot.as_ptr(), ballot.len());
     // SAFETY: as in `empty`; the urn is read alone.
-    unsafe {
-        c::jugy_preview_admit(
-            k,
-            d,
-            urn.as_ptr(),
-            urn.len(),
-            juror,
-            ballot.as_ptr(),
-            ballot.len(),
-            answer.as_mut_ptr(),
-            answer.len(),
-        );
-    }
-    outcome(answer)
+    ballots(|answer, length| unsafe { c::jugy_preview_admit(k, d, urn.as_ptr(), urn.len(), juror, bytes, size, answer, length) })
 }
 
 /// What `withdraw` would answer.
 pub fn preview_withdraw(k: usize, d: usize, urn: &[u8], juror: usize) -> Result<usize, Refusal> {
-    let mut answer: Answer = [0; 3];
     // SAFETY: as in `empty`; the urn is read alone.
-    unsafe {
-        c::jugy_preview_withdraw(k, d, urn.as_ptr(), urn.len(), juror, answer.as_mut_ptr(), answer.len());
-    }
-    outcome(answer)
+    ballots(|answer, length| unsafe { c::jugy_preview_withdraw(k, d, urn.as_ptr(), urn.len(), juror, answer, length) })
 }
