@@ -1,6 +1,9 @@
 //! Writes the list of a jury of two blends, three grades and three ballots, runs it and prints who wins.
 //! Run: cargo run --offline --manifest-path rust/Cargo.toml --example jury
-use jugyvaros::{measure, run, write, Shape};
+mod small_jury;
+
+use jugyvaros::run;
+use small_jury::{own_list, BALLOTS, SHAPE};
 use std::error::Error;
 use std::fs::File;
 use std::io::Read;
@@ -14,26 +17,14 @@ fn random_bits(count: usize) -> std::io::Result<Vec<u8>> {
 }
 
 fn main() -> Result<(), Box<dyn Error>> {
-    let shape = Shape {
-        candidates: 2,
-        grades: 3,
-        ballots: 3,
-    };
-    let ballots = [
-        1, 0, 0, 0, 1, 0, // first ballot: blend 0 best, blend 1 middle
-        0, 1, 0, 0, 1, 0, //
-        0, 1, 0, 0, 0, 1,
-    ];
-    let m = measure(shape)?;
-    let mut table = vec![0; 4 * m.gates];
-    write(shape, &mut table)?;
+    let (m, table) = own_list()?;
     let tape = random_bits(m.conditional)?;
     let mut wires = vec![0; m.inputs + m.gates];
-    let mut board = vec![0; m.conditional + shape.candidates];
-    run(shape, &table, &ballots, &tape, &mut wires, &mut board)?;
+    let mut board = vec![0; m.conditional + SHAPE.candidates];
+    run(SHAPE, &table, &BALLOTS, &tape, &mut wires, &mut board)?;
     println!(
         "jury {} {} {}: {} gates, {} conditional",
-        shape.candidates, shape.grades, shape.ballots, m.gates, m.conditional
+        SHAPE.candidates, SHAPE.grades, SHAPE.ballots, m.gates, m.conditional
     );
     for (blend, &byte) in board[m.conditional..].iter().enumerate() {
         if byte == 1 {
