@@ -8,17 +8,14 @@ inputs that come in pieces, inputs longer than what is kept, faults in shape and
 beside faulty ballots, and random juries.
 """
 
-import pathlib
 import random
 import subprocess
-import sys
-import time
 
 import document01 as doc
-from core import Core
+from core import ROOT, Core
+from programs import Comparisons, Program
 
-ROOT = pathlib.Path(__file__).resolve().parent.parent
-PROGRAM = ROOT / "target" / "bin" / "rehearsal"
+PROGRAM = Program("rehearsal")
 CORE = Core()
 KEPT = 16_384
 TABLE = 16_000
@@ -84,22 +81,6 @@ def expected(data):
     return "jury %d %d %d\nwinners %s\n" % (k, d, n, " ".join(map(str, winners)))
 
 
-def said(data):
-    return subprocess.run([PROGRAM], input=data, stdout=subprocess.PIPE, check=True).stdout.decode()
-
-
-def said_in_pieces(pieces):
-    program = subprocess.Popen([PROGRAM], stdin=subprocess.PIPE, stdout=subprocess.PIPE)
-    for piece in pieces:
-        program.stdin.write(piece)
-        program.stdin.flush()
-        time.sleep(0.01)
-    program.stdin.close()
-    text = program.stdout.read().decode()
-    assert program.wait() == 0
-    return text
-
-
 def jury(rng, k, d, n):
     """A random jury; without grades it ranks."""
     if d == 0:
@@ -154,30 +135,22 @@ def inputs(rng):
 
 def main():
     rng = random.Random(8)
-    count, wrong = 0, 0
-
-    def compare(what, text, wanted):
-        nonlocal count, wrong
-        count += 1
-        if text != wanted:
-            wrong += 1
-            print(f"{what}: printed {text!r}, not {wanted!r}")
-
+    compared = Comparisons()
+    compare = compared.compare
     for data in inputs(rng):
-        compare(data[:24].hex(" "), said(data), expected(data))
+        compare(data[:24].hex(" "), PROGRAM.said(data), expected(data))
     for data in [jury(rng, 2, 3, 3), jury(rng, 3, 5, 15), jury(rng, 8, 7, 3), jury(rng, 4, 0, 6)]:
         cut = rng.randrange(len(data))
         for pieces in [[data[:cut], data[cut:]], [data[:1], data[1:2], data[2:4], data[4:]], [data[i : i + 1] for i in range(min(40, len(data)))] + [data[40:]]]:
-            compare("in pieces", said_in_pieces(pieces), expected(data))
+            compare("in pieces", PROGRAM.said_in_pieces(pieces), expected(data))
     for name, wanted in EXAMPLES.items():
         data = subprocess.run([ROOT / "tools" / "jury", ROOT / "examples" / f"{name}.txt"], stdout=subprocess.PIPE, check=True).stdout
-        compare(name, said(data), wanted)
+        compare(name, PROGRAM.said(data), wanted)
         compare(name, expected(data), wanted)
     for text, wanted in TEXTS:
         made = made_of(text)
         compare(text, made[:len(wanted)] if isinstance(made, str) else made, wanted)
-    print(f"rehearsal: {count} inputs, {wrong} wrong")
-    sys.exit(1 if wrong else 0)
+    compared.end("rehearsal")
 
 
 if __name__ == "__main__":

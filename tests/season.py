@@ -10,16 +10,14 @@ every k; faults in pairs; inputs that come in pieces; the largest totals; random
 import pathlib
 import random
 import subprocess
-import sys
 import tempfile
-import time
 import xml.etree.ElementTree
 
 import document01 as doc
-from core import Core
+from core import ROOT, Core
+from programs import Comparisons, Program
 
-ROOT = pathlib.Path(__file__).resolve().parent.parent
-PROGRAM = ROOT / "target" / "bin" / "season_sheet"
+PROGRAM = Program("season_sheet")
 RUN_BYTES, MOST_BYTES, LARGEST = 12, 49_152, 2**32 - 1
 GOOD = 2, 3, 3, 1, 61, 27
 
@@ -44,22 +42,6 @@ def expected(data):
         sums["ballots"] += n
         sums["shared"] += len(winners) > 1
     return "".join(f"{word} {number}\n" for word, number in sums.items())
-
-
-def said(data):
-    return subprocess.run([PROGRAM], input=data, stdout=subprocess.PIPE, check=True).stdout.decode()
-
-
-def said_in_pieces(pieces):
-    program = subprocess.Popen([PROGRAM], stdin=subprocess.PIPE, stdout=subprocess.PIPE)
-    for piece in pieces:
-        program.stdin.write(piece)
-        program.stdin.flush()
-        time.sleep(0.01)
-    program.stdin.close()
-    text = program.stdout.read().decode()
-    assert program.wait() == 0
-    return text
 
 
 def random_run(rng):
@@ -152,25 +134,17 @@ def tools_agree(compare):
 
 def main():
     rng = random.Random(29)
-    count, wrong = 0, 0
-
-    def compare(what, text, wanted):
-        nonlocal count, wrong
-        count += 1
-        if text != wanted:
-            wrong += 1
-            print(f"{what}: {text!r}, not {wanted!r}")
-
+    compared = Comparisons()
+    compare = compared.compare
     for data in inputs(rng):
-        compare(f"{len(data)} bytes, {data[:24].hex(' ')}", said(data), expected(data))
+        compare(f"{len(data)} bytes, {data[:24].hex(' ')}", PROGRAM.said(data), expected(data))
     for data in [random_sheet(rng, 3), random_sheet(rng, 4096), random_sheet(rng, 4097)]:
         cut = rng.randrange(len(data))
         for pieces in [[data[:cut], data[cut:]], [data[:1], data[1:13], data[13:]], [data[i : i + 1] for i in range(36)] + [data[36:]]]:
-            compare("in pieces", said_in_pieces(pieces), expected(data))
+            compare("in pieces", PROGRAM.said_in_pieces(pieces), expected(data))
     compare("the largest totals", expected(run_bytes(8, 7, 255, 255, LARGEST, LARGEST) * 4096), "runs 4096\ngates 17592186040320\nconditional 17592186040320\nballots 1044480\nshared 4096\n")
     tools_agree(compare)
-    print(f"season: {count} comparisons, {wrong} wrong")
-    sys.exit(1 if wrong else 0)
+    compared.end("season")
 
 
 if __name__ == "__main__":
