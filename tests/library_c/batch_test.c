@@ -2,16 +2,8 @@
  * jury compared with its single run; and calls with a length one off, after which nothing may be altered. */
 #include "../../c/jugyvaros.h"
 #include "kinds.h"
+#include "lent.h"
 #include <stdio.h>
-#include <stdlib.h>
-#include <string.h>
-
-static uint32_t state = 1;
-
-static uint32_t below(uint32_t n) {
-    state = state * 1664525u + 1013904223u;
-    return (state >> 8) % n;
-}
 
 static uint64_t any_word(void) {
     uint64_t word = 0;
@@ -25,22 +17,15 @@ static void fail(const char *why) {
     exit(1);
 }
 
-static void *lent(size_t count, size_t size) {
-    void *p = malloc(count ? count * size : 1);
-    if (!p)
-        fail("no memory");
-    return p;
-}
-
 static uint64_t *words(size_t count) {
-    uint64_t *p = lent(count, sizeof *p);
+    uint64_t *p = lent(8 * count);
     for (size_t i = 0; i < count; i++)
         p[i] = any_word();
     return p;
 }
 
 static uint8_t *lane(const uint64_t *p, size_t count, int j) {
-    uint8_t *bytes = lent(count, 1);
+    uint8_t *bytes = lent(count);
     for (size_t i = 0; i < count; i++)
         bytes[i] = p[i] >> j & 1;
     return bytes;
@@ -50,7 +35,7 @@ static void one_jury(const size_t *shape, const uint32_t *table, size_t gates, s
                      const uint64_t *tape, const uint64_t *board, int j) {
     size_t said[JUGY_RUN_ANSWER];
     uint8_t *bytes = lane(ballots, inputs, j), *bits = lane(tape, marks, j);
-    uint8_t *wires = lent(inputs + gates, 1), *single = lent(marks + shape[0], 1), *seen = lane(board, marks + shape[0], j);
+    uint8_t *wires = lent(inputs + gates), *single = lent(marks + shape[0]), *seen = lane(board, marks + shape[0], j);
     if (jugy_run(shape[0], shape[1], shape[2], table, 4 * gates, bytes, inputs, bits, marks, wires, inputs + gates, single, marks + shape[0], said, JUGY_RUN_ANSWER))
         fail("a single run is refused");
     if (memcmp(single, seen, marks + shape[0]))
@@ -61,7 +46,7 @@ static void one_jury(const size_t *shape, const uint32_t *table, size_t gates, s
 static void one_call(int off) {
     size_t shape[3] = {1 + below(3), 2 + below(3), 1 + below(3)}, answer[JUGY_RUN_ANSWER];
     size_t k = shape[0], d = shape[1], inputs = shape[2] * k * d, gates = k + below(30), marks = 0;
-    uint32_t *table = lent(4 * gates, sizeof *table);
+    uint32_t *table = lent(16 * gates);
     for (size_t g = 0; g < gates; g++) {
         uint32_t kind = below(8);
         marks += kind_conditional[kind];
@@ -69,15 +54,13 @@ static void one_call(int off) {
         for (uint32_t i = 0; i < 3; i++)
             table[4 * g + 1 + i] = i < kind_operands[kind] ? below((uint32_t)(inputs + g)) : 0;
     }
-    uint64_t *ballots = lent(inputs + (off == 1), sizeof *ballots);
-    memset(ballots, 0, (inputs + (off == 1)) * sizeof *ballots);
+    uint64_t *ballots = filled(8 * (inputs + (off == 1)), 0);
     for (int j = 0; j < 64; j++)
         for (size_t row = 0; row < inputs; row += d)
             ballots[row + below((uint32_t)d)] |= (uint64_t)1 << j;
     size_t lengths[4] = {inputs + (off == 1), marks + (off == 2), inputs + gates + (off == 3), marks + k + (off == 4)};
     uint64_t *tape = words(lengths[1]), *wires = words(lengths[2]), *board = words(lengths[3]);
-    uint64_t *old_wires = lent(lengths[2], 8), *old_board = lent(lengths[3], 8);
-    memcpy(old_wires, wires, lengths[2] * 8), memcpy(old_board, board, lengths[3] * 8);
+    uint64_t *old_wires = copy_of(wires, 8 * lengths[2]), *old_board = copy_of(board, 8 * lengths[3]);
     size_t status = jugy_run_batch(k, d, shape[2], table, 4 * gates, ballots, lengths[0], tape, lengths[1], wires, lengths[2], board, lengths[3], answer, JUGY_RUN_ANSWER);
     static const size_t expected[] = {JUGY_ACCEPTED, JUGY_BALLOTS_LENGTH, JUGY_TAPE_LENGTH, JUGY_WIRES_LENGTH, JUGY_BOARD_LENGTH};
     if (status != expected[off] || answer[0] != status || answer[1] != 0)

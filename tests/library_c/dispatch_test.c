@@ -1,26 +1,10 @@
 /* The dispatcher on heap buffers of exactly the lent length, for valgrind: random juries, shares and damage. The boards of an
  * accepted call are compared with those of undivided runs, its wires with zeros, and what a refused call was lent with its copy. */
 #include "../../c/jugyvaros.h"
+#include "lent.h"
 #include <stdio.h>
-#include <stdlib.h>
-#include <string.h>
 
 enum { MOST = 8 };
-
-static uint32_t state = 1;
-
-static uint32_t below(uint32_t n) {
-    state = state * 1664525u + 1013904223u;
-    return (state >> 8) % n;
-}
-
-static void *room(size_t items, size_t size) {
-    return calloc(items ? items : 1, size);
-}
-
-static void *copy_of(const void *from, size_t bytes) {
-    return memcpy(room(bytes, 1), from, bytes);
-}
 
 static void fail(const char *what) {
     printf("dispatch_test: %s\n", what);
@@ -71,8 +55,8 @@ static void one_call(void) {
     size_t lists_length = all.numbers + extra - (short_table == 0), ballots_length = all.bytes + extra - (short_table == 1),
            tapes_length = all.masks + extra - (short_table == 2 && all.masks), wires_length = all.values + extra - (short_table == 3),
            boards_length = all.shown + extra - (short_table == 4);
-    uint32_t *whole = room(all.numbers, 4);
-    uint8_t *votes = room(all.bytes, 1), *tape = room(all.masks, 1);
+    uint32_t *whole = filled(4 * all.numbers, 0);
+    uint8_t *votes = filled(all.bytes, 0), *tape = filled(all.masks, 0);
     for (size_t j = 0; j < juries; j++) {
         struct sizes at = total(of, j);
         jugy_write(stated[4 * j], stated[4 * j + 1], stated[4 * j + 2], whole + at.numbers, of[j].numbers, answer, 4);
@@ -82,13 +66,11 @@ static void one_call(void) {
         tape[i] = (uint8_t)below(2);
     if (!below(6))
         votes[below((uint32_t)all.bytes)] ^= 3;
-    uint32_t *lists = room(lists_length, 4);
-    uint8_t *ballots = room(ballots_length, 1), *tapes = room(tapes_length, 1), *wires = room(wires_length, 1), *boards = room(boards_length, 1);
+    uint32_t *lists = filled(4 * lists_length, 0);
+    uint8_t *ballots = filled(ballots_length, 0), *tapes = filled(tapes_length, 0), *wires = filled(wires_length, 9), *boards = filled(boards_length, 9);
     memcpy(lists, whole, 4 * (lists_length < all.numbers ? lists_length : all.numbers));
     memcpy(ballots, votes, ballots_length < all.bytes ? ballots_length : all.bytes);
     memcpy(tapes, tape, tapes_length < all.masks ? tapes_length : all.masks);
-    memset(wires, 9, wires_length);
-    memset(boards, 9, boards_length);
     uint8_t *wires_before = copy_of(wires, wires_length), *boards_before = copy_of(boards, boards_length);
     size_t *statements = copy_of(stated, 4 * juries * sizeof *stated);
     size_t reason = jugy_dispatch(juries, share, statements, 4 * juries, lists, lists_length, ballots, ballots_length, tapes,
@@ -108,7 +90,7 @@ static void one_call(void) {
                 fail("another number of rounds");
         for (size_t j = 0; j < juries; j++) {
             struct sizes at = total(of, j);
-            uint8_t *values = room(of[j].values, 1), *board = room(of[j].shown, 1);
+            uint8_t *values = filled(of[j].values, 0), *board = filled(of[j].shown, 0);
             size_t said[4];
             if (jugy_run(stated[4 * j], stated[4 * j + 1], stated[4 * j + 2], whole + at.numbers, of[j].numbers, votes + at.bytes,
                          of[j].bytes, tape + at.masks, of[j].masks, values, of[j].values, board, of[j].shown, said, 4))

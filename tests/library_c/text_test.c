@@ -4,6 +4,7 @@
  *     text_test faults             every pair of faults, and the forms that are turned away
  *     text_test long               as many lines as there may be, and one more */
 #include "../../c/jugyvaros.h"
+#include "kinds.h"
 #include "reference.h"
 #include "text_reference.h"
 #include <stdio.h>
@@ -93,8 +94,6 @@ static size_t below(size_t n) {
     return (size_t)(state % n);
 }
 
-static const size_t operands[8] = {0, 0, 1, 1, 2, 2, 2, 3};
-
 static void edits(size_t rounds, uint64_t seed) {
     static const char characters[] = "0123456789 \n\t\r+-x";
     static uint32_t table[4 * 40];
@@ -107,7 +106,7 @@ static void edits(size_t rounds, uint64_t seed) {
             uint32_t *gate = table + 4 * g;
             gate[0] = (uint32_t)below(8);
             for (size_t i = 0; i < 3; i++)
-                gate[1 + i] = i < operands[gate[0]] ? (uint32_t)below(inputs + g) : 0;
+                gate[1 + i] = i < kind_operands[gate[0]] ? (uint32_t)below(inputs + g) : 0;
         }
         struct text_said wrote = write_both(s, table, 4 * gates, 4096, text);
         if (wrote.reason)

@@ -2,31 +2,11 @@
  * with tables, tapes, wire tables and boards that fit or are one off. A run on a sound urn is compared with jugy_run on the ballots
  * of its chain, and a refused call's buffers and every urn with their copies. */
 #include "../../c/jugyvaros.h"
+#include "lent.h"
 #include <stdio.h>
-#include <stdlib.h>
-#include <string.h>
-
-static uint32_t state = 1;
-
-static uint32_t below(uint32_t n) {
-    state = state * 1664525u + 1013904223u;
-    return (state >> 8) % n;
-}
 
 /* Mostly the length that fits, now and then one more or one less. */
 static size_t about(size_t length) { return below(12) ? length : below(2) || !length ? length + 1 : length - 1; }
-
-static uint8_t *filled(size_t length, uint8_t byte) {
-    uint8_t *bytes = malloc(length ? length : 1);
-    memset(bytes, byte, length);
-    return bytes;
-}
-
-static uint8_t *copy_of(const uint8_t *bytes, size_t length) {
-    uint8_t *copy = malloc(length ? length : 1);
-    memcpy(copy, bytes, length);
-    return copy;
-}
 
 static void expect(int holds, const char *what) {
     if (!holds) {
@@ -37,7 +17,7 @@ static void expect(int holds, const char *what) {
 
 static void fill(size_t k, size_t d, uint8_t *urn, size_t length, size_t times) {
     size_t said[JUGY_URN_ANSWER];
-    uint8_t *ballot = malloc(k * d);
+    uint8_t *ballot = lent(k * d);
     for (size_t i = 0; i < times; i++) {
         memset(ballot, 0, k * d);
         for (size_t c = 0; c < k; c++)
@@ -51,7 +31,7 @@ static void fill(size_t k, size_t d, uint8_t *urn, size_t length, size_t times) 
 
 /* The ballots of a sound urn, slot after slot along the chain, and their number. */
 static uint8_t *chain_of(size_t k, size_t d, const uint8_t *urn, size_t *count) {
-    uint8_t *bytes = malloc(255 * k * d);
+    uint8_t *bytes = lent(255 * k * d);
     *count = 0;
     for (size_t slot = urn[0]; slot; slot = urn[slot * (2 + k * d)])
         memcpy(bytes + (*count)++ * k * d, urn + slot * (2 + k * d) + 2, k * d);
@@ -66,7 +46,7 @@ static int is_sound(size_t k, size_t d, const uint8_t *urn, size_t length) {
 static void one_call(size_t k, size_t d, size_t n, const uint8_t *urn, size_t length) {
     size_t said[JUGY_RUN_ANSWER], other[JUGY_RUN_ANSWER], gates = k + below(6), c = 0, count;
     size_t numbers = about(4 * gates);
-    uint32_t *table = calloc(numbers ? numbers : 1, sizeof *table);
+    uint32_t *table = filled(4 * numbers, 0);
     for (size_t g = 0; g < gates && 4 * g + 3 < numbers; g++) {
         uint32_t own = (uint32_t)(n * k * d + g);
         table[4 * g] = 4 + (uint32_t)below(3);
@@ -110,7 +90,7 @@ int main(int count, char **words) {
     for (int r = 0; r < rounds; r++) {
         size_t k = 1 + below(8), d = 2 + below(6), size = 2 + k * d, slots = below(9) ? 2 + below(8) : 1 + below(256), many;
         size_t length = slots * size + (below(8) ? 0 : below(3));
-        uint8_t *urn = calloc(length, 1), *chain;
+        uint8_t *urn = filled(length, 0), *chain;
         urn[1] = 1;
         for (size_t i = 1; i + 1 < slots; i++)
             urn[i * size] = (uint8_t)(i + 1);

@@ -1,28 +1,14 @@
 /* Empty urns, admission and withdrawal on heap buffers of exactly the lent length, for valgrind: random calls on sound and damaged urns of any
  * length. Answer and urn of each call are compared with the reference's on a copy, and the answer with the preview's. */
 #include "../../c/jugyvaros.h"
+#include "lent.h"
 #include "urn_reference.h"
 #include <stdio.h>
-#include <stdlib.h>
-#include <string.h>
-
-static uint32_t state = 1;
-
-static uint32_t below(uint32_t n) {
-    state = state * 1664525u + 1013904223u;
-    return (state >> 8) % n;
-}
-
-static uint8_t *copy_of(const uint8_t *bytes, size_t length) {
-    uint8_t *copy = malloc(length ? length : 1);
-    memcpy(copy, bytes, length);
-    return copy;
-}
 
 static void one_call(size_t k, size_t d, uint8_t *urn, size_t length) {
     size_t said[JUGY_URN_ANSWER], seen[JUGY_URN_ANSWER], right[JUGY_URN_ANSWER];
     size_t ballot_length = below(8) ? k * d : below(60), juror = below(12) ? 1 + below(6) : below(300);
-    uint8_t *copy = copy_of(urn, length), *ballot = calloc(ballot_length ? ballot_length : 1, 1);
+    uint8_t *copy = copy_of(urn, length), *ballot = filled(ballot_length, 0);
     for (size_t i = 0; i < ballot_length; i += d ? d : 1)
         ballot[i] = below(20) ? 1 : 2;
     if (below(2)) {
@@ -47,7 +33,7 @@ int main(int count, char **words) {
     for (int r = 0; r < rounds; r++) {
         size_t k = below(10), d = below(9), size = 2 + k * d, slots = below(5) ? 2 + below(6) : 1 + below(257);
         size_t length = slots * size + (below(8) ? 0 : below(3));
-        uint8_t *urn = malloc(length ? length : 1);
+        uint8_t *urn = lent(length);
         for (size_t i = 0; i < length; i++)
             urn[i] = (uint8_t)below(256);
         size_t said[JUGY_URN_ANSWER], right[JUGY_URN_ANSWER];
