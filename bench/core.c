@@ -456,6 +456,36 @@ static uint8_t value(uint32_t kind, uint8_t a, uint8_t b, uint8_t c) {
     }
 }
 
+/* Reasons 7 to 10 of a run whose list has been tested; what was said of the list where there is none. */
+static struct said test_lent(struct said s, size_t k, size_t inputs, const uint8_t *tape, size_t tape_length, size_t wires_length,
+                             size_t board_length) {
+    if (tape_length != s.conditional)
+        return refused(7, 0);
+    size_t bad = first_above_one(tape, tape_length);
+    if (bad < tape_length)
+        return refused(8, bad);
+    if (wires_length != inputs + s.gates)
+        return refused(9, 0);
+    return board_length == s.conditional + k ? s : refused(10, 0);
+}
+
+/* Evaluates the gates behind the ballots' wires, fills the board and empties the wires. */
+static void evaluate(struct said s, size_t k, size_t inputs, const uint32_t *table, const uint8_t *tape, uint8_t *wires,
+                     uint8_t *board) {
+    size_t shown = 0;
+    for (size_t g = 0; g < s.gates; g++) {
+        const uint32_t *gate = table + 4 * g;
+        uint8_t a = wires[gate[1]];
+        wires[inputs + g] = value(gate[0], a, wires[gate[2]], wires[gate[3]]);
+        if (kind_conditional[gate[0]]) {
+            board[shown] = (a + tape[shown]) % 2;
+            shown++;
+        }
+    }
+    memcpy(board + shown, wires + inputs + s.gates - k, k);
+    memset(wires, 0, inputs + s.gates);
+}
+
 size_t core_run(size_t k, size_t d, size_t n, const uint32_t *table, size_t table_length, const uint8_t *bytes,
                 size_t bytes_length, const uint8_t *tape, size_t tape_length, uint8_t *wires, size_t wires_length,
                 uint8_t *board, size_t board_length, size_t *answer, size_t answer_length) {
@@ -467,28 +497,11 @@ size_t core_run(size_t k, size_t d, size_t n, const uint32_t *table, size_t tabl
     struct said b = test_ballots(k, d, n, bytes, bytes_length);
     if (b.reason)
         return put(b, answer);
-    if (tape_length != s.conditional)
-        return put(refused(7, 0), answer);
-    size_t bad = first_above_one(tape, tape_length);
-    if (bad < tape_length)
-        return put(refused(8, bad), answer);
-    if (wires_length != bytes_length + s.gates)
-        return put(refused(9, 0), answer);
-    if (board_length != s.conditional + k)
-        return put(refused(10, 0), answer);
+    s = test_lent(s, k, bytes_length, tape, tape_length, wires_length, board_length);
+    if (s.reason)
+        return put(s, answer);
     memcpy(wires, bytes, bytes_length);
-    size_t shown = 0;
-    for (size_t g = 0; g < s.gates; g++) {
-        const uint32_t *gate = table + 4 * g;
-        uint8_t a = wires[gate[1]];
-        wires[bytes_length + g] = value(gate[0], a, wires[gate[2]], wires[gate[3]]);
-        if (kind_conditional[gate[0]]) {
-            board[shown] = (a + tape[shown]) % 2;
-            shown++;
-        }
-    }
-    memcpy(board + shown, wires + wires_length - k, k);
-    memset(wires, 0, wires_length);
+    evaluate(s, k, bytes_length, table, tape, wires, board);
     return put(s, answer);
 }
 

@@ -1,13 +1,8 @@
-/* Lists as text: the library against the same passes in C, in one run, middle ratio of many short rounds.
+/* Lists as text: the library against the same passes in C, in one run, as timing.h says.
  *     text K D N    prints nanoseconds a line, MB/s and the ratio for writing and for reading */
-#include "../c/jugyvaros.h"
-#include <stdint.h>
-#include <stdio.h>
-#include <stdlib.h>
-#include <string.h>
-#include <time.h>
-
-static const uint32_t operands[8] = {0, 0, 1, 1, 2, 2, 2, 3};
+#include "../tests/library_c/kinds.h"
+#include "jury.h"
+#include "timing.h"
 
 static inline size_t digits(uint32_t n) {
     size_t count = 1;
@@ -29,7 +24,7 @@ __attribute__((noinline)) static int gate_is_good(size_t own, const uint32_t *ga
     if (gate[0] > 7)
         return 0;
     for (uint32_t i = 0; i < 3; i++)
-        if (i < operands[gate[0]] ? gate[1 + i] >= own : gate[1 + i] != 0)
+        if (i < kind_operands[gate[0]] ? gate[1 + i] >= own : gate[1 + i] != 0)
             return 0;
     return 1;
 }
@@ -41,14 +36,14 @@ __attribute__((noinline)) static size_t write_text(size_t inputs, const uint32_t
             return 0;
     for (size_t g = 0; g < gates; g++) {
         total += digits(table[4 * g]) + 1;
-        for (uint32_t i = 0; i < operands[table[4 * g]]; i++)
+        for (uint32_t i = 0; i < kind_operands[table[4 * g]]; i++)
             total += digits(table[4 * g + 1 + i]) + 1;
     }
     if (room < total)
         return 0;
     for (size_t g = 0; g < gates; g++) {
         at += put(table[4 * g], output + at);
-        for (uint32_t i = 0; i < operands[table[4 * g]]; i++) {
+        for (uint32_t i = 0; i < kind_operands[table[4 * g]]; i++) {
             output[at++] = ' ';
             at += put(table[4 * g + 1 + i], output + at);
         }
@@ -75,7 +70,7 @@ static inline int line(const uint8_t *text, size_t length, size_t *at, uint32_t 
     gate[1] = gate[2] = gate[3] = 0;
     if (!number(text, length, at, gate) || gate[0] > 7)
         return 0;
-    for (uint32_t i = 0; i < operands[gate[0]]; i++) {
+    for (uint32_t i = 0; i < kind_operands[gate[0]]; i++) {
         if (*at >= length || text[*at] != ' ')
             return 0;
         ++*at;
@@ -106,51 +101,38 @@ __attribute__((noinline)) static size_t read_text(size_t inputs, size_t k, const
     return 4 * lines;
 }
 
-static double now(void) {
-    struct timespec t;
-    clock_gettime(CLOCK_THREAD_CPUTIME_ID, &t);
-    return (double)t.tv_sec + 1e-9 * (double)t.tv_nsec;
-}
+static struct jury j;
+static uint32_t *numbers;
+static uint8_t *text;
+static size_t room, length;
+static int reading;
 
-static int by_value(const void *a, const void *b) {
-    double x = *(const double *)a, y = *(const double *)b;
-    return (x > y) - (x < y);
-}
+enum { IN_C, CORE, WAYS };
 
-enum { ROUNDS = 41 };
+static size_t call(int way) {
+    size_t answer[JUGY_TEXT_ANSWER];
+    if (way == CORE)
+        return reading ? jugy_read_text(j.k, j.d, j.n, text, length, numbers, 4 * j.gates, answer, JUGY_TEXT_ANSWER)
+                       : jugy_write_text(j.k, j.d, j.n, j.table, 4 * j.gates, text, room, answer, JUGY_TEXT_ANSWER);
+    return reading ? read_text(j.inputs, j.k, text, length, numbers, 4 * j.gates) != 4 * j.gates
+                   : write_text(j.inputs, j.table, j.gates, text, room) != length;
+}
 
 int main(int argc, char **argv) {
     if (argc != 4)
         return 2;
-    size_t k = (size_t)atoi(argv[1]), d = (size_t)atoi(argv[2]), n = (size_t)atoi(argv[3]), answer[5];
-    if (jugy_measure(k, d, n, answer, 5))
-        return 1;
-    size_t gates = answer[2], inputs = answer[4], room = 44 * gates;
-    uint32_t *table = malloc(16 * gates), *numbers = malloc(16 * gates);
-    uint8_t *text = malloc(room);
-    jugy_write(k, d, n, table, 4 * gates, answer, 5);
-    jugy_write_text(k, d, n, table, 4 * gates, text, room, answer, 5);
-    size_t length = answer[2], repeat = 1 + 4000000 / length;
-    for (int reading = 0; reading < 2; reading++) {
-        double ratios[ROUNDS], times[ROUNDS];
-        for (int r = 0; r < ROUNDS; r++) {
-            double start = now(), middle, end;
-            for (size_t i = 0; i < repeat; i++)
-                if (reading ? jugy_read_text(k, d, n, text, length, numbers, 4 * gates, answer, 5)
-                            : jugy_write_text(k, d, n, table, 4 * gates, text, room, answer, 5))
-                    return 1;
-            middle = now();
-            for (size_t i = 0; i < repeat; i++)
-                if ((reading ? read_text(inputs, k, text, length, numbers, 4 * gates) : write_text(inputs, table, gates, text, room)) != answer[2])
-                    return 1;
-            end = now();
-            ratios[r] = (middle - start) / (end - middle);
-            times[r] = (middle - start) / (double)repeat;
-        }
-        qsort(ratios, ROUNDS, sizeof *ratios, by_value);
-        qsort(times, ROUNDS, sizeof *times, by_value);
-        printf("%s %zu %zu %zu: %zu gates, %zu characters, %.1f ns a line, %.0f MB/s, %.2f times C\n", reading ? "read " : "write", k, d, n, gates,
-               length, 1e9 * times[ROUNDS / 2] / (double)gates, 1e-6 * (double)length / times[ROUNDS / 2], ratios[ROUNDS / 2]);
+    size_t answer[JUGY_TEXT_ANSWER];
+    j = jury_of((size_t[]){strtoul(argv[1], 0, 10), strtoul(argv[2], 0, 10), strtoul(argv[3], 0, 10)});
+    room = 44 * j.gates, numbers = filled(16 * j.gates, 0), text = filled(room, 0);
+    if (jugy_write_text(j.k, j.d, j.n, j.table, 4 * j.gates, text, room, answer, JUGY_TEXT_ANSWER))
+        fail_at(&j, "no text");
+    length = answer[2];
+    for (reading = 0; reading < 2; reading++) {
+        struct timing of[WAYS];
+        take_turns(call, WAYS, 41, 1e-2, of);
+        printf("%s %zu %zu %zu: %zu gates, %zu characters, %.1f ns a line, %.0f MB/s, %.2f times C\n", reading ? "read " : "write", j.k, j.d, j.n,
+               j.gates, length, 1e9 * of[CORE].least / (double)j.gates, 1e-6 * (double)length / of[CORE].least, of[CORE].ratio);
     }
+    free(numbers), free(text), free_jury(&j);
     return 0;
 }

@@ -1,0 +1,52 @@
+/* A random jury for the benchmark's programs, with the own list of its shape. */
+#ifndef JURY_H
+#define JURY_H
+
+#include "../c/jugyvaros.h"
+#include "../tests/library_c/lent.h"
+#include <stdio.h>
+
+struct jury {
+    size_t k, d, n, gates, marks, inputs;
+    uint32_t *table;
+    uint8_t *ballots, *tape, *wires, *board;
+};
+
+static inline void fail_at(const struct jury *j, const char *why) {
+    fprintf(stderr, "bench: %s at %zu %zu %zu\n", why, j->k, j->d, j->n);
+    exit(1);
+}
+
+/* Other ballots than before, another tape and another board, for the same list and the same wire table. */
+static inline void draw(struct jury *j) {
+    j->ballots = filled(j->inputs, 0), j->tape = lent(j->marks), j->board = filled(j->marks + j->k, 0);
+    for (size_t row = 0; row < j->n * j->k; row++)
+        j->ballots[row * j->d + below((uint32_t)j->d)] = 1;
+    for (size_t i = 0; i < j->marks; i++)
+        j->tape[i] = (uint8_t)below(2);
+}
+
+static inline struct jury jury_of(const size_t *shape) {
+    size_t answer[JUGY_MEASURE_ANSWER];
+    struct jury j = {.k = shape[0], .d = shape[1], .n = shape[2]};
+    if (jugy_measure(j.k, j.d, j.n, answer, JUGY_MEASURE_ANSWER))
+        fail_at(&j, "not measured");
+    j.gates = answer[2], j.marks = answer[3], j.inputs = answer[4];
+    j.table = filled(16 * j.gates, 0), j.wires = filled(j.inputs + j.gates, 0);
+    if (jugy_write(j.k, j.d, j.n, j.table, 4 * j.gates, answer, JUGY_MEASURE_ANSWER))
+        fail_at(&j, "not written");
+    draw(&j);
+    return j;
+}
+
+static inline size_t run(const struct jury *j) {
+    size_t answer[JUGY_RUN_ANSWER];
+    return jugy_run(j->k, j->d, j->n, j->table, 4 * j->gates, j->ballots, j->inputs, j->tape, j->marks, j->wires, j->inputs + j->gates,
+                    j->board, j->marks + j->k, answer, JUGY_RUN_ANSWER);
+}
+
+static inline void free_drawn(const struct jury *j) { free(j->ballots), free(j->tape), free(j->board); }
+
+static inline void free_jury(const struct jury *j) { free(j->table), free(j->wires), free_drawn(j); }
+
+#endif
