@@ -152,7 +152,7 @@ def machine():
 
 def main():
     folder = pathlib.Path(sys.argv[1])
-    times, counts = read_times(folder / "times"), read_counts(folder)
+    times, counts = read_times(folder / "calls" / "times"), read_counts(folder / "calls")
     text = f"{table(times, counts)}\n\n{missed(times)}"
     urn, urn_run = urn_table(folder / "urn"), urn_run_table(folder / "urn_run_times")
     batch = batch_table(folder / "batch_times")
@@ -170,7 +170,8 @@ def main():
         "- Instructions are those of one call, counted by callgrind, and repeat.\n\n"
         f"{text}\n\n![ratios](result.svg)\n\n"
         "## The urn\n\n"
-        "C is `tests/library_c/urn_reference.c`. Half of the slots hold ballots; the juror withdrawn is the last of the chain.\n\n"
+        "C is `tests/library_c/urn_reference.c`. Half of the slots hold ballots; the juror withdrawn is the last of the chain.\n"
+        "Times and ratios are taken at four places of the code, as above.\n\n"
         f"{urn}\n\n"
         "## The run on an urn\n\n"
         "C is `bench/urn_run.c`. The urn is full but for one slot. The last column is `run` on the same ballots, beside the same C.\n\n"
