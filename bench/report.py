@@ -35,25 +35,23 @@ def read_counts(folder):
     return counts
 
 
+def above_goal(found):
+    """The sentence below a table that names those whose time ratio, as the table shows it, is above the goal."""
+    return "\n\nTime ratios above their goal: " + (", ".join(found) or "none") + "."
+
+
 def table(times, counts):
     lines = [
         "| call | shape | gates | core, µs | C, µs | time ratio | goal | core, instructions | C, instructions | ratio |",
         "|---|---|--:|--:|--:|--:|--:|--:|--:|--:|",
     ]
-    for op in OPS:
-        for (name, shape), (gates, core, c, ratio) in times.items():
-            if name == op:
-                a, b = counts[op, shape, "core"], counts[op, shape, "c"]
-                lines.append(
-                    f"| {op} | {' '.join(map(str, shape))} | {gates} | {core / 1000:.2f} | {c / 1000:.2f} | {ratio:.2f} | {GOALS[op]} | {a} | {b} | {a / b:.2f} |"
-                )
-    return "\n".join(lines)
-
-
-def missed(times):
-    """The calls and shapes whose time ratio, as the table shows it, is above the goal."""
-    found = [f"{op} at {' '.join(map(str, shape))}" for (op, shape), row in times.items() if round(row[3], 2) > GOALS[op]]
-    return "Time ratios above their goal: " + (", ".join(found) if found else "none") + "."
+    above = []
+    for (op, numbers), (gates, core, c, ratio) in sorted(times.items(), key=lambda row: OPS.index(row[0][0])):
+        a, b, shape = counts[op, numbers, "core"], counts[op, numbers, "c"], " ".join(map(str, numbers))
+        lines.append(f"| {op} | {shape} | {gates} | {core / 1000:.2f} | {c / 1000:.2f} | {ratio:.2f} | {GOALS[op]} | {a} | {b} | {a / b:.2f} |")
+        if round(ratio, 2) > GOALS[op]:
+            above.append(f"{op} at {shape}")
+    return "\n".join(lines) + above_goal(above)
 
 
 def batch_table(path):
@@ -128,7 +126,7 @@ def urn_table(folder):
         lines.append(f"| {op} | {k} {d} | {slots} | {ballots} | {core:.0f} | {c:.0f} | {ratio:.2f} | {URN_GOAL} | {a} | {b} | {a / b:.2f} |")
         if round(ratio, 2) > URN_GOAL:
             above.append(f"{op} at {slots} slots")
-    return "\n".join(lines) + "\n\nTime ratios above their goal: " + (", ".join(above) or "none") + "."
+    return "\n".join(lines) + above_goal(above)
 
 
 def urn_run_table(path):
@@ -140,7 +138,7 @@ def urn_run_table(path):
         lines.append(f"| {k} {d} {n} | {gates} | {float(core) / 1000:.2f} | {float(c) / 1000:.2f} | {float(ratio):.2f} | {URN_GOAL} | {float(plain):.2f} |")
         if round(float(ratio), 2) > URN_GOAL:
             above.append(f"{k} {d} {n}")
-    return "\n".join(lines) + "\n\nTime ratios above their goal: " + (", ".join(above) or "none") + "."
+    return "\n".join(lines) + above_goal(above)
 
 
 def machine():
@@ -153,7 +151,7 @@ def machine():
 def main():
     folder = pathlib.Path(sys.argv[1])
     times, counts = read_times(folder / "calls" / "times"), read_counts(folder / "calls")
-    text = f"{table(times, counts)}\n\n{missed(times)}"
+    text = table(times, counts)
     urn, urn_run = urn_table(folder / "urn"), urn_run_table(folder / "urn_run_times")
     batch = batch_table(folder / "batch_times")
     print(text, urn, urn_run, batch, sep="\n\n")
