@@ -1,6 +1,6 @@
 /* The tally by trustees: the library against the same work in C, in one run, as timing.h says.
  *     trustees K D N    prints microseconds a call and the ratio at 2 and at 5 trustees, and the growth between them
- * The file core.c is taken in whole, for its tests of list and ballots. */
+ * The file core.c is taken in whole, for its tests of list, ballots and bits. */
 #include "core.c"
 #include "../tests/library_c/dealing.h"
 #include "jury.h"
@@ -14,12 +14,8 @@ static inline uint8_t opened(const uint8_t *table, size_t size, size_t t, size_t
 }
 
 static int dealing_is_good(size_t t, size_t I, size_t C, const uint8_t *ballots, const uint8_t *parts, const uint8_t *dealt) {
-    for (size_t i = 0; i < t * I; i++)
-        if (parts[i] > 1)
-            return 0;
-    for (size_t i = 0; i < t * 3 * C; i++)
-        if (dealt[i] > 1)
-            return 0;
+    if (first_above_one(parts, t * I) < t * I || first_above_one(dealt, t * 3 * C) < t * 3 * C)
+        return 0;
     for (size_t x = 0; x < I; x++)
         if (opened(parts, I, t, x) != ballots[x])
             return 0;
