@@ -1,10 +1,12 @@
-/* A random jury for the benchmark's programs, with the own list of its shape. */
+/* A random jury for the benchmark's programs, the same in every run of a shape, with the own list of that shape. */
 #ifndef JURY_H
 #define JURY_H
 
 #include "../c/jugyvaros.h"
 #include "../tests/library_c/lent.h"
 #include <stdio.h>
+
+enum { SEED = 12345 };
 
 struct jury {
     size_t k, d, n, gates, marks, inputs;
@@ -17,13 +19,13 @@ static inline void fail_at(const struct jury *j, const char *why) {
     exit(1);
 }
 
-/* Other ballots than before, another tape and another board, for the same list and the same wire table. */
-static inline void draw(struct jury *j) {
+/* New ballots, a new tape and a new board, for the same list and the same wire table. */
+static inline void draw(struct jury *j, uint32_t seed) {
     j->ballots = filled(j->inputs, 0), j->tape = lent(j->marks), j->board = filled(j->marks + j->k, 0);
-    for (size_t row = 0; row < j->n * j->k; row++)
-        j->ballots[row * j->d + below((uint32_t)j->d)] = 1;
-    for (size_t i = 0; i < j->marks; i++)
-        j->tape[i] = (uint8_t)below(2);
+    for (size_t row = 0; row < j->n * j->k; row++, seed = seed * 1664525 + 1013904223)
+        j->ballots[row * j->d + (seed >> 16) % j->d] = 1;
+    for (size_t i = 0; i < j->marks; i++, seed = seed * 1664525 + 1013904223)
+        j->tape[i] = seed >> 31;
 }
 
 static inline struct jury jury_of(const size_t *shape) {
@@ -35,7 +37,7 @@ static inline struct jury jury_of(const size_t *shape) {
     j.table = filled(16 * j.gates, 0), j.wires = filled(j.inputs + j.gates, 0);
     if (jugy_write(j.k, j.d, j.n, j.table, 4 * j.gates, answer, JUGY_MEASURE_ANSWER))
         fail_at(&j, "not written");
-    draw(&j);
+    draw(&j, SEED);
     return j;
 }
 
