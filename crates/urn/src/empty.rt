@@ -17,12 +17,15 @@ fn free_all(urn: &mut [u8], bytes: usize, slots: usize)
 {
     tally::empty::empty(urn);
     let size = 2 + bytes;
-    let mut slot = slots;
+    // The slot number `left` starts at byte `at`. Both are counted down, without a product in the loop.
+    let mut left = slots - 1;
+    let mut at = left * size;
     let mut first = 0u8;
-    while 1 < slot {
-        slot -= 1;
-        urn[slot * size] = first;
-        first = slot as u8;
+    while 0 < left {
+        urn[at] = first;
+        first = left as u8;
+        at -= size;
+        left -= 1;
     }
     urn[1] = first;
 }
