@@ -127,11 +127,12 @@ kind-number true p Nowhere Nowhere r e = let z : _≡_ {A = ℕ} 0 1 = cc in abs
 kind-number false (At i) c g r e = ap (λ (m : ℕ). eqb m 6 || (eqb m 11 || (eqb m 12 || false))) (sym (number-is 6 i r e))
 kind-number false Nowhere c g r e = let z : _≡_ {A = ℕ} 0 1 = cc in absurd (omega arith)
 
--- a fault over all juries is that of its jury, and no jury before has one of the same number
+-- a fault over all juries is that of its jury, and no jury before has one of the same number; where it is 12, no jury has 11
 abbrev Faulty : Bool → (ℕ → Place) → (ℕ → Place) → (ℕ → Place) → ℕ → ℕ → Type 0
 Faulty t p c g n j₀ =
     (j₀ < laneCount) × ((place : ℕ) × (kindFound t (p j₀) (c j₀) (g j₀) ≡ some (reasonAt n place)))
     × ((j place : ℕ) → j < j₀ → kindFound t (p j) (c j) (g j) ≡ some (reasonAt n place) → ⊥)
+    × (n ≡ 12 → (j place : ℕ) → j < laneCount → kindFound t (p j) (c j) (g j) ≡ some (reasonAt 11 place) → ⊥)
 
 -- the kinds' answers at an outcome
 row-at : (p c g : Place) (i : ℕ) → p ≡ At i → kindFound false p c g ≡ some (reasonAt 6 i)
@@ -168,19 +169,28 @@ faulty : (t : Bool) (p c g : ℕ → Place) (x y z : Place) (r : Reason) → ove
 unfolding kindFound foundAt firstOf
 faulty false p c g (At i) y z r ep ec eg e =
     let f = first-found laneCount (r .place) p (ep ∙ place-is 6 i r e) in
-    subst (λ (n : ℕ). Faulty false p c g n (r .place)) (number-is 6 i r e)
-    (f .0, (f .1 .0, row-at (p (r .place)) (c (r .place)) (g (r .place)) (f .1 .0) (f .1 .1)), λ j place h. row-not (p j) (c j) (g j) (reasonAt 6 place) (f .2 j h))
+    subst (λ (n : ℕ). Faulty false p c g n (r .place)) (number-is 6 i r e) (
+      f .0,
+      (f .1 .0, row-at (p (r .place)) (c (r .place)) (g (r .place)) (f .1 .0) (f .1 .1)),
+      λ j place h. row-not (p j) (c j) (g j) (reasonAt 6 place) (f .2 j h),
+      λ n j place h x. omega (arith, n),
+    )
 faulty false p c g Nowhere y z r ep ec eg e = let o : _≡_ {A = ℕ} 0 1 = cc in absurd (omega arith)
 faulty true p c g x (At i) z r ep ec eg e =
     let f = first-found laneCount (r .place) c (ec ∙ place-is 11 i r e) in
-    subst (λ (n : ℕ). Faulty true p c g n (r .place)) (number-is 11 i r e)
-    (f .0, (f .1 .0, clash-at (p (r .place)) (c (r .place)) (g (r .place)) (f .1 .0) (f .1 .1)), λ j place h. clash-not (p j) (c j) (g j) place (f .2 j h))
+    subst (λ (n : ℕ). Faulty true p c g n (r .place)) (number-is 11 i r e) (
+      f .0,
+      (f .1 .0, clash-at (p (r .place)) (c (r .place)) (g (r .place)) (f .1 .0) (f .1 .1)),
+      λ j place h. clash-not (p j) (c j) (g j) place (f .2 j h),
+      λ n j place h x. omega (arith, n),
+    )
 faulty true p c g x Nowhere (At i) r ep ec eg e =
     let f = first-found laneCount (r .place) g (eg ∙ place-is 12 i r e) in
     subst (λ (n : ℕ). Faulty true p c g n (r .place)) (number-is 12 i r e) (
       f .0,
       (f .1 .0, gap-at (p (r .place)) (c (r .place)) (g (r .place)) (f .1 .0) (none-over c ec (r .place) (f .0)) (f .1 .1)),
       λ j place h. gap-not (p j) (c j) (g j) (reasonAt 12 place) (none-over c ec j (omega (arith, f .0))) (f .2 j h),
+      λ n j place h. clash-not (p j) (c j) (g j) place (none-over c ec j h),
     )
 faulty true p c g x Nowhere Nowhere r ep ec eg e = let o : _≡_ {A = ℕ} 0 1 = cc in absurd (omega arith)
 
@@ -284,6 +294,10 @@ same-number : (r : Reason) (place : ℕ) → isOfBallots r ≡ true → isOfBall
 unfolding isOfBallots hasNumberIn reasonAt
 same-number r place n = n
 
+clash-of-ballots : (place : ℕ) → isOfBallots (reasonAt 11 place) ≡ true
+unfolding isOfBallots hasNumberIn reasonAt
+clash-of-ballots place = refl
+
 pub fault-as-alone : FaultAsAlone
 fault-as-alone s table ballots tape wires board r e n =
     let l = lentFound (tapeRight s table ballots tape wires board) (wiresRight s table ballots tape wires board) (boardRight s table ballots tape wires board) in
@@ -296,14 +310,19 @@ fault-as-alone s table ballots tape wires board r e n =
         refused-alone s table ballots tape wires board (r .place) (reasonAt (r .number) (f .1 .0))
             (passed (o .0) (o .1) (r .place) ∙ kind-alone (kindReason s (laneOf (r .place) ballots)) l (reasonAt (r .number) (f .1 .0)) (alone-kind s (laneOf (r .place) ballots) ∙ f .1 .1)),
       ),
-      λ j place h x.
-          f .2 j place h
-          (sym (alone-kind s (laneOf j ballots))
-          ∙ is-of-kind none true (kindReason s (laneOf j ballots)) l (reasonAt (r .number) place) (λ z. no-reason (reasonAt (r .number) place) z) (λ t. true≢false (sym (same-number r place n) ∙ lent-other _ _ _ (reasonAt (r .number) place) t)) (not-4 (reasonAt (r .number) place) (same-number r place n))
-          (sym (passed (o .0) (o .1) j) ∙ alone-refused s table ballots tape wires board j (reasonAt (r .number) place) x) .2),
+      λ j place h x. f .2 j place h (its-kind (o .0) (o .1) j (reasonAt (r .number) place) (same-number r place n) x),
+      λ m j place h x. f .3 m j place h (its-kind (o .0) (o .1) j (reasonAt 11 place) (clash-of-ballots place) x),
     )
   where
     passed : firstOf (testReasons s table) ≡ none → sizeRight s table ballots tape wires board ≡ true → (j : ℕ)
         → firstOf (runReasons s table (laneOf j ballots) (laneOf j tape) (laneOf j wires) (laneOf j board))
         ≡ single.firstOfThree none (ballotsFound true (kindReason s (laneOf j ballots))) (lentFound (tapeRight s table ballots tape wires board) (wiresRight s table ballots tape wires board) (boardRight s table ballots tape wires board))
     passed a b j = alone-reason s table ballots tape wires board j ∙ rw (a, b)
+
+    -- a single run that is refused for what its ballots say
+    its-kind : firstOf (testReasons s table) ≡ none → sizeRight s table ballots tape wires board ≡ true → (j : ℕ) (q : Reason) → isOfBallots q ≡ true
+        → ranAlone j s table ballots tape wires board .answer ≡ refused q → kindFound (isRanking s) (rows s ballots j) (clashes s ballots j) (gaps s ballots j) ≡ some q
+    its-kind a b j q m x =
+        sym (alone-kind s (laneOf j ballots))
+        ∙ is-of-kind none true (kindReason s (laneOf j ballots)) (lentFound (tapeRight s table ballots tape wires board) (wiresRight s table ballots tape wires board) (boardRight s table ballots tape wires board)) q
+        (λ z. no-reason q z) (λ t. true≢false (sym m ∙ lent-other _ _ _ q t)) (not-4 q m) (sym (passed a b j) ∙ alone-refused s table ballots tape wires board j q x) .2

@@ -248,6 +248,9 @@ batch-accuracy s table size w ballots tape wires board answer e j h =
       λ i l.
           let r = q .winners (laneOf j ballots) (laneOf j tape) (laneOf j wires) (laneOf j board) answer (a .0) i l in
           (λ x. r .0 (ap (λ (b : List ℕ). getD (closingBytes s b) i 0) same ∙ x), λ x. ap (λ (b : List ℕ). getD (closingBytes s b) i 0) (a .2) ∙ r .1 x),
+      λ i l.
+          let r = q .losers (laneOf j ballots) (laneOf j tape) (laneOf j wires) (laneOf j board) answer (a .0) i l in
+          (λ x. r .0 (ap (λ (b : List ℕ). getD (closingBytes s b) i 0) same ∙ x), λ x. ap (λ (b : List ℕ). getD (closingBytes s b) i 0) (a .2) ∙ r .1 x),
     )
 
 pub batch-hiding : BatchHiding

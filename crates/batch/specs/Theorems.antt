@@ -46,13 +46,14 @@ RefusedAsAlone =
     (s : Shape) (table ballots tape wires board : List ℕ) (r : Reason) → batchRan s table ballots tape wires board .answer ≡ refused r → isOfBallots r ≡ false → (j : ℕ) → j < laneCount
     → ranAlone j s table ballots tape wires board .answer ≡ refused r
 
--- One that is refused for one of them has as its place a jury whose single run is refused for the same reason, and no jury before it is.
+-- One that is refused for one of them has as its place a jury whose single run is refused for the same reason, and no jury before it is. 11 comes before 12 over all juries: where a call is refused for 12, no single run is refused for 11.
 abbrev pub FaultAsAlone : Type 0
 FaultAsAlone =
     (s : Shape) (table ballots tape wires board : List ℕ) (r : Reason) → batchRan s table ballots tape wires board .answer ≡ refused r → isOfBallots r ≡ true
     → (r .place < laneCount)
     × ((place : ℕ) × (ranAlone (r .place) s table ballots tape wires board .answer ≡ refused (reasonAt (r .number) place)))
     × ((j place : ℕ) → j < r .place → ranAlone j s table ballots tape wires board .answer ≡ refused (reasonAt (r .number) place) → ⊥)
+    × (r .number ≡ 12 → (j place : ℕ) → j < laneCount → ranAlone j s table ballots tape wires board .answer ≡ refused (reasonAt 11 place) → ⊥)
 
 -- Demand 1: a refusal has the number of a reason that concerns the call and alters no lent word, an accepted call leaves a wire table of zeros, and no call changes a length.
 pub record BatchMemory : Type 0 where
@@ -65,15 +66,16 @@ pub record BatchMemory : Type 0 where
   pub lengths : (s : Shape) (table ballots tape wires board : List ℕ)
       → (length (batchRan s table ballots tape wires board .wires) ≡ length wires) × (length (batchRan s table ballots tape wires board .board) ≡ length board)
 
--- Demand 2: with the list that the core writes for a shape, a jury's closing bytes are those of its plain count, and say who wins in that jury by the rule of the shape's kind.
+-- Demand 2: with the list that the core writes for a shape, a jury's closing bytes are those of its plain count: 1 for each candidate that wins in that jury by the rule of the shape's kind, 0 for each that does not.
 abbrev pub BatchAccuracy : Type 0
 BatchAccuracy =
     (s : Shape) (table : List ℕ) (size : Size) → writeSaid s table ≡ accepted size
     → (ballots tape wires board : List ℕ) (answer : Size) → batchRan s (listIn s size table) ballots tape wires board .answer ≡ accepted answer → (j : ℕ) → j < laneCount
     → (closingBytes s (laneOf j (batchRan s (listIn s size table) ballots tape wires board .board)) ≡ take (s .candidates) (plainClosing s (laneOf j ballots)))
     × ((i : ℕ) → i < s .candidates → (getD (closingBytes s (laneOf j (batchRan s (listIn s size table) ballots tape wires board .board))) i 0 ≡ 1) ↔ Wins s (laneOf j ballots) i)
+    × ((i : ℕ) → i < s .candidates → (getD (closingBytes s (laneOf j (batchRan s (listIn s size table) ballots tape wires board .board))) i 0 ≡ 0) ↔ (¬ Wins s (laneOf j ballots) i))
 
--- Demand 3: any jury i of one accepted call and any jury j of another, of one shape and one list, that end with the same closing bytes show the same of their ballots; the calls may be the same.
+-- Demand 3: any jury i of one accepted call and any jury j of another, of one shape and one list, that end with the same closing bytes: their boards tell no more of their ballots than these bytes. The calls may be the same.
 abbrev pub BatchHiding : Type 0
 BatchHiding =
     (s : Shape) (table xs ys t u vs ws bs ds : List ℕ) (first second : Size)
