@@ -16,14 +16,18 @@ use Rattle.gates.proofs.WireLaws.{length-wires}
 use Rattle.jury.specs.declared.shape.Shape.{Shape}
 use Rattle.jury.specs.Reason.{Reason, firstOf}
 use Rattle.jury.specs.Gauge.{eightBytes}
+use Rattle.jury.proofs.Limits.{bounds}
+use Rattle.jury.proofs.Rows.{eight-at}
 use Rattle.jury.proofs.Tabulate.{tabulate-cong, tabulate-getD}
 use Rattle.tally.specs.Answer.{accepted, Size, sizeOf}
+use Rattle.tally.specs.Rule.{closingFor}
 use Rattle.tally.specs.Count.{plainClosing}
 use Rattle.tally.specs.Demands.{listIn}
 use Rattle.tally.proofs.TestReasons.{never}
 use Rattle.tally.proofs.RunReasons.{run-passed}
 use Rattle.tally.proofs.Hiding.{ran-accepted, run-closing}
-use Rattle.tally.proofs.PlainFacts.{plain-accepted, plain-one}
+use Rattle.tally.proofs.Rules.{byte-says}
+use Rattle.tally.proofs.PlainFacts.{plain-accepted}
 use Rattle.tally.proofs.OwnList.{own-list-holds}
 use Rattle.tally.proofs.Writing as writing
 use Rattle.shares.specs.Shares.{opened, part}
@@ -130,6 +134,13 @@ module _ (s : Shape) (table : List ℕ) (size : Size) (w : writing.WritePassed s
       ∙ ap (λ (gs : List Gate). eightBytes (outputsOf (s .candidates) (wiresOf ballots gs))) (writing.gates-in s table size w)
       ∙ ap eightBytes (own-list-holds s (w .within) .closing ballots (p .ballotsPassed)) ∙ sym (plain-accepted s ballots (p .ballotsPassed))
 
+  -- a candidate's sum is its closing byte by the rule
+  byte : (ballots : List ℕ) (t : ℕ) (d : Dealing) (wireParts published : List ℕ) → CallPassed s (listIn s size table) ballots t d wireParts published → (i : ℕ) → i < s .candidates
+      → getD (shared s (listIn s size table) ballots t d wireParts published .closing) i 0 ≡ getD (closingFor s ballots) i 0
+  byte ballots t d wireParts published p i h =
+      ap (λ (bytes : List ℕ). getD bytes i 0) (count ballots t d wireParts published p ∙ plain-accepted s ballots (p .ballotsPassed))
+      ∙ eight-at (closingFor s ballots) i (omega (arith, bounds s (p .ballotsPassed .within) .k-most))
+
   pub own-list : OwnList s table size
   own-list =
       record {
@@ -137,7 +148,12 @@ module _ (s : Shape) (table : List ℕ) (size : Size) (w : writing.WritePassed s
             count ballots t d wireParts published (call-passed s (listIn s size table) ballots t d wireParts published (call-accepted s (listIn s size table) ballots t d wireParts published answer e .0));
         winners = λ ballots t d wireParts published answer e i h.
             let p = call-passed s (listIn s size table) ballots t d wireParts published (call-accepted s (listIn s size table) ballots t d wireParts published answer e .0) in
-            let f = ap (λ (bytes : List ℕ). getD bytes i 0) (count ballots t d wireParts published p) in
-            let iff = plain-one s ballots (p .ballotsPassed) i h in
+            let f = byte ballots t d wireParts published p i h in
+            let iff = byte-says s ballots (p .ballotsPassed) i h .one in
             (λ one. iff .0 (sym f ∙ one), λ wins. f ∙ iff .1 wins);
+        losers = λ ballots t d wireParts published answer e i h.
+            let p = call-passed s (listIn s size table) ballots t d wireParts published (call-accepted s (listIn s size table) ballots t d wireParts published answer e .0) in
+            let f = byte ballots t d wireParts published p i h in
+            let iff = byte-says s ballots (p .ballotsPassed) i h .zero in
+            (λ zero. iff .0 (sym f ∙ zero), λ loses. f ∙ iff .1 loses);
       }

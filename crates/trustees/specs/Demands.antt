@@ -43,12 +43,14 @@ pub record Accuracy (s : Shape) (table ballots : List ℕ) (t : ℕ) (d : Dealin
   pub plain-run : (tape wires board : List ℕ) (run : Size) → ran s table ballots tape wires board .answer ≡ accepted run
       → shared s table ballots t d wireParts published .closing ≡ eightBytes (closingBytes s (ran s table ballots tape wires board .board))
 
--- Under the list that the core writes for a shape, the sums are the plain count's bytes, and tell who wins by the rule of the shape's kind.
+-- Under the list that the core writes for a shape, the sums are the plain count's bytes: 1 for each candidate that wins by the rule of the shape's kind, 0 for each that does not.
 pub record OwnList (s : Shape) (table : List ℕ) (size : Size) : Type 0 where
   pub plain-count : (ballots : List ℕ) (t : ℕ) (d : Dealing) (wireParts published : List ℕ) (answer : Size) → shared s (listIn s size table) ballots t d wireParts published .answer ≡ accepted answer
       → shared s (listIn s size table) ballots t d wireParts published .closing ≡ plainClosing s ballots
   pub winners : (ballots : List ℕ) (t : ℕ) (d : Dealing) (wireParts published : List ℕ) (answer : Size) → shared s (listIn s size table) ballots t d wireParts published .answer ≡ accepted answer
       → (i : ℕ) → i < s .candidates → (getD (shared s (listIn s size table) ballots t d wireParts published .closing) i 0 ≡ 1) ↔ Wins s ballots i
+  pub losers : (ballots : List ℕ) (t : ℕ) (d : Dealing) (wireParts published : List ℕ) (answer : Size) → shared s (listIn s size table) ballots t d wireParts published .answer ≡ accepted answer
+      → (i : ℕ) → i < s .candidates → (getD (shared s (listIn s size table) ballots t d wireParts published .closing) i 0 ≡ 0) ↔ (¬ Wins s ballots i)
 
 -- Demand 3 for trustees. Two accepted elections xs and ys of one t, shape and list whose closing bytes are equal: whichever trustee q is left out, for each accepted dealing d of the first, one accepted dealing e of the second, and no other, lets the trustees but q hold and see the same [trustees-hiding]. What a view holds of published bits is the table that the call leaves.
 pub record Hidden (s : Shape) (table xs ys : List ℕ) (t : ℕ) (vs ws bs ds : List ℕ) : Type 0 where
