@@ -7,7 +7,7 @@ use mathlib.Core.List.{List, [], _∷_, _++_}
 use Prim.Native.Nat.{ℕ, _+_, _*_, _≤_}
 use native.Mathlib.Nat.{add-zero}
 use native.Mathlib.Omega.{arith}
-use lib.Dec.{leb}
+use lib.Dec.{T, leb}
 use lib.ListN.{length, take, drop, length-append, length-drop}
 use lib.Seq.{take-at}
 use borrow.Author.Tests.{leb-true}
@@ -23,11 +23,12 @@ use Rattle.gates.proofs.Evaluating.{accepted-list}
 use Rattle.gates.proofs.Reading.{whole-table}
 use Rattle.jury.specs.declared.shape.Shape.{Shape}
 use Rattle.jury.specs.Shape.{withinLimits, ballotBytes}
-use Rattle.jury.specs.Reason.{Reason, unless, foundAt, firstOf}
+use Rattle.jury.specs.Reason.{Reason, reasonAt, unless, foundAt, firstOf}
 use Rattle.jury.proofs.Limits.{bounds, inputs-bound}
-use Rattle.tally.specs.Answer.{refused, accepted, said, Size, sizeOf}
+use Rattle.tally.specs.Answer.{refused, accepted, said, hasNumberIn, Size, sizeOf}
 use Rattle.tally.specs.Test.{testReasons, testSaid}
 use Rattle.tally.proofs.TestReasons.{orElse, first-append, test-passed, test-passed-back}
+use Rattle.tally.proofs.Numbering.{All, first-fine, both, unless-fine, found-fine, list-fine, said-fine, refused-fine}
 use Rattle.text.specs.Text.{textOf, linesOf, firstOther, gatesIn}
 use Rattle.text.specs.Write.{textReasons, textSaid, outputAfter, textWritten}
 use Rattle.text.specs.Read.{readReasons, readSaid, numbersRead}
@@ -166,10 +167,31 @@ read-length s text output = by (firstOf (readReasons s text output)) refl
         ∙ same-length (numbersOf (gatesIn (linesOf text))) output (omega (arith, length-numbers (gatesIn (linesOf text)), many, read-room s text output e))
     by (some r) e = ap length (sym (read-refused s text output r e .1))
 
+-- the numbers of the tests of either call
+write-number : (s : Shape) (table output : List ℕ) (r : Reason) → textSaid s table output ≡ refused r → T (hasNumberIn (1 ∷ 2 ∷ 3 ∷ 24 ∷ []) r)
+unfolding textSaid textReasons testReasons All hasNumberIn reasonAt
+write-number s table output r e =
+    let ns : List ℕ = 1 ∷ 2 ∷ 3 ∷ 24 ∷ [] in
+    refused-fine ns (textSaid s table output) r
+    (said-fine ns _ _
+    (first-fine ns (textReasons s table output)
+    (both ns (testReasons s table) (unless (leb (length (textOf (gatesOf table))) (length output)) 24 ∷ []) (unless-fine ns _ 1 tt, (list-fine ns _ tt (λ g. tt), tt)) (unless-fine ns _ 24 tt, tt)))) e
+
+read-number : (s : Shape) (text output : List ℕ) (r : Reason) → readSaid s text output ≡ refused r → T (hasNumberIn (1 ∷ 2 ∷ 23 ∷ 3 ∷ 24 ∷ []) r)
+unfolding readSaid readReasons All hasNumberIn reasonAt
+read-number s text output r e =
+    let ns : List ℕ = 1 ∷ 2 ∷ 23 ∷ 3 ∷ 24 ∷ [] in
+    refused-fine ns (readSaid s text output) r
+    (said-fine ns _ _
+    (first-fine ns (readReasons s text output)
+    (unless-fine ns _ 1 tt, (unless-fine ns _ 2 tt, (found-fine ns 23 _ (λ i. tt), (found-fine ns 3 _ (λ g. tt), (unless-fine ns _ 24 tt, tt))))))) e
+
 pub text-memory : TextMemory
 unfolding textSaid readSaid
 text-memory =
     record {
+      write-number = write-number;
+      read-number = read-number;
       write-refused = λ s table output r e. sym (text-refused s table output r (said-refused (firstOf (textReasons s table output)) (length (textOf (gatesOf table))) r e) .1);
       write-length = text-length;
       read-refused = λ s text output r e. sym (read-refused s text output r (said-refused (firstOf (readReasons s text output)) (4 * length (linesOf text)) r e) .1);

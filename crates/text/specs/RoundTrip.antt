@@ -1,11 +1,12 @@
--- Writing and reading undo each other, and a refusal leaves the output alone.
+-- Writing and reading undo each other; which numbers a refusal may have, and that it leaves the output alone.
 use mathlib.Core.Path.{_≡_}
-use mathlib.Core.List.{List, _++_}
+use mathlib.Core.List.{List, [], _∷_, _++_}
 use Prim.Native.Nat.{ℕ, _≤_}
+use lib.Dec.{T}
 use lib.ListN.{length, take, drop}
 use Rattle.jury.specs.declared.shape.Shape.{Shape}
 use Rattle.jury.specs.Reason.{Reason}
-use Rattle.tally.specs.Answer.{refused, accepted}
+use Rattle.tally.specs.Answer.{refused, accepted, hasNumberIn}
 use Rattle.text.specs.Write.{textSaid, textWritten}
 use Rattle.text.specs.Read.{readSaid, numbersRead}
 
@@ -20,8 +21,10 @@ pub record RoundTrip : Type 0 where
       → (textSaid s (take n (numbersRead s text numbers)) output ≡ accepted (length text))
       × (textWritten s (take n (numbersRead s text numbers)) output ≡ text ++ drop (length text) output)
 
--- The memory demand for what these two calls are lent.
+-- The memory demand for what these two calls are lent: a refusal's number is that of a reason which concerns the call, a refusal alters no lent number, and no call changes a length.
 pub record TextMemory : Type 0 where
+  pub write-number : (s : Shape) (table output : List ℕ) (r : Reason) → textSaid s table output ≡ refused r → T (hasNumberIn (1 ∷ 2 ∷ 3 ∷ 24 ∷ []) r)
+  pub read-number : (s : Shape) (text output : List ℕ) (r : Reason) → readSaid s text output ≡ refused r → T (hasNumberIn (1 ∷ 2 ∷ 23 ∷ 3 ∷ 24 ∷ []) r)
   pub write-refused : (s : Shape) (table output : List ℕ) (r : Reason) → textSaid s table output ≡ refused r → textWritten s table output ≡ output
   pub write-length : (s : Shape) (table output : List ℕ) → length (textWritten s table output) ≡ length output
   pub read-refused : (s : Shape) (text output : List ℕ) (r : Reason) → readSaid s text output ≡ refused r → numbersRead s text output ≡ output
