@@ -3,18 +3,18 @@
 use mathlib.Core.Path.{_≡_, _∙_, refl, sym, ap, subst}
 use mathlib.Core.Logic.{⊎-elim}
 use mathlib.Core.Bool.{Bool, true, false, cond, not, _&&_, _||_}
-use mathlib.Core.Option.{none}
+use mathlib.Core.Option.{Option, none, some}
 use mathlib.Core.List.{List, [], _∷_, _++_, map}
 use Prim.Native.Nat.{ℕ, suc, _+_, _*_, _-_, _≤_, _<_}
 use native.Mathlib.Omega.{arith}
 use lib.Dec.{T, eqb}
-use lib.ListN.{length, drop}
+use lib.ListN.{length, drop, length-append}
 use borrow.Author.Tests.{eq-eqb, eqb-true, not-true}
 use Rattle.jury.specs.Shape.{gradedLimits}
 use Rattle.jury.specs.Counts.{tabulate}
-use Rattle.jury.specs.Reason.{firstOf}
+use Rattle.jury.specs.Reason.{Reason, firstOf}
 use Rattle.jury.proofs.Flags.{and-first, and-second, and-both, true-T, or-first, or-second}
-use Rattle.tally.specs.Answer.{accepted}
+use Rattle.tally.specs.Answer.{accepted, said}
 use Rattle.urn.specs.declared.facts.Facts.{Facts}
 use Rattle.chains.specs.Slots.{Slot, slotBytes, slotsOf, bytesOf}
 use Rattle.chains.specs.Chains.{Entry, ballotChain, freeChain, firstFree, layout}
@@ -189,7 +189,13 @@ undo k d urn w e j x u is wr a gj cut =
     ∙ ap (λ (ks : List ℕ). bytesOf (layout (length S) (k * d) es ks)) (sym cut)
     ∙ own k d urn w e
 
-after-admission : (k d : ℕ) (urn : List ℕ) (j : ℕ) (x : List ℕ) (count : ℕ) → admitSaid k d (factsOf k d urn j) j x ≡ accepted count → AfterAdmission k d urn j x
+-- the count that an accepted call answers
+count-said : (o : Option Reason) (v count : ℕ) → said o v ≡ accepted count → count ≡ v
+unfolding said
+count-said none v count e = cc
+count-said (some r) v count e = let z : _≡_ {A = ℕ} 0 1 = cc in absurd (omega arith)
+
+after-admission : (k d : ℕ) (urn : List ℕ) (j : ℕ) (x : List ℕ) (count : ℕ) → admitSaid k d (factsOf k d urn j) j x ≡ accepted count → AfterAdmission k d urn j x count
 unfolding admitSaid admitted withBallot withdrawn withoutBallot
 after-admission k d urn j x count h =
     let f = factsOf k d urn j in
@@ -209,16 +215,20 @@ after-admission k d urn j x count h =
     let wr = written k d n (y ∷ es) (drop 1 is) (many k d urn w e) (not-many k d urn w e) g in
     let new = none-new (firstOf (admitReasons k d f j x)) u urn o in
     let back : withdrawn k d u j ≡ urn = undo k d urn w e j x u (drop 1 is) wr (p .graded) gj cut in
+    let before : f .ballots ≡ length es = ap (λ (z : Facts). z .ballots) (facts-are k d urn w e j) in
+    let chain = ap (λ (v : List ℕ). ballotChain (urnSlots k d v)) new ∙ wr .ballots in
+    let after : length (ballotChain (urnSlots k d (admitted k d urn j x))) ≡ suc (length es) = ap length chain in
     record {
       stays-sound = ap (sound k d) new ∙ wr .isSound;
       same-length = ap length new ∙ wr .size ∙ sym (long k d urn w e);
-      ballots = ap (λ (v : List ℕ). ballotChain (urnSlots k d v)) new ∙ wr .ballots;
+      ballots = chain;
+      counted = omega (arith, count-said (firstOf (admitReasons k d f j x)) (f .ballots + 1) count h, before, after);
       free = ap (λ (v : List ℕ). freeChain (urnSlots k d v)) new ∙ wr .free;
       undone = ap (λ (v : List ℕ). withdrawn k d v j) new ∙ back;
     }
 
 -- all slots free
-after-emptying : (k d : ℕ) (table : List ℕ) (count : ℕ) → emptySaid k d table ≡ accepted count → AfterEmptying k d table
+after-emptying : (k d : ℕ) (table : List ℕ) (count : ℕ) → emptySaid k d table ≡ accepted count → AfterEmptying k d table count
 unfolding emptySaid emptied allFree jurorsOf all distinct
 after-emptying k d table count h =
     let b = k * d in
@@ -231,25 +241,27 @@ after-emptying k d table count h =
     let u = bytesOf (layout n b [] is) in
     let wr = written k d n [] is (count-least b m l) (count-most b m l) g in
     let new = none-new (firstOf (emptyReasons k d table)) u table o in
+    let chain = ap (λ (v : List ℕ). ballotChain (urnSlots k d v)) new ∙ wr .ballots in
     record {
       made-sound = ap (sound k d) new ∙ wr .isSound;
       same-length = ap length new ∙ wr .size ∙ sym (table-is b m l);
-      ballots = ap (λ (v : List ℕ). ballotChain (urnSlots k d v)) new ∙ wr .ballots;
+      ballots = chain;
+      counted = count-said (firstOf (emptyReasons k d table)) 0 count h ∙ sym (ap length chain);
       free = ap (λ (v : List ℕ). freeChain (urnSlots k d v)) new ∙ wr .free;
     }
 
 -- an admission takes the slot that is free first
-again : (k d : ℕ) (urn : List ℕ) (es : List Entry) (s : ℕ) (is : List ℕ) → ballotChain (urnSlots k d urn) ≡ es → freeChain (urnSlots k d urn) ≡ s ∷ is → (j : ℕ) (x : List ℕ) → AfterAdmission k d urn j x →
+again : (k d : ℕ) (urn : List ℕ) (es : List Entry) (s : ℕ) (is : List ℕ) → ballotChain (urnSlots k d urn) ≡ es → freeChain (urnSlots k d urn) ≡ s ∷ is → (j : ℕ) (x : List ℕ) (count : ℕ) → AfterAdmission k d urn j x count →
     (ballotChain (urnSlots k d (admitted k d urn j x)) ≡ record { slot = s; juror = j; ballot = x } ∷ es) × (freeChain (urnSlots k d (admitted k d urn j x)) ≡ is)
 unfolding firstFree
-again k d urn es s is e f j x a = (
+again k d urn es s is e f j x count a = (
   a .ballots
       ∙ ap (λ (ks : List ℕ). record { slot = firstFree ks; juror = j; ballot = x } ∷ ballotChain (urnSlots k d urn)) f
       ∙ ap (λ (xs : List Entry). record { slot = s; juror = j; ballot = x } ∷ xs) e,
   a .free ∙ ap (drop 1) f,
 )
 
-after-withdrawal : (k d : ℕ) (urn : List ℕ) (j count : ℕ) → withdrawSaid k d (factsOf k d urn j) j ≡ accepted count → AfterWithdrawal k d urn j
+after-withdrawal : (k d : ℕ) (urn : List ℕ) (j count : ℕ) → withdrawSaid k d (factsOf k d urn j) j ≡ accepted count → AfterWithdrawal k d urn j count
 unfolding withdrawSaid withdrawn withoutBallot
 after-withdrawal k d urn j count h =
     let f = factsOf k d urn j in
@@ -267,13 +279,19 @@ after-withdrawal k d urn j count h =
     let u = bytesOf (layout n (k * d) (without j es) (slotOfJuror j es ∷ is)) in
     let wr = written k d n (without j es) (slotOfJuror j es ∷ is) (many k d urn w e) (not-many k d urn w e) g in
     let new = none-new (firstOf (withdrawReasons k d f j)) u urn o in
+    let before : f .ballots ≡ length es = ap (λ (z : Facts). z .ballots) (facts-are k d urn w e j) in
+    let chain = ap (λ (v : List ℕ). ballotChain (urnSlots k d v)) new ∙ wr .ballots in
+    let free = ap (λ (v : List ℕ). freeChain (urnSlots k d v)) new ∙ wr .free in
+    let with-one : length es ≡ length (r .0) + suc (length (r .2)) = ap length (r .3) ∙ length-append (r .0) (r .1 ∷ r .2) in
+    let after : length (ballotChain (urnSlots k d (withdrawn k d urn j))) ≡ length (r .0) + length (r .2) = ap length (chain ∙ r .4) ∙ length-append (r .0) (r .2) in
     record {
       stays-sound = ap (sound k d) new ∙ wr .isSound;
       same-length = ap length new ∙ wr .size ∙ sym (long k d urn w e);
-      ballots = ap (λ (v : List ℕ). ballotChain (urnSlots k d v)) new ∙ wr .ballots;
-      free = ap (λ (v : List ℕ). freeChain (urnSlots k d v)) new ∙ wr .free;
+      ballots = chain;
+      counted = omega (arith, count-said (firstOf (withdrawReasons k d f j)) (f .ballots - 1) count h, before, with-one, after);
+      free = free;
       taken-again = λ next ballot more a.
-          again k d (withdrawn k d urn j) (without j es) (slotOfJuror j es) is (ap (λ (v : List ℕ). ballotChain (urnSlots k d v)) new ∙ wr .ballots) (ap (λ (v : List ℕ). freeChain (urnSlots k d v)) new ∙ wr .free) next ballot
+          again k d (withdrawn k d urn j) (without j es) (slotOfJuror j es) is chain free next ballot more
           (after-admission k d (withdrawn k d urn j) next ballot more a);
     }
 
