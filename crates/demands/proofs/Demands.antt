@@ -9,14 +9,25 @@ use Rattle.urn.proofs.UrnTheorems.{urn-holds, previews-tell}
 use Rattle.urn_run.proofs.Theorems.{urn-run-holds}
 use Rattle.trustees.proofs.Demands as trustees
 use Rattle.dispatcher.proofs.Theorems.{dispatching}
-use Rattle.batch.proofs.Theorems.{each-as-alone, batch-memory, batch-accuracy, batch-hiding}
+use Rattle.batch.proofs.Theorems.{each-as-alone, accepted-as-all, batch-memory, batch-accuracy, batch-hiding}
+use Rattle.batch.proofs.Refusals.{refused-as-alone, fault-as-alone}
 use Rattle.demands.specs.Demands.{AllDemands}
 use Rattle.demands.proofs.Dispatched.{dispatch-accuracy}
 
 pub all-demands : AllDemands
 all-demands =
     record {
-      memory = record { base = three-demands .memory; text = text-memory; sheet = sheet-memory; urn = urn-memory };
+      memory = record {
+        base = three-demands .memory;
+        text = text-memory;
+        sheet = sheet-memory;
+        urn = urn-memory;
+        urn-run = urn-run-holds .memory;
+        by-trustees = trustees.demands .memory;
+        dispatcher-refusals = dispatching .refusals;
+        dispatcher-lengths = dispatching .lengths;
+        lanes = batch-memory;
+      };
       base = three-demands;
       paper = round-trip;
       monotone = monotone-on-gates;
@@ -27,7 +38,9 @@ all-demands =
       dispatcher = dispatching;
       dispatcher-accuracy = dispatch-accuracy;
       lanes-alone = each-as-alone;
-      lanes-memory = batch-memory;
+      lanes-accepted = accepted-as-all;
+      lanes-refused = refused-as-alone;
+      lanes-fault = fault-as-alone;
       lanes-accuracy = batch-accuracy;
       lanes-hiding = batch-hiding;
     }

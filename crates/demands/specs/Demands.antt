@@ -5,18 +5,23 @@ use Rattle.text.specs.RoundTrip.{RoundTrip, TextMemory}
 use Rattle.season.specs.Season.{SheetMemory}
 use Rattle.urn.specs.Memory.{UrnMemory}
 use Rattle.urn.specs.Theorems.{UrnHolds, PreviewsTell}
-use Rattle.urn_run.specs.Theorems.{UrnRunHolds}
+use Rattle.urn_run.specs.Theorems.{UrnRunMemory, UrnRunHolds}
 use Rattle.trustees.specs.Demands as trustees
-use Rattle.dispatcher.specs.Theorems.{Dispatching}
+use Rattle.dispatcher.specs.Theorems.{Refusals, Lengths, Dispatching}
 use Rattle.demands.specs.Dispatched.{DispatchAccuracy}
-use Rattle.batch.specs.Theorems.{EachAsAlone, BatchMemory, BatchAccuracy, BatchHiding}
+use Rattle.batch.specs.Theorems.{EachAsAlone, AcceptedAsAll, RefusedAsAlone, FaultAsAlone, BatchMemory, BatchAccuracy, BatchHiding}
 
--- The demand [memory], for each table that a call is lent: ballots, gate and wire table, tape and board; a text and its output; the bytes of a season; an urn. Those of a run on an urn, of trustees, of a dispatched call and of 64 juries stand with the other demands below.
+-- The demand [memory], for each table that a call is lent: gate table, ballots, tape, wire table and board; a text and its output; the bytes of a season; an urn; the tables of a run on an urn, of trustees, of a dispatched call and of 64 juries.
 pub record Memory : Type 0 where
   pub base : run.Memory
   pub text : TextMemory
   pub sheet : SheetMemory
   pub urn : UrnMemory
+  pub urn-run : UrnRunMemory
+  pub by-trustees : trustees.Memory
+  pub dispatcher-refusals : Refusals
+  pub dispatcher-lengths : Lengths
+  pub lanes : BatchMemory
 
 -- All of it: the three demands on a run, and what each request adds.
 pub record AllDemands : Type 0 where
@@ -36,8 +41,10 @@ pub record AllDemands : Type 0 where
   -- [dispatcher]: rounds, lengths, refusals, each jury as alone, hiding; accuracy
   pub dispatcher : Dispatching
   pub dispatcher-accuracy : DispatchAccuracy
-  -- [lanes]: each jury as alone, memory, accuracy, hiding
+  -- [lanes]: each jury of an accepted call as alone, which calls are accepted, what a refusal says of the juries; accuracy, hiding
   pub lanes-alone : EachAsAlone
-  pub lanes-memory : BatchMemory
+  pub lanes-accepted : AcceptedAsAll
+  pub lanes-refused : RefusedAsAlone
+  pub lanes-fault : FaultAsAlone
   pub lanes-accuracy : BatchAccuracy
   pub lanes-hiding : BatchHiding
