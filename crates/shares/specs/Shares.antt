@@ -7,7 +7,7 @@ use lib.ListN.{getD}
 use Rattle.gates.specs.Kind.{conditionalOf}
 use Rattle.gates.specs.Gate.{Gate}
 
--- The sum of what each of t trustees has, modulo 2: this opens a bit that is split among them.
+-- The sum of what each of t trustees has; modulo 2 it opens a bit.
 unfoldable pub sumOf : ℕ → (ℕ → ℕ) → ℕ
 sumOf zero f = 0
 sumOf (suc t) f = sumOf t f + f t
@@ -19,7 +19,7 @@ opened t f = sumOf t f % 2
 unfoldable pub part : List ℕ → ℕ → ℕ
 part parts x = getD parts x 0
 
--- A trustee's bits of the dealer's triple for the i-th conditional gate: of u, of v and of their product. Its dealer parts stand in this order, gate after gate.
+-- A trustee's bits of what is dealt for the i-th conditional gate: of u, of v and of their product. A dealt (u, v, u·v) is a Beaver triple. A trustee's dealer parts stand in this order, gate after gate.
 unfoldable pub uOf : List ℕ → ℕ → ℕ
 uOf dealt i = getD dealt (3 * i) 0
 
@@ -52,7 +52,7 @@ entered (suc p) x = 0
 unfoldable pub productPart : ℕ → List ℕ → ℕ → ℕ → ℕ → ℕ
 productPart p dealt i e f = (productOf dealt i + e * vOf dealt i + f * uOf dealt i + entered p (e * f)) % 2
 
--- Trustee p's bit of a gate's wire, by the gate's kind, from its own parts ws of the wires before and its bit z of the product.
+-- Trustee p's bit of a gate's wire, by the gate's kind, from its parts a, b, c of the operands and its bit z of the product.
 unfoldable pub partOfKind : ℕ → ℕ → ℕ → ℕ → ℕ → ℕ → ℕ
 partOfKind p kind a b c z =
     getD (0 ∷ entered p 1 ∷ a ∷ (a + entered p 1) % 2 ∷ z ∷ (a + b + z) % 2 ∷ (a + b) % 2 ∷ (c + z) % 2 ∷ []) kind 0

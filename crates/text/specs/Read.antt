@@ -14,7 +14,7 @@ use Rattle.tally.specs.Answer.{Said, said}
 use Rattle.text.specs.Text.{linesOf, firstOther, gatesIn}
 use Rattle.text.specs.Write.{outputAfter}
 
--- The reasons in checking order: 1; 2, as many lines as a list may have gates; 23, the first line that is no gate, over all lines; 3, the first gate that is not good; 24, an output of fewer than four numbers for each line.
+-- The reasons in checking order: 1; 2, fewer lines than the k candidates or more than 1,048,576; 23, the first line that is no gate, over all lines; 3, the first gate that is not good; 24, an output of fewer than four numbers for each line.
 unfoldable pub readReasons : Shape → List ℕ → List ℕ → List (Option Reason)
 readReasons s text output =
     unless (withinLimits s) 1
