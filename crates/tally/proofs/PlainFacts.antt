@@ -1,7 +1,7 @@
 -- What a plain count answers: for accepted ballots the closing bytes of the rule, then zeros, and on a refusal zeros alone.
 -- Assumes nothing.
-use mathlib.Core.Path.{_≡_, _∙_, sym, ap}
-use mathlib.Core.Logic.{⊎-elim, _↔_}
+use mathlib.Core.Path.{_≡_, _∙_, ap}
+use mathlib.Core.Logic.{⊎-elim}
 use mathlib.Core.Option.{Option, none, some}
 use mathlib.Core.List.{List, [], _++_}
 use Prim.Native.Nat.{ℕ, _≤_, _<_}
@@ -11,13 +11,13 @@ use lib.Seq.{take-take, take-append-le, take-all}
 use Rattle.jury.specs.declared.shape.Shape.{Shape}
 use Rattle.jury.specs.Reason.{Reason}
 use Rattle.jury.specs.Gauge.{eightBytes}
-use Rattle.tally.specs.Rule.{closingFor, Wins}
+use Rattle.tally.specs.Rule.{closingFor}
 use Rattle.tally.specs.Count.{countReason, closingAfter, plainClosing}
 use Rattle.jury.specs.Accepted.{AcceptedBallots}
 use Rattle.jury.proofs.Cases.{below-or-not}
 use Rattle.jury.proofs.Limits.{bounds}
 use Rattle.tally.proofs.CountReason.{count-accepts}
-use Rattle.tally.proofs.Rules.{closing-length, byte-says}
+use Rattle.tally.proofs.Rules.{closing-length}
 use Rattle.jury.proofs.Rows.{eight-at, eight-length}
 
 after-length : (r : Option Reason) (bytes : List ℕ) → length (closingAfter r bytes) ≡ 8
@@ -64,11 +64,3 @@ module _ (s : Shape) (xs : List ℕ) (a : AcceptedBallots s xs) where
 
       outside : 8 ≤ i → getD (plainClosing s xs) i 0 ≡ 0
       outside l = List·getD-eq-default (plainClosing s xs) 0 {n = i} (omega (arith, plain-length s xs))
-
-  -- byte i is 1 exactly where candidate i wins
-  pub plain-one : (i : ℕ) → i < s .candidates → (getD (plainClosing s xs) i 0 ≡ 1) ↔ Wins s xs i
-  plain-one i h =
-      let e : getD (plainClosing s xs) i 0 ≡ getD (closingFor s xs) i 0 =
-      ap (λ (bytes : List ℕ). getD bytes i 0) plain-accepted ∙ eight-at (closingFor s xs) i (omega (arith, bounds s (a .within) .k-most)) in
-      let iff = byte-says s xs a i h .one in
-      (λ one. iff .0 (sym e ∙ one), λ wins. e ∙ iff .1 wins)
