@@ -11,7 +11,7 @@ use Rattle.dispatcher.specs.Theorems.{Refusals, Lengths, Dispatching}
 use Rattle.demands.specs.Dispatched.{DispatchAccuracy}
 use Rattle.batch.specs.Theorems.{EachAsAlone, AcceptedAsAll, RefusedAsAlone, FaultAsAlone, BatchMemory, BatchAccuracy, BatchHiding}
 
--- The demand [memory], for each table that a call is lent: gate table, ballots, tape, wire table and board; a text and its output; the bytes of a season; an urn; the tables of a run on an urn, of trustees, of a dispatched call and of 64 juries.
+-- The demand [memory], for each table that a call is lent: ballots, gate and wire table, tape and board; a text and its output; the bytes of a season; an urn; the tables of a run on an urn, of trustees, of a dispatched call and of 64 juries.
 pub record Memory : Type 0 where
   pub base : run.Memory
   pub text : TextMemory
