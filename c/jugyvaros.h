@@ -139,7 +139,7 @@ size_t jugy_run_batch(size_t candidates, size_t grades, size_t ballots, const ui
 size_t jugy_count(size_t candidates, size_t grades, size_t ballots, const uint8_t *bytes, size_t bytes_length,
                   size_t *answer, size_t answer_length);
 
-/* Gate lists on paper. A gate is a line: its kind, then the operands that the kind uses, in decimal with no zero in
+/* Gate lists as text. A gate is a line: its kind, then the operands that the kind uses, in decimal with no zero in
  * front, spaces single, each line closed by a line feed. The order of reasons is 1, 2, 23, 3, 24; the place of 23 is the
  * first such line, from 0. Characters behind the last line feed are a line, and no gate. Reading counts a line as a gate
  * for reasons 2 and 3. */

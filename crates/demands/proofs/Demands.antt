@@ -1,5 +1,6 @@
 -- What each layer proved.
 -- Assumes nothing.
+use Rattle.judgment.proofs.Theorems.{somebody, gauge-alone}
 use Rattle.tally.proofs.Demands.{three-demands}
 use Rattle.tally.proofs.Monotone.{monotone-on-gates}
 use Rattle.text.proofs.RoundTrip.{round-trip, text-memory}
@@ -29,7 +30,9 @@ all-demands =
         lanes = batch-memory;
       };
       base = three-demands;
-      paper = round-trip;
+      gauge-kept = gauge-alone;
+      somebody = somebody;
+      text = round-trip;
       monotone = monotone-on-gates;
       urn = urn-holds;
       previews = previews-tell;

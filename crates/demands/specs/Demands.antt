@@ -1,4 +1,5 @@
 -- The demands on every call of the core, side by side: each layer states its part over the definitions that its contracts equate with the program's answers and with all that is lent. That every call ends, and reads and writes lent memory only inside its length, is part of what is proved of every function.
+use Rattle.judgment.specs.Theorems.{GaugeKept, SomebodyWins}
 use Rattle.tally.specs.Demands as run
 use Rattle.tally.specs.Monotone.{MonotoneOnGates}
 use Rattle.text.specs.RoundTrip.{RoundTrip, TextMemory}
@@ -27,8 +28,11 @@ pub record Memory : Type 0 where
 pub record AllDemands : Type 0 where
   pub memory : Memory
   pub base : run.ThreeDemands
-  -- [text]
-  pub paper : RoundTrip
+  -- [judgment-gauge], and that nobody goes home without a winner
+  pub gauge-kept : GaugeKept
+  pub somebody : SomebodyWins
+  -- [text]: what is written is read back, and what is read is what was written
+  pub text : RoundTrip
   -- [monotone]
   pub monotone : MonotoneOnGates
   -- [urn], [preview]

@@ -1,2 +1,2 @@
 // Writing and reading lists as text, for programs in C and Rust.
-pub mod paper;
+pub mod calls;

@@ -1,4 +1,4 @@
-// Gate lists on paper: the text of a list, written and read back.
+// Gate lists as text: the text of a list, written and read back.
 pub mod answer;
 mod decimal;
 mod line;

@@ -1,4 +1,4 @@
--- `jugyvaros::paper::put_length` meets its contract.
+-- `jugyvaros_text::calls::put_length` meets its contract.
 -- Assumes nothing.
 use mathlib.Core.Path.{_∙_, sym, ap}
 use mathlib.Core.List.{List, [], _∷_, _++_}
@@ -10,8 +10,8 @@ use Rattle.answers.specs.Numbers.{statusOf, oneNumber}
 use Rattle.answers.proofs.Lengths.{three-stored, three-same}
 use native.Mathlib.Omega.{arith}
 use borrow.Author.Needs.{needs}
-use Rattle.jugyvaros_text.proofs.paper.put_length.Statement.{statement}
-use Rattle.jugyvaros_text.proofs.paper.put_length.Tie as tie
+use Rattle.jugyvaros_text.proofs.calls.put_length.Statement.{statement}
+use Rattle.jugyvaros_text.proofs.calls.put_length.Tie as tie
 
 enum-known-said : tie.Need-enum-known-said
 enum-known-said c = search needs

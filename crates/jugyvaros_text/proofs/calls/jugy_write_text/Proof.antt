@@ -1,4 +1,4 @@
--- `jugyvaros::paper::jugy_write_text` meets its contract.
+-- `jugyvaros_text::calls::jugy_write_text` meets its contract.
 -- Assumes nothing.
 use mathlib.Core.Path.{_∙_, sym, ap}
 use mathlib.Core.List.{List, _++_}
@@ -10,8 +10,8 @@ use Rattle.answers.specs.Numbers.{shapeOf, statusOf, oneNumber}
 use Rattle.answers.proofs.Answering.{short-status, short-answered, short-altered, room-status, room-answered, room-altered}
 use native.Mathlib.Omega.{arith}
 use borrow.Author.Needs.{needs}
-use Rattle.jugyvaros_text.proofs.paper.jugy_write_text.Statement.{statement}
-use Rattle.jugyvaros_text.proofs.paper.jugy_write_text.Tie as tie
+use Rattle.jugyvaros_text.proofs.calls.jugy_write_text.Statement.{statement}
+use Rattle.jugyvaros_text.proofs.calls.jugy_write_text.Tie as tie
 
 returns : tie.Need-returns
 unfolding shapeOf

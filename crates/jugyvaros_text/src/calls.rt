@@ -1,4 +1,4 @@
-// Gate lists on paper, as a C program calls them.
+// Lists as text, as a C program calls for them.
 use answers::array::ONE_ANSWER;
 use answers::array::SHORT_ANSWER;
 use jury::shape::Shape;
