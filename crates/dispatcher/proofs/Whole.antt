@@ -22,9 +22,8 @@ use Rattle.rounds.specs.declared.statement.Statement.{Statement}
 use Rattle.rounds.specs.Tables.{Tables, shapeOf, conditionalIn, piecesOf, behind, through}
 use Rattle.rounds.specs.Reasons.{reasonsOf, juryReasons}
 use Rattle.dispatcher.specs.Reasons.{dispatchReasons}
-use Rattle.rounds.specs.Rounds.{boardAfter, juryWires, juryBoard, juryShown, wiresGiven, boardsGiven, eightOf}
+use Rattle.rounds.specs.Rounds.{boardAfter, juryWires, juryBoard, juryShown, wiresGiven, boardsGiven, eightOf, BoardsLong, RoundState}
 use Rattle.dispatcher.specs.Dispatch.{Dispatch, ranBoard, dispatchedAfter, dispatched}
-use Rattle.rounds.specs.Inner.{BoardsLong, Stand}
 use Rattle.dispatcher.specs.Inner.{wireBytes, mostGates}
 use Rattle.rounds.proofs.Pieces.{eight-zeros}
 use Rattle.rounds.proofs.Passed.{Passed, jury-passed, first-accepted}
@@ -172,9 +171,9 @@ module _ (count : ℕ) (ss : List Statement) (share : ℕ) (t : Tables) where
   dispatched-by o e = ap (λ (r : Option Reason). dispatchedAfter r (take count ss) share t) e
 
 -- before the first round
-pub stand-start : (ss : List Statement) (t : Tables) (conditional : List ℕ) → length ss ≤ 8 → firstOf (juryReasons 0 ss t) ≡ none
-    → conditional ≡ eightOf (λ (s : Statement) (p : Tables). conditionalCount (gatesOf (p .lists))) ss t → Stand 0 ss t conditional (t .wires) (t .boards) (replicate 8 0)
-stand-start ss t conditional few e c =
+pub state-start : (ss : List Statement) (t : Tables) (conditional : List ℕ) → length ss ≤ 8 → firstOf (juryReasons 0 ss t) ≡ none
+    → conditional ≡ eightOf (λ (s : Statement) (p : Tables). conditionalCount (gatesOf (p .lists))) ss t → RoundState 0 ss t conditional (t .wires) (t .boards) (replicate 8 0)
+state-start ss t conditional few e c =
     record {
       accepted = e;
       conditionalAre = c;

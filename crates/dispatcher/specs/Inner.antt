@@ -2,7 +2,7 @@
 use mathlib.Core.Path.{_≡_}
 use mathlib.Core.Option.{Option, none, some}
 use mathlib.Core.List.{List, [], _∷_}
-use Prim.Native.Nat.{ℕ, _+_, _≤_, max}
+use Prim.Native.Nat.{ℕ, _+_, _*_, _≤_, max}
 use lib.ListN.{length, take}
 use Rattle.gates.specs.Gate.{gatesOf}
 use Rattle.gates.specs.Board.{conditionalCount}
@@ -13,8 +13,7 @@ use Rattle.tally.specs.declared.answer.Answer.the-variants as answer
 use Rattle.rounds.specs.declared.statement.Statement.{Statement}
 use Rattle.rounds.specs.Tables.{Tables, shapeOf}
 use Rattle.rounds.specs.Reasons.{juryReasons}
-use Rattle.rounds.specs.Rounds.{eightOf}
-use Rattle.rounds.specs.Inner.{Stand}
+use Rattle.rounds.specs.Rounds.{eightOf, RoundState}
 use Rattle.dispatcher.specs.declared.outcome.Tests.{Tests}
 use Rattle.dispatcher.specs.Reasons.{outcomeReason}
 
@@ -47,9 +46,9 @@ pub record Ready (count : ℕ) (statements : List Statement) (conditional : List
   pub accepted : firstOf (juryReasons 0 (take count statements) t) ≡ none
   pub conditionalAre : conditional ≡ eightOf (λ (s : Statement) (p : Tables). conditionalCount (gatesOf (p .lists))) (take count statements) t
 
--- What they leave: every jury has done all its gates.
-pub record Finished (ss : List Statement) (t : Tables) (conditional wires boards : List ℕ) : Type 0 where
-  pub given : ℕ
+-- What they leave: so many rounds are done that every jury has done all its gates.
+pub record Finished (share : ℕ) (ss : List Statement) (t : Tables) (conditional wires boards : List ℕ) : Type 0 where
+  pub done : ℕ
   pub shown : List ℕ
-  pub all : mostGates ss ≤ given
-  pub stand : Stand given ss t conditional wires boards shown
+  pub all : mostGates ss ≤ done * share
+  pub state : RoundState (done * share) ss t conditional wires boards shown

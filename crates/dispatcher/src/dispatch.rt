@@ -86,17 +86,17 @@ fn run_rounds(
     boards: &mut [u8],
 )
     requires { ⌜ Ready count statements conditional share (lent (now lists) (now ballots) (now tapes) (now wires) (now boards)) ⌝ }
-    ensures { λ _. ⌜ Finished (take count statements) (lent (now (lists .entry)) (now (ballots .entry)) (now (tapes .entry)) (now (wires .entry)) (now (boards .entry))) conditional (now (wires .exit)) (now (boards .exit)) ⌝ }
+    ensures { λ _. ⌜ Finished share (take count statements) (lent (now (lists .entry)) (now (ballots .entry)) (now (tapes .entry)) (now (wires .entry)) (now (boards .entry))) conditional (now (wires .exit)) (now (boards .exit)) ⌝ }
 {
     let most = most_gates(count, statements);
     let mut shown = [0usize; 8];
-    let mut given = 0;
-    while given < most {
+    let mut done = 0;
+    while done * share < most {
         let after = round(
             count,
             statements,
             conditional,
-            given,
+            done,
             share,
             shown,
             lists,
@@ -106,7 +106,7 @@ fn run_rounds(
             boards,
         );
         shown = after;
-        given += share;
+        done += 1;
     }
 }
 

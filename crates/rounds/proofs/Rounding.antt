@@ -16,8 +16,8 @@ use Rattle.rounds.specs.declared.statement.Statement.{Statement}
 use Rattle.rounds.specs.declared.statement.Places.{Places}
 use Rattle.rounds.specs.Tables.{Tables, lent, shapeOf, conditionalIn, piecesOf, behind, through}
 use Rattle.rounds.specs.Reasons.{juryReasons}
-use Rattle.rounds.specs.Rounds.{juryWires, juryBoard, juryShown, wiresGiven, boardsGiven, eightOf}
-use Rattle.rounds.specs.Inner.{placesAfter, JuryStands, BoardsLong, Stand}
+use Rattle.rounds.specs.Rounds.{juryWires, juryBoard, juryShown, wiresGiven, boardsGiven, eightOf, BoardsLong, RoundState}
+use Rattle.rounds.specs.Inner.{placesAfter, JuryState}
 use Rattle.rounds.proofs.Pieces.{Upto, upto-start, upto-end, upto-part, upto-room, upto-next, oneOf, upto-read, upto-set}
 use Rattle.rounds.proofs.Passed.{Passed, jury-passed, first-accepted}
 use Rattle.rounds.proofs.Turning.{jury-wires-long}
@@ -82,7 +82,7 @@ pub record Mid (ss : List Statement) (t : Tables) (given next : ℕ) (conditiona
 abbrev pub start : Places
 start = record { lists = 0; ballots = 0; tapes = 0; wires = 0; boards = 0 }
 
-pub mid-start : (given next : ℕ) (ss : List Statement) (l b m ws bs conditional wires boards shown : List ℕ) → Stand given ss (lent l b m ws bs) conditional wires boards shown
+pub mid-start : (given next : ℕ) (ss : List Statement) (l b m ws bs conditional wires boards shown : List ℕ) → RoundState given ss (lent l b m ws bs) conditional wires boards shown
     → Mid ss (lent l b m ws bs) given next conditional 0 ss start wires boards shown
 unfolding wiresGiven boardsGiven eightOf
 mid-start given next ss l b m ws bs conditional wires boards shown s =
@@ -102,7 +102,7 @@ mid-start given next ss l b m ws bs conditional wires boards shown s =
 -- at the end of the round
 pub mid-end : (ss : List Statement) (t : Tables) (given next : ℕ) (conditional : List ℕ) (j : ℕ) (at : Places) (wires boards shown : List ℕ)
     → firstOf (juryReasons 0 ss t) ≡ none → conditional ≡ eightOf marks ss t
-    → Mid ss t given next conditional j [] at wires boards shown → Stand next ss t conditional wires boards shown
+    → Mid ss t given next conditional j [] at wires boards shown → RoundState next ss t conditional wires boards shown
 mid-end ss t given next conditional j at wires boards shown a c m =
     record {
       accepted = a;
@@ -146,13 +146,13 @@ module _ (ss : List Statement) (t : Tables) (given next : ℕ) (conditional : Li
   pub mid-shown : (d : ℕ) → getD shown j d ≡ juryShown given s (piecesOf s (from at t))
   mid-shown d = upto-read (juryShown given) (juryShown next) (padding ss) s left (from at t) j shown (eightOf (juryShown next) ss t) (m .shownUp) d
 
-  pub mid-stands : JuryStands given s (piecesOf s (from at t)) (juryWires given s (piecesOf s (from at t))) (juryBoard given s (piecesOf s (from at t))) (juryShown given s (piecesOf s (from at t)))
+  pub mid-stands : JuryState given s (piecesOf s (from at t)) (juryWires given s (piecesOf s (from at t))) (juryBoard given s (piecesOf s (from at t))) (juryShown given s (piecesOf s (from at t)))
   mid-stands =
       let p = mid-passed in
       record { run = p .run; some-gate = p .some-gate; gates = p .gates; wiresAre = refl; boardIs = refl; count = refl }
 
   -- after its turn
-  pub mid-next : (q r : List ℕ) (v : ℕ) → JuryStands next s (piecesOf s (from at t)) q r v → length q ≡ ballotBytes (shapeOf s) + s .gates
+  pub mid-next : (q r : List ℕ) (v : ℕ) → JuryState next s (piecesOf s (from at t)) q r v → length q ≡ ballotBytes (shapeOf s) + s .gates
       → length r ≡ conditionalIn s (from at t) + s .candidates
       → Mid ss t given next conditional (suc j) left (placesAfter at s (conditionalIn s (from at t)))
       (take (at .wires) wires ++ (q ++ drop (ballotBytes (shapeOf s) + s .gates) (drop (at .wires) wires)))
@@ -216,15 +216,15 @@ spliced-long n a xs q h l =
 
 -- the same jury under other names for its pieces
 pub jury-as : (given : ℕ) (s : Statement) (p : Tables) (l b m w o w′ o′ : List ℕ) (n n′ : ℕ) → l ≡ p .lists → b ≡ p .ballots → m ≡ p .tapes → w ≡ w′ → o ≡ o′ → n ≡ n′
-    → JuryStands given s p w′ o′ n′ → JuryStands given s (lent l b m (p .wires) (p .boards)) w o n
+    → JuryState given s p w′ o′ n′ → JuryState given s (lent l b m (p .wires) (p .boards)) w o n
 jury-as given s p l b m w o w′ o′ n n′ e₀ e₁ e₂ e₃ e₄ e₅ j = rw (e₀, e₁, e₂, e₃, e₄, e₅) j
 
 pub jury-back : (given : ℕ) (s : Statement) (p : Tables) (l b m w o : List ℕ) (n : ℕ) → l ≡ p .lists → b ≡ p .ballots → m ≡ p .tapes
-    → JuryStands given s (lent l b m (p .wires) (p .boards)) w o n → JuryStands given s p w o n
+    → JuryState given s (lent l b m (p .wires) (p .boards)) w o n → JuryState given s p w o n
 jury-back given s p l b m w o n e₀ e₁ e₂ j =
-    subst (λ (x : List ℕ). JuryStands given s (lent (p .lists) (p .ballots) x (p .wires) (p .boards)) w o n) e₂
-    (subst (λ (x : List ℕ). JuryStands given s (lent (p .lists) x m (p .wires) (p .boards)) w o n) e₁
-    (subst (λ (x : List ℕ). JuryStands given s (lent x b m (p .wires) (p .boards)) w o n) e₀ j))
+    subst (λ (x : List ℕ). JuryState given s (lent (p .lists) (p .ballots) x (p .wires) (p .boards)) w o n) e₂
+    (subst (λ (x : List ℕ). JuryState given s (lent (p .lists) x m (p .wires) (p .boards)) w o n) e₁
+    (subst (λ (x : List ℕ). JuryState given s (lent x b m (p .wires) (p .boards)) w o n) e₀ j))
 
 -- the same place of a round under other names
 pub mid-as : (ss : List Statement) (t : Tables) (given next : ℕ) (conditional : List ℕ) (j j′ : ℕ) (left left′ : List Statement) (at at′ : Places) (wires wires′ boards boards′ shown : List ℕ)

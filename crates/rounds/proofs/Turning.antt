@@ -19,7 +19,7 @@ use Rattle.gates.proofs.Prefix.{Stands, stands-first, closed-board}
 use Rattle.rounds.specs.declared.statement.Statement.{Statement}
 use Rattle.rounds.specs.Tables.{Tables, lent}
 use Rattle.rounds.specs.Rounds.{wiresAfter, boardAfter, juryWires, juryBoard, juryShown}
-use Rattle.rounds.specs.Inner.{JuryStands}
+use Rattle.rounds.specs.Inner.{JuryState}
 
 -- the definitions, by how many gates are done
 after-wires : (b : List ℕ) (gs : List Gate) (m : ℕ) (ws : List ℕ) → 1 ≤ m → wiresAfter b gs m ws ≡ wiresOf b (take m gs) ++ drop (length b + m) ws
@@ -68,7 +68,7 @@ module _ (s : Statement) (p : Tables) where
       record { wiresAre = e ∙ ap (λ (x : Bool). cond x (take i (p .ballots) ++ drop i ws) ws) later ∙ w; boardIs = o; count = n }
 
   -- a jury that is not finished, once its ballots are in its wire table
-  pub turn-begins : (given : ℕ) (ws ws′ board : List ℕ) (shown : ℕ) → JuryStands given s p ws board shown → given < s .gates
+  pub turn-begins : (given : ℕ) (ws ws′ board : List ℕ) (shown : ℕ) → JuryState given s p ws board shown → given < s .gates
       → ws′ ≡ cond (eqb given 0) (take (length (p .ballots)) (p .ballots) ++ drop (length (p .ballots)) ws) ws
       → Stands (p .ballots) (p .lists) (p .tapes) (p .wires) (p .boards) given ws′ board shown
   unfolding juryWires juryBoard juryShown
@@ -85,7 +85,7 @@ module _ (s : Statement) (p : Tables) where
   module _ (run : RunReady (p .ballots) (p .lists) (s .candidates) (p .tapes) (p .wires) (p .boards)) (some-gate : 1 ≤ s .gates) (gates : length (gatesOf (p .lists)) ≡ s .gates) where
     -- after a round in which it is not finished
     pub turn-goes-on : (given : ℕ) (ws board : List ℕ) (shown : ℕ) → 1 ≤ given → given < s .gates
-        → Stands (p .ballots) (p .lists) (p .tapes) (p .wires) (p .boards) given ws board shown → JuryStands given s p ws board shown
+        → Stands (p .ballots) (p .lists) (p .tapes) (p .wires) (p .boards) given ws board shown → JuryState given s p ws board shown
     unfolding juryWires juryBoard juryShown
     turn-goes-on given ws board shown l h st =
         let m : min given (s .gates) ≡ given = min-eq-left (omega arith) in
@@ -105,7 +105,7 @@ module _ (s : Statement) (p : Tables) where
     -- after the round in which it is finished
     pub turn-ends : (given : ℕ) (ws board board′ : List ℕ) (shown : ℕ) → s .gates ≤ given
         → Stands (p .ballots) (p .lists) (p .tapes) (p .wires) (p .boards) (length (gatesOf (p .lists))) ws board shown
-        → board′ ≡ take shown board ++ outputsOf (s .candidates) ws → JuryStands given s p ws board′ shown
+        → board′ ≡ take shown board ++ outputsOf (s .candidates) ws → JuryState given s p ws board′ shown
     unfolding juryWires juryBoard juryShown
     turn-ends given ws board board′ shown h st e =
         let m : min given (s .gates) ≡ length (gatesOf (p .lists)) = min-eq-right h ∙ sym gates in
@@ -124,7 +124,7 @@ module _ (s : Statement) (p : Tables) where
         }
 
   -- a jury that is finished stands as it is
-  pub turn-idle : (given more : ℕ) (ws board : List ℕ) (shown : ℕ) → s .gates ≤ given → JuryStands given s p ws board shown → JuryStands (given + more) s p ws board shown
+  pub turn-idle : (given more : ℕ) (ws board : List ℕ) (shown : ℕ) → s .gates ≤ given → JuryState given s p ws board shown → JuryState (given + more) s p ws board shown
   unfolding juryWires juryBoard juryShown
   turn-idle given more ws board shown h j =
       let m : min given (s .gates) ≡ min (given + more) (s .gates) = min-eq-right h ∙ sym (min-eq-right {n = s .gates} {m = given + more} (omega arith)) in

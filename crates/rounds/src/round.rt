@@ -4,11 +4,12 @@ use crate::statement::Statement;
 ghost use mathlib.Core.Path.{_≡_};
 ghost use mathlib.Core.Bool.{cond};
 ghost use mathlib.Core.List.{List, _++_};
-ghost use Prim.Native.Nat.{ℕ, _+_, _≤_};
+ghost use Prim.Native.Nat.{ℕ, suc, _+_, _*_, _≤_};
 ghost use lib.Dec.{eqb};
 ghost use lib.ListN.{length, take, drop};
 ghost use Rattle.rounds.specs.Tables.{lent};
-ghost use Rattle.rounds.specs.Inner.{JuryStands, Stand};
+ghost use Rattle.rounds.specs.Rounds.{RoundState};
+ghost use Rattle.rounds.specs.Inner.{JuryState};
 
 // Puts a jury's ballots in its wire table with its first gate.
 fn load(given: usize, ballots: &[u8], wires: &mut [u8])
@@ -33,8 +34,8 @@ fn turn(
     wires: &mut [u8],
     board: &mut [u8],
 ) -> usize
-    requires { ⌜ (1 ≤ share) × (share ≤ 65536) × ((ws : List ℕ) × (bs : List ℕ) × JuryStands given statement (lent (now list) (now ballots) (now tape) ws bs) (now wires) (now board) shown) ⌝ }
-    ensures { λ r. ⌜ ((ws bs : List ℕ) → JuryStands given statement (lent (now (list .entry)) (now (ballots .entry)) (now (tape .entry)) ws bs) (now (wires .entry)) (now (board .entry)) shown → JuryStands (given + share) statement (lent (now (list .entry)) (now (ballots .entry)) (now (tape .entry)) ws bs) (now (wires .exit)) (now (board .exit)) r) ⌝ }
+    requires { ⌜ (1 ≤ share) × (share ≤ 65536) × ((ws : List ℕ) × (bs : List ℕ) × JuryState given statement (lent (now list) (now ballots) (now tape) ws bs) (now wires) (now board) shown) ⌝ }
+    ensures { λ r. ⌜ ((ws bs : List ℕ) → JuryState given statement (lent (now (list .entry)) (now (ballots .entry)) (now (tape .entry)) ws bs) (now (wires .entry)) (now (board .entry)) shown → JuryState (given + share) statement (lent (now (list .entry)) (now (ballots .entry)) (now (tape .entry)) ws bs) (now (wires .exit)) (now (board .exit)) r) ⌝ }
 {
     let gates = statement.gates;
     if gates <= given {
@@ -59,13 +60,15 @@ fn turn(
     )
 }
 
-// The round after so many gates were given to each jury that has them. conditional holds each jury's number of conditional gates,
-// before its number of shown bits; the answer is the latter's successor.
+// The round after done rounds of share gates. Before it the first done × share gates of each jury, or all where it has fewer, have
+// filled their wires and shown their bytes, after it those of one round more, and what belongs to later gates stands as it was
+// lent. A jury has at most 1,048,576 gates, so no more rounds come before one. conditional holds each jury's number of conditional
+// gates, before its number of bytes shown; the answer is that number after the round.
 pub fn round(
     count: usize,
     statements: [Statement; 8],
     conditional: [usize; 8],
-    given: usize,
+    done: usize,
     share: usize,
     before: [usize; 8],
     lists: &[u32],
@@ -74,9 +77,10 @@ pub fn round(
     wires: &mut [u8],
     boards: &mut [u8],
 ) -> [usize; 8]
-    requires { ⌜ (count ≤ 8) × (1 ≤ share) × (share ≤ 65536) × ((ws : List ℕ) × (bs : List ℕ) × Stand given (take count statements) (lent (now lists) (now ballots) (now tapes) ws bs) conditional (now wires) (now boards) before) ⌝ }
-    ensures { λ r. ⌜ ((ws bs : List ℕ) → Stand given (take count statements) (lent (now (lists .entry)) (now (ballots .entry)) (now (tapes .entry)) ws bs) conditional (now (wires .entry)) (now (boards .entry)) before → Stand (given + share) (take count statements) (lent (now (lists .entry)) (now (ballots .entry)) (now (tapes .entry)) ws bs) conditional (now (wires .exit)) (now (boards .exit)) r) ⌝ }
+    requires { ⌜ (count ≤ 8) × (1 ≤ share) × (share ≤ 65536) × (done ≤ 1048576) × ((ws : List ℕ) × (bs : List ℕ) × RoundState (done * share) (take count statements) (lent (now lists) (now ballots) (now tapes) ws bs) conditional (now wires) (now boards) before) ⌝ }
+    ensures { λ r. ⌜ ((ws bs : List ℕ) → RoundState (done * share) (take count statements) (lent (now (lists .entry)) (now (ballots .entry)) (now (tapes .entry)) ws bs) conditional (now (wires .entry)) (now (boards .entry)) before → RoundState (suc done * share) (take count statements) (lent (now (lists .entry)) (now (ballots .entry)) (now (tapes .entry)) ws bs) conditional (now (wires .exit)) (now (boards .exit)) r) ⌝ }
 {
+    let given = done * share;
     let mut shown = before;
     let mut at = Places {
         lists: 0,

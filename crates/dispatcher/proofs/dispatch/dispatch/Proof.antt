@@ -4,7 +4,7 @@ use mathlib.Core.Path.{_≡_, _∙_, refl, sym, ap}
 use mathlib.Core.Bool.{Bool, true, false, _&&_}
 use mathlib.Core.Option.{Option, none, some}
 use mathlib.Core.List.{List, _++_}
-use Prim.Native.Nat.{ℕ, _≤_}
+use Prim.Native.Nat.{ℕ, _*_, _≤_}
 use native.Mathlib.Omega.{arith}
 use lib.Dec.{leb}
 use lib.ListN.{length, take, drop, replicate}
@@ -129,7 +129,7 @@ room c =
     let t = c .before .before .before .before in
     let s = t .before .before .before .before .before .before .before .before .before .before .before .before .before .before in
     let fin = c .run-rounds .ensures in
-    omega (arith, t .before .before .test-juries .ensures .wires (passes t), ap length (fin .stand .wiresAre), wires-room (fin .given) 0 (juries s) (all s) (no-reason t))
+    omega (arith, t .before .before .test-juries .ensures .wires (passes t), ap length (fin .state .wiresAre), wires-room (fin .done * s .args .share) 0 (juries s) (all s) (no-reason t))
 
 slice-relend-prefix-empty : tie.Need-slice-relend-prefix-empty
 slice-relend-prefix-empty c = omega (arith, room (c .before .before .before .before))
@@ -170,10 +170,10 @@ returns-4 c =
       (
         c .rounds-of .ensures (all s) ∙ sym (ap (λ (d : Dispatch). d .rounds) e),
         (
-          emptied (fin .given) (juries s) (all s) (no-reason t) (t .before .before .test-juries .result .wires) (run .run-rounds .last .1 .1 .1 .1 .1 .1 .1 .0) (c .before .before .before .empty .last .0)
-              (t .before .before .test-juries .ensures .wires (passes t)) (fin .stand .wiresAre) (c .before .before .before .empty .ensures)
+          emptied (fin .done * s .args .share) (juries s) (all s) (no-reason t) (t .before .before .test-juries .result .wires) (run .run-rounds .last .1 .1 .1 .1 .1 .1 .1 .0) (c .before .before .before .empty .last .0)
+              (t .before .before .test-juries .ensures .wires (passes t)) (fin .state .wiresAre) (c .before .before .before .empty .ensures)
               ∙ sym (ap (λ (d : Dispatch). d .wires) e),
-          fin .stand .boardsAre ∙ boards-end (fin .given) 0 (juries s) (all s) (no-reason t) (fin .all) ∙ sym (ap (λ (d : Dispatch). d .boards) e),
+          fin .state .boardsAre ∙ boards-end (fin .done * s .args .share) 0 (juries s) (all s) (no-reason t) (fin .all) ∙ sym (ap (λ (d : Dispatch). d .boards) e),
         ),
       ),
     )

@@ -2,7 +2,8 @@
 -- Assumes nothing.
 use mathlib.Core.Path.{_≡_, _∙_, refl, sym, ap, subst}
 use mathlib.Core.List.{List, [], _∷_, _++_}
-use Prim.Native.Nat.{ℕ, suc, _+_, _-_, _≤_, _<_}
+use Prim.Native.Nat.{ℕ, suc, _+_, _-_, _*_, _≤_, _<_}
+use native.Mathlib.Nat.{suc-mul, mul-le-mul}
 use native.Mathlib.Numerals.{add-one}
 use native.Mathlib.Omega.{arith}
 use lib.ListN.{length, getD, set, take, drop, length-take, drop-of-length-le}
@@ -12,8 +13,8 @@ use Rattle.jury.specs.Shape.{ballotBytes}
 use Rattle.rounds.specs.declared.statement.Statement.{Statement}
 use Rattle.rounds.specs.declared.statement.Places.{Places}
 use Rattle.rounds.specs.Tables.{Tables, lent, shapeOf, conditionalIn, piecesOf}
-use Rattle.rounds.specs.Rounds.{juryWires, juryBoard, juryShown}
-use Rattle.rounds.specs.Inner.{placesAfter, JuryStands, Stand}
+use Rattle.rounds.specs.Rounds.{juryWires, juryBoard, juryShown, RoundState}
+use Rattle.rounds.specs.Inner.{placesAfter, JuryState}
 use Rattle.rounds.proofs.Passed.{Passed}
 use Rattle.rounds.proofs.Rounding.{from, Inside, inside-next, Mid, left-cons, mid-start, mid-end, mid-passed, mid-mark, mid-wires, mid-wires-room, mid-boards, mid-boards-room, mid-shown, mid-stands, mid-next, slice-is, part-long, spliced-long, jury-as, jury-back, mid-as}
 use Rattle.rounds.proofs.round.round.Statement.{statement}
@@ -24,15 +25,15 @@ use Rattle.rounds.proofs.round.turn.Reads as turn-reads
 use Rattle.rounds.proofs.statement.Places.after.Reads as after-reads
 
 abbrev Inv-loop : tie.InvT-loop
-Inv-loop count given share lists ballots tapes wires₀ boards₀ statements conditional shown₀ at₀ j₀ wires boards shown at j =
+Inv-loop count done share lists ballots tapes wires₀ boards₀ statements conditional given shown₀ at₀ j₀ wires boards shown at j =
     (j ≤ count)
-    × ((ws bs : List ℕ) → Stand given (take count statements) (lent lists ballots tapes ws bs) conditional wires₀ boards₀ shown₀
+    × ((ws bs : List ℕ) → RoundState given (take count statements) (lent lists ballots tapes ws bs) conditional wires₀ boards₀ shown₀
     → Mid (take count statements) (lent lists ballots tapes ws bs) given (given + share) conditional j (drop j (take count statements)) at wires boards shown)
     × (length wires ≡ length wires₀)
     × (length boards ≡ length boards₀)
 
 abbrev μ-loop : tie.MeasureT-loop
-μ-loop count given share lists ballots tapes wires₀ boards₀ statements conditional shown₀ at₀ j₀ wires boards shown at j = count - j
+μ-loop count done share lists ballots tapes wires₀ boards₀ statements conditional given shown₀ at₀ j₀ wires boards shown at j = count - j
 
 -- what a statement past the last would be
 abbrev blank : Statement
@@ -42,9 +43,13 @@ blank = record { candidates = 0; grades = 0; ballots = 0; gates = 0 }
 abbrev lentTo : tie.Start Inv-loop μ-loop → List ℕ → List ℕ → Tables
 lentTo s ws bs = lent (s .args .lists .now) (s .args .ballots .now) (s .args .tapes .now) ws bs
 
+-- the gates that each jury was given before
+abbrev given : tie.Start Inv-loop μ-loop → ℕ
+given s = s .args .done * s .args .share
+
 abbrev Entry : tie.Start Inv-loop μ-loop → List ℕ → List ℕ → Type 0
 Entry s ws bs =
-    Stand (s .args .given) (take (s .args .count) (s .args .t2)) (lentTo s ws bs) (s .args .t3) (s .args .wires .now) (s .args .boards .now) (s .args .before)
+    RoundState (given s) (take (s .args .count) (s .args .t2)) (lentTo s ws bs) (s .args .t3) (s .args .wires .now) (s .args .boards .now) (s .args .before)
 
 enough : (s : tie.Start Inv-loop μ-loop) → s .args .count ≤ length (s .args .t2)
 enough s = omega (arith, s .pre .0, s .good .1 .0 .1 .0 .1)
@@ -57,12 +62,12 @@ here c ws bs = from (c .before .loop .at) (lentTo (c .before .before .before .be
 
 -- in a turn, a jury is left
 mid : (c : tie.In-loop Inv-loop μ-loop) (ws bs : List ℕ) → Entry (c .before .before .before .before .before .before .before) ws bs → let s = c .before .before .before .before .before .before .before in let l = c .before .loop in
-    Mid (take (s .args .count) (s .args .t2)) (lentTo s ws bs) (s .args .given) (s .args .given + s .args .share) (s .args .t3) (l .j)
+    Mid (take (s .args .count) (s .args .t2)) (lentTo s ws bs) (given s) (given s + s .args .share) (s .args .t3) (l .j)
     (jury c ∷ drop (suc (l .j)) (take (s .args .count) (s .args .t2))) (l .at) (l .wires) (l .boards) (l .shown)
 mid c ws bs st =
     let s = c .before .before .before .before .before .before .before in
     let l = c .before .loop in
-    subst (λ (left : List Statement). Mid (take (s .args .count) (s .args .t2)) (lentTo s ws bs) (s .args .given) (s .args .given + s .args .share) (s .args .t3) (l .j) left (l .at) (l .wires) (l .boards) (l .shown))
+    subst (λ (left : List Statement). Mid (take (s .args .count) (s .args .t2)) (lentTo s ws bs) (given s) (given s + s .args .share) (s .args .t3) (l .j) left (l .at) (l .wires) (l .boards) (l .shown))
     (left-cons (s .args .count) (l .j) (s .args .t2) blank (c .loop-test .taken) (enough s)) (l .inv .1 ws bs st)
 
 -- what is known of it, whatever stood in the wires and on the boards
@@ -71,13 +76,13 @@ record Turn (c : tie.In-loop Inv-loop μ-loop) (ws bs : List ℕ) : Type 0 where
   pub mark : getD (c .before .before .before .before .before .before .before .args .t3) (c .before .loop .j) 0 ≡ conditionalIn (jury c) (here c ws bs)
   pub inside : Inside (c .before .loop .at) (lentTo (c .before .before .before .before .before .before .before) ws bs)
   pub inside-after : Inside (placesAfter (c .before .loop .at) (jury c) (conditionalIn (jury c) (here c ws bs))) (lentTo (c .before .before .before .before .before .before .before) ws bs)
-  pub wires : take (ballotBytes (shapeOf (jury c)) + jury c .gates) (drop (c .before .loop .at .wires) (c .before .loop .wires)) ≡ juryWires (c .before .before .before .before .before .before .before .args .given) (jury c) (piecesOf (jury c) (here c ws bs))
+  pub wires : take (ballotBytes (shapeOf (jury c)) + jury c .gates) (drop (c .before .loop .at .wires) (c .before .loop .wires)) ≡ juryWires (given (c .before .before .before .before .before .before .before)) (jury c) (piecesOf (jury c) (here c ws bs))
   pub wires-room : c .before .loop .at .wires + (ballotBytes (shapeOf (jury c)) + jury c .gates) ≤ length (c .before .loop .wires)
-  pub boards : take (conditionalIn (jury c) (here c ws bs) + jury c .candidates) (drop (c .before .loop .at .boards) (c .before .loop .boards)) ≡ juryBoard (c .before .before .before .before .before .before .before .args .given) (jury c) (piecesOf (jury c) (here c ws bs))
+  pub boards : take (conditionalIn (jury c) (here c ws bs) + jury c .candidates) (drop (c .before .loop .at .boards) (c .before .loop .boards)) ≡ juryBoard (given (c .before .before .before .before .before .before .before)) (jury c) (piecesOf (jury c) (here c ws bs))
   pub boards-room : c .before .loop .at .boards + (conditionalIn (jury c) (here c ws bs) + jury c .candidates) ≤ length (c .before .loop .boards)
-  pub shown : getD (c .before .loop .shown) (c .before .loop .j) 0 ≡ juryShown (c .before .before .before .before .before .before .before .args .given) (jury c) (piecesOf (jury c) (here c ws bs))
-  pub stands : JuryStands (c .before .before .before .before .before .before .before .args .given) (jury c) (piecesOf (jury c) (here c ws bs)) (juryWires (c .before .before .before .before .before .before .before .args .given) (jury c) (piecesOf (jury c) (here c ws bs)))
-      (juryBoard (c .before .before .before .before .before .before .before .args .given) (jury c) (piecesOf (jury c) (here c ws bs))) (juryShown (c .before .before .before .before .before .before .before .args .given) (jury c) (piecesOf (jury c) (here c ws bs)))
+  pub shown : getD (c .before .loop .shown) (c .before .loop .j) 0 ≡ juryShown (given (c .before .before .before .before .before .before .before)) (jury c) (piecesOf (jury c) (here c ws bs))
+  pub stands : JuryState (given (c .before .before .before .before .before .before .before)) (jury c) (piecesOf (jury c) (here c ws bs)) (juryWires (given (c .before .before .before .before .before .before .before)) (jury c) (piecesOf (jury c) (here c ws bs)))
+      (juryBoard (given (c .before .before .before .before .before .before .before)) (jury c) (piecesOf (jury c) (here c ws bs))) (juryShown (given (c .before .before .before .before .before .before .before)) (jury c) (piecesOf (jury c) (here c ws bs)))
 
 in-turn : (c : tie.In-loop Inv-loop μ-loop) (ws bs : List ℕ) → Entry (c .before .before .before .before .before .before .before) ws bs → Turn c ws bs
 in-turn c ws bs st =
@@ -85,8 +90,8 @@ in-turn c ws bs st =
     let l = c .before .loop in
     let ss = take (s .args .count) (s .args .t2) in
     let t = lentTo s ws bs in
-    let g = s .args .given in
-    let n = s .args .given + s .args .share in
+    let g = given s in
+    let n = given s + s .args .share in
     let left = drop (suc (l .j)) ss in
     let m = mid c ws bs st in
     let p = mid-passed ss t g n (s .args .t3) (l .j) (jury c) left (l .at) (l .wires) (l .boards) (l .shown) m in
@@ -104,8 +109,8 @@ in-turn c ws bs st =
     }
 
 -- the same for the contents that the contract names
-abbrev known : (c : tie.In-loop Inv-loop μ-loop) → Turn c (c .before .before .before .before .before .before .before .pre .3 .0) (c .before .before .before .before .before .before .before .pre .3 .1)
-known c = let s = c .before .before .before .before .before .before .before in in-turn c (s .pre .3 .0) (s .pre .3 .1) (s .pre .3 .2)
+abbrev known : (c : tie.In-loop Inv-loop μ-loop) → Turn c (c .before .before .before .before .before .before .before .pre .4 .0) (c .before .before .before .before .before .before .before .pre .4 .1)
+known c = let s = c .before .before .before .before .before .before .before in in-turn c (s .pre .4 .0) (s .pre .4 .1) (s .pre .4 .2)
 
 -- the places behind the jury
 places-are : (c : tie.After-after Inv-loop μ-loop) (ws bs : List ℕ) → Turn (c .before .before) ws bs
@@ -113,15 +118,21 @@ places-are : (c : tie.After-after Inv-loop μ-loop) (ws bs : List ℕ) → Turn 
 places-are c ws bs k = c .after .ensures ∙ ap (placesAfter (c .before .before .before .loop .at) (jury (c .before .before))) (k .mark)
 
 abbrev places : (c : tie.After-after Inv-loop μ-loop) → let s = c .before .before .before .before .before .before .before .before .before in
-    c .after .result ≡ placesAfter (c .before .before .before .loop .at) (jury (c .before .before)) (conditionalIn (jury (c .before .before)) (here (c .before .before) (s .pre .3 .0) (s .pre .3 .1)))
-places c = let s = c .before .before .before .before .before .before .before .before .before in places-are c (s .pre .3 .0) (s .pre .3 .1) (known (c .before .before))
+    c .after .result ≡ placesAfter (c .before .before .before .loop .at) (jury (c .before .before)) (conditionalIn (jury (c .before .before)) (here (c .before .before) (s .pre .4 .0) (s .pre .4 .1)))
+places c = let s = c .before .before .before .before .before .before .before .before .before in places-are c (s .pre .4 .0) (s .pre .4 .1) (known (c .before .before))
+
+mul-given : tie.Need-mul-given Inv-loop μ-loop
+mul-given c =
+    let s = c .before .before .before .before .before in
+    omega (arith, mul-le-mul {n₁ = s .args .done} {m₁ = s .args .share} {n₂ = 1048576} {m₂ = 65536} (s .pre .3) (s .pre .2), s .pre .3)
 
 loop-holds : tie.Need-loop-holds Inv-loop μ-loop
 loop-holds c =
-    let a = c .before .before .before .before .before .args in (
+    let s = c .before .before .before .before .before in
+    let a = s .args in (
       omega arith,
       λ (ws bs : List ℕ) st.
-          mid-start (a .given) (a .given + a .share) (take (a .count) (a .t2)) (a .lists .now) (a .ballots .now) (a .tapes .now) ws bs (a .t3) (a .wires .now) (a .boards .now) (a .before) st,
+          mid-start (given s) (given s + a .share) (take (a .count) (a .t2)) (a .lists .now) (a .ballots .now) (a .tapes .now) ws bs (a .t3) (a .wires .now) (a .boards .now) (a .before) st,
       refl,
       refl,
     )
@@ -211,8 +222,8 @@ record Handed (c : tie.After-after Inv-loop μ-loop) (ws bs : List ℕ) : Type 0
   pub list : take (c .after .result .lists - c .before .before .before .loop .at .lists) (drop (c .before .before .before .loop .at .lists) (c .before .before .before .before .before .before .before .before .before .args .lists .now)) ≡ piecesOf (jury (c .before .before)) (here (c .before .before) ws bs) .lists
   pub ballots : take (c .after .result .ballots - c .before .before .before .loop .at .ballots) (drop (c .before .before .before .loop .at .ballots) (c .before .before .before .before .before .before .before .before .before .args .ballots .now)) ≡ piecesOf (jury (c .before .before)) (here (c .before .before) ws bs) .ballots
   pub tape : take (c .after .result .tapes - c .before .before .before .loop .at .tapes) (drop (c .before .before .before .loop .at .tapes) (c .before .before .before .before .before .before .before .before .before .args .tapes .now)) ≡ piecesOf (jury (c .before .before)) (here (c .before .before) ws bs) .tapes
-  pub wires : take (c .after .result .wires - c .before .before .before .loop .at .wires) (drop (c .before .before .before .loop .at .wires) (c .before .before .before .loop .wires)) ≡ juryWires (c .before .before .before .before .before .before .before .before .before .args .given) (jury (c .before .before)) (piecesOf (jury (c .before .before)) (here (c .before .before) ws bs))
-  pub board : take (c .after .result .boards - c .before .before .before .loop .at .boards) (drop (c .before .before .before .loop .at .boards) (c .before .before .before .loop .boards)) ≡ juryBoard (c .before .before .before .before .before .before .before .before .before .args .given) (jury (c .before .before)) (piecesOf (jury (c .before .before)) (here (c .before .before) ws bs))
+  pub wires : take (c .after .result .wires - c .before .before .before .loop .at .wires) (drop (c .before .before .before .loop .at .wires) (c .before .before .before .loop .wires)) ≡ juryWires (given (c .before .before .before .before .before .before .before .before .before)) (jury (c .before .before)) (piecesOf (jury (c .before .before)) (here (c .before .before) ws bs))
+  pub board : take (c .after .result .boards - c .before .before .before .loop .at .boards) (drop (c .before .before .before .loop .at .boards) (c .before .before .before .loop .boards)) ≡ juryBoard (given (c .before .before .before .before .before .before .before .before .before)) (jury (c .before .before)) (piecesOf (jury (c .before .before)) (here (c .before .before) ws bs))
 
 handed : (c : tie.After-after Inv-loop μ-loop) (ws bs : List ℕ) → Turn (c .before .before) ws bs → Handed c ws bs
 handed c ws bs k =
@@ -231,7 +242,7 @@ handed c ws bs k =
 
 -- the jury on them
 ready : (c : tie.After-after Inv-loop μ-loop) (ws bs : List ℕ) → Turn (c .before .before) ws bs → let s = c .before .before .before .before .before .before .before .before .before in let l = c .before .before .before .loop in let j = jury (c .before .before) in let p = piecesOf j (here (c .before .before) ws bs) in
-    JuryStands (s .args .given) j
+    JuryState (given s) j
     (lent (take (c .after .result .lists - l .at .lists) (drop (l .at .lists) (s .args .lists .now))) (take (c .after .result .ballots - l .at .ballots) (drop (l .at .ballots) (s .args .ballots .now)))
     (take (c .after .result .tapes - l .at .tapes) (drop (l .at .tapes) (s .args .tapes .now))) (p .wires) (p .boards))
     (take (c .after .result .wires - l .at .wires) (drop (l .at .wires) (l .wires))) (take (c .after .result .boards - l .at .boards) (drop (l .at .boards) (l .boards))) (getD (l .shown) (l .j) 0)
@@ -239,14 +250,14 @@ ready c ws bs k =
     let s = c .before .before .before .before .before .before .before .before .before in
     let j = jury (c .before .before) in
     let h = handed c ws bs k in
-    jury-as (s .args .given) j (piecesOf j (here (c .before .before) ws bs)) _ _ _ _ _ _ _ _ _ (h .list) (h .ballots) (h .tape) (h .wires) (h .board) (k .shown) (k .stands)
+    jury-as (given s) j (piecesOf j (here (c .before .before) ws bs)) _ _ _ _ _ _ _ _ _ (h .list) (h .ballots) (h .tape) (h .wires) (h .board) (k .shown) (k .stands)
 
 turn-requires : tie.Need-turn-requires Inv-loop μ-loop
 turn-requires c κs =
     let a = c .before .before .before .before .before in
     let s = a .before .before .before .before .before .before .before .before .before in
-    let p = piecesOf (jury (a .before .before)) (here (a .before .before) (s .pre .3 .0) (s .pre .3 .1)) in
-    (s .pre .1, s .pre .2, (p .wires, p .boards, ready a (s .pre .3 .0) (s .pre .3 .1) (known (a .before .before))))
+    let p = piecesOf (jury (a .before .before)) (here (a .before .before) (s .pre .4 .0) (s .pre .4 .1)) in
+    (s .pre .1, s .pre .2, (p .wires, p .boards, ready a (s .pre .4 .0) (s .pre .4 .1) (known (a .before .before))))
 
 mul-shown : tie.Need-mul-shown Inv-loop μ-loop
 mul-shown c = omega arith
@@ -262,7 +273,7 @@ loop-less c = omega arith
 
 -- the juries after the turn
 next : (c : tie.After-turn Inv-loop μ-loop) (ws bs : List ℕ) → Entry (c .before .before .before .before .before .before .before .before .before .before .before .before .before .before .before) ws bs → let a = c .before .before .before .before .before .before in let s = c .before .before .before .before .before .before .before .before .before .before .before .before .before .before .before in let l = a .before .before .before .loop in
-    Mid (take (s .args .count) (s .args .t2)) (lentTo s ws bs) (s .args .given) (s .args .given + s .args .share) (s .args .t3) (l .j + 1) (drop (l .j + 1) (take (s .args .count) (s .args .t2))) (a .after .result)
+    Mid (take (s .args .count) (s .args .t2)) (lentTo s ws bs) (given s) (given s + s .args .share) (s .args .t3) (l .j + 1) (drop (l .j + 1) (take (s .args .count) (s .args .t2))) (a .after .result)
     (take (l .at .wires) (l .wires) ++ (c .turn .last .1 .1 .1 .1 .1 .1 .1 .0 ++ drop (a .after .result .wires - l .at .wires) (drop (l .at .wires) (l .wires))))
     (take (l .at .boards) (l .boards) ++ (c .turn .last .1 .1 .1 .1 .1 .1 .1 .1 .0 ++ drop (a .after .result .boards - l .at .boards) (drop (l .at .boards) (l .boards))))
     (set (l .shown) (l .j) (c .turn .result))
@@ -273,7 +284,7 @@ next c ws bs st =
     let i = a .before .before in
     let ss = take (s .args .count) (s .args .t2) in
     let t = lentTo s ws bs in
-    let g = s .args .given in
+    let g = given s in
     let j = jury i in
     let k = in-turn i ws bs st in
     let h = handed a ws bs k in
@@ -334,8 +345,9 @@ returns c =
     let ss = take (s .args .count) (s .args .t2) in
     let none-left : drop (l .j) ss ≡ [] = drop-of-length-le ss {i = l .j} (omega (arith, length-take-le (s .args .count) (s .args .t2) (enough s), c .loop-test .left)) in
     λ (ws bs : List ℕ) st.
-    mid-end ss (lentTo s ws bs) (s .args .given) (s .args .given + s .args .share) (s .args .t3) (l .j) (l .at) (l .wires) (l .boards) (l .shown) (st .accepted) (st .conditionalAre)
-    (subst (λ (left : List Statement). Mid ss (lentTo s ws bs) (s .args .given) (s .args .given + s .args .share) (s .args .t3) (l .j) left (l .at) (l .wires) (l .boards) (l .shown)) none-left (l .inv .1 ws bs st))
+    subst (λ (n : ℕ). RoundState n ss (lentTo s ws bs) (s .args .t3) (l .wires) (l .boards) (l .shown)) (sym (suc-mul (s .args .done) (s .args .share)))
+    (mid-end ss (lentTo s ws bs) (given s) (given s + s .args .share) (s .args .t3) (l .j) (l .at) (l .wires) (l .boards) (l .shown) (st .accepted) (st .conditionalAre)
+    (subst (λ (left : List Statement). Mid ss (lentTo s ws bs) (given s) (given s + s .args .share) (s .args .t3) (l .j) left (l .at) (l .wires) (l .boards) (l .shown)) none-left (l .inv .1 ws bs st)))
 
 pub round-spec : {M : Type 1} → statement M
 round-spec =
@@ -343,6 +355,7 @@ round-spec =
     (tie.spec
     Inv-loop
     μ-loop
+    mul-given
     loop-holds
     mul-statement
     array-copy-out-statement

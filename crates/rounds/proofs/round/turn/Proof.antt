@@ -9,7 +9,7 @@ use borrow.Author.Needs.{needs}
 use Rattle.gates.specs.Gate.{gatesOf}
 use Rattle.gates.proofs.Prefix.{Stands, can-step, step-stands, can-close}
 use Rattle.rounds.specs.Tables.{lent}
-use Rattle.rounds.specs.Inner.{JuryStands}
+use Rattle.rounds.specs.Inner.{JuryState}
 use Rattle.rounds.proofs.Turning.{turn-begins, turn-goes-on, turn-ends, turn-idle, jury-wires-long}
 use Rattle.rounds.proofs.round.turn.Statement.{statement}
 use Rattle.rounds.proofs.round.turn.Tie as tie
@@ -17,7 +17,7 @@ use Rattle.rounds.proofs.round.turn.Tie as tie
 -- the jury at entry
 abbrev Entry : tie.Start → List ℕ → List ℕ → Type 0
 Entry c ws bs =
-    JuryStands (c .args .given) (c .args .statement) (lent (c .args .list .now) (c .args .ballots .now) (c .args .tape .now) ws bs)
+    JuryState (c .args .given) (c .args .statement) (lent (c .args .list .now) (c .args .ballots .now) (c .args .tape .now) ws bs)
     (c .args .wires .now) (c .args .board .now) (c .args .shown)
 
 returns : tie.Need-returns
