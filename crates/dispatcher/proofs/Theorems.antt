@@ -29,7 +29,7 @@ use Rattle.dispatcher.specs.Reasons.{dispatchReasons}
 use Rattle.rounds.specs.Rounds.{eightOf, roundsFor}
 use Rattle.dispatcher.specs.Dispatch.{Dispatch, ranBoard, dispatchedAfter, dispatched}
 use Rattle.dispatcher.specs.Inner.{wireBytes}
-use Rattle.dispatcher.specs.Theorems.{tablesFrom, juryAt, piecesAt, tablesAfter, RoundsExact, EachJury, SameJury, Refusals, Lengths, Dispatching}
+use Rattle.dispatcher.specs.Theorems.{tablesFrom, juryAt, piecesAt, ranAt, RunsAt, tablesAfter, RoundsExact, EachJury, SameJury, FirstRefused, Refusals, Lengths, Dispatching}
 use Rattle.rounds.proofs.Pieces.{oneOf, piece-fits}
 use Rattle.rounds.proofs.Passed.{Passed, jury-passed, first-accepted}
 use Rattle.rounds.proofs.Rounding.{padding}
@@ -96,6 +96,13 @@ accepted-at i j [] t e h = absurd (omega arith)
 accepted-at i zero (s ∷ ss) t e h = first-accepted i s ss t e .0
 accepted-at i (suc j) (s ∷ ss) t e h = accepted-at (suc i) j ss (behind s t) (first-accepted i s ss t e .1) (omega arith)
 
+-- a run on the pieces of a jury that is not turned away
+run-accepted : (ss : List Statement) (t : Tables) (j : ℕ) → firstOf (reasonsOf (juryAt j ss) (tablesFrom j ss t)) ≡ none → RunsAt j ss t
+run-accepted ss t j e =
+    let p = piecesAt j ss t in
+    let k = jury-passed (juryAt j ss) (tablesFrom j ss t) e .passed in
+    run-answer (shapeOf (juryAt j ss)) (p .lists) (p .ballots) (p .wires) (p .boards) (p .tapes) k (p .tapes) (k .mask)
+
 number-at : (f : Statement → Tables → ℕ) (rest : Tables → List ℕ) (j : ℕ) (ss : List Statement) (t : Tables) → j < length ss → getD (through (oneOf f) rest ss t) j 0 ≡ f (juryAt j ss) (piecesAt j ss t)
 unfolding through tablesFrom
 number-at f rest j [] t h = absurd (omega arith)
@@ -137,8 +144,11 @@ board-at i (suc j) (s ∷ ss) t w e h =
     ∙ board-at (suc i) j ss (behind s t) (drop (ballotBytes (shapeOf s) + s .gates) w) (a .1) (omega arith)
 
 module _ (count : ℕ) (ss : List Statement) (share : ℕ) (t : Tables) (j : ℕ) (e : dispatched count ss share t .reason ≡ none) (h : j < length (take count ss)) where
+  accepts : firstOf (reasonsOf (juryAt j (take count ss)) (tablesFrom j (take count ss) t)) ≡ none
+  accepts = accepted-at 0 j (take count ss) t (juries-pass count ss share t e) h
+
   passed : Passed (juryAt j (take count ss)) (tablesFrom j (take count ss) t)
-  passed = jury-passed (juryAt j (take count ss)) (tablesFrom j (take count ss) t) (accepted-at 0 j (take count ss) t (juries-pass count ss share t e) h)
+  passed = jury-passed (juryAt j (take count ss)) (tablesFrom j (take count ss) t) accepts
 
   is-after : dispatched count ss share t ≡ dispatchedAfter none (take count ss) share t
   is-after = dispatched-by count ss share t none (no-reason count ss share t none e)
@@ -147,14 +157,11 @@ module _ (count : ℕ) (ss : List Statement) (share : ℕ) (t : Tables) (j : ℕ
   unfolding dispatchedAfter eightOf
   each-jury =
       let qs = take count ss in
-      let s = juryAt j qs in
-      let p = piecesAt j qs t in
-      let k = passed in
       record {
         rounds =
             ap (λ (r : Dispatch). getD (r .rounds) j 0) is-after
             ∙ number-at (λ (s : Statement) (p : Tables). roundsFor (s .gates) share) (padding qs) j qs t h;
-        runs = run-answer (shapeOf s) (p .lists) (p .ballots) (p .wires) (p .boards) (p .tapes) (k .passed) (p .tapes) (k .passed .mask);
+        runs = run-accepted qs t j accepts;
         board =
             ap (λ (r : Dispatch). piecesAt j qs (lent (t .lists) (t .ballots) (t .tapes) (dispatched count ss share t .wires) (r .boards)) .boards) is-after
             ∙ board-at 0 j qs t (dispatched count ss share t .wires) (juries-pass count ss share t e) h;
@@ -188,27 +195,49 @@ all-boards i (s ∷ ss) t e =
       jury-passed s t (a .0) .inBoards,
     )
 
--- the first bad jury, and what a run on its pieces answers
-found-at : (i : ℕ) (ss : List Statement) (t : Tables) (r : Reason) → firstOf (juryReasons i ss t) ≡ some r
-    → (k : ℕ) × (q : Reason) × (r ≡ reasonAt (q .number) (i + k)) × (firstOf (reasonsOf (juryAt k ss) (tablesFrom k ss t)) ≡ some q)
-unfolding juryReasons tablesFrom
+-- the first bad jury, counted from the first of these, which is jury i
+record Found (i : ℕ) (ss : List Statement) (t : Tables) (r : Reason) : Type 0 where
+  pub jury : ℕ
+  pub its : Reason
+  pub among : jury < length ss
+  pub named : r ≡ reasonAt (its .number) (i + jury)
+  pub before : (j : ℕ) → j < jury → firstOf (reasonsOf (juryAt j ss) (tablesFrom j ss t)) ≡ none
+  pub bad : firstOf (reasonsOf (juryAt jury ss) (tablesFrom jury ss t)) ≡ some its
+
+found-at : (i : ℕ) (ss : List Statement) (t : Tables) (r : Reason) → firstOf (juryReasons i ss t) ≡ some r → Found i ss t r
+unfolding juryReasons
 found-at i [] t r e = unfold firstOf in (let z : _≡_ {A = ℕ} 0 1 = cc in absurd (omega arith))
 found-at i (s ∷ ss) t r e = go (firstOf (reasonsOf s t)) refl (λ h. found-at (suc i) ss (behind s t) r h) e
   where
-    later : (k : ℕ) × (q : Reason) × (r ≡ reasonAt (q .number) (suc i + k)) × (firstOf (reasonsOf (juryAt k ss) (tablesFrom k ss (behind s t))) ≡ some q)
-        → (k : ℕ) × (q : Reason) × (r ≡ reasonAt (q .number) (i + k)) × (firstOf (reasonsOf (juryAt k (s ∷ ss)) (tablesFrom k (s ∷ ss) t)) ≡ some q)
-    later f = unfold tablesFrom in (suc (f .0), f .1, f .2 ∙ ap (reasonAt (f .1 .number)) {x = suc i + f .0} {y = i + suc (f .0)} (omega arith), f .3)
+    good : firstOf (reasonsOf s t) ≡ none → (f : Found (suc i) ss (behind s t) r) (j : ℕ) → j < suc (f .jury) → firstOf (reasonsOf (juryAt j (s ∷ ss)) (tablesFrom j (s ∷ ss) t)) ≡ none
+    good p f zero h = unfold tablesFrom in p
+    good p f (suc j) h = unfold tablesFrom in (f .before j (omega arith))
 
-    go : (o : Option Reason) → firstOf (reasonsOf s t) ≡ o
-        → (firstOf (juryReasons (suc i) ss (behind s t)) ≡ some r
-        → (k : ℕ) × (q : Reason) × (r ≡ reasonAt (q .number) (suc i + k)) × (firstOf (reasonsOf (juryAt k ss) (tablesFrom k ss (behind s t))) ≡ some q))
-        → firstOf (atJury i o ∷ juryReasons (suc i) ss (behind s t)) ≡ some r
-        → (k : ℕ) × (q : Reason) × (r ≡ reasonAt (q .number) (i + k)) × (firstOf (reasonsOf (juryAt k (s ∷ ss)) (tablesFrom k (s ∷ ss) t)) ≡ some q)
-    go none p rest f = unfold atJury firstOf in (later (rest f))
+    later : firstOf (reasonsOf s t) ≡ none → Found (suc i) ss (behind s t) r → Found i (s ∷ ss) t r
+    later p f =
+        record {
+          jury = suc (f .jury);
+          its = f .its;
+          among = omega (arith, f .among);
+          named = f .named ∙ ap (reasonAt (f .its .number)) {x = suc i + f .jury} {y = i + suc (f .jury)} (omega arith);
+          before = good p f;
+          bad = unfold tablesFrom in (f .bad);
+        }
+
+    go : (o : Option Reason) → firstOf (reasonsOf s t) ≡ o → (firstOf (juryReasons (suc i) ss (behind s t)) ≡ some r → Found (suc i) ss (behind s t) r)
+        → firstOf (atJury i o ∷ juryReasons (suc i) ss (behind s t)) ≡ some r → Found i (s ∷ ss) t r
+    go none p rest f = unfold atJury firstOf in (later p (rest f))
     go (some q) p rest f =
         unfold atJury firstOf tablesFrom in
         (let same : reasonAt (q .number) i ≡ r = cc in
-        (0, q, sym same ∙ ap (reasonAt (q .number)) {x = i} {y = i + 0} (omega arith), p))
+        record {
+          jury = 0;
+          its = q;
+          among = omega arith;
+          named = sym same ∙ ap (reasonAt (q .number)) {x = i} {y = i + 0} (omega arith);
+          before = λ (j : ℕ) (h : j < 0). absurd (omega arith);
+          bad = p;
+        })
 
 refusals : Refusals
 refusals =
@@ -228,30 +257,30 @@ refusals =
     same-reason r q e = cc
 
     -- a jury's refusal is that of a run on its pieces
-    of-run : (qs : List Statement) (t : Tables) (r q : Reason) (k : ℕ) → r ≡ reasonAt (q .number) k → firstOf (reasonsOf (juryAt k qs) (tablesFrom k qs t)) ≡ some q
-        → (x : Reason) × (r .number ≡ x .number)
-        × (let p = piecesAt (r .place) qs t in ran (shapeOf (juryAt (r .place) qs)) (p .lists) (p .ballots) (p .tapes) (p .wires) (p .boards) .answer ≡ refused x)
-    of-run qs t r q k e f =
+    of-run : (qs : List Statement) (t : Tables) (r : Reason) → Found 0 qs t r → FirstRefused qs t r
+    of-run qs t r f =
+        let k = f .jury in
+        let q = f .its in
         let p = piecesAt k qs t in
         let s = juryAt k qs in
-        let said : ran (shapeOf s) (p .lists) (p .ballots) (p .tapes) (p .wires) (p .boards) .answer ≡ refused q =
-        unfold ranAfter reasonsOf in (ap (λ (x : Ran). x .answer) (ran-by (shapeOf s) (p .lists) (p .ballots) (p .tapes) (p .wires) (p .boards) (some q) f)) in
-        let place : k ≡ r .place = unfold reasonAt in (sym (ap (λ (x : Reason). x .place) e)) in (
-          q,
-          (unfold reasonAt in (ap (λ (x : Reason). x .number) e)),
-          subst (λ (i : ℕ). let p = piecesAt i qs t in ran (shapeOf (juryAt i qs)) (p .lists) (p .ballots) (p .tapes) (p .wires) (p .boards) .answer ≡ refused q) place said,
-        )
+        let said : ranAt k qs t .answer ≡ refused q =
+        unfold ranAfter reasonsOf in (ap (λ (x : Ran). x .answer) (ran-by (shapeOf s) (p .lists) (p .ballots) (p .tapes) (p .wires) (p .boards) (some q) (f .bad))) in
+        let place : r .place ≡ 0 + k = unfold reasonAt in (ap (λ (x : Reason). x .place) (f .named)) in
+        let here : k ≡ r .place = omega arith in
+        record {
+          among = omega (arith, f .among);
+          before = λ (j : ℕ) (h : j < r .place). run-accepted qs t j (f .before j (omega arith));
+          its = q;
+          number = unfold reasonAt in (ap (λ (x : Reason). x .number) (f .named));
+          run = subst (λ (i : ℕ). ranAt i qs t .answer ≡ refused q) here said;
+        }
 
     name : (count : ℕ) (ss : List Statement) (share : ℕ) (t : Tables) (r : Reason) (a b : Bool) → (leb 1 count && leb count 8) ≡ a → (leb 1 share && leb share 65536) ≡ b
         → firstOf (dispatchReasons count ss share t) ≡ some r
-        → (r ≡ reasonAt 19 0) ⊎ (r ≡ reasonAt 20 0)
-        ⊎ ((q : Reason) × (r .number ≡ q .number)
-        × (let p = piecesAt (r .place) (take count ss) t in ran (shapeOf (juryAt (r .place) (take count ss))) (p .lists) (p .ballots) (p .tapes) (p .wires) (p .boards) .answer ≡ refused q))
+        → (r ≡ reasonAt 19 0) ⊎ (r ≡ reasonAt 20 0) ⊎ FirstRefused (take count ss) t r
     name count ss share t r false b p q e = inl (same-reason r (reasonAt 19 0) (sym e ∙ bad-count count ss share t p))
     name count ss share t r true false p q e = inr (inl (same-reason r (reasonAt 20 0) (sym e ∙ bad-share count ss share t p q)))
-    name count ss share t r true true p q e =
-        let f = found-at 0 (take count ss) t r (sym (by-juries count ss share t p q) ∙ e) in
-        inr (inr (of-run (take count ss) t r (f .1) (f .0) (f .2 ∙ ap (reasonAt (f .1 .number)) {x = 0 + f .0} {y = f .0} (omega arith)) (f .3)))
+    name count ss share t r true true p q e = inr (inr (of-run (take count ss) t r (found-at 0 (take count ss) t r (sym (by-juries count ss share t p q) ∙ e))))
 
 -- no length changes
 lengths : Lengths

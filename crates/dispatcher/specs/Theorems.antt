@@ -8,7 +8,7 @@ use lib.ListN.{length, getD, take, replicate}
 use Rattle.gates.specs.Gate.{gatesOf}
 use Rattle.jury.specs.Reason.{Reason, reasonAt}
 use Rattle.tally.specs.Answer.{refused, accepted, sizeOf}
-use Rattle.tally.specs.Run.{ran}
+use Rattle.tally.specs.Run.{Ran, ran}
 use Rattle.tally.specs.Hiding.{closingBytes, Hidden}
 use Rattle.rounds.specs.declared.statement.Statement.{Statement}
 use Rattle.rounds.specs.Tables.{Tables, lent, shapeOf, piecesOf, behind}
@@ -28,6 +28,14 @@ juryAt j ss = getD ss j (record { candidates = 0; grades = 0; ballots = 0; gates
 abbrev pub piecesAt : ℕ → List Statement → Tables → Tables
 piecesAt j ss t = piecesOf (juryAt j ss) (tablesFrom j ss t)
 
+-- What an undivided run on jury j's pieces answers and leaves.
+abbrev pub ranAt : ℕ → List Statement → Tables → Ran
+ranAt j ss t = let p = piecesAt j ss t in ran (shapeOf (juryAt j ss)) (p .lists) (p .ballots) (p .tapes) (p .wires) (p .boards)
+
+-- Such a run is accepted.
+abbrev pub RunsAt : ℕ → List Statement → Tables → Type 0
+RunsAt j ss t = ranAt j ss t .answer ≡ accepted (sizeOf (gatesOf (piecesAt j ss t .lists)))
+
 -- The tables after a call: lists, ballots and tapes are only read.
 abbrev pub tablesAfter : ℕ → List Statement → ℕ → Tables → Tables
 tablesAfter count ss share t = lent (t .lists) (t .ballots) (t .tapes) (dispatched count ss share t .wires) (dispatched count ss share t .boards)
@@ -41,8 +49,7 @@ pub record RoundsExact : Type 0 where
 pub record EachJury (count : ℕ) (ss : List Statement) (share : ℕ) (t : Tables) (j : ℕ) : Type 0 where
   pub rounds : getD (dispatched count ss share t .rounds) j 0 ≡ roundsFor (juryAt j (take count ss) .gates) share
   -- an undivided run on its pieces is accepted, and leaves the board that the call leaves it
-  pub runs : let p = piecesAt j (take count ss) t in
-      ran (shapeOf (juryAt j (take count ss))) (p .lists) (p .ballots) (p .tapes) (p .wires) (p .boards) .answer ≡ accepted (sizeOf (gatesOf (p .lists)))
+  pub runs : RunsAt j (take count ss) t
   pub board : piecesAt j (take count ss) (tablesAfter count ss share t) .boards ≡ ranBoard (juryAt j (take count ss)) (piecesAt j (take count ss) t)
 
 -- Jury j of one accepted call and jury i of another, which agree in shape and G and in list, ballots and tape, have the same board, whatever else is lent and whatever the two shares are; for equal shares they take as many rounds.
@@ -50,12 +57,18 @@ pub record SameJury (count count′ : ℕ) (ss ss′ : List Statement) (share sh
   pub board : piecesAt j (take count ss) (tablesAfter count ss share t) .boards ≡ piecesAt i (take count′ ss′) (tablesAfter count′ ss′ share′ t′) .boards
   pub rounds : share ≡ share′ → getD (dispatched count ss share t .rounds) j 0 ≡ getD (dispatched count′ ss′ share′ t′ .rounds) i 0
 
--- A refusal is 19 or 20 at place 0, or has the number for which a run on the pieces of the jury at its place is turned away. It alters nothing and answers no rounds.
+-- The reason r is that of the first jury that is turned away: its place is one of the juries, runs on the pieces of all juries before that are accepted, and a run on this jury's is refused with the number of r.
+pub record FirstRefused (ss : List Statement) (t : Tables) (r : Reason) : Type 0 where
+  pub among : r .place < length ss
+  pub before : (j : ℕ) → j < r .place → RunsAt j ss t
+  pub its : Reason
+  pub number : r .number ≡ its .number
+  pub run : ranAt (r .place) ss t .answer ≡ refused its
+
+-- A refusal is 19 or 20 at place 0, or the reason of the first jury that is turned away. It alters nothing and answers no rounds.
 pub record Refusals : Type 0 where
   pub named : (count : ℕ) (ss : List Statement) (share : ℕ) (t : Tables) (r : Reason) → dispatched count ss share t .reason ≡ some r
-      → (r ≡ reasonAt 19 0) ⊎ (r ≡ reasonAt 20 0)
-      ⊎ ((q : Reason) × (r .number ≡ q .number)
-      × (let p = piecesAt (r .place) (take count ss) t in ran (shapeOf (juryAt (r .place) (take count ss))) (p .lists) (p .ballots) (p .tapes) (p .wires) (p .boards) .answer ≡ refused q))
+      → (r ≡ reasonAt 19 0) ⊎ (r ≡ reasonAt 20 0) ⊎ FirstRefused (take count ss) t r
   pub unaltered : (count : ℕ) (ss : List Statement) (share : ℕ) (t : Tables) (r : Reason) → dispatched count ss share t .reason ≡ some r
       → (dispatched count ss share t .wires ≡ t .wires) × (dispatched count ss share t .boards ≡ t .boards) × (dispatched count ss share t .rounds ≡ replicate 8 0)
 

@@ -36,7 +36,7 @@ unfolding fit
 reason-numbered count ss share t r e =
     ⊎-elim (λ a. let n = own r 19 a in record { least = omega (arith, n); most = omega (arith, n) })
     (⊎-elim (λ b. let n = own r 20 b in record { least = omega (arith, n); most = omega (arith, n) })
-    (λ f. of-run r (f .0) (f .1) (numbered lastReason _ (f .0) tt (run-number _ _ _ _ _ _ (f .0) (f .2)))))
+    (λ f. of-run r (f .its) (f .number) (numbered lastReason _ (f .its) tt (run-number _ _ _ _ _ _ (f .its) (f .run)))))
     (dispatching .refusals .named count ss share t r e)
 
 -- reason and place stand before the numbers of rounds
