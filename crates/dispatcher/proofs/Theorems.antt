@@ -29,7 +29,7 @@ use Rattle.dispatcher.specs.Reasons.{dispatchReasons}
 use Rattle.rounds.specs.Rounds.{eightOf, roundsFor}
 use Rattle.dispatcher.specs.Dispatch.{Dispatch, ranBoard, dispatchedAfter, dispatched}
 use Rattle.dispatcher.specs.Inner.{wireBytes}
-use Rattle.dispatcher.specs.Theorems.{tablesFrom, juryAt, piecesAt, ranAt, RunsAt, tablesAfter, RoundsExact, EachJury, SameJury, FirstRefused, Refusals, Lengths, Dispatching}
+use Rattle.dispatcher.specs.Theorems.{tablesFrom, juryAt, piecesAt, ranAt, RunsAt, tablesAfter, RoundsExact, EachJury, SameJury, FirstRefused, Refusals, Lengths, Untouched, Dispatching}
 use Rattle.rounds.proofs.Pieces.{oneOf, piece-fits}
 use Rattle.rounds.proofs.Passed.{Passed, jury-passed, first-accepted}
 use Rattle.rounds.proofs.Rounding.{padding}
@@ -143,6 +143,68 @@ board-at i (suc j) (s ∷ ss) t w e h =
     ap (λ (x : List ℕ). piecesAt j ss (lent (later .lists) (later .ballots) (later .tapes) (drop (ballotBytes (shapeOf s) + s .gates) w) x) .boards) cut
     ∙ board-at (suc i) j ss (behind s t) (drop (ballotBytes (shapeOf s) + s .gates) w) (a .1) (omega arith)
 
+-- zeros in place of a jury's wires
+abbrev zeros : Statement → Tables → List ℕ
+zeros s p = replicate (length (p .wires)) 0
+
+zeros-long : (s : Statement) (t : Tables) → firstOf (reasonsOf s t) ≡ none → length (zeros s (piecesOf s t)) ≡ ballotBytes (shapeOf s) + s .gates
+zeros-long s t e = length-replicate {A = ℕ} (length (piecesOf s t .wires)) 0 ∙ jury-passed s t e .wiresLong
+
+-- jury j's piece of the wire table
+wires-at : (i j : ℕ) (ss : List Statement) (t : Tables) (o : List ℕ) → firstOf (juryReasons i ss t) ≡ none → j < length ss
+    → piecesAt j ss (lent (t .lists) (t .ballots) (t .tapes) (through zeros (λ (t : Tables). t .wires) ss t) o) .wires ≡ zeros (juryAt j ss) (piecesAt j ss t)
+unfolding through tablesFrom behind conditionalIn listOf
+wires-at i j [] t o e h = absurd (omega arith)
+wires-at i zero (s ∷ ss) t o e h = first-wires s ss t o (first-accepted i s ss t e .0)
+  where
+    first-wires : (s : Statement) (ss : List Statement) (t : Tables) (o : List ℕ) → firstOf (reasonsOf s t) ≡ none
+        → piecesOf s (lent (t .lists) (t .ballots) (t .tapes) (zeros s (piecesOf s t) ++ through zeros (λ (t : Tables). t .wires) ss (behind s t)) o) .wires ≡ zeros s (piecesOf s t)
+    first-wires s ss t o a =
+        unfold piecesOf in
+        (let n = ballotBytes (shapeOf s) + s .gates in
+        let z = zeros s (piecesOf s t) in
+        let rest = through zeros (λ (t : Tables). t .wires) ss (behind s t) in
+        let long : length z ≡ n = zeros-long s t a in
+        piece-fits n (z ++ rest) (omega (arith, length-append z rest)) ∙ take-at z rest n long)
+wires-at i (suc j) (s ∷ ss) t o e h =
+    let a = first-accepted i s ss t e in
+    let n = ballotBytes (shapeOf s) + s .gates in
+    let later = behind s t in
+    let rest = through zeros (λ (t : Tables). t .wires) ss (behind s t) in
+    let cut : drop n (zeros s (piecesOf s t) ++ rest) ≡ rest = drop-at (zeros s (piecesOf s t)) rest n (zeros-long s t (a .0)) in
+    let left = drop (conditionalIn s t + s .candidates) o in
+    ap (λ (x : List ℕ). piecesAt j ss (lent (later .lists) (later .ballots) (later .tapes) x left) .wires) cut
+    ∙ wires-at (suc i) j ss (behind s t) left (a .1) (omega arith)
+
+-- what lies behind the pieces of all juries
+wires-behind : (i : ℕ) (ss : List Statement) (t : Tables) (o : List ℕ) → firstOf (juryReasons i ss t) ≡ none
+    → tablesFrom (length ss) ss (lent (t .lists) (t .ballots) (t .tapes) (through zeros (λ (t : Tables). t .wires) ss t) o) .wires ≡ tablesFrom (length ss) ss t .wires
+unfolding through tablesFrom behind conditionalIn listOf
+wires-behind i [] t o e = refl
+wires-behind i (s ∷ ss) t o e =
+    let a = first-accepted i s ss t e in
+    let n = ballotBytes (shapeOf s) + s .gates in
+    let later = behind s t in
+    let rest = through zeros (λ (t : Tables). t .wires) ss (behind s t) in
+    let cut : drop n (zeros s (piecesOf s t) ++ rest) ≡ rest = drop-at (zeros s (piecesOf s t)) rest n (zeros-long s t (a .0)) in
+    let left = drop (conditionalIn s t + s .candidates) o in
+    ap (λ (x : List ℕ). tablesFrom (length ss) ss (lent (later .lists) (later .ballots) (later .tapes) x left) .wires) cut
+    ∙ wires-behind (suc i) ss (behind s t) left (a .1)
+
+boards-behind : (i : ℕ) (ss : List Statement) (t : Tables) (w : List ℕ) → firstOf (juryReasons i ss t) ≡ none
+    → tablesFrom (length ss) ss (lent (t .lists) (t .ballots) (t .tapes) w (through ranBoard (λ (t : Tables). t .boards) ss t)) .boards ≡ tablesFrom (length ss) ss t .boards
+unfolding through tablesFrom behind conditionalIn listOf
+boards-behind i [] t w e = refl
+boards-behind i (s ∷ ss) t w e =
+    let a = first-accepted i s ss t e in
+    let n = conditionalIn s t + s .candidates in
+    let later = behind s t in
+    let rest = through ranBoard (λ (t : Tables). t .boards) ss (behind s t) in
+    let cut : drop n (ranBoard s (piecesOf s t) ++ rest) ≡ rest = drop-at (ranBoard s (piecesOf s t)) rest n (ran-long s t (a .0)) in
+    let left = drop (ballotBytes (shapeOf s) + s .gates) w in
+    ap (λ (x : List ℕ). tablesFrom (length ss) ss (lent (later .lists) (later .ballots) (later .tapes) left x) .boards) cut
+    ∙ boards-behind (suc i) ss (behind s t) left (a .1)
+
 module _ (count : ℕ) (ss : List Statement) (share : ℕ) (t : Tables) (j : ℕ) (e : dispatched count ss share t .reason ≡ none) (h : j < length (take count ss)) where
   accepts : firstOf (reasonsOf (juryAt j (take count ss)) (tablesFrom j (take count ss) t)) ≡ none
   accepts = accepted-at 0 j (take count ss) t (juries-pass count ss share t e) h
@@ -162,6 +224,9 @@ module _ (count : ℕ) (ss : List Statement) (share : ℕ) (t : Tables) (j : ℕ
             ap (λ (r : Dispatch). getD (r .rounds) j 0) is-after
             ∙ number-at (λ (s : Statement) (p : Tables). roundsFor (s .gates) share) (padding qs) j qs t h;
         runs = run-accepted qs t j accepts;
+        emptied =
+            ap (λ (r : Dispatch). piecesAt j qs (lent (t .lists) (t .ballots) (t .tapes) (r .wires) (dispatched count ss share t .boards)) .wires) is-after
+            ∙ wires-at 0 j qs t (dispatched count ss share t .boards) (juries-pass count ss share t e) h;
         board =
             ap (λ (r : Dispatch). piecesAt j qs (lent (t .lists) (t .ballots) (t .tapes) (dispatched count ss share t .wires) (r .boards)) .boards) is-after
             ∙ board-at 0 j qs t (dispatched count ss share t .wires) (juries-pass count ss share t e) h;
@@ -316,6 +381,38 @@ lengths =
         unfold dispatchedAfter in
         (ap (λ (d : Dispatch). length (d .wires)) q ∙ wires-long 0 (take count ss) t pass, ap (λ (d : Dispatch). length (d .boards)) q ∙ boards-long 0 (take count ss) t pass)
 
+-- what lies behind all pieces after a call that leaves d
+abbrev left : List Statement → Tables → Dispatch → Tables
+left qs t d = tablesFrom (length qs) qs (lent (t .lists) (t .ballots) (t .tapes) (d .wires) (d .boards))
+
+-- nothing of it is altered
+untouched : Untouched
+untouched =
+    record {
+      wires = λ (count : ℕ) (ss : List Statement) (share : ℕ) (t : Tables). in-wires count ss share t (firstOf (dispatchReasons count ss share t)) refl;
+      boards = λ (count : ℕ) (ss : List Statement) (share : ℕ) (t : Tables). on-boards count ss share t (firstOf (dispatchReasons count ss share t)) refl;
+    }
+  where
+    in-wires : (count : ℕ) (ss : List Statement) (share : ℕ) (t : Tables) (o : Option Reason) → firstOf (dispatchReasons count ss share t) ≡ o
+        → left (take count ss) t (dispatched count ss share t) .wires ≡ tablesFrom (length (take count ss)) (take count ss) t .wires
+    in-wires count ss share t (some r) e =
+        unfold dispatchedAfter in (ap (λ (d : Dispatch). left (take count ss) t d .wires) (dispatched-by count ss share t (some r) e))
+    in-wires count ss share t none e =
+        let q = dispatched-by count ss share t none e in
+        let pass = juries-pass count ss share t (unfold dispatchedAfter in (ap (λ (d : Dispatch). d .reason) q)) in
+        unfold dispatchedAfter in
+        (ap (λ (d : Dispatch). left (take count ss) t d .wires) q ∙ wires-behind 0 (take count ss) t (through ranBoard (λ (t : Tables). t .boards) (take count ss) t) pass)
+
+    on-boards : (count : ℕ) (ss : List Statement) (share : ℕ) (t : Tables) (o : Option Reason) → firstOf (dispatchReasons count ss share t) ≡ o
+        → left (take count ss) t (dispatched count ss share t) .boards ≡ tablesFrom (length (take count ss)) (take count ss) t .boards
+    on-boards count ss share t (some r) e =
+        unfold dispatchedAfter in (ap (λ (d : Dispatch). left (take count ss) t d .boards) (dispatched-by count ss share t (some r) e))
+    on-boards count ss share t none e =
+        let q = dispatched-by count ss share t none e in
+        let pass = juries-pass count ss share t (unfold dispatchedAfter in (ap (λ (d : Dispatch). d .reason) q)) in
+        unfold dispatchedAfter in
+        (ap (λ (d : Dispatch). left (take count ss) t d .boards) q ∙ boards-behind 0 (take count ss) t (through zeros (λ (t : Tables). t .wires) (take count ss) t) pass)
+
 -- demand 3 for two juries, by their runs
 hidden : (s s′ : Statement) (p q : Tables) (x y : List ℕ)
     → ran (shapeOf s) (p .lists) (p .ballots) (p .tapes) (p .wires) (p .boards) .answer ≡ accepted (sizeOf (gatesOf (p .lists)))
@@ -340,6 +437,7 @@ dispatching =
     record {
       exact = exact;
       lengths = lengths;
+      untouched = untouched;
       refusals = refusals;
       each = each-jury;
       same = λ (count count′ : ℕ) (ss ss′ : List Statement) (share share′ : ℕ) (t t′ : Tables) (j i : ℕ) e h e′ h′ st list ballots tape.

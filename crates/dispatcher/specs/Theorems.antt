@@ -1,4 +1,4 @@
--- What holds of every call of the dispatcher (request 2.8), over the definition that its contract equates with the answer and with all that is lent.
+-- What holds of every call of the dispatcher (requests 2.8 and 2.13), over the definition that its contract equates with the answer and with all that is lent.
 use mathlib.Core.Path.{_≡_}
 use mathlib.Core.Logic.{_↔_, _⊎_}
 use mathlib.Core.Option.{none, some}
@@ -50,6 +50,8 @@ pub record EachJury (count : ℕ) (ss : List Statement) (share : ℕ) (t : Table
   pub rounds : getD (dispatched count ss share t .rounds) j 0 ≡ roundsFor (juryAt j (take count ss) .gates) share
   -- an undivided run on its pieces is accepted, and leaves the board that the call leaves it
   pub runs : RunsAt j (take count ss) t
+  -- its wires are emptied
+  pub emptied : piecesAt j (take count ss) (tablesAfter count ss share t) .wires ≡ replicate (length (piecesAt j (take count ss) t .wires)) 0
   pub board : piecesAt j (take count ss) (tablesAfter count ss share t) .boards ≡ ranBoard (juryAt j (take count ss)) (piecesAt j (take count ss) t)
 
 -- Jury j of one accepted call and jury i of another, which agree in shape and G and in list, ballots and tape, have the same board, whatever else is lent and whatever the two shares are; for equal shares they take as many rounds.
@@ -77,9 +79,17 @@ pub record Lengths : Type 0 where
   pub same : (count : ℕ) (ss : List Statement) (share : ℕ) (t : Tables)
       → (length (dispatched count ss share t .wires) ≡ length (t .wires)) × (length (dispatched count ss share t .boards) ≡ length (t .boards))
 
+-- No call, accepted or refused, alters what lies behind the last jury's piece.
+pub record Untouched : Type 0 where
+  pub wires : (count : ℕ) (ss : List Statement) (share : ℕ) (t : Tables)
+      → tablesFrom (length (take count ss)) (take count ss) (tablesAfter count ss share t) .wires ≡ tablesFrom (length (take count ss)) (take count ss) t .wires
+  pub boards : (count : ℕ) (ss : List Statement) (share : ℕ) (t : Tables)
+      → tablesFrom (length (take count ss)) (take count ss) (tablesAfter count ss share t) .boards ≡ tablesFrom (length (take count ss)) (take count ss) t .boards
+
 pub record Dispatching : Type 0 where
   pub exact : RoundsExact
   pub lengths : Lengths
+  pub untouched : Untouched
   pub refusals : Refusals
   pub each : (count : ℕ) (ss : List Statement) (share : ℕ) (t : Tables) (j : ℕ) → dispatched count ss share t .reason ≡ none → j < length (take count ss) → EachJury count ss share t j
   pub same : (count count′ : ℕ) (ss ss′ : List Statement) (share share′ : ℕ) (t t′ : Tables) (j i : ℕ)
