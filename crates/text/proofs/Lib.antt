@@ -1,7 +1,4 @@
-pub mod DecimalLaws
-pub mod LineLaws
 pub mod TextLaws
-pub mod Found
 pub mod Storing
 pub mod Scanning
 pub mod Reasons

@@ -1,8 +1,8 @@
 // The entry point that writes a list as text.
 use crate::answer::Answer;
 use crate::answer::TextRefusal;
-use crate::print;
 use jury::shape::Shape;
+use lines::print;
 ghost use mathlib.Core.Path.{_≡_};
 ghost use Prim.Native.Nat.{_≤_};
 ghost use lib.ListN.{length};

@@ -8,9 +8,10 @@ use lib.ListN.{length, getD, drop, length-append}
 use lib.Seq.{sets, length-sets}
 use Rattle.gates.specs.Gate.{gatesOf}
 use Rattle.gates.proofs.Table.{length-gates}
-use Rattle.text.specs.Line.{lineOf}
+use Rattle.lines.specs.Line.{lineOf}
 use Rattle.text.specs.Text.{textOf}
-use Rattle.text.proofs.Storing.{sets-append, text-from, text-end}
+use Rattle.lines.proofs.Storing.{sets-append}
+use Rattle.text.proofs.Storing.{text-from, text-end}
 use native.Mathlib.Omega.{arith}
 use borrow.Author.Needs.{needs}
 use Rattle.text.proofs.write.put_text.Statement.{statement}
