@@ -9,12 +9,12 @@ use native.Mathlib.Nat.{pow-succ'}
 use native.Mathlib.Omega.{arith}
 use lib.Dec.{eqb}
 use Rattle.gates.proofs.Laws.{Holds, mux-zero, mux-one}
-use Rattle.words.specs.Gates.{notOf, andOf, orOf, xorOf, muxOf}
+use Rattle.words.specs.Gates.{andOf, xorOf, muxOf}
 use Rattle.words.specs.Word.{number}
 use Rattle.words.specs.Choice.{chainEnd}
-use Rattle.words.specs.Comparison.{compareDigit, firstDigit, compareWords, upEnd, downEnd, differences, above}
+use Rattle.words.specs.Comparison.{firstDigit, compareWords, upEnd, downEnd, differences, above}
 use Rattle.words.proofs.Numbers.{Binary, bit-cases, number-none, number-more}
-use Rattle.words.proofs.GateValues.{valueOn, holds-first, holds-rest, holds-three, not-is, and-is, or-is, xor-is}
+use Rattle.words.proofs.GateValues.{valueOn, holds-first, holds-rest, holds-three, and-is, xor-is}
 use Rattle.words.proofs.ChoiceSteps.{chain-next}
 
 -- a bit that would be the other one
@@ -26,23 +26,6 @@ not-zero {y} {t} {s} z f = let g : ¬ (s ≤ t) = λ q. let k = f q in omega ari
 
 module _ (W : ℕ → ℕ) (b : Binary W) where
   -- two digits, both ways
-  pub digit-up : (n x y : ℕ) → Holds W n (compareDigit n x y) → (W y < W x → W (n + 2) ≡ 1) × (W x ≤ W y → W (n + 2) ≡ 0)
-  unfolding compareDigit
-  digit-up n x y h =
-      let g = holds-three W n (notOf x) (notOf y) (andOf x (n + 1)) (andOf n y ∷ []) h in
-      let p = g .1 ∙ not-is W b y in
-      let q = g .2 ∙ and-is W b x (n + 1) in
-      (λ l. omega (arith, p, q, l, b x, b y), λ l. omega (arith, p, q, l, b x, b y))
-
-  pub digit-down : (n x y : ℕ) → Holds W n (compareDigit n x y) → (W x < W y → W (n + 3) ≡ 1) × (W y ≤ W x → W (n + 3) ≡ 0)
-  unfolding compareDigit
-  digit-down n x y h =
-      let g = holds-three W n (notOf x) (notOf y) (andOf x (n + 1)) (andOf n y ∷ []) h in
-      let p = g .0 ∙ not-is W b x in
-      let q = g .3 .0 ∙ and-is W b n y in
-      (λ l. omega (arith, p, q, l, b x, b y), λ l. omega (arith, p, q, l, b x, b y))
-
-  -- the same of the cheaper pair of wires
   pub first-up : (n x y : ℕ) → Holds W n (firstDigit n x y) → (W y < W x → W (n + 1) ≡ 1) × (W x ≤ W y → W (n + 1) ≡ 0)
   unfolding firstDigit
   first-up n x y h =

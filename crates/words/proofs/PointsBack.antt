@@ -17,7 +17,7 @@ use Rattle.words.specs.Gates.{constant, copyOf, notOf, andOf, orOf, xorO
 use Rattle.words.specs.Word.{Below}
 use Rattle.words.specs.Adder.{fullAdder, halfAdder, increment, addWords, addWithBit}
 use Rattle.words.specs.Choice.{constants, each, choose, masked, chain, chainEnd}
-use Rattle.words.specs.Comparison.{compareDigit, firstDigit, compareWords, differences, above}
+use Rattle.words.specs.Comparison.{firstDigit, compareWords, differences, above}
 use Rattle.words.specs.Counter.{level, adders, levelSum, countLevels, countDigits, counter, countSize, Countable, addLevels, addDigits, accumulator, addSize}
 use Rattle.words.proofs.Places.{below-more, below-first}
 use Rattle.words.proofs.Emitting.{bit-none-used}
@@ -122,11 +122,6 @@ chain-good n kind s at d (suc m) k e hs bl = (
 
 pub any-good : (n s at d m : ℕ) → s < n → Below n at d m → AllGood n (chain 5 n s at d m)
 any-good n s at d m hs bl = chain-good n 5 s at d m (omega arith) (operand-counts .5) hs bl
-
-pub compare-digit-good : (n x y : ℕ) → x < n → y < n → AllGood n (compareDigit n x y)
-unfolding compareDigit
-compare-digit-good n x y hx hy =
-    (good-not n x hx, (good-not (suc n) y (omega arith), (good-and (suc (suc n)) x (n + 1) (omega arith) (omega arith), (good-and (suc (suc (suc n))) n y (omega arith) (omega arith), tt))))
 
 pub first-digit-good : (n x y : ℕ) → x < n → y < n → AllGood n (firstDigit n x y)
 unfolding firstDigit

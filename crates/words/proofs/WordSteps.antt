@@ -10,7 +10,7 @@ use lib.ListN.{length, length-append}
 use Rattle.gates.specs.Gate.{Gate}
 use Rattle.words.specs.Gates.{copyOf, notOf, andOf, orOf, xorOf, muxOf}
 use Rattle.words.specs.Adder.{fullAdder, halfAdder, increment, addWords, addWithBit}
-use Rattle.words.specs.Comparison.{compareDigit, firstDigit, compareWords, differences, above}
+use Rattle.words.specs.Comparison.{firstDigit, compareWords, differences, above}
 use Rattle.words.proofs.ChoiceSteps.{left-one, next-place}
 
 pub add-step : (n x y c i w : ℕ) → i < w → addWords n (x + i) (y + i) c (w - i) ≡ fullAdder n (x + i) (y + i) c ++ addWords (n + 3) (x + (i + 1)) (y + (i + 1)) (n + 2) (w - (i + 1))
@@ -76,10 +76,6 @@ pub length-compare : (n x y up down w : ℕ) → length (compareWords n x y up d
 unfolding compareWords
 length-compare n x y up down zero = refl
 length-compare n x y up down (suc w) = omega (arith, length-compare (n + 3) (x + 1) (y + 1) (n + 1) (n + 2) w)
-
-pub length-compare-digit : (n x y : ℕ) → length (compareDigit n x y) ≡ 4
-unfolding compareDigit
-length-compare-digit n x y = refl
 
 pub length-first-digit : (n x y : ℕ) → length (firstDigit n x y) ≡ 3
 unfolding firstDigit

@@ -2,13 +2,9 @@
 use mathlib.Core.List.{List, [], _∷_}
 use Prim.Native.Nat.{ℕ, zero, suc, _+_, _*_}
 use Rattle.gates.specs.Gate.{Gate}
-use Rattle.words.specs.Gates.{notOf, andOf, xorOf, muxOf}
+use Rattle.words.specs.Gates.{andOf, xorOf, muxOf}
 
--- Two digits compared both ways: wire n + 2 says that x is above y, wire n + 3 that it is below.
-unfoldable pub compareDigit : ℕ → ℕ → ℕ → List Gate
-compareDigit n x y = notOf x ∷ notOf y ∷ andOf x (n + 1) ∷ andOf n y ∷ []
-
--- The same with one conditional gate: wire n + 1 says that x is above y, wire n + 2 that it is below.
+-- Two digits compared both ways, with one conditional gate: wire n + 1 says that x is above y, wire n + 2 that it is below.
 unfoldable pub firstDigit : ℕ → ℕ → ℕ → List Gate
 firstDigit n x y = xorOf x y ∷ andOf x n ∷ xorOf n (n + 1) ∷ []
 

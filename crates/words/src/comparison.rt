@@ -6,7 +6,7 @@ ghost use Prim.Native.Nat.{_+_, _*_, _≤_, _<_};
 ghost use lib.ListN.{length};
 ghost use Rattle.words.specs.Limits.{writerLimit};
 ghost use Rattle.words.specs.Writing.{Room, Wrote};
-ghost use Rattle.words.specs.Comparison.{compareDigit, firstDigit, compareWords, upEnd, downEnd, differences, above};
+ghost use Rattle.words.specs.Comparison.{firstDigit, compareWords, upEnd, downEnd, differences, above};
 
 // The wire that says of all digits that the first word is above the second.
 pub fn up_end(n: u32, up: u32, digits: u32) -> u32
@@ -29,19 +29,7 @@ pub fn down_end(n: u32, down: u32, digits: u32) -> u32
 }
 
 impl Writer {
-    // Two digits compared both ways.
-    pub fn compare_digit(self, table: &mut [u32], x: u32, y: u32) -> Writer
-        requires { ⌜ Room self 4 ⌝ }
-        ensures { λ r. ⌜ Wrote self (now (table .entry)) (compareDigit (self .wire) x y) (now (table .exit)) r ⌝ }
-    {
-        let n = self.wire;
-        let first = self.emit(table, kind::NOT, x, 0, 0);
-        let second = first.emit(table, kind::NOT, y, 0, 0);
-        let third = second.emit(table, kind::AND, x, n + 1, 0);
-        third.emit(table, kind::AND, n, y, 0)
-    }
-
-    // The same with one conditional gate.
+    // Two digits compared both ways, with one conditional gate.
     pub fn first_digit(self, table: &mut [u32], x: u32, y: u32) -> Writer
         requires { ⌜ Room self 3 ⌝ }
         ensures { λ r. ⌜ Wrote self (now (table .entry)) (firstDigit (self .wire) x y) (now (table .exit)) r ⌝ }
