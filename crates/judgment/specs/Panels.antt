@@ -1,33 +1,28 @@
--- The panels P1 to P11: counts, best grade first, and their closing bytes by full majority judgment. P3, P9 and P11 have no winner by the gauge; the others keep theirs.
+-- The panels P1 to P11, whose counts stand with the gauge, and their closing bytes by full majority judgment. P3, P9 and P11 have no winner by the gauge; the others keep theirs.
 use mathlib.Core.Path.{_≡_, refl}
 use mathlib.Core.List.{List, [], _∷_, map}
 use Prim.Native.Nat.{ℕ}
 use Rattle.jury.specs.Gauge.{medianOf, medianFrom, sum}
+use Rattle.jury.specs.Panels.{panelCounts}
 use Rattle.judgment.specs.Judgment.{judgmentOf, nonePrecedes, precedes, sequenceOf, strikes, strike}
 
-pub record Panel : Type 0 where
-  pub counts : List (List ℕ)
-  pub closing : List ℕ
-
-panel : List (List ℕ) → List ℕ → Panel
-panel rows bytes = record { counts = rows; closing = bytes }
-
-pub panels : List Panel
-panels =
-    panel ((31 ∷ 151 ∷ 529 ∷ 254 ∷ 35 ∷ []) ∷ (21 ∷ 48 ∷ 442 ∷ 301 ∷ 188 ∷ []) ∷ (101 ∷ 7 ∷ 2 ∷ 86 ∷ 804 ∷ []) ∷ []) (1 ∷ 0 ∷ 0 ∷ [])
-    ∷ panel ((1 ∷ 0 ∷ 0 ∷ []) ∷ (0 ∷ 1 ∷ 0 ∷ []) ∷ []) (1 ∷ 0 ∷ [])
-    ∷ panel ((0 ∷ 1 ∷ 0 ∷ []) ∷ (0 ∷ 1 ∷ 0 ∷ []) ∷ []) (1 ∷ 1 ∷ [])
-    ∷ panel ((1 ∷ 1 ∷ 1 ∷ []) ∷ (0 ∷ 0 ∷ 3 ∷ []) ∷ []) (1 ∷ 0 ∷ [])
-    ∷ panel ((2 ∷ 0 ∷ 2 ∷ []) ∷ (1 ∷ 2 ∷ 1 ∷ []) ∷ []) (1 ∷ 0 ∷ [])
-    ∷ panel ((1 ∷ 2 ∷ 0 ∷ []) ∷ (0 ∷ 2 ∷ 1 ∷ []) ∷ []) (1 ∷ 0 ∷ [])
-    ∷ panel ((2 ∷ 3 ∷ 0 ∷ []) ∷ (1 ∷ 4 ∷ 0 ∷ []) ∷ []) (1 ∷ 0 ∷ [])
-    ∷ panel ((0 ∷ 4 ∷ 1 ∷ []) ∷ (0 ∷ 3 ∷ 2 ∷ []) ∷ []) (1 ∷ 0 ∷ [])
-    ∷ panel ((1 ∷ 1 ∷ 1 ∷ []) ∷ (0 ∷ 3 ∷ 0 ∷ []) ∷ []) (1 ∷ 0 ∷ [])
-    ∷ panel ((0 ∷ 2 ∷ []) ∷ []) (1 ∷ [])
-    ∷ panel ((1 ∷ 2 ∷ 0 ∷ []) ∷ (1 ∷ 2 ∷ 0 ∷ []) ∷ (0 ∷ 0 ∷ 3 ∷ []) ∷ []) (1 ∷ 1 ∷ 0 ∷ [])
+-- The closing bytes of each panel.
+unfoldable pub panelClosings : List (List ℕ)
+panelClosings =
+    (1 ∷ 0 ∷ 0 ∷ [])
+    ∷ (1 ∷ 0 ∷ [])
+    ∷ (1 ∷ 1 ∷ [])
+    ∷ (1 ∷ 0 ∷ [])
+    ∷ (1 ∷ 0 ∷ [])
+    ∷ (1 ∷ 0 ∷ [])
+    ∷ (1 ∷ 0 ∷ [])
+    ∷ (1 ∷ 0 ∷ [])
+    ∷ (1 ∷ 0 ∷ [])
+    ∷ (1 ∷ [])
+    ∷ (1 ∷ 1 ∷ 0 ∷ [])
     ∷ []
 
 -- The rule gives each panel its closing bytes.
-pub panels-hold : map (λ (p : Panel). judgmentOf (p .counts)) panels ≡ map (λ (p : Panel). p .closing) panels
-unfolding panels panel judgmentOf nonePrecedes precedes sequenceOf strikes strike medianOf medianFrom sum
+pub panels-hold : map judgmentOf panelCounts ≡ panelClosings
+unfolding panelCounts panelClosings judgmentOf nonePrecedes precedes sequenceOf strikes strike medianOf medianFrom sum
 panels-hold = refl
