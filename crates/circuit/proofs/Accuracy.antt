@@ -16,8 +16,8 @@ use Rattle.gates.proofs.Laws.{AllGood, Holds, wires-hold, wires-bits, wire-bit,
 use Rattle.gates.proofs.WireLaws.{length-wires}
 use Rattle.jury.specs.declared.shape.Shape.{Shape}
 use Rattle.jury.specs.Shape.{gradedLimits, ballotBytes}
-use Rattle.jury.specs.Counts.{countsOf, countOf}
-use Rattle.jury.specs.Gauge.{sum, medianOf}
+use Rattle.jury.specs.Counts.{sum, countsOf, countOf}
+use Rattle.jury.specs.Gauge.{medianOf}
 use Rattle.jury.specs.Accepted.{GradedBallots}
 use Rattle.jury.proofs.Cases.{below-or-not}
 use Rattle.jury.proofs.Limits.{within}

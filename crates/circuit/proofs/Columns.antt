@@ -10,8 +10,7 @@ use Rattle.gates.specs.Wires.{wire, wiresOf}
 use Rattle.gates.specs.Gate.{Gate}
 use Rattle.gates.proofs.Laws.{wires-start}
 use Rattle.jury.specs.declared.shape.Shape.{Shape}
-use Rattle.jury.specs.Counts.{countOf, tabulate}
-use Rattle.jury.specs.Gauge.{sum}
+use Rattle.jury.specs.Counts.{sum, countOf, tabulate}
 use Rattle.jury.specs.Accepted.{GradedBallots}
 use Rattle.jury.proofs.Sums.{sum-none, sum-first}
 use Rattle.jury.proofs.Tabulate.{tabulate-cong}

@@ -8,7 +8,8 @@ use Prim.Native.Nat.{ℕ, zero, suc, _+_, _-_, _*_, _≤_, _<_}
 use native.Mathlib.Omega.{arith}
 use lib.ListN.{length, getD, take}
 use lib.Seq.{ext-getD}
-use Rattle.jury.specs.Gauge.{sum, medianOf}
+use Rattle.jury.specs.Counts.{sum}
+use Rattle.jury.specs.Gauge.{medianOf}
 use Rattle.jury.proofs.Cases.{below-or-not}
 use Rattle.jury.proofs.MedianFacts.{median-passed, median-reached}
 use Rattle.jury.proofs.RunningSums.{running-start, running-next, running-most, running-grows, running-whole, from-median}

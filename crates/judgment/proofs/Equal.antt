@@ -7,7 +7,7 @@ use Prim.Native.Nat.{ℕ, zero, suc, _≤_, _<_}
 use native.Mathlib.Omega.{arith}
 use lib.ListN.{length}
 use lib.Seq.{ext-getD}
-use Rattle.jury.specs.Gauge.{sum}
+use Rattle.jury.specs.Counts.{sum}
 use Rattle.jury.proofs.Cases.{below-or-not}
 use Rattle.jury.proofs.RunningSums.{running-next, running-most}
 use Rattle.judgment.specs.Judgment.{sequenceOf}

@@ -8,7 +8,8 @@ use Prim.Native.Nat.{ℕ, suc, _+_, _*_, _≤_, _<_}
 use native.Mathlib.Omega.{arith}
 use lib.ListN.{length, getD, List·getD-eq-default}
 use lib.Seq.{ext-getD}
-use Rattle.jury.specs.Gauge.{sum, medianOf, pOf, qOf, beats, closingOf}
+use Rattle.jury.specs.Counts.{sum}
+use Rattle.jury.specs.Gauge.{medianOf, pOf, qOf, beats, closingOf}
 use Rattle.jury.proofs.Cases.{below-or-not, same-or-not}
 use Rattle.jury.proofs.Flags.{never-true}
 use Rattle.jury.proofs.RunningSums.{running-grows, p-is, q-is}

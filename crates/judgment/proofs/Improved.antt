@@ -7,7 +7,7 @@ use mathlib.Core.List.{List, []}
 use Prim.Native.Nat.{ℕ, suc, _≤_, _<_}
 use native.Mathlib.Omega.{arith}
 use lib.ListN.{length, getD}
-use Rattle.jury.specs.Gauge.{sum}
+use Rattle.jury.specs.Counts.{sum}
 use Rattle.jury.proofs.Cases.{same-or-not}
 use Rattle.jury.proofs.Flags.{never-true}
 use Rattle.judgment.specs.Judgment.{sequenceOf, precedes, judgmentOf}

@@ -10,7 +10,8 @@ use lib.Dec.{eqb, leb}
 use lib.ListN.{length, getD, length-set}
 use lib.Seq.{take-set-le}
 use borrow.Author.Tests.{eqb-true, eqb-false, leb-true, leb-false}
-use Rattle.jury.specs.Gauge.{sum, medianOf}
+use Rattle.jury.specs.Counts.{sum}
+use Rattle.jury.specs.Gauge.{medianOf}
 use Rattle.jury.proofs.Cases.{below-or-not}
 use Rattle.jury.proofs.RunningSums.{running-next, running-whole, running-grows}
 use Rattle.judgment.specs.Judgment.{strike, strikes, sequenceOf}

@@ -9,7 +9,8 @@ use native.Mathlib.Omega.{arith}
 use lib.Dec.{leb}
 use lib.ListN.{length}
 use borrow.Author.Tests.{leb-true, leb-false}
-use Rattle.jury.specs.Gauge.{sum, medianOf}
+use Rattle.jury.specs.Counts.{sum}
+use Rattle.jury.specs.Gauge.{medianOf}
 use Rattle.jury.proofs.Cases.{below-or-not}
 use Rattle.jury.proofs.MedianFacts.{median-passed, median-reached}
 use Rattle.jury.proofs.RunningSums.{running-grows}

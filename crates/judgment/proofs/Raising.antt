@@ -8,8 +8,7 @@ use native.Mathlib.Omega.{arith}
 use lib.ListN.{length, getD, drop}
 use lib.Seq.{getD-drop}
 use Rattle.jury.specs.declared.shape.Shape.{Shape}
-use Rattle.jury.specs.Gauge.{sum}
-use Rattle.jury.specs.Counts.{byteOf, countUpTo, countOf, countsOf, tabulate}
+use Rattle.jury.specs.Counts.{sum, byteOf, countUpTo, countOf, countsOf, tabulate}
 use Rattle.jury.specs.Accepted.{GradedBallots}
 use Rattle.jury.proofs.Cases.{below-or-not, same-or-not}
 use Rattle.jury.proofs.BallotLaws.{row-within}

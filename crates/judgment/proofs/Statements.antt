@@ -6,7 +6,7 @@ use mathlib.Core.Logic.{_⊎_, _≢_}
 use mathlib.Core.List.{List}
 use Prim.Native.Nat.{ℕ, _+_, _*_, _≤_, _<_}
 use lib.ListN.{take}
-use Rattle.jury.specs.Gauge.{sum}
+use Rattle.jury.specs.Counts.{sum}
 use Rattle.judgment.specs.Judgment.{sequenceOf, precedes}
 
 -- the number of a row's grades that are the t best ones

@@ -6,7 +6,7 @@ use mathlib.Core.Logic.{⊎-elim}
 use mathlib.Core.List.{List}
 use Prim.Native.Nat.{ℕ, suc, _+_, _≤_, _<_}
 use native.Mathlib.Omega.{arith}
-use Rattle.jury.specs.Gauge.{sum}
+use Rattle.jury.specs.Counts.{sum}
 use Rattle.jury.proofs.Cases.{below-or-not}
 use Rattle.jury.proofs.RunningSums.{running-grows, running-most}
 use Rattle.judgment.specs.Judgment.{sequenceOf, precedes}

@@ -10,7 +10,7 @@ use lib.Dec.{leb, ltb}
 use lib.ListN.{length, getD, take}
 use lib.Seq.{getD-take}
 use borrow.Author.Tests.{leb-true, leb-false, lt-ltb, le-ltb, le-leb}
-use Rattle.jury.specs.Gauge.{sum}
+use Rattle.jury.specs.Counts.{sum}
 use Rattle.jury.proofs.Cases.{below-or-not}
 use Rattle.jury.proofs.Flags.{or-either, or-first, or-second, never-true}
 use Rattle.jury.proofs.RunningSums.{running-start, running-next, running-whole, running-most}

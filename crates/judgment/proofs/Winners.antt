@@ -7,7 +7,8 @@ use mathlib.Core.List.{List, [], _∷_, map}
 use Prim.Native.Nat.{ℕ, zero, suc, _<_}
 use native.Mathlib.Omega.{arith}
 use lib.ListN.{length, getD, length-map}
-use Rattle.jury.specs.Gauge.{sum, medianOf}
+use Rattle.jury.specs.Counts.{sum}
+use Rattle.jury.specs.Gauge.{medianOf}
 use Rattle.jury.proofs.Flags.{and-both, never-true}
 use Rattle.judgment.specs.Judgment.{strike, strikes, sequenceOf, precedes, nonePrecedes, judgmentOf}
 use Rattle.judgment.specs.Winner.{Before, Wins}

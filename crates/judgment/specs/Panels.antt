@@ -2,7 +2,8 @@
 use mathlib.Core.Path.{_≡_, refl}
 use mathlib.Core.List.{List, [], _∷_, map}
 use Prim.Native.Nat.{ℕ}
-use Rattle.jury.specs.Gauge.{medianOf, medianFrom, sum}
+use Rattle.jury.specs.Counts.{sum}
+use Rattle.jury.specs.Gauge.{medianOf, medianFrom}
 use Rattle.jury.specs.Panels.{panelCounts}
 use Rattle.judgment.specs.Judgment.{judgmentOf, nonePrecedes, precedes, sequenceOf, strikes, strike}
 

@@ -4,7 +4,8 @@ use mathlib.Core.Logic.{_↔_, _≢_}
 use mathlib.Core.List.{List, []}
 use Prim.Native.Nat.{ℕ, _≤_, _<_}
 use lib.ListN.{length, getD}
-use Rattle.jury.specs.Gauge.{sum, closingOf}
+use Rattle.jury.specs.Counts.{sum}
+use Rattle.jury.specs.Gauge.{closingOf}
 use Rattle.judgment.specs.Judgment.{sequenceOf, judgmentOf}
 use Rattle.judgment.specs.Winner.{Wins}
 

@@ -9,8 +9,7 @@ use native.Mathlib.Omega.{arith}
 use lib.ListN.{getD, take, drop}
 use Rattle.jury.specs.declared.shape.Shape.{Shape}
 use Rattle.jury.specs.Ballots.{rowsOf}
-use Rattle.jury.specs.Counts.{byteOf, countOf, tabulate, countsOf}
-use Rattle.jury.specs.Gauge.{sum}
+use Rattle.jury.specs.Counts.{sum, byteOf, countOf, tabulate, countsOf}
 use Rattle.jury.proofs.AcceptedLaws.{row-first, row-next}
 use Rattle.jury.proofs.Tabulate.{tabulate-cong, map-tabulate}
 use Rattle.jury.proofs.Sums.{addend}

@@ -10,8 +10,7 @@ use borrow.Author.Tests.{ne-eqb}
 use Rattle.jury.specs.declared.shape.Shape.{Shape}
 use Rattle.jury.specs.Shape.{isRanking, ballotBytes}
 use Rattle.jury.specs.Ballots.{ones}
-use Rattle.jury.specs.Counts.{byteOf, countUpTo, countOf, tabulate, countsOf, countArray}
-use Rattle.jury.specs.Gauge.{sum}
+use Rattle.jury.specs.Counts.{sum, byteOf, countUpTo, countOf, tabulate, countsOf, countArray}
 use Rattle.jury.specs.Inner.{rowsIn}
 use Rattle.jury.specs.Accepted.{GradedBallots}
 use Rattle.jury.proofs.Limits.{within, grades-columns}

@@ -5,7 +5,8 @@ use mathlib.Core.List.{List, [], _∷_}
 use Prim.Native.Nat.{ℕ, zero, suc, _+_, _*_, _≤_, _<_}
 use native.Mathlib.Omega.{arith}
 use lib.ListN.{length, getD, take}
-use Rattle.jury.specs.Gauge.{sum, medianOf, pOf, qOf}
+use Rattle.jury.specs.Counts.{sum}
+use Rattle.jury.specs.Gauge.{medianOf, pOf, qOf}
 use Rattle.jury.proofs.MedianFacts.{median-reached, p-median-q}
 
 pub running-start : (row : List ℕ) → sum (take 0 row) ≡ 0

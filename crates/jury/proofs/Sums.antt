@@ -8,9 +8,8 @@ use native.Mathlib.Omega.{arith}
 use lib.Dec.{eqb}
 use lib.ListN.{getD, take}
 use lib.Seq.{take-nil}
-use Rattle.jury.specs.Gauge.{sum}
 use Rattle.jury.specs.Ballots.{ones}
-use Rattle.jury.specs.Counts.{tabulate}
+use Rattle.jury.specs.Counts.{sum, tabulate}
 
 -- the first entry taken apart, and the last
 pub sum-none : (f : ℕ → ℕ) → sum (tabulate 0 f) ≡ 0

@@ -6,7 +6,11 @@ use Prim.Native.Nat.{ℕ, zero, suc, _+_, _*_, _<_}
 use lib.Dec.{eqb, ltb}
 use lib.ListN.{getD}
 use Rattle.jury.specs.declared.shape.Shape.{Shape}
-use Rattle.jury.specs.Gauge.{sum}
+
+-- The sum of some counts.
+unfoldable pub sum : List ℕ → ℕ
+sum [] = 0
+sum (x ∷ xs) = x + sum xs
 
 -- The byte of ballot b, candidate c and grade g: the rows of a ballot are its candidates, the bytes of a row the grades from the best on.
 unfoldable pub byteOf : Shape → List ℕ → ℕ → ℕ → ℕ → ℕ

@@ -3,11 +3,8 @@ use mathlib.Core.Bool.{Bool, true, cond, _&&_, _||_}
 use mathlib.Core.List.{List, [], _∷_, _++_}
 use Prim.Native.Nat.{ℕ, suc, _+_, _*_}
 use lib.Dec.{leb, ltb, eqb}
-use lib.ListN.{take, drop, replicate}
-
-unfoldable pub sum : List ℕ → ℕ
-sum [] = 0
-sum (x ∷ xs) = x + sum xs
+use lib.ListN.{take, drop}
+use Rattle.jury.specs.Counts.{sum}
 
 -- The first place at which the counts up to here, this one and `before` with it, are at least half of n.
 unfoldable pub medianFrom : ℕ → ℕ → List ℕ → ℕ
@@ -61,7 +58,3 @@ closingFrom earlier (a ∷ later) = cond (beatsAll a (earlier ++ later)) 1 0 ∷
 -- The closing bytes of a matrix of counts, one row a candidate.
 unfoldable pub closingOf : List (List ℕ) → List ℕ
 closingOf rows = closingFrom [] rows
-
--- Closing bytes in an array of eight, filled up with 0.
-unfoldable pub eightBytes : List ℕ → List ℕ
-eightBytes bytes = take 8 (bytes ++ replicate 8 0)

@@ -5,6 +5,7 @@ pub mod Rankings
 pub mod Ballots
 pub mod WeakOrder
 pub mod Counts
+pub mod ClosingBytes
 pub mod Gauge
 pub mod Winner
 pub mod Panels

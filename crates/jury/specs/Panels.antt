@@ -2,7 +2,8 @@
 use mathlib.Core.Path.{_≡_, refl}
 use mathlib.Core.List.{List, [], _∷_, map}
 use Prim.Native.Nat.{ℕ}
-use Rattle.jury.specs.Gauge.{closingOf, closingFrom, beatsAll, beats, betterMedian, equalMedians, strongerMedian, largerP, smallerQ, medianOf, medianFrom, pOf, qOf, sum}
+use Rattle.jury.specs.Counts.{sum}
+use Rattle.jury.specs.Gauge.{closingOf, closingFrom, beatsAll, beats, betterMedian, equalMedians, strongerMedian, largerP, smallerQ, medianOf, medianFrom, pOf, qOf}
 
 -- The matrix of each panel, one row a candidate.
 unfoldable pub panelCounts : List (List (List ℕ))

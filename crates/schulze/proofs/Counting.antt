@@ -11,7 +11,7 @@ use lib.ListN.{getD, List·getD-eq-default}
 use lib.Seq.{ext-getD}
 use borrow.Author.Tests.{eq-eqb}
 use Rattle.jury.specs.Counts.{tabulate}
-use Rattle.jury.specs.Gauge.{eightBytes}
+use Rattle.jury.specs.ClosingBytes.{eightBytes}
 use Rattle.jury.proofs.Cases.{same-or-not, below-or-not}
 use Rattle.jury.proofs.Rows.{eight-at, eight-length}
 use Rattle.jury.proofs.Tabulate.{upTo, upTo-new, upTo-old, length-tabulate, getD-tabulate, tabulate-cong}

@@ -2,7 +2,7 @@
 use crate::rule;
 use crate::votes;
 ghost use mathlib.Core.Path.{_≡_};
-ghost use Rattle.jury.specs.Gauge.{eightBytes};
+ghost use Rattle.jury.specs.ClosingBytes.{eightBytes};
 ghost use Rattle.schulze.specs.Schulze.{closingBytes};
 ghost use Rattle.schulze.specs.Votes as spec;
 ghost use Rattle.schulze.specs.Inner.{RankedSize};

@@ -4,7 +4,7 @@ ghost use Prim.Native.Nat.{ℕ, _≤_, _<_, min, max};
 ghost use mathlib.Core.Bool.{cond};
 ghost use lib.Dec.{ltb};
 ghost use lib.ListN.{getD};
-ghost use Rattle.jury.specs.Gauge.{eightBytes};
+ghost use Rattle.jury.specs.ClosingBytes.{eightBytes};
 ghost use Rattle.schulze.specs.Schulze as spec;
 ghost use Rattle.schulze.specs.Closure as closure;
 ghost use Rattle.schulze.specs.Inner.{entry, Holds, HoldsPairs, unbeatenIn};

@@ -17,8 +17,9 @@ use Rattle.jury.specs.Shape.{isRanking, gradedLimits, rankedLimits, withinLimit
 use Rattle.jury.specs.Reason.{Reason, reasonAt, unless, foundAt, listReason, firstOf}
 use Rattle.jury.specs.Ballots.{ones, rowsOf, firstBadRow, gradedReasons, rankedReasons, ballotReasons}
 use Rattle.jury.specs.Rankings.{rankPlace, before, orElse, firstOver, someBelow, clashAt, clashInRow, clashInBallot, firstClash, apart, gapAfter, gap, firstGap}
-use Rattle.jury.specs.Counts.{byteOf, countUpTo, countOf, tabulate, countsOf}
-use Rattle.jury.specs.Gauge.{sum, medianFrom, medianOf, eightBytes}
+use Rattle.jury.specs.Counts.{sum, byteOf, countUpTo, countOf, tabulate, countsOf}
+use Rattle.jury.specs.Gauge.{medianFrom, medianOf}
+use Rattle.jury.specs.ClosingBytes.{eightBytes}
 use Rattle.judgment.specs.Judgment.{strike, strikes, sequenceOf, precedes, nonePrecedes, judgmentOf}
 use Rattle.jury.proofs.Limits.{bounds}
 use Rattle.schulze.specs.Schulze.{link, weakest, candidates, without, selections, maximum, simplePaths, strongest, every, wins, closingBytes}

@@ -7,7 +7,7 @@ use Prim.Native.Nat.{ℕ}
 use Rattle.jury.specs.declared.shape.Shape.{Shape}
 use Rattle.jury.specs.Shape.{withinLimits}
 use Rattle.jury.specs.Reason.{reasonAt, unless, firstOf}
-use Rattle.jury.specs.Gauge.{eightBytes}
+use Rattle.jury.specs.ClosingBytes.{eightBytes}
 use Rattle.tally.specs.Answer.{said, refused}
 use Rattle.tally.specs.Measure.{measureSaid}
 use Rattle.tally.specs.Test.{testReasons}

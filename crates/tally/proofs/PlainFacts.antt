@@ -10,7 +10,7 @@ use lib.ListN.{length, getD, take, replicate, List·getD-eq-default}
 use lib.Seq.{take-take, take-append-le, take-all}
 use Rattle.jury.specs.declared.shape.Shape.{Shape}
 use Rattle.jury.specs.Reason.{Reason}
-use Rattle.jury.specs.Gauge.{eightBytes}
+use Rattle.jury.specs.ClosingBytes.{eightBytes}
 use Rattle.tally.specs.Rule.{closingFor}
 use Rattle.tally.specs.Count.{countReason, closingAfter, plainClosing}
 use Rattle.jury.specs.Accepted.{AcceptedBallots}

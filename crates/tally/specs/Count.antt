@@ -6,7 +6,7 @@ use Rattle.jury.specs.declared.shape.Shape.{Shape}
 use Rattle.jury.specs.Shape.{withinLimits}
 use Rattle.jury.specs.Reason.{Reason, unless, firstOf}
 use Rattle.jury.specs.Ballots.{ballotReasons}
-use Rattle.jury.specs.Gauge.{eightBytes}
+use Rattle.jury.specs.ClosingBytes.{eightBytes}
 use Rattle.tally.specs.Rule.{closingFor}
 
 -- The reasons that concern a count, in checking order: 1, 4, 5, then 6 of grades or 11 and 12 of rankings.

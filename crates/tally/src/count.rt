@@ -5,7 +5,7 @@ use jury::shape::Shape;
 ghost use mathlib.Core.Path.{_≡_};
 ghost use Rattle.jury.specs.Reason.{refusedFor};
 ghost use Rattle.jury.specs.Accepted.{AcceptedBallots};
-ghost use Rattle.jury.specs.Gauge.{eightBytes};
+ghost use Rattle.jury.specs.ClosingBytes.{eightBytes};
 ghost use Rattle.tally.specs.Rule.{closingFor};
 ghost use Rattle.tally.specs.Count.{countReason, plainClosing};
 

@@ -15,7 +15,7 @@ use Rattle.gates.proofs.Laws.{AllGood, all-good, wires-hold, wires-start, wires
 use Rattle.gates.proofs.WireLaws.{length-wires}
 use Rattle.jury.specs.declared.shape.Shape.{Shape}
 use Rattle.jury.specs.Reason.{Reason, firstOf}
-use Rattle.jury.specs.Gauge.{eightBytes}
+use Rattle.jury.specs.ClosingBytes.{eightBytes}
 use Rattle.jury.proofs.Limits.{bounds}
 use Rattle.jury.proofs.Rows.{eight-at}
 use Rattle.jury.proofs.Tabulate.{tabulate-cong, tabulate-getD}

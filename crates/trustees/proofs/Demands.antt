@@ -11,7 +11,7 @@ use Rattle.jury.specs.declared.shape.Shape.{Shape}
 use Rattle.jury.specs.Shape.{isRanking}
 use Rattle.jury.specs.Reason.{Reason, reasonAt, firstOf}
 use Rattle.jury.specs.Ballots.{ballotReasons}
-use Rattle.jury.specs.Gauge.{eightBytes}
+use Rattle.jury.specs.ClosingBytes.{eightBytes}
 use Rattle.tally.specs.Answer.{refused, accepted, hasNumberIn, Size, sizeOf}
 use Rattle.tally.specs.Test.{testReasons}
 use Rattle.tally.proofs.TestReasons.{never}

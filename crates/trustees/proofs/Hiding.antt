@@ -12,7 +12,7 @@ use Rattle.gates.specs.Wires.{wiresOf, outputsOf}
 use Rattle.gates.proofs.Laws.{length-outputs}
 use Rattle.gates.proofs.WireLaws.{length-wires}
 use Rattle.jury.specs.declared.shape.Shape.{Shape}
-use Rattle.jury.specs.Gauge.{eightBytes}
+use Rattle.jury.specs.ClosingBytes.{eightBytes}
 use Rattle.jury.proofs.Rows.{eight-at}
 use Rattle.tally.specs.Answer.{accepted, sizeOf}
 use Rattle.shares.specs.Views.{Dealing, GoodDealing, viewOf}

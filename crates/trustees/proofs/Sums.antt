@@ -17,7 +17,7 @@ use Rattle.gates.proofs.Evaluating.{accepted-list}
 use Rattle.jury.specs.declared.shape.Shape.{Shape}
 use Rattle.jury.specs.Shape.{gradedLimits, rankedLimits, withinLimits, ballotBytes}
 use Rattle.jury.specs.Counts.{tabulate}
-use Rattle.jury.specs.Gauge.{eightBytes}
+use Rattle.jury.specs.ClosingBytes.{eightBytes}
 use Rattle.jury.proofs.Cases.{below-or-not}
 use Rattle.jury.proofs.Limits.{within, bytes-are, ranked, ranked-bytes, kinds, bounds, inputs-bound}
 use Rattle.jury.proofs.Rows.{eight-at, eight-length}

@@ -10,7 +10,7 @@ use Rattle.gates.specs.Wires.{wire, wiresOf, outputsOf}
 use Rattle.gates.specs.Hiding.{ExactlyOne}
 use Rattle.jury.specs.declared.shape.Shape.{Shape}
 use Rattle.jury.specs.Reason.{Reason}
-use Rattle.jury.specs.Gauge.{eightBytes}
+use Rattle.jury.specs.ClosingBytes.{eightBytes}
 use Rattle.tally.specs.Answer.{refused, accepted, hasNumberIn, Size, sizeOf}
 use Rattle.tally.specs.Rule.{Wins}
 use Rattle.tally.specs.Count.{plainClosing}

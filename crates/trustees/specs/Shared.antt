@@ -10,7 +10,7 @@ use Rattle.jury.specs.declared.shape.Shape.{Shape}
 use Rattle.jury.specs.Reason.{Reason, unless, firstOf}
 use Rattle.jury.specs.Ballots.{ballotReasons}
 use Rattle.jury.specs.Counts.{tabulate}
-use Rattle.jury.specs.Gauge.{eightBytes}
+use Rattle.jury.specs.ClosingBytes.{eightBytes}
 use Rattle.tally.specs.Answer.{Said, refused, accepted, Size, sizeOf}
 use Rattle.tally.specs.Test.{testReasons}
 use Rattle.shares.specs.Shares.{opened, part, Held}

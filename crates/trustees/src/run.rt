@@ -5,7 +5,7 @@ ghost use mathlib.Core.Path.{_≡_};
 ghost use Prim.Native.Nat.{_+_, _*_, _≤_};
 ghost use lib.ListN.{length};
 ghost use Rattle.jury.specs.Counts.{tabulate};
-ghost use Rattle.jury.specs.Gauge.{eightBytes};
+ghost use Rattle.jury.specs.ClosingBytes.{eightBytes};
 ghost use Rattle.tally.specs.Answer.{saidBy};
 ghost use Rattle.shares.specs.Shares.{opened, part};
 ghost use Rattle.shares.specs.Views.{piece};

@@ -6,7 +6,7 @@ use mathlib.Core.List.{List, []}
 use Prim.Native.Nat.{ℕ, _+_, _-_, _≤_, _<_}
 use native.Mathlib.Omega.{arith}
 use lib.ListN.{length, getD, take}
-use Rattle.jury.specs.Gauge.{sum}
+use Rattle.jury.specs.Counts.{sum}
 use Rattle.jury.specs.Inner.{rowsIn}
 use Rattle.jury.proofs.Rows.{rows-length, row-at}
 use Rattle.judgment.specs.Judgment.{sequenceOf, precedes}

@@ -9,7 +9,7 @@ use borrow.Author.Needs.{needs}
 use Rattle.jury.specs.declared.shape.Shape.{Shape}
 use Rattle.jury.specs.Shape.{withinLimits}
 use Rattle.jury.specs.Reason.{Reason, reasonOf, refusedFor}
-use Rattle.jury.specs.Gauge.{eightBytes}
+use Rattle.jury.specs.ClosingBytes.{eightBytes}
 use Rattle.jury.proofs.Constructed.{shape-is, outside-is}
 use Rattle.tally.specs.Count.{countReason, plainClosing}
 use Rattle.tally.proofs.CountReason.{outside-reason}

@@ -8,8 +8,7 @@ use native.Mathlib.Numerals.{add-one}
 use native.Mathlib.Omega.{arith}
 use lib.ListN.{length, getD, take, drop, length-take, length-drop}
 use Rattle.jury.specs.declared.shape.Shape.{Shape}
-use Rattle.jury.specs.Counts.{tabulate}
-use Rattle.jury.specs.Gauge.{sum}
+use Rattle.jury.specs.Counts.{sum, tabulate}
 use Rattle.jury.specs.Inner.{rowsIn, plusBallot}
 use Rattle.jury.proofs.Limits.{within, bytes-are}
 use Rattle.jury.proofs.BallotLaws.{row-within}

@@ -3,7 +3,7 @@
 use mathlib.Core.Path.{_∙_, ap}
 use Prim.Native.Nat.{_-_}
 use borrow.Author.Needs.{needs}
-use Rattle.jury.specs.Gauge.{eightBytes}
+use Rattle.jury.specs.ClosingBytes.{eightBytes}
 use Rattle.schulze.specs.Votes.{votes}
 use Rattle.schulze.specs.Inner.{entry}
 use Rattle.schulze.proofs.Counting.{closing-agree}

@@ -10,7 +10,7 @@ use native.Mathlib.Numerals.{add-one}
 use borrow.Author.Needs.{needs}
 use lib.ListN.{set}
 use Rattle.jury.specs.Counts.{tabulate}
-use Rattle.jury.specs.Gauge.{eightBytes}
+use Rattle.jury.specs.ClosingBytes.{eightBytes}
 use Rattle.jury.proofs.Tabulate.{upTo, fill-start, fill-step, fill-skip, tabulate-cong}
 use Rattle.schulze.specs.Schulze as spec
 use Rattle.schulze.specs.Inner.{entry, unbeatenIn}

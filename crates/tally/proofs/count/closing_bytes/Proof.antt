@@ -7,7 +7,7 @@ use Prim.Native.Nat.{ℕ}
 use borrow.Author.Needs.{needs}
 use Rattle.jury.specs.Shape.{isRanking, gradedLimits}
 use Rattle.jury.specs.Accepted.{GradedBallots}
-use Rattle.jury.specs.Gauge.{eightBytes}
+use Rattle.jury.specs.ClosingBytes.{eightBytes}
 use Rattle.jury.specs.Inner.{rowsIn}
 use Rattle.jury.proofs.AcceptedLaws as ballots-laws
 use Rattle.jury.proofs.Flags.{true-T}

@@ -8,7 +8,7 @@ use native.Mathlib.Omega.{arith}
 use lib.ListN.{replicate}
 use Rattle.gates.specs.Gate.{gatesOf}
 use Rattle.jury.specs.Reason.{Reason, reasonOf, firstOf}
-use Rattle.jury.specs.Gauge.{eightBytes}
+use Rattle.jury.specs.ClosingBytes.{eightBytes}
 use Rattle.tally.specs.Answer.{Size, accepted, said, saidBy, sizeOf}
 use Rattle.tally.proofs.RunReasons.{said-refused, said-accepted}
 use Rattle.shares.specs.Views.{Dealing}
