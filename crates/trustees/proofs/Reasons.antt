@@ -18,6 +18,7 @@ use Rattle.jury.specs.Reason.{Reason, unless, firstOf}
 use Rattle.jury.specs.Ballots.{ballotReasons}
 use Rattle.jury.specs.Accepted.{AcceptedBallots}
 use Rattle.jury.proofs.AcceptedLaws as ballots-laws
+use Rattle.jury.proofs.Flags.{and-first, and-second}
 use Rattle.jury.proofs.Limits.{bounds, inputs-bound}
 use Rattle.tally.specs.Answer.{refused, accepted, said, Size, sizeOf}
 use Rattle.tally.specs.Test.{testReasons, testSaid}
@@ -33,12 +34,8 @@ use Rattle.trustees.specs.Shared.{tablesFit, partReasons, sharedReasons,
 unfoldable pub partFound : Bool → Bool → Bool → Option Reason
 partFound trustees tables dealing = firstOf (unless trustees 16 ∷ unless tables 17 ∷ unless dealing 18 ∷ [])
 
-and-both : (a b : Bool) → (a && b) ≡ true → (a ≡ true) × (b ≡ true)
-and-both true b e = (refl, e)
-and-both false b e = let z : _≡_ {A = ℕ} 0 1 = cc in absurd (omega arith)
-
 pub trustees-most : (t : ℕ) → (leb 2 t && leb t 5) ≡ true → t ≤ 5
-trustees-most t e = leb-true t 5 (and-both (leb 2 t) (leb t 5) e .1)
+trustees-most t e = leb-true t 5 (and-second (leb 2 t) (leb t 5) e)
 
 -- sizes of an accepted list and of accepted ballots
 pub small-sizes : (s : Shape) (table ballots : List ℕ) (size : Size) → TestPassed s table size → firstOf (ballotReasons s ballots) ≡ none
@@ -69,14 +66,13 @@ module _ (inputs k : ℕ) (size : Size) (t : ℕ) (d : Dealing) (wireParts publi
       let b = eqb (length (d .dealerParts)) (t * (3 * size .conditional)) in
       let w = eqb (length wireParts) (t * (inputs + size .gates)) in
       let q = eqb (length published) (t * (2 * size .conditional + k)) in
-      let e₁ = and-both (a && b && w) q e in
-      let e₂ = and-both (a && b) w (e₁ .0) in
-      let e₃ = and-both a b (e₂ .0) in
+      let three = and-first (a && b && w) q e in
+      let two = and-first (a && b) w three in
       record {
-        ballot-length = eqb-true (length (d .ballotParts)) (t * inputs) (e₃ .0);
-        dealer-length = eqb-true (length (d .dealerParts)) (t * (3 * size .conditional)) (e₃ .1);
-        wires-length = eqb-true (length wireParts) (t * (inputs + size .gates)) (e₂ .1);
-        published-length = eqb-true (length published) (t * (2 * size .conditional + k)) (e₁ .1);
+        ballot-length = eqb-true (length (d .ballotParts)) (t * inputs) (and-first a b two);
+        dealer-length = eqb-true (length (d .dealerParts)) (t * (3 * size .conditional)) (and-second a b two);
+        wires-length = eqb-true (length wireParts) (t * (inputs + size .gates)) (and-second (a && b) w three);
+        published-length = eqb-true (length published) (t * (2 * size .conditional + k)) (and-second (a && b && w) q e);
       }
 
   pub fit-tables : Tables inputs k size t d wireParts published → tablesFit inputs k size t d wireParts published ≡ true
@@ -115,10 +111,9 @@ module _ (k : ℕ) (size : Size) (ballots : List ℕ) (t : ℕ) (d : Dealing) (w
       let b = tablesFit (length ballots) k size t d wireParts published in
       let c = dealtWell t (size .conditional) ballots d in
       let q = passed-by a b c (sym (part-by a b c refl refl refl) ∙ e) in
-      let n = and-both (leb 2 t) (leb t 5) (q .0) in
       record {
-        least = leb-true 2 t (n .0);
-        most = leb-true t 5 (n .1);
+        least = leb-true 2 t (and-first (leb 2 t) (leb t 5) (q .0));
+        most = leb-true t 5 (and-second (leb 2 t) (leb t 5) (q .0));
         tables = tables-fit (length ballots) k size t d wireParts published (q .1);
         dealt = q .2;
       }
