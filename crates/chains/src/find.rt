@@ -1,5 +1,5 @@
 // The search for a juror's ballot.
-use crate::walk::wide;
+use jury::byte::wide;
 ghost use mathlib.Core.Path.{_≡_};
 ghost use mathlib.Core.Bool.{true};
 ghost use lib.ListN.{getD};

@@ -1,4 +1,5 @@
 // Walks along the two chains of an urn.
+use jury::byte::wide;
 use jury::reason::Verdict;
 use jury::shape::Shape;
 ghost use mathlib.Core.Path.{_≡_};
@@ -23,13 +24,6 @@ pub struct Walk {
 pub enum Look {
     Well { juror: usize, next: usize },
     Wrong,
-}
-
-// A byte as a number that indexes.
-pub fn wide(byte: u8) -> usize
-    ensures { λ r. ⌜ r ≡ byte ⌝ }
-{
-    byte as usize
 }
 
 // Whether all bytes are 0. Each of them is looked at: where a loop may end at any byte, the processor cannot take several at a time.

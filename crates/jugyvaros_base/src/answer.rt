@@ -1,5 +1,6 @@
 // The answers of measuring and of counting, as numbers in a lent array.
 use answers::array::put;
+use jury::byte::wide;
 use jury::reason::Verdict;
 use tally::count::Counted;
 use tally::measure::Measured;
@@ -38,12 +39,6 @@ pub(crate) fn put_measures(said: Measured, answer: &mut [usize]) -> usize
             number
         }
     }
-}
-
-fn wide(byte: u8) -> usize
-    ensures { λ r. ⌜ r ≡ byte ⌝ }
-{
-    byte as usize
 }
 
 // Reason and place, and the eight closing bytes as numbers.

@@ -2,6 +2,7 @@
 use answers::array::SHORT_ANSWER;
 use answers::size::SIZE_ANSWER;
 use answers::size::put_size;
+use jury::byte::wide;
 use jury::shape::Shape;
 use trustees::run::Tallied;
 use trustees::run::run;
@@ -20,12 +21,6 @@ const TALLY_ANSWER: usize = 12;
 
 // The closing bytes, one for each candidate there may be.
 const CLOSING_BYTES: usize = 8;
-
-fn wide(byte: u8) -> usize
-    ensures { λ r. ⌜ r ≡ byte ⌝ }
-{
-    byte as usize
-}
 
 // The eight bytes, behind reason, place, G and C. That there are eight is what their type says.
 fn put_closing(closing: [u8; 8], answer: &mut [usize])

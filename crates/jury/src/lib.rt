@@ -1,5 +1,6 @@
 // Tasting juries: shapes, ballots with their tests and counts, reasons.
 pub mod ballots;
+pub mod byte;
 pub mod counts;
 pub mod rankings;
 pub mod reason;

@@ -1,4 +1,5 @@
 // The way of the ballots from an urn into the wire table.
+use jury::byte::wide;
 ghost use mathlib.Core.Path.{_≡_};
 ghost use mathlib.Core.Bool.{true};
 ghost use mathlib.Core.List.{_++_};
@@ -8,13 +9,6 @@ ghost use lib.ListN.{length, drop};
 ghost use Rattle.jury.specs.Shape.{gradedLimits};
 ghost use Rattle.chains.specs.Sound.{juryOfOne, sound};
 ghost use Rattle.urn_run.specs.Run.{chainBallots};
-
-// A byte as a number that indexes.
-fn wide(byte: u8) -> usize
-    ensures { λ r. ⌜ r ≡ byte ⌝ }
-{
-    byte as usize
-}
 
 // Copies the ballots of a sound urn, slot after slot along its ballot chain, to the front of the wire table.
 pub(crate) fn load(k: usize, d: usize, urn: &[u8], wires: &mut [u8])

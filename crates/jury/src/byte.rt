@@ -1,0 +1,9 @@
+// Bytes as numbers.
+ghost use mathlib.Core.Path.{_≡_};
+
+// A byte as a number that counts or indexes.
+pub fn wide(byte: u8) -> usize
+    ensures { λ r. ⌜ r ≡ byte ⌝ }
+{
+    byte as usize
+}
