@@ -22,8 +22,10 @@ fn median_span(count: u32, digits: u32) -> u32
     gates
 }
 
-// What is below the medians: a constant without a low digit; one sum of two grades is compared as it is; else each grade
-// between the first and the last has its sides and two choices of two words, and the chosen words are compared and added.
+// What is below the medians. Without a low digit it is a constant. The one sum of two grades is compared as it is, with three
+// gates a digit less two. Else each grade between the first and the last has its side, two gates a digit and one, and two
+// choices of two words, four a digit; and the chosen words are compared and added twice, twelve a digit less four, and ten
+// gates resolve what they say.
 fn lower_span(digits: u32, grades: u32) -> u32
     requires { ⌜ (digits ≤ 7) × (2 ≤ grades) × (grades ≤ 7) ⌝ }
     ensures { λ r. ⌜ r ≡ lowerSpan digits (grades - 2) ⌝ }
@@ -37,12 +39,15 @@ fn lower_span(digits: u32, grades: u32) -> u32
     (grades - 3) * (6 * digits + 1) + 12 * digits + 6
 }
 
-// Two medians, their comparison, what is below them, and the two gates that join both.
+// The gates that join what the medians say with what is below them.
+const JOIN: u32 = 2;
+
+// Two medians, their comparison, what is below them, and what joins both.
 pub(crate) fn contest_span(p: Plan) -> u32
     requires { ⌜ Planned p ⌝ }
     ensures { λ r. ⌜ r ≡ contestSpan p ⌝ }
 {
     let median = median_span(p.grades - 1, p.places + 1);
     let lower = lower_span(p.digits, p.grades);
-    2 * median + 3 * p.places + 1 + lower + 2
+    2 * median + 3 * p.places + 1 + lower + JOIN
 }
