@@ -1,7 +1,8 @@
 // Full majority judgment on the matrix of grade counts, without striking grade after grade: of two candidates, the running sums at two grades tell whose sequence comes first, and equal sequences are of equal counts.
 use jury::shape::Shape;
 ghost use mathlib.Core.Path.{_≡_};
-ghost use Prim.Native.Nat.{_≤_, _<_};
+ghost use Prim.Native.Nat.{ℕ, _≤_, _<_};
+ghost use mathlib.Core.List.{[]};
 ghost use lib.Dec.{T};
 ghost use lib.ListN.{length, take, getD};
 ghost use Rattle.jury.specs.Shape.{gradedLimits};
@@ -22,16 +23,16 @@ pub struct Sums {
 pub fn winners(shape: Shape, counts: [[u16; 7]; 8]) -> [u8; 8]
     requires { ⌜ T (gradedLimits shape) ⌝ }
     requires { ⌜ EachGets (shape .ballots) (rowsIn (shape .candidates) (shape .grades) counts) ⌝ }
+    requires { ⌜ ((i : ℕ) → i < 8 → length (getD counts i []) ≡ 7) ⌝ }
     ensures { λ r. ⌜ r ≡ eightBytes (judgmentOf (rowsIn (shape .candidates) (shape .grades) counts)) ⌝ }
 {
     let k = shape.candidates;
     let d = shape.grades;
     let first = first_winner(counts, k, d, shape.ballots);
-    let leader = counts[first];
     let mut closing = [0u8; 8];
     let mut c = 0;
     while c < k {
-        if same_counts(counts[c], leader, d) {
+        if same_counts(&counts, c, first, d) {
             closing[c] = 1;
         }
         c += 1;
@@ -48,7 +49,7 @@ fn first_winner(counts: [[u16; 7]; 8], k: usize, d: usize, n: usize) -> usize
     let mut first = 0;
     let mut c = 1;
     while c < k {
-        if comes_before(counts[c], counts[first], d, n) {
+        if comes_before(&counts, c, first, d, n) {
             first = c;
         }
         c += 1;
@@ -56,14 +57,16 @@ fn first_winner(counts: [[u16; 7]; 8], k: usize, d: usize, n: usize) -> usize
     first
 }
 
-// Whether two candidates have the same counts. Both rows are of one length, as their type says.
-fn same_counts(a: [u16; 7], b: [u16; 7], d: usize) -> bool
-    requires { ⌜ d ≤ 7 ⌝ }
-    ensures { λ r. ⌜ (r ≡ sameCounts (take d a) (take d b)) × (length (take d a) ≡ d) × (length (take d b) ≡ d) ⌝ }
+// Whether candidates a and b have the same counts. The matrix is lent: a row
+// that is copied right after its numbers were stored makes the processor wait for it.
+fn same_counts(counts: &[[u16; 7]; 8], a: usize, b: usize, d: usize) -> bool
+    requires { ⌜ (a < 8) × (b < 8) × (d ≤ 7) ⌝ }
+    requires { ⌜ (length (getD (now counts) a []) ≡ 7) × (length (getD (now counts) b []) ≡ 7) ⌝ }
+    ensures { λ r. ⌜ (r ≡ sameCounts (take d (getD (now (counts .entry)) a [])) (take d (getD (now (counts .entry)) b []))) × (length (take d (getD (now (counts .entry)) a [])) ≡ d) × (length (take d (getD (now (counts .entry)) b [])) ≡ d) ⌝ }
 {
     let mut g = 0;
     while g < d {
-        if a[g] != b[g] {
+        if counts[a][g] != counts[b][g] {
             return false;
         }
         g += 1;
@@ -71,19 +74,19 @@ fn same_counts(a: [u16; 7], b: [u16; 7], d: usize) -> bool
     true
 }
 
-// Whether the sequence of a comes before that of b, each of them having n grades.
-fn comes_before(a: [u16; 7], b: [u16; 7], d: usize, n: usize) -> bool
-    requires { ⌜ (d ≤ 7) × (0 < n) × (n ≤ 255) ⌝ }
-    requires { ⌜ (sum (take d a) ≡ n) × (sum (take d b) ≡ n) ⌝ }
-    ensures { λ r. ⌜ r ≡ precedes (sequenceOf (take d a)) (sequenceOf (take d b)) ⌝ }
+// Whether the sequence of candidate a comes before that of b, each of them having n grades.
+fn comes_before(counts: &[[u16; 7]; 8], a: usize, b: usize, d: usize, n: usize) -> bool
+    requires { ⌜ (a < 8) × (b < 8) × (d ≤ 7) × (0 < n) × (n ≤ 255) ⌝ }
+    requires { ⌜ (sum (take d (getD (now counts) a [])) ≡ n) × (sum (take d (getD (now counts) b [])) ≡ n) ⌝ }
+    ensures { λ r. ⌜ r ≡ precedes (sequenceOf (take d (getD (now (counts .entry)) a []))) (sequenceOf (take d (getD (now (counts .entry)) b []))) ⌝ }
 {
     let mut lower = Sums { a: 0, b: 0 };
     let mut sums = Sums { a: 0, b: 0 };
     let mut g = 0;
     while g < d {
         sums = Sums {
-            a: sums.a + wide(a[g]),
-            b: sums.b + wide(b[g]),
+            a: sums.a + wide(counts[a][g]),
+            b: sums.b + wide(counts[b][g]),
         };
         if sums.a != sums.b {
             if half_reached(n, sums) {

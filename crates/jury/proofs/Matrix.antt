@@ -1,14 +1,16 @@
 -- The matrix of grade counts and the array in which the program keeps it.
 -- Assumes nothing.
 use mathlib.Core.Path.{_≡_, _∙_, sym, ap}
-use mathlib.Core.List.{List, map}
+use mathlib.Core.Bool.{cond, _&&_}
+use mathlib.Core.List.{List, [], map}
 use Prim.Native.Nat.{ℕ, _<_}
-use lib.ListN.{take}
+use lib.Dec.{ltb}
+use lib.ListN.{length, getD, take}
 use Rattle.jury.specs.declared.shape.Shape.{Shape}
 use Rattle.jury.specs.Counts.{countOf, tabulate, countsOf, countArray}
 use Rattle.jury.specs.Inner.{rowsIn}
 use Rattle.jury.proofs.Limits.{Within}
-use Rattle.jury.proofs.Tabulate.{tabulate-cong, take-tabulate, map-tabulate}
+use Rattle.jury.proofs.Tabulate.{tabulate-cong, take-tabulate, map-tabulate, length-tabulate, getD-tabulate}
 use Rattle.jury.proofs.CountLaws.{entryAfter, rowAfter, arrayAfter, entry-inside, array-end}
 
 -- the first k rows of the array, d counts of each, are the matrix
@@ -33,3 +35,8 @@ array-rows s xs w =
     row c h =
         take-tabulate d 7 (entryAfter s xs n c) (w .d-most)
         ∙ tabulate-cong d (entryAfter s xs n c) (countOf s xs c) (λ g l. entry-inside s xs n c g h l)
+
+-- every row of the array has seven counts
+pub array-columns : (s : Shape) (xs : List ℕ) (i : ℕ) → i < 8 → length (getD (countArray s xs) i []) ≡ 7
+unfolding countArray
+array-columns s xs i l = rw (getD-tabulate 8 i (λ c. tabulate 7 (λ g. cond (ltb c (s .candidates) && ltb g (s .grades)) (countOf s xs c g) 0)) [] l) (length-tabulate 7 (λ g. cond (ltb i (s .candidates) && ltb g (s .grades)) (countOf s xs i g) 0))

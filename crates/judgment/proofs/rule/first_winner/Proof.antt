@@ -36,25 +36,12 @@ loop-holds c =
     let x = c .args in
     (omega arith, omega arith, leads-start (rowsIn (x .k) (x .d) (x .t1)))
 
-mul-comes-before : tie.Need-mul-comes-before Inv-loop μ-loop
-mul-comes-before c = omega arith
-
-array-copy-out-comes-before : tie.Need-array-copy-out-comes-before Inv-loop μ-loop
-array-copy-out-comes-before c = omega arith
-
-mul-comes-before-2 : tie.Need-mul-comes-before-2 Inv-loop μ-loop
-mul-comes-before-2 c = omega arith
-
-array-copy-out-comes-before-2 : tie.Need-array-copy-out-comes-before-2 Inv-loop μ-loop
-array-copy-out-comes-before-2 c = omega arith
-
 comes-before-requires : tie.Need-comes-before-requires Inv-loop μ-loop
 comes-before-requires c κs =
-    let at = c .before .before .before in
+    let at = c .before .before in
     let start = at .before in
-    let x = start .args in
     let p = start .pre .0 in
-    ((p .2, p .3, p .4), (row-sum start (at .loop .c) (omega arith), row-sum start (at .loop .first) (omega arith)))
+    ((omega (arith, p), omega (arith, p, at .loop .inv .1), p .2, p .3, p .4), (row-sum start (at .loop .c) (omega arith), row-sum start (at .loop .first) (omega arith)))
 
 add-c : tie.Need-add-c Inv-loop μ-loop
 add-c c = omega arith
@@ -69,7 +56,7 @@ as-rows c i j hi hj = sym (rw (row-at (c .args .k) (c .args .d) (c .args .t1) i 
 
 loop-again : tie.Need-loop-again Inv-loop μ-loop
 loop-again c =
-    let at = c .before .before .before .before .before in
+    let at = c .before .before .before .before in
     let start = at .before in
     let x = start .args in
     let i = at .loop .first in
@@ -97,10 +84,6 @@ first-winner-spec =
     Inv-loop
     μ-loop
     loop-holds
-    mul-comes-before
-    array-copy-out-comes-before
-    mul-comes-before-2
-    array-copy-out-comes-before-2
     comes-before-requires
     add-c
     loop-less

@@ -28,10 +28,10 @@ abbrev filled : List (List ℕ) → ℕ → List ℕ
 filled rows c = tabulate 8 (upTo c (byte rows) (λ j. 0))
 
 abbrev Inv-loop : tie.InvT-loop
-Inv-loop counts k d first leader closing₀ c₀ closing c = (c ≤ k) × (closing ≡ filled (rowsIn k d counts) c)
+Inv-loop counts k d first closing₀ c₀ closing c = (c ≤ k) × (closing ≡ filled (rowsIn k d counts) c)
 
 abbrev μ-loop : tie.MeasureT-loop
-μ-loop counts k d first leader closing₀ c₀ closing c = k - c
+μ-loop counts k d first closing₀ c₀ closing c = k - c
 
 within-limits : (c : tie.Start Inv-loop μ-loop) → Within (c .args .shape)
 within-limits c = within-T (c .args .shape) (c .pre .0)
@@ -45,29 +45,23 @@ rows-are c = rows-length (c .args .shape .candidates) (c .args .shape .grades) (
 first-winner-requires : tie.Need-first-winner-requires Inv-loop μ-loop
 first-winner-requires c κs =
     let w = within-limits c in
-    ((w .k-least, w .k-most, w .d-most, w .n-least, w .n-most), c .pre .1)
-
-mul-leader : tie.Need-mul-leader Inv-loop μ-loop
-mul-leader c = omega (arith, within-limits (c .before) .k-most)
-
-array-copy-out-leader : tie.Need-array-copy-out-leader Inv-loop μ-loop
-array-copy-out-leader c = omega (arith, within-limits (c .before) .k-most)
+    ((w .k-least, w .k-most, w .d-most, w .n-least, w .n-most), c .pre .1 .0)
 
 loop-holds : tie.Need-loop-holds Inv-loop μ-loop
 unfolding tabulate
-loop-holds c = (omega arith, sym (fill-start 8 (byte (rows (c .before .before))) (λ j. 0)))
-
-mul-same-counts : tie.Need-mul-same-counts Inv-loop μ-loop
-mul-same-counts c = omega (arith, within-limits (c .before .before .before .before) .k-most)
-
-array-copy-out-same-counts : tie.Need-array-copy-out-same-counts Inv-loop μ-loop
-array-copy-out-same-counts c = omega (arith, within-limits (c .before .before .before .before) .k-most)
+loop-holds c = (omega arith, sym (fill-start 8 (byte (rows (c .before))) (λ j. 0)))
 
 same-counts-requires : tie.Need-same-counts-requires Inv-loop μ-loop
-same-counts-requires c κs = within-limits (c .before .before .before .before .before) .d-most
+same-counts-requires c κs =
+    let at = c .before .before in
+    let start = at .before .before in
+    let w = within-limits start in
+    let now : at .loop .c < 8 = omega (arith, w .k-most) in
+    let first : at .before .first-winner .result < 8 = omega (arith, w .k-most, at .before .first-winner .ensures .0) in
+    ((now, first, w .d-most), (start .pre .1 .1 (at .loop .c) now, start .pre .1 .1 (at .before .first-winner .result) first))
 
 array-write-closing : tie.Need-array-write-closing Inv-loop μ-loop
-array-write-closing c = omega (arith, within-limits (c .before .before .before .before .before .before .before) .k-most)
+array-write-closing c = omega (arith, within-limits (c .before .before .before .before .before .before) .k-most)
 
 add-c : tie.Need-add-c Inv-loop μ-loop
 add-c c = omega arith
@@ -81,16 +75,16 @@ module _ (c : tie.After-same-counts Inv-loop μ-loop) where
   at = c .before .before .before
 
   abbrev begin : tie.Start Inv-loop μ-loop
-  begin = at .before .before .before
+  begin = at .before .before
 
   abbrev winner : ℕ
-  winner = at .before .before .first-winner .result
+  winner = at .before .first-winner .result
 
   row : (i : ℕ) → i < begin .args .shape .candidates → getD (rows begin) i [] ≡ take (begin .args .shape .grades) (getD (begin .args .t2) i [])
   row i l = row-at (begin .args .shape .candidates) (begin .args .shape .grades) (begin .args .t2) i l
 
   winner-inside : winner < begin .args .shape .candidates
-  winner-inside = at .before .before .first-winner .ensures .0
+  winner-inside = at .before .first-winner .ensures .0
 
   turn-inside : at .loop .c < begin .args .shape .candidates
   turn-inside = omega arith
@@ -100,12 +94,12 @@ module _ (c : tie.After-same-counts Inv-loop μ-loop) where
 
   byte-one : c .same-counts .result ≡ true → byte (rows begin) (at .loop .c) ≡ 1
   byte-one e =
-      same-wins (begin .args .shape .ballots) (rows begin) (begin .pre .1) winner (omega (arith, rows-are begin, winner-inside)) (at .before .before .first-winner .ensures .1)
+      same-wins (begin .args .shape .ballots) (rows begin) (begin .pre .1 .0) winner (omega (arith, rows-are begin, winner-inside)) (at .before .first-winner .ensures .1)
       (at .loop .c) (omega (arith, rows-are begin, turn-inside)) (sym compared-rows ∙ e)
 
   byte-zero : c .same-counts .result ≡ false → byte (rows begin) (at .loop .c) ≡ 0
   byte-zero e =
-      other-loses (begin .args .shape .ballots) (rows begin) (begin .pre .1) winner (omega (arith, rows-are begin, winner-inside)) (at .before .before .first-winner .ensures .1)
+      other-loses (begin .args .shape .ballots) (rows begin) (begin .pre .1 .0) winner (omega (arith, rows-are begin, winner-inside)) (at .before .first-winner .ensures .1)
       (at .loop .c) (omega (arith, rows-are begin, turn-inside))
       (ap length (row (at .loop .c) turn-inside) ∙ c .same-counts .ensures .1 ∙ sym (c .same-counts .ensures .2) ∙ sym (ap length (row winner winner-inside)))
       (sym compared-rows ∙ e)
@@ -131,9 +125,9 @@ loop-again c =
 returns : tie.Need-returns Inv-loop μ-loop
 returns c =
     let last = c .before in
-    let all = rows (last .before .before .before) in
+    let all = rows (last .before .before) in
     last .loop .inv .1
-    ∙ ap (λ (i : ℕ). tabulate 8 (upTo i (byte all) (λ j. 0))) {x = last .loop .c} {y = length all} (omega (arith, rows-are (last .before .before .before)))
+    ∙ ap (λ (i : ℕ). tabulate 8 (upTo i (byte all) (λ j. 0))) {x = last .loop .c} {y = length all} (omega (arith, rows-are (last .before .before)))
     ∙ eight-judged all
 
 pub winners-spec : {M : Type 1} → statement M
@@ -143,11 +137,7 @@ winners-spec =
     Inv-loop
     μ-loop
     first-winner-requires
-    mul-leader
-    array-copy-out-leader
     loop-holds
-    mul-same-counts
-    array-copy-out-same-counts
     same-counts-requires
     array-write-closing
     add-c

@@ -2,8 +2,9 @@
 -- Assumes nothing.
 use mathlib.Core.Path.{_≡_, _∙_, sym, ap, subst}
 use mathlib.Core.Bool.{true, false}
-use mathlib.Core.List.{List}
+use mathlib.Core.List.{List, []}
 use Prim.Native.Nat.{ℕ}
+use lib.ListN.{length, getD}
 use borrow.Author.Needs.{needs}
 use Rattle.jury.specs.Shape.{isRanking, gradedLimits}
 use Rattle.jury.specs.Accepted.{GradedBallots}
@@ -12,7 +13,7 @@ use Rattle.jury.specs.Inner.{rowsIn}
 use Rattle.jury.proofs.AcceptedLaws as ballots-laws
 use Rattle.jury.proofs.Flags.{true-T}
 use Rattle.jury.proofs.Limits.{within, bounds, ranked-bytes, graded-kind}
-use Rattle.jury.proofs.Matrix.{array-rows}
+use Rattle.jury.proofs.Matrix.{array-rows, array-columns}
 use Rattle.judgment.specs.Judgment.{judgmentOf}
 use Rattle.judgment.specs.Theorems.{EachGets}
 use Rattle.judgment.proofs.Theorems.{array-gets}
@@ -51,9 +52,13 @@ winners-requires : tie.Need-winners-requires
 winners-requires c κs =
     let graded = c .before in
     let a = graded .before .before .before .args in
-    let s = a .shape in (
+    let s = a .shape in
+    let xs = a .ballots .now in (
       true-T (gradedLimits s) (graded-limits graded),
-      subst (λ (m : List (List ℕ)). EachGets (s .ballots) (rowsIn (s .candidates) (s .grades) m)) (sym (c .counts .ensures .0)) (array-gets s (a .ballots .now) (graded-ballots graded)),
+      (
+        subst (λ (m : List (List ℕ)). EachGets (s .ballots) (rowsIn (s .candidates) (s .grades) m)) (sym (c .counts .ensures .0)) (array-gets s xs (graded-ballots graded)),
+        λ i l. subst (λ (m : List (List ℕ)). length (getD m i []) ≡ 7) (sym (c .counts .ensures .0)) (array-columns s xs i l),
+      ),
     )
 
 returns : tie.Need-returns
