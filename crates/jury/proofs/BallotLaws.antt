@@ -2,14 +2,15 @@
 -- Assumes nothing.
 use mathlib.Core.Path.{_≡_, _∙_, refl, ap}
 use mathlib.Core.Bool.{Bool, true, false, cond}
+use mathlib.Core.Logic.{⊎-elim}
 use mathlib.Core.Option.{Option, none, some}
 use mathlib.Core.List.{List, [], _∷_}
 use Prim.Native.Nat.{ℕ, suc, _+_, _*_, _-_, _≤_, _<_}
 use native.Mathlib.Nat.{suc-mul, mul-le-mul-right}
 use native.Mathlib.Omega.{arith}
 use lib.Dec.{eqb}
-use lib.ListN.{length, getD, take, drop}
-use lib.Seq.{drop-cons}
+use lib.ListN.{length, getD, take, drop, length-take}
+use lib.Seq.{drop-cons, getD-take, getD-drop}
 use borrow.Author.Tests.{eq-eqb, ne-eqb}
 use Rattle.gates.specs.declared.place.Place.{Place}
 use Rattle.gates.specs.declared.place.Place.the-variants.{At, Nowhere}
@@ -18,6 +19,7 @@ use Rattle.jury.specs.declared.shape.Shape.{Shape}
 use Rattle.jury.specs.Shape.{isRanking, ballotBytes}
 use Rattle.jury.specs.Reason.{Reason, unless, foundAt, firstOf}
 use Rattle.jury.specs.Ballots.{ones, rowsOf, firstBadRow, gradedReasons, rankedReasons, ballotReasons}
+use Rattle.jury.proofs.Cases.{below-or-not}
 
 -- the ones from place i on: byte i first
 ones-step : (xs : List ℕ) (i : ℕ) → i < length xs → ones (drop i xs) ≡ cond (eqb (getD xs i 0) 1) (suc (ones (drop (suc i) xs))) (ones (drop (suc i) xs))
@@ -29,6 +31,19 @@ ones-here xs i h e = ones-step xs i h ∙ ap (λ (t : Bool). cond t (suc (ones (
 
 pub ones-later : (xs : List ℕ) (i : ℕ) → i < length xs → (getD xs i 0 ≡ 1 → ⊥) → ones (drop i xs) ≡ ones (drop (suc i) xs)
 ones-later xs i h e = ones-step xs i h ∙ ap (λ (t : Bool). cond t (suc (ones (drop (suc i) xs))) (ones (drop (suc i) xs))) (ne-eqb (getD xs i 0) 1 e)
+
+-- of a bit, both in one
+pub ones-bit : (xs : List ℕ) (i : ℕ) → i < length xs → getD xs i 0 ≤ 1 → ones (drop i xs) ≡ getD xs i 0 + ones (drop (suc i) xs)
+ones-bit xs i h b = ⊎-elim
+    (λ (l : 0 < getD xs i 0). omega (arith, ones-here xs i h (omega arith)))
+    (λ (l : getD xs i 0 ≤ 0). omega (arith, ones-later xs i h (λ e. omega arith)))
+    (below-or-not 0 (getD xs i 0))
+
+-- the bits of a part
+pub part-bits : (xs : List ℕ) (from n i : ℕ) → ((j : ℕ) → getD xs j 0 ≤ 1) → i < length (take n (drop from xs)) → getD (take n (drop from xs)) i 0 ≤ 1
+part-bits xs from n i b l =
+    let short : i < n = omega (arith, length-take n (drop from xs)) in
+    omega (arith, getD-take n (drop from xs) i 0 short, getD-drop from xs i 0, b (from + i))
 
 -- a row lies within the rows
 pub row-within : (row rows d : ℕ) → row < rows → row * d + d ≤ rows * d

@@ -1,12 +1,14 @@
 // The tests of ballots.
+use crate::byte::wide;
 use crate::reason::Refusal;
 use crate::reason::Verdict;
 use crate::shape::Shape;
 use gates::place::Place;
 ghost use mathlib.Core.Path.{_≡_};
-ghost use Prim.Native.Nat.{_*_};
+ghost use Prim.Native.Nat.{ℕ, _*_, _≤_, _<_};
 ghost use lib.Dec.{T};
-ghost use lib.ListN.{length};
+ghost use lib.ListN.{length, getD};
+ghost use Rattle.gates.specs.Board.{Bits};
 ghost use Rattle.jury.specs.Shape.{gradedLimits, withinLimits};
 ghost use Rattle.jury.specs.Reason.{refusedFor, firstOf};
 ghost use Rattle.jury.specs.Ballots.{gradedReasons, rankedReasons, ballotReasons, ones, rowsOf, firstBadRow};
@@ -32,6 +34,7 @@ pub fn test(shape: Shape, ballots: &[u8]) -> Verdict
 // Reason 6.
 fn test_grades(shape: Shape, ballots: &[u8]) -> Verdict
     requires { ⌜ T (gradedLimits shape) × (length (now ballots) ≡ shape .ballots * shape .candidates * shape .grades) ⌝ }
+    requires { ⌜ Bits (now ballots) ⌝ }
     ensures { λ r. ⌜ refusedFor r ≡ firstOf (gradedReasons shape (now (ballots .entry))) ⌝ }
 {
     match first_bad_row(ballots, shape.grades, shape.ballots * shape.candidates) {
@@ -57,6 +60,7 @@ fn test_rankings(shape: Shape, ballots: &[u8]) -> Verdict
 // The first of so many rows of d bytes that has no 1, or more than one.
 fn first_bad_row(bytes: &[u8], d: usize, rows: usize) -> Place
     requires { ⌜ length (now bytes) ≡ rows * d ⌝ }
+    requires { ⌜ Bits (now bytes) ⌝ }
     ensures { λ r. ⌜ r ≡ firstBadRow 0 (rowsOf d rows (now (bytes .entry))) ⌝ }
 {
     let mut row = 0;
@@ -72,16 +76,15 @@ fn first_bad_row(bytes: &[u8], d: usize, rows: usize) -> Place
     Place::Nowhere
 }
 
-// How many of the bytes are 1.
+// How many of the bytes, which are 0 or 1, are 1: their sum.
 fn ones_in(bytes: &[u8]) -> usize
+    requires { ⌜ ((i : ℕ) → i < length (now bytes) → getD (now bytes) i 0 ≤ 1) ⌝ }
     ensures { λ r. ⌜ r ≡ ones (now (bytes .entry)) ⌝ }
 {
     let mut count = 0;
     let mut i = 0;
     while i < bytes.len() {
-        if bytes[i] == 1 {
-            count += 1;
-        }
+        count += wide(bytes[i]);
         i += 1;
     }
     count

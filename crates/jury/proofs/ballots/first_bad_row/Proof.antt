@@ -6,11 +6,10 @@ use Prim.Native.Nat.{ℕ, suc, _+_, _-_, _*_, _≤_}
 use native.Mathlib.Nat.{add-sub-cancel-left, zero-mul, suc-mul, sub-zero}
 use native.Mathlib.Numerals.{add-one}
 use native.Mathlib.Omega.{arith}
-use borrow.Author.Needs.{needs}
 use lib.ListN.{length, take, drop}
 use lib.Seq.{drop-drop}
 use Rattle.jury.specs.Ballots.{ones, rowsOf, firstBadRow}
-use Rattle.jury.proofs.BallotLaws.{row-within, bad-here, bad-later, bad-end}
+use Rattle.jury.proofs.BallotLaws.{part-bits, row-within, bad-here, bad-later, bad-end}
 use Rattle.jury.proofs.ballots.first_bad_row.Statement.{statement}
 use Rattle.jury.proofs.ballots.first_bad_row.Tie as tie
 
@@ -49,7 +48,10 @@ part-ones-in-end : tie.Need-part-ones-in-end Inv-loop μ-loop
 part-ones-in-end c = end-within c
 
 ones-in-requires : tie.Need-ones-in-requires Inv-loop μ-loop
-ones-in-requires c κs = search needs
+ones-in-requires c κs =
+    let at = c .before .before in
+    let start = at .before .before in
+    λ i l. part-bits (start .args .bytes .now) (at .loop .at) (at .loop .at + start .args .d - at .loop .at) i (start .pre .1) l
 
 -- what the call counts
 counted : (c : tie.After-ones-in Inv-loop μ-loop) →

@@ -1,13 +1,12 @@
 -- `jury::ballots::ones_in` meets its contract: the ones counted so far and the ones in the rest are the ones in all.
 -- Assumes nothing.
 use mathlib.Core.Path.{_≡_, ap}
-use mathlib.Core.Logic.{⊎-elim}
-use Prim.Native.Nat.{ℕ, _+_, _-_, _≤_}
+use Prim.Native.Nat.{ℕ, _+_, _-_, _≤_, _<_}
 use native.Mathlib.Numerals.{add-one}
 use native.Mathlib.Omega.{arith}
-use lib.ListN.{length, drop, drop-of-length-le}
+use lib.ListN.{length, drop, getD, drop-of-length-le}
 use Rattle.jury.specs.Ballots.{ones}
-use Rattle.jury.proofs.BallotLaws.{ones-here, ones-later}
+use Rattle.jury.proofs.BallotLaws.{ones-bit}
 use Rattle.jury.proofs.ballots.ones_in.Statement.{statement}
 use Rattle.jury.proofs.ballots.ones_in.Tie as tie
 
@@ -20,11 +19,23 @@ abbrev μ-loop : tie.MeasureT-loop
 loop-holds : tie.Need-loop-holds Inv-loop μ-loop
 loop-holds c = (omega arith, omega arith, omega arith)
 
-shared-slice-read-if1 : tie.Need-shared-slice-read-if1 Inv-loop μ-loop
-shared-slice-read-if1 c = omega arith
+shared-slice-read-wide : tie.Need-shared-slice-read-wide Inv-loop μ-loop
+shared-slice-read-wide c = omega arith
+
+wide-requires : tie.Need-wide-requires Inv-loop μ-loop
+wide-requires c κs = tt
+
+-- the byte of a turn, which is a bit
+bit : (c : tie.After-wide Inv-loop μ-loop) → let at = c .before .before .before in let xs = at .before .before .args .bytes .now in
+    (at .loop .i < length xs) × (c .wide .result ≡ getD xs (at .loop .i) 0) × (c .wide .result ≤ 1)
+bit c =
+    let at = c .before .before .before in
+    let start = at .before .before in
+    let inside : at .loop .i < length (start .args .bytes .now) = omega arith in
+    (inside, c .wide .ensures, omega (arith, c .wide .ensures, start .pre (at .loop .i) inside))
 
 add-count : tie.Need-add-count Inv-loop μ-loop
-add-count c = omega arith
+add-count c = omega (arith, bit c .0, bit c .2)
 
 add-i : tie.Need-add-i Inv-loop μ-loop
 add-i c = omega arith
@@ -35,17 +46,19 @@ loop-less c = omega arith
 loop-again : tie.Need-loop-again Inv-loop μ-loop
 loop-again c =
     let at = c .before .before .before in
-    let xs = at .before .args .bytes .now in
-    ⊎-elim
-    (λ w. (omega arith, omega arith, omega (arith, ones-here xs (at .loop .i) (omega arith) (w .0 .taken), ap (λ (j : ℕ). ones (drop j xs)) (add-one (at .loop .i)))))
-    (λ w. (omega arith, omega arith, omega (arith, ones-later xs (at .loop .i) (omega arith) (w .0 .left), ap (λ (j : ℕ). ones (drop j xs)) (add-one (at .loop .i)))))
-    (c .if1 .came)
+    let start = at .before .before in
+    let xs = start .args .bytes .now in
+    let b = bit c in (
+      omega (arith, b .0),
+      omega (arith, b .2),
+      omega (arith, b .1, ones-bit xs (at .loop .i) (b .0) (start .pre (at .loop .i) (b .0)), ap (λ (j : ℕ). ones (drop j xs)) (add-one (at .loop .i))),
+    )
 
 returns : tie.Need-returns Inv-loop μ-loop
 unfolding ones
 returns c =
     let at = c .before in
-    omega (arith, ap ones (drop-of-length-le (at .before .args .bytes .now) {i = at .loop .i} (omega arith)))
+    omega (arith, ap ones (drop-of-length-le (at .before .before .args .bytes .now) {i = at .loop .i} (omega arith)))
 
 pub ones-in-spec : {M : Type 1} → statement M
 ones-in-spec =
@@ -54,7 +67,8 @@ ones-in-spec =
     Inv-loop
     μ-loop
     loop-holds
-    shared-slice-read-if1
+    shared-slice-read-wide
+    wide-requires
     add-count
     add-i
     loop-less

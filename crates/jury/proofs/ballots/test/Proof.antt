@@ -8,6 +8,7 @@ use borrow.Author.Tests.{eq-eqb, ne-eqb}
 use borrow.Author.Needs.{needs}
 use Rattle.gates.specs.declared.place.Place.the-variants.{At, Nowhere}
 use Rattle.gates.specs.Test.{firstAboveOne}
+use Rattle.gates.proofs.Hiding.{all-bits}
 use Rattle.jury.specs.Shape.{isRanking, gradedLimits, withinLimits, ballotBytes}
 use Rattle.jury.specs.Reason.{reasonOf, refusedFor, unless, foundAt, firstOf}
 use Rattle.jury.specs.Ballots.{gradedReasons, rankedReasons, ballotReasons}
@@ -81,7 +82,7 @@ test-grades-requires c κs =
     let start = passed .before .before .before in
     let s = start .args .shape in
     let graded = ranking (c .before) ∙ c .if2 .left in
-    (true-T (gradedLimits s) (graded-kind s (T-true (withinLimits s) (start .pre)) graded), size-known passed ∙ grades-columns s graded)
+    ((true-T (gradedLimits s) (graded-kind s (T-true (withinLimits s) (start .pre)) graded), size-known passed ∙ grades-columns s graded), all-bits 0 (start .args .ballots .now) (no-byte told))
 
 returns-3 : tie.Need-returns-3
 returns-3 c =
