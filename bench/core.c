@@ -18,7 +18,7 @@ static size_t put(struct said s, size_t *answer) {
 
 static int within(size_t k, size_t d, size_t n) { return 1 <= k && k <= 8 && 2 <= d && d <= 7 && 1 <= n && n <= 255; }
 
-/* ---- writing: the circuit of crates/circuit, gate for gate */
+/* ---- writing: the circuit of crates/graded_circuit, gate for gate */
 
 enum { ZERO, ONE, COPY, NOT, AND, OR, XOR, CHOICE };
 

@@ -12,9 +12,9 @@ use lib.ListN.{getD}
 use Rattle.gates.specs.declared.place.Place.{Place}
 use Rattle.gates.specs.declared.place.Place.the-variants.{At, Nowhere}
 use Rattle.jury.specs.Rankings.{orElse, firstOver, someBelow}
-use Rattle.lanes.specs.Lane.{laneCount, lane, laneOf}
-use Rattle.lanes.proofs.LaneLaws.{lane-bit, lane-none, lane-all, lane-and, lane-or, lane-xor}
-use Rattle.lanes.proofs.ListLaws.{lanes-at}
+use Rattle.batch_lanes.specs.Lane.{laneCount, lane, laneOf}
+use Rattle.batch_lanes.proofs.LaneLaws.{lane-bit, lane-none, lane-all, lane-and, lane-or, lane-xor}
+use Rattle.batch_lanes.proofs.ListLaws.{lanes-at}
 use Rattle.batch.specs.Ballots.{foundBit}
 
 -- a test as a bit

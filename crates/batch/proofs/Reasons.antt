@@ -27,7 +27,7 @@ use Rattle.tally.specs.Answer.{refused, said, Size, sizeOf}
 use Rattle.tally.specs.Test.{testReasons, testSaid}
 use Rattle.tally.proofs.TestReasons.{orElse, first-append, TestPassed, test-passed}
 use Rattle.tally.proofs.RunReasons.{firstOfThree, said-refused}
-use Rattle.lanes.specs.Lane.{laneCount, laneOf}
+use Rattle.batch_lanes.specs.Lane.{laneCount, laneOf}
 use Rattle.batch.specs.Ballots.{inJury, firstJury, wordGradedReasons, wordRankedReasons, wordBallotReasons}
 use Rattle.batch.specs.Run.{wordLentReasons, batchReasons, batchAfter, batchRan}
 

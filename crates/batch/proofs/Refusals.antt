@@ -26,8 +26,8 @@ use Rattle.tally.specs.Run.{Ran, lentReasons, runReasons, ranAfter}
 use Rattle.tally.proofs.TestReasons as test
 use Rattle.tally.proofs.RunReasons as single
 use Rattle.tally.proofs.Numbering as numbering
-use Rattle.lanes.specs.Lane.{laneCount, laneOf}
-use Rattle.lanes.proofs.ListLaws.{lanes-length, lanes-bits}
+use Rattle.batch_lanes.specs.Lane.{laneCount, laneOf}
+use Rattle.batch_lanes.proofs.ListLaws.{lanes-length, lanes-bits}
 use Rattle.batch.specs.Ballots.{inJury}
 use Rattle.batch.specs.Run.{wordLentReasons, batchReasons, batchAfter, batchRan}
 use Rattle.batch.specs.Theorems.{ranAlone, isOfBallots, RefusedAsAlone, FaultAsAlone}

@@ -14,9 +14,9 @@ use Rattle.gates.specs.declared.place.Place.{Place}
 use Rattle.gates.specs.declared.place.Place.the-variants.{At, Nowhere}
 use Rattle.jury.specs.Ballots.{ones, rowsOf, firstBadRow}
 use Rattle.jury.proofs.BallotLaws.{ones-here, ones-later, bad-here, bad-later}
-use Rattle.lanes.specs.Lane.{laneCount, lane, laneOf}
-use Rattle.lanes.proofs.LaneLaws.{lane-bit, lane-none, lane-all, lane-and, lane-or, lane-xor}
-use Rattle.lanes.proofs.ListLaws.{lanes-length, lanes-at}
+use Rattle.batch_lanes.specs.Lane.{laneCount, lane, laneOf}
+use Rattle.batch_lanes.proofs.LaneLaws.{lane-bit, lane-none, lane-all, lane-and, lane-or, lane-xor}
+use Rattle.batch_lanes.proofs.ListLaws.{lanes-length, lanes-at}
 use Rattle.batch.specs.Ballots.{foundBit}
 
 -- after some words of a row, m of which are 1 in lane j: whether there was one, and whether there was a second

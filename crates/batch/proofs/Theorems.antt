@@ -38,8 +38,8 @@ use Rattle.tally.proofs.RunReasons.{RunPassed, run-passed}
 use Rattle.tally.proofs.Hiding.{ran-accepted, run-answer, run-wires, run-board, board-tells-no-more}
 use Rattle.tally.proofs.Demands.{three-demands}
 use Rattle.tally.proofs.Numbering.{Fine, All, FineSaid, first-fine, both, unless-fine, found-fine, list-fine, refused-fine}
-use Rattle.lanes.specs.Lane.{laneCount, laneOf, wordsOf}
-use Rattle.lanes.proofs.ListLaws.{lanes-length, lanes-bits, lanes-zeros, lanes-of-words, length-words}
+use Rattle.batch_lanes.specs.Lane.{laneCount, laneOf, wordsOf}
+use Rattle.batch_lanes.proofs.ListLaws.{lanes-length, lanes-bits, lanes-zeros, lanes-of-words, length-words}
 use Rattle.batch.specs.Ballots.{wordGradedReasons, wordRankedReasons, wordBallotReasons}
 use Rattle.batch.specs.Run.{wordLentReasons, batchReasons, batchAfter, batchRan}
 use Rattle.batch.specs.Theorems.{ranAlone, EachAsAlone, AcceptedAsAll, BatchMemory, BatchAccuracy, BatchHiding}

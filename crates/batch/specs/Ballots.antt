@@ -12,7 +12,7 @@ use Rattle.jury.specs.Shape.{isRanking, ballotBytes}
 use Rattle.jury.specs.Reason.{Reason, unless, foundAt}
 use Rattle.jury.specs.Ballots.{rowsOf, firstBadRow}
 use Rattle.jury.specs.Rankings.{firstOver, firstClash, firstGap}
-use Rattle.lanes.specs.Lane.{laneCount, lane, laneOf}
+use Rattle.batch_lanes.specs.Lane.{laneCount, lane, laneOf}
 
 -- The jury in place of what was found in it.
 unfoldable pub inJury : ℕ → Place → Place

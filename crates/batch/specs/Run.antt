@@ -13,7 +13,7 @@ use Rattle.jury.specs.Reason.{Reason, unless, firstOf}
 use Rattle.tally.specs.Answer.{refused, accepted, Size, sizeOf}
 use Rattle.tally.specs.Test.{testReasons}
 use Rattle.tally.specs.Run.{Ran}
-use Rattle.lanes.specs.Lane.{laneOf, wordsOf}
+use Rattle.batch_lanes.specs.Lane.{laneOf, wordsOf}
 use Rattle.batch.specs.Ballots.{wordBallotReasons}
 
 -- The tests of what is lent besides the list and the ballots, in checking order: 7, 9, 10. They count words, as many as a single run has bytes; 8 does not concern words.

@@ -15,7 +15,7 @@ use Rattle.tally.specs.Write.{writeSaid}
 use Rattle.tally.specs.Run.{Ran, ran}
 use Rattle.tally.specs.Hiding.{closingBytes, Hidden}
 use Rattle.tally.specs.Demands.{listIn}
-use Rattle.lanes.specs.Lane.{laneCount, laneOf}
+use Rattle.batch_lanes.specs.Lane.{laneCount, laneOf}
 use Rattle.batch.specs.Run.{batchRan}
 
 -- The single run of jury j: on its bits of the ballots, the tape, the wire table and the board.

@@ -1,9 +1,9 @@
 // The tests of the ballots of 64 juries, all of them at once: bit j of a word says whether jury j has the fault.
+use batch_lanes::word;
 use gates::place::Place;
 use jury::reason::Refusal;
 use jury::reason::Verdict;
 use jury::shape::Shape;
-use lanes::word;
 ghost use mathlib.Core.Path.{_≡_};
 ghost use mathlib.Core.Bool.{cond};
 ghost use Prim.Native.Nat.{ℕ, _*_, _<_};
@@ -12,7 +12,7 @@ ghost use lib.ListN.{length};
 ghost use Rattle.jury.specs.Shape.{gradedLimits, withinLimits};
 ghost use Rattle.jury.specs.Reason.{refusedFor, firstOf};
 ghost use Rattle.jury.specs.Ballots.{ones, rowsOf, firstBadRow};
-ghost use Rattle.lanes.specs.Lane.{laneCount, lane, laneOf};
+ghost use Rattle.batch_lanes.specs.Lane.{laneCount, lane, laneOf};
 ghost use Rattle.batch.specs.Ballots.{foundBit, firstSet, wordGradedReasons, wordRankedReasons, wordBallotReasons};
 
 // How many juries a word serves.

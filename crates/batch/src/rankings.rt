@@ -1,12 +1,12 @@
 // The tests of ranked ballots for 64 juries at once, each over all ballots: bit j of a word says whether jury j has the fault.
 // What a ballot may not say is told in `jury::rankings`.
-use lanes::word;
+use batch_lanes::word;
 ghost use mathlib.Core.Path.{_≡_};
 ghost use mathlib.Core.Bool.{cond};
 ghost use Prim.Native.Nat.{ℕ, _+_, _*_, _≤_, _<_};
 ghost use lib.ListN.{length};
 ghost use Rattle.jury.specs.Rankings as spec;
-ghost use Rattle.lanes.specs.Lane.{laneCount, lane, laneOf};
+ghost use Rattle.batch_lanes.specs.Lane.{laneCount, lane, laneOf};
 ghost use Rattle.batch.specs.Ballots.{foundBit};
 
 // The juries in which some byte is 1 while its opposite is 1 too.

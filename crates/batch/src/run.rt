@@ -1,8 +1,8 @@
 // The entry point [lanes]: a run for 64 juries.
+use batch_lanes::word;
 use jury::reason::Refusal;
 use jury::reason::Verdict;
 use jury::shape::Shape;
-use lanes::word;
 use tally::answer::Answer;
 ghost use mathlib.Core.Path.{_≡_};
 ghost use Rattle.gates.specs.Gate.{gatesOf};
@@ -86,7 +86,7 @@ pub fn run(
         gates: _,
         conditional: _,
     } = answer {
-        lanes::step::run(ballots, table, shape.candidates, tape, wires, board);
+        batch_lanes::step::run(ballots, table, shape.candidates, tape, wires, board);
         word::empty(wires);
     }
     answer

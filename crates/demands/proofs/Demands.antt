@@ -1,6 +1,6 @@
 -- What each layer proved.
 -- Assumes nothing.
-use Rattle.judgment.proofs.Theorems.{somebody, gauge-alone}
+use Rattle.rule_judgment.proofs.Theorems.{somebody, gauge-alone}
 use Rattle.tally.proofs.Demands.{three-demands}
 use Rattle.tally.proofs.Monotone.{monotone-on-gates}
 use Rattle.text.proofs.RoundTrip.{round-trip, text-memory}
@@ -9,7 +9,7 @@ use Rattle.urn.proofs.UrnMemory.{urn-memory}
 use Rattle.urn.proofs.UrnTheorems.{urn-holds, previews-tell}
 use Rattle.urn_run.proofs.Theorems.{urn-run-holds}
 use Rattle.trustees.proofs.Demands as trustees
-use Rattle.dispatcher.proofs.Theorems.{dispatching}
+use Rattle.dispatch.proofs.Theorems.{dispatching}
 use Rattle.batch.proofs.Theorems.{each-as-alone, accepted-as-all, batch-memory, batch-accuracy, batch-hiding}
 use Rattle.batch.proofs.Refusals.{refused-as-alone, fault-as-alone}
 use Rattle.demands.specs.Demands.{AllDemands}

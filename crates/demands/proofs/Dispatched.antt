@@ -12,10 +12,10 @@ use Rattle.tally.specs.Hiding.{closingBytes}
 use Rattle.tally.specs.Demands.{listIn}
 use Rattle.tally.specs.Rule.{Wins}
 use Rattle.tally.proofs.Demands.{three-demands}
-use Rattle.rounds.specs.Tables.{shapeOf}
-use Rattle.dispatcher.specs.Dispatch.{ranBoard}
-use Rattle.dispatcher.specs.Theorems.{juryAt, piecesAt}
-use Rattle.dispatcher.proofs.Theorems.{dispatching}
+use Rattle.dispatch_rounds.specs.Tables.{shapeOf}
+use Rattle.dispatch.specs.Dispatch.{ranBoard}
+use Rattle.dispatch.specs.Theorems.{juryAt, piecesAt}
+use Rattle.dispatch.proofs.Theorems.{dispatching}
 use Rattle.demands.specs.Dispatched.{DispatchAccuracy}
 
 pub dispatch-accuracy : DispatchAccuracy

@@ -1,5 +1,5 @@
 -- The demands on every call of the core, side by side: each layer states its part over the definitions that its contracts equate with the program's answers and with all that is lent. That every call ends, and reads and writes lent memory only inside its length, is part of what is proved of every function.
-use Rattle.judgment.specs.Theorems.{GaugeKept, SomebodyWins}
+use Rattle.rule_judgment.specs.Theorems.{GaugeKept, SomebodyWins}
 use Rattle.tally.specs.Demands as run
 use Rattle.tally.specs.Monotone.{MonotoneOnGates}
 use Rattle.text.specs.RoundTrip.{RoundTrip, TextMemory}
@@ -8,7 +8,7 @@ use Rattle.urn.specs.Memory.{UrnMemory}
 use Rattle.urn.specs.Theorems.{UrnHolds, PreviewsTell}
 use Rattle.urn_run.specs.Theorems.{UrnRunMemory, UrnRunHolds}
 use Rattle.trustees.specs.Demands as trustees
-use Rattle.dispatcher.specs.Theorems.{Refusals, Lengths, Dispatching}
+use Rattle.dispatch.specs.Theorems.{Refusals, Lengths, Dispatching}
 use Rattle.demands.specs.Dispatched.{DispatchAccuracy}
 use Rattle.batch.specs.Theorems.{EachAsAlone, AcceptedAsAll, RefusedAsAlone, FaultAsAlone, BatchMemory, BatchAccuracy, BatchHiding}
 

@@ -10,10 +10,10 @@ use Rattle.tally.specs.Write.{writeSaid}
 use Rattle.tally.specs.Hiding.{closingBytes}
 use Rattle.tally.specs.Demands.{listIn}
 use Rattle.tally.specs.Rule.{Wins}
-use Rattle.rounds.specs.declared.statement.Statement.{Statement}
-use Rattle.rounds.specs.Tables.{Tables, shapeOf}
-use Rattle.dispatcher.specs.Dispatch.{dispatched}
-use Rattle.dispatcher.specs.Theorems.{juryAt, piecesAt, tablesAfter}
+use Rattle.dispatch_rounds.specs.declared.statement.Statement.{Statement}
+use Rattle.dispatch_rounds.specs.Tables.{Tables, shapeOf}
+use Rattle.dispatch.specs.Dispatch.{dispatched}
+use Rattle.dispatch.specs.Theorems.{juryAt, piecesAt, tablesAfter}
 
 -- Jury j of an accepted call whose list is the one that the core writes for its shape, into whatever table: candidate i's closing byte on its board is 1 if it wins by the rule of the shape's kind, and 0 if it does not.
 pub record Tallies (count : ℕ) (ss : List Statement) (share : ℕ) (t : Tables) (j i : ℕ) : Type 0 where

@@ -10,18 +10,18 @@ ghost use lib.ListN.{length, replicate};
 ghost use Rattle.gates.specs.Board.{Bits};
 
 fn print_jury(shape: Shape) {
-    cases::print_text(b"jury");
-    cases::print_number(shape.candidates);
-    cases::print_number(shape.grades);
-    cases::print_number(shape.ballots);
-    cases::print_text(b"\n");
+    printing::print_text(b"jury");
+    printing::print_number(shape.candidates);
+    printing::print_number(shape.grades);
+    printing::print_number(shape.ballots);
+    printing::print_text(b"\n");
 }
 
 fn print_refused(reason: Refusal) {
-    cases::print_text(b"refused");
-    cases::print_number(reason.number());
-    cases::print_number(reason.place());
-    cases::print_text(b"\n");
+    printing::print_text(b"refused");
+    printing::print_number(reason.number());
+    printing::print_number(reason.place());
+    printing::print_text(b"\n");
 }
 
 fn table() -> [u32; 16000]
@@ -66,7 +66,7 @@ fn main() {
         Rehearsed::Refused(reason) => print_refused(reason),
         Rehearsed::Winners { shape, first } => {
             print_jury(shape);
-            cases::print_bytes(b"winners", &board[first..first + shape.candidates]);
+            printing::print_bytes(b"winners", &board[first..first + shape.candidates]);
         }
     }
 }

@@ -5,9 +5,9 @@ use season::sheet::Refusal;
 use season::sheet::Totals;
 
 fn print_line(word: &[u8], number: usize) {
-    cases::print_text(word);
-    cases::print_number(number);
-    cases::print_text(b"\n");
+    printing::print_text(word);
+    printing::print_number(number);
+    printing::print_text(b"\n");
 }
 
 fn print_totals(totals: Totals) {
@@ -19,10 +19,10 @@ fn print_totals(totals: Totals) {
 }
 
 fn print_refused(reason: Refusal) {
-    cases::print_text(b"refused");
-    cases::print_number(reason.number());
-    cases::print_number(reason.place());
-    cases::print_text(b"\n");
+    printing::print_text(b"refused");
+    printing::print_number(reason.number());
+    printing::print_number(reason.place());
+    printing::print_text(b"\n");
 }
 
 // One byte more is kept than a sheet may have, so that a longer input is refused and not cut.

@@ -20,10 +20,10 @@ use Rattle.jury.specs.Rankings.{rankPlace, before, orElse, firstOver, someBelow
 use Rattle.jury.specs.Counts.{sum, byteOf, countUpTo, countOf, tabulate, countsOf}
 use Rattle.jury.specs.Gauge.{medianFrom, medianOf}
 use Rattle.jury.specs.ClosingBytes.{eightBytes}
-use Rattle.judgment.specs.Judgment.{strike, strikes, sequenceOf, precedes, nonePrecedes, judgmentOf}
+use Rattle.rule_judgment.specs.Judgment.{strike, strikes, sequenceOf, precedes, nonePrecedes, judgmentOf}
 use Rattle.jury.proofs.Limits.{bounds}
-use Rattle.schulze.specs.Schulze.{link, weakest, candidates, without, selections, maximum, simplePaths, strongest, every, wins, closingBytes}
-use Rattle.schulze.specs.Votes.{votes}
+use Rattle.rule_schulze.specs.Schulze.{link, weakest, candidates, without, selections, maximum, simplePaths, strongest, every, wins, closingBytes}
+use Rattle.rule_schulze.specs.Votes.{votes}
 use Rattle.tally.specs.Rule.{closingFor}
 use Rattle.tally.specs.Count.{countReason, closingAfter, plainClosing}
 use Rattle.tally.specs.Answer.{refused as turnedAway, accepted}

@@ -10,8 +10,8 @@ use Rattle.jury.specs.declared.shape.Shape.{Shape}
 use Rattle.jury.specs.Accepted.{AcceptedBallots}
 use Rattle.jury.specs.Shape.{isRanking}
 use Rattle.jury.proofs.Limits.{within, graded-is}
-use Rattle.judgment.specs.Raised.{Raised, RaisedOften, unchanged, once-more, byteFor}
-use Rattle.judgment.proofs.Raising.{liked-more}
+use Rattle.rule_judgment.specs.Raised.{Raised, RaisedOften, unchanged, once-more, byteFor}
+use Rattle.rule_judgment.proofs.Raising.{liked-more}
 use Rattle.tally.specs.Answer.{accepted, Size}
 use Rattle.tally.specs.Count.{plainClosing}
 use Rattle.tally.specs.Write.{writeSaid}

@@ -17,12 +17,12 @@ use Rattle.jury.specs.Width.{widthOf}
 use Rattle.jury.specs.Accepted.{AcceptedBallots}
 use Rattle.jury.proofs.AcceptedLaws as ballots-laws
 use Rattle.jury.proofs.Limits.{Ranked, ranked, ranked-bytes, graded-kind, ranked-kind}
-use Rattle.circuit.specs.OwnList as graded
-use Rattle.circuit.specs.Bound as graded-bound
-use Rattle.circuit.proofs.Accuracy.{own, own-list-is-accurate}
-use Rattle.circuit.proofs.OwnListLaws.{own-list-keeps-the-bound, own-list-short}
-use Rattle.ranking.specs.OwnRanking.{ownRanking, rankingBound, OwnRankingHolds}
-use Rattle.ranking.proofs.OwnRankingLaws.{own-ranking-holds}
+use Rattle.graded_circuit.specs.OwnList as graded
+use Rattle.graded_circuit.specs.Bound as graded-bound
+use Rattle.graded_circuit.proofs.Accuracy.{own, own-list-is-accurate}
+use Rattle.graded_circuit.proofs.OwnListLaws.{own-list-keeps-the-bound, own-list-short}
+use Rattle.ranked_circuit.specs.OwnRanking.{ownRanking, rankingBound, OwnRankingHolds}
+use Rattle.ranked_circuit.proofs.OwnRankingLaws.{own-ranking-holds}
 use Rattle.tally.specs.Answer.{accepted, sizeOf}
 use Rattle.tally.specs.Rule.{closingFor}
 use Rattle.tally.specs.OwnList.{ownList, gateBound}

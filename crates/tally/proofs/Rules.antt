@@ -15,12 +15,12 @@ use Rattle.jury.proofs.AcceptedLaws as ballots-laws
 use Rattle.jury.proofs.CountFacts.{counts-length}
 use Rattle.jury.proofs.Limits.{graded-kind}
 use Rattle.jury.proofs.Tabulate.{length-tabulate}
-use Rattle.judgment.specs.Judgment.{judgmentOf}
-use Rattle.judgment.proofs.Winners.{judgment-length}
-use Rattle.judgment.proofs.Theorems.{bytes-say, each-gets}
-use Rattle.schulze.specs.Schulze.{wins, closingBytes}
-use Rattle.schulze.specs.Votes.{votes}
-use Rattle.schulze.proofs.Winning.{closing-at, closing-one}
+use Rattle.rule_judgment.specs.Judgment.{judgmentOf}
+use Rattle.rule_judgment.proofs.Winners.{judgment-length}
+use Rattle.rule_judgment.proofs.Theorems.{bytes-say, each-gets}
+use Rattle.rule_schulze.specs.Schulze.{wins, closingBytes}
+use Rattle.rule_schulze.specs.Votes.{votes}
+use Rattle.rule_schulze.proofs.Winning.{closing-at, closing-one}
 use Rattle.tally.specs.Rule.{closingFor, Wins}
 
 -- a test holds or fails

@@ -5,7 +5,7 @@ use mathlib.Core.List.{List}
 use Prim.Native.Nat.{ℕ, _<_}
 use lib.ListN.{getD}
 use Rattle.jury.specs.declared.shape.Shape.{Shape}
-use Rattle.judgment.specs.Raised.{Raised, RaisedOften}
+use Rattle.rule_judgment.specs.Raised.{Raised, RaisedOften}
 use Rattle.tally.specs.Answer.{accepted, Size}
 use Rattle.tally.specs.Write.{writeSaid}
 use Rattle.tally.specs.Run.{ran}

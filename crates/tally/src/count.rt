@@ -47,9 +47,9 @@ fn closing_bytes(shape: Shape, ballots: &[u8]) -> [u8; 8]
     ensures { λ r. ⌜ r ≡ eightBytes (closingFor shape (now (ballots .entry))) ⌝ }
 {
     if shape.is_ranking() {
-        schulze::count::closing_bytes(ballots, shape.candidates, shape.ballots)
+        rule_schulze::count::closing_bytes(ballots, shape.candidates, shape.ballots)
     } else {
         let counts = jury::counts::counts(shape, ballots);
-        judgment::rule::winners(shape, counts)
+        rule_judgment::rule::winners(shape, counts)
     }
 }

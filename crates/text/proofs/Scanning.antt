@@ -16,12 +16,12 @@ use Rattle.gates.specs.Test.{goodGate, firstBad}
 use Rattle.gates.specs.declared.place.Place.{Place}
 use Rattle.gates.specs.declared.place.Place.the-variants.{At, Nowhere}
 use Rattle.gates.proofs.Reading.{first-bad-nil, first-bad-cons, good-by}
-use Rattle.lines.specs.Decimal.{taken}
-use Rattle.lines.specs.Line.{gateIn, gateOf}
+use Rattle.text_lines.specs.Decimal.{taken}
+use Rattle.text_lines.specs.Line.{gateIn, gateOf}
 use Rattle.text.specs.Text.{inFront, linesOf, otherAt, firstOther, gatesIn}
-use Rattle.lines.specs.Inner.{lineFound, LineWithin}
-use Rattle.lines.specs.declared.line.Line.{Line}
-use Rattle.lines.specs.declared.line.Line.the-variants as line
+use Rattle.text_lines.specs.Inner.{lineFound, LineWithin}
+use Rattle.text_lines.specs.declared.line.Line.{Line}
+use Rattle.text_lines.specs.declared.line.Line.the-variants as line
 use Rattle.text.proofs.TextLaws.{gate-first, other-first, other-here, other-later, gates-cons, first-line}
 
 -- the numbers of a gate as one

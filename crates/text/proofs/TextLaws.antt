@@ -13,10 +13,10 @@ use Rattle.gates.specs.Kind.{operandsOf}
 use Rattle.gates.specs.Gate.{Gate}
 use Rattle.gates.specs.declared.place.Place.{Place}
 use Rattle.gates.specs.declared.place.Place.the-variants.{At, Nowhere}
-use Rattle.lines.specs.Decimal.{decimalWithin, decimal, Taken, taken}
-use Rattle.lines.specs.Line.{operandText, lineOf, gateIn, gateOf}
+use Rattle.text_lines.specs.Decimal.{decimalWithin, decimal, Taken, taken}
+use Rattle.text_lines.specs.Line.{operandText, lineOf, gateIn, gateOf}
 use Rattle.text.specs.Text.{textOf, inFront, linesOf, otherAt, firstOther, gateBefore, gatesIn}
-use Rattle.lines.proofs.LineLaws.{Writable, read-line, wrote-line, line-read, line-wrote}
+use Rattle.text_lines.proofs.LineLaws.{Writable, read-line, wrote-line, line-read, line-wrote}
 
 -- no line feed among these characters
 abbrev NoFeed : List ℕ → Type 0

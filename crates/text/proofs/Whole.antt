@@ -14,9 +14,9 @@ use Rattle.gates.specs.declared.place.Place.the-variants.{Nowhere}
 use Rattle.gates.proofs.Laws.{AllGood}
 use Rattle.gates.proofs.Goodness.{good-gate}
 use Rattle.gates.proofs.Reading.{good-unused}
-use Rattle.lines.specs.Line.{lineOf, gateOf}
+use Rattle.text_lines.specs.Line.{lineOf, gateOf}
 use Rattle.text.specs.Text.{textOf, linesOf, otherAt, firstOther, gateBefore, gatesIn}
-use Rattle.lines.proofs.LineLaws.{Writable, line-read, line-wrote}
+use Rattle.text_lines.proofs.LineLaws.{Writable, line-read, line-wrote}
 use Rattle.text.proofs.TextLaws.{lines-cons, flatten-lines}
 
 -- lines that are all gates: as many gates as lines, and the lines are those gates' text

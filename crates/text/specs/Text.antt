@@ -7,7 +7,7 @@ use lib.Dec.{eqb}
 use Rattle.gates.specs.Gate.{Gate}
 use Rattle.gates.specs.declared.place.Place.{Place}
 use Rattle.gates.specs.declared.place.Place.the-variants.{At, Nowhere}
-use Rattle.lines.specs.Line.{lineFeed, lineOf, gateOf}
+use Rattle.text_lines.specs.Line.{lineFeed, lineOf, gateOf}
 
 -- One line a gate.
 unfoldable pub textOf : List Gate → List ℕ

@@ -1,7 +1,7 @@
 // A text line by line: one pass for each test, and one that puts the numbers.
 use gates::place::Place;
-use lines::line;
-use lines::line::Line;
+use text_lines::line;
+use text_lines::line::Line;
 ghost use mathlib.Core.Path.{_≡_};
 ghost use Prim.Native.Nat.{_+_, _*_, _≤_, _<_};
 ghost use lib.ListN.{length};

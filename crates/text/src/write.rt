@@ -2,7 +2,7 @@
 use crate::answer::Answer;
 use crate::answer::TextRefusal;
 use jury::shape::Shape;
-use lines::print;
+use text_lines::print;
 ghost use mathlib.Core.Path.{_≡_};
 ghost use Prim.Native.Nat.{_≤_};
 ghost use lib.ListN.{length};

@@ -30,10 +30,10 @@ use Rattle.tally.proofs.Rules.{byte-says}
 use Rattle.tally.proofs.PlainFacts.{plain-accepted}
 use Rattle.tally.proofs.OwnList.{own-list-holds}
 use Rattle.tally.proofs.Writing as writing
-use Rattle.shares.specs.Shares.{opened, part}
-use Rattle.shares.specs.Views.{Dealing, GoodDealing, ballotsOf, dealtOf, wirePartsOf, closingParts}
-use Rattle.shares.proofs.Accuracy.{Split, opened-same, parts-split}
-use Rattle.shares.proofs.Tables.{length-piece}
+use Rattle.trustee_shares.specs.Shares.{opened, part}
+use Rattle.trustee_shares.specs.Views.{Dealing, GoodDealing, ballotsOf, dealtOf, wirePartsOf, closingParts}
+use Rattle.trustee_shares.proofs.Accuracy.{Split, opened-same, parts-split}
+use Rattle.trustee_shares.proofs.Tables.{length-piece}
 use Rattle.trustees.specs.Shared.{closingSums, Shared, sharedReasons, sharedAfter, shared}
 use Rattle.trustees.specs.Demands.{Accuracy, OwnList}
 use Rattle.trustees.proofs.Reasons.{CallPassed, call-passed, call-passed-back, shared-by, passed-dealing}

@@ -17,8 +17,8 @@ use Rattle.tally.specs.Test.{testReasons}
 use Rattle.tally.proofs.TestReasons.{never}
 use Rattle.tally.proofs.Numbering.{Fine, All, FineSaid, first-fine, both, unless-fine, found-fine, list-fine, kind-fine, refused-fine}
 use Rattle.tally.proofs.Writing as writing
-use Rattle.shares.specs.Views.{Dealing, publishedOf}
-use Rattle.shares.proofs.Tables.{length-joined}
+use Rattle.trustee_shares.specs.Views.{Dealing, publishedOf}
+use Rattle.trustee_shares.proofs.Tables.{length-joined}
 use Rattle.trustees.specs.Shared.{partReasons, Shared, sharedReasons, sharedAfter, shared}
 use Rattle.trustees.specs.Demands.{Memory, Demands}
 use Rattle.trustees.proofs.Reasons.{call-passed, shared-by}

@@ -15,8 +15,8 @@ use Rattle.jury.specs.declared.shape.Shape.{Shape}
 use Rattle.jury.specs.ClosingBytes.{eightBytes}
 use Rattle.jury.proofs.Rows.{eight-at}
 use Rattle.tally.specs.Answer.{accepted, sizeOf}
-use Rattle.shares.specs.Views.{Dealing, GoodDealing, viewOf}
-use Rattle.shares.proofs.Hiding.{views-hide-inputs}
+use Rattle.trustee_shares.specs.Views.{Dealing, GoodDealing, viewOf}
+use Rattle.trustee_shares.proofs.Hiding.{views-hide-inputs}
 use Rattle.trustees.specs.Shared.{Shared, sharedAfter, shared}
 use Rattle.trustees.specs.Demands.{ViewsTellNoMore}
 use Rattle.trustees.proofs.Reasons.{CallPassed, call-passed, call-passed-back, shared-by, passed-dealing, other-dealing}

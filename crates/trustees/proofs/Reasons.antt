@@ -24,9 +24,9 @@ use Rattle.tally.specs.Answer.{refused, accepted, said, Size, sizeOf}
 use Rattle.tally.specs.Test.{testReasons, testSaid}
 use Rattle.tally.proofs.TestReasons.{orElse, first-append, TestPassed, test-passed}
 use Rattle.tally.proofs.RunReasons.{firstOfThree, said-refused}
-use Rattle.shares.specs.Views.{Dealing, GoodDealing}
-use Rattle.sharing.specs.Dealing.{dealtWell}
-use Rattle.sharing.proofs.Dealt.{dealt-good, good-dealt}
+use Rattle.trustee_shares.specs.Views.{Dealing, GoodDealing}
+use Rattle.trustee_gates.specs.Dealing.{dealtWell}
+use Rattle.trustee_gates.proofs.Dealt.{dealt-good, good-dealt}
 use Rattle.trustees.specs.Inner.{SmallSizes}
 use Rattle.trustees.specs.Shared.{tablesFit, partReasons, sharedReasons, sharedAfter, shared}
 

@@ -23,13 +23,13 @@ use Rattle.jury.proofs.Limits.{within, bytes-are, ranked, ranked-bytes, kinds, 
 use Rattle.jury.proofs.Rows.{eight-at, eight-length}
 use Rattle.jury.proofs.Tabulate.{length-tabulate, getD-tabulate, tabulate-cong, upTo, upTo-new, upTo-old}
 use Rattle.tally.specs.Answer.{Size, sizeOf}
-use Rattle.shares.specs.Shares.{opened, part, Held}
-use Rattle.shares.specs.Views.{piece, joined, Dealing, ballotsOf, dealtOf, wirePartsOf, maskedFactors, closingParts, publishedOf}
-use Rattle.shares.proofs.Accuracy.{opened-same}
-use Rattle.shares.proofs.Tables.{length-piece, piece-joined}
-use Rattle.shares.proofs.Publishing.{length-masked}
-use Rattle.sharing.specs.Evaluate.{EvaluateReady}
-use Rattle.sharing.proofs.Running.{length-parts}
+use Rattle.trustee_shares.specs.Shares.{opened, part, Held}
+use Rattle.trustee_shares.specs.Views.{piece, joined, Dealing, ballotsOf, dealtOf, wirePartsOf, maskedFactors, closingParts, publishedOf}
+use Rattle.trustee_shares.proofs.Accuracy.{opened-same}
+use Rattle.trustee_shares.proofs.Tables.{length-piece, piece-joined}
+use Rattle.trustee_shares.proofs.Publishing.{length-masked}
+use Rattle.trustee_gates.specs.Evaluate.{EvaluateReady}
+use Rattle.trustee_gates.proofs.Running.{length-parts}
 use Rattle.trustees.specs.Shared.{closingSums}
 use Rattle.trustees.proofs.Reasons.{CallPassed}
 

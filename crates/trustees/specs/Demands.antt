@@ -18,8 +18,8 @@ use Rattle.tally.specs.Run.{ran}
 use Rattle.tally.specs.Hiding.{closingBytes}
 use Rattle.tally.specs.Write.{writeSaid}
 use Rattle.tally.specs.Demands.{listIn}
-use Rattle.shares.specs.Shares.{opened, part}
-use Rattle.shares.specs.Views.{Dealing, wirePartsOf, viewOf}
+use Rattle.trustee_shares.specs.Shares.{opened, part}
+use Rattle.trustee_shares.specs.Views.{Dealing, wirePartsOf, viewOf}
 use Rattle.trustees.specs.Shared.{shared}
 
 -- Demand 1: a refusal's number is that of a reason which concerns the call, a refusal alters no lent byte and answers zeros, an accepted call leaves wire parts of zeros, and no call changes a length.

@@ -13,9 +13,9 @@ use Rattle.jury.specs.Counts.{tabulate}
 use Rattle.jury.specs.ClosingBytes.{eightBytes}
 use Rattle.tally.specs.Answer.{Said, refused, accepted, Size, sizeOf}
 use Rattle.tally.specs.Test.{testReasons}
-use Rattle.shares.specs.Shares.{opened, part, Held}
-use Rattle.shares.specs.Views.{joined, Dealing, wirePartsOf, closingParts, publishedOf}
-use Rattle.sharing.specs.Dealing.{dealtWell}
+use Rattle.trustee_shares.specs.Shares.{opened, part, Held}
+use Rattle.trustee_shares.specs.Views.{joined, Dealing, wirePartsOf, closingParts, publishedOf}
+use Rattle.trustee_gates.specs.Dealing.{dealtWell}
 
 -- The lengths of the four tables for t trustees: a part of each input, u, v and product of each conditional gate, a part of each wire, both masked factors of each conditional gate and the closing bits.
 unfoldable pub tablesFit : ℕ → ℕ → Size → ℕ → Dealing → List ℕ → List ℕ → Bool

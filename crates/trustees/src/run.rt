@@ -7,8 +7,8 @@ ghost use lib.ListN.{length};
 ghost use Rattle.jury.specs.Counts.{tabulate};
 ghost use Rattle.jury.specs.ClosingBytes.{eightBytes};
 ghost use Rattle.tally.specs.Answer.{saidBy};
-ghost use Rattle.shares.specs.Shares.{opened, part};
-ghost use Rattle.shares.specs.Views.{piece};
+ghost use Rattle.trustee_shares.specs.Shares.{opened, part};
+ghost use Rattle.trustee_shares.specs.Views.{piece};
 ghost use Rattle.trustees.specs.Shared.{shared};
 
 // G and C of the list, or the first reason that applies; and the opened closing bits: 0 from place k on, and eight zeros
@@ -26,7 +26,7 @@ fn open_closing(t: usize, size: usize, first: usize, k: usize, published: &[u8])
     let mut closing = [0u8; 8];
     let mut j = 0;
     while j < k {
-        closing[j] = sharing::table::open(published, size, t, first + j);
+        closing[j] = trustee_gates::table::open(published, size, t, first + j);
         j += 1;
     }
     closing
@@ -62,7 +62,7 @@ pub fn run(
     };
     let k = shape.candidates;
     let factors = 2 * conditional;
-    sharing::evaluate::evaluate(
+    trustee_gates::evaluate::evaluate(
         t,
         ballots.len(),
         table,

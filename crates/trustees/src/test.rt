@@ -11,7 +11,7 @@ ghost use lib.ListN.{length};
 ghost use Rattle.gates.specs.Gate.{gatesOf};
 ghost use Rattle.jury.specs.Reason.{refusedFor, firstOf};
 ghost use Rattle.tally.specs.Answer.{saidBy, said, sizeOf};
-ghost use Rattle.sharing.specs.Dealing.{dealtWell};
+ghost use Rattle.trustee_gates.specs.Dealing.{dealtWell};
 ghost use Rattle.trustees.specs.Shared.{tablesFit, partReasons, sharedReasons};
 ghost use Rattle.trustees.specs.Inner.{SmallSizes, DealtSizes};
 
@@ -62,16 +62,16 @@ fn is_dealt_well(t: usize, conditional: usize, ballots: &[u8], parts: &[u8], dea
     requires { ⌜ DealtSizes t conditional (now ballots) (now parts) (now dealt) ⌝ }
     ensures { λ r. ⌜ r ≡ dealtWell t conditional (now (ballots .entry)) (record { ballotParts = now (parts .entry); dealerParts = now (dealt .entry) }) ⌝ }
 {
-    if !sharing::dealing::only_bits(parts) {
+    if !trustee_gates::dealing::only_bits(parts) {
         return false;
     }
-    if !sharing::dealing::only_bits(dealt) {
+    if !trustee_gates::dealing::only_bits(dealt) {
         return false;
     }
-    if !sharing::dealing::adds_up(t, ballots, parts) {
+    if !trustee_gates::dealing::adds_up(t, ballots, parts) {
         return false;
     }
-    sharing::dealing::products_add_up(t, conditional, dealt)
+    trustee_gates::dealing::products_add_up(t, conditional, dealt)
 }
 
 // Reasons 16 to 18.

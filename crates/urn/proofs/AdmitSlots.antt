@@ -9,13 +9,13 @@ use native.Mathlib.Omega.{arith}
 use lib.ListN.{length, set, length-set}
 use Rattle.jury.specs.Counts.{tabulate}
 use Rattle.jury.proofs.Flags.{and-first, and-second, or-first, or-second, never-true}
-use Rattle.chains.specs.Slots.{Slot, slotAt, freeSlot}
-use Rattle.chains.specs.Chains.{Entry, chain, firstEntry, firstFree, entrySlot, headSlot, layout}
-use Rattle.chains.specs.Sound.{all, member, distinct, inUrn}
-use Rattle.chains.proofs.Lists.{all-member, all-move, all-weaken, member-move, distinct-move, distinct-first, all-append, all-first, all-rest, member-append}
-use Rattle.chains.proofs.Linked.{slotsIn, Linked, FreeLinked, more, at-set, at-other, linked-set, free-set, positive, below}
-use Rattle.chains.proofs.Layouts.{Fit, layout-unique}
-use Rattle.chains.proofs.Judging.{clash}
+use Rattle.urn_chains.specs.Slots.{Slot, slotAt, freeSlot}
+use Rattle.urn_chains.specs.Chains.{Entry, chain, firstEntry, firstFree, entrySlot, headSlot, layout}
+use Rattle.urn_chains.specs.Sound.{all, member, distinct, inUrn}
+use Rattle.urn_chains.proofs.Lists.{all-member, all-move, all-weaken, member-move, distinct-move, distinct-first, all-append, all-first, all-rest, member-append}
+use Rattle.urn_chains.proofs.Linked.{slotsIn, Linked, FreeLinked, more, at-set, at-other, linked-set, free-set, positive, below}
+use Rattle.urn_chains.proofs.Layouts.{Fit, layout-unique}
+use Rattle.urn_chains.proofs.Judging.{clash}
 
 -- a free slot becomes one of a ballot
 pub fit-admit : (n : ℕ) (e : Entry) (es : List Entry) (is : List ℕ) → Fit n es (e .slot ∷ is) → Fit n (e ∷ es) is

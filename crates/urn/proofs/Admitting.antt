@@ -12,21 +12,21 @@ use lib.ListN.{length, getD, set, take, drop, length-set, length-append, length-
 use lib.Seq.{set-set}
 use Rattle.jury.specs.Shape.{gradedLimits}
 use Rattle.jury.proofs.Flags.{and-second}
-use Rattle.chains.specs.Slots.{Slot, slotBytes, slotOf, slotsOf, bytesOf, slotAt}
-use Rattle.chains.specs.Chains.{Entry, ballotSlots, ballotChain, freeChain, firstEntry, firstFree, headSlot, layout}
-use Rattle.chains.specs.Sound.{all, juryOfOne, inUrn, slotCount, urnSlots, soundSlots, sound}
+use Rattle.urn_chains.specs.Slots.{Slot, slotBytes, slotOf, slotsOf, bytesOf, slotAt}
+use Rattle.urn_chains.specs.Chains.{Entry, ballotSlots, ballotChain, freeChain, firstEntry, firstFree, headSlot, layout}
+use Rattle.urn_chains.specs.Sound.{all, juryOfOne, inUrn, slotCount, urnSlots, soundSlots, sound}
 use Rattle.urn.specs.Facts.{isEmpty}
 use Rattle.urn.specs.Admit.{withBallot}
-use Rattle.chains.specs.Inner.{SlotTable}
-use Rattle.chains.proofs.SlotLaws.{size-is, slots-length, slot-within, next-is}
-use Rattle.chains.proofs.Lists.{all-append, all-first}
-use Rattle.chains.proofs.Linked.{FreeLinked, Linked, at-set, at-other, below, positive}
-use Rattle.chains.proofs.Layouts.{Fit}
-use Rattle.chains.proofs.BytesLaws.{Sized, slots-sized, bytes-back}
+use Rattle.urn_chains.specs.Inner.{SlotTable}
+use Rattle.urn_chains.proofs.SlotLaws.{size-is, slots-length, slot-within, next-is}
+use Rattle.urn_chains.proofs.Lists.{all-append, all-first}
+use Rattle.urn_chains.proofs.Linked.{FreeLinked, Linked, at-set, at-other, below, positive}
+use Rattle.urn_chains.proofs.Layouts.{Fit}
+use Rattle.urn_chains.proofs.BytesLaws.{Sized, slots-sized, bytes-back}
 use Rattle.urn.proofs.Putting.{put-slots, set-next, set-head-juror}
-use Rattle.chains.proofs.Judging.{head-next, head-juror}
-use Rattle.chains.proofs.SoundLaws.{Parts}
-use Rattle.chains.proofs.Held.{held, held-free, head-is, head-first, head-free, fits}
+use Rattle.urn_chains.proofs.Judging.{head-next, head-juror}
+use Rattle.urn_chains.proofs.SoundLaws.{Parts}
+use Rattle.urn_chains.proofs.Held.{held, held-free, head-is, head-first, head-free, fits}
 use Rattle.urn.proofs.AdmitSlots.{admit-slots}
 use Rattle.urn.proofs.FactLaws.{its-table, its-parts, its-length}
 

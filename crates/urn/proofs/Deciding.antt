@@ -13,8 +13,8 @@ use Rattle.jury.specs.Reason.{Reason, reasonAt, unless, firstOf}
 use Rattle.jury.specs.Ballots.{ballotReasons}
 use Rattle.tally.specs.Answer.{Said, refused, accepted, said}
 use Rattle.urn.specs.declared.facts.Facts.{Facts}
-use Rattle.chains.specs.Sound.{juryOfOne, goodJuror, noReason, goodBallot}
-use Rattle.chains.proofs.Holding.{good-graded}
+use Rattle.urn_chains.specs.Sound.{juryOfOne, goodJuror, noReason, goodBallot}
+use Rattle.urn_chains.proofs.Holding.{good-graded}
 use Rattle.urn.specs.Facts.{gradedShape, afterwards}
 use Rattle.urn.specs.Admit.{admitReasons, admitSaid}
 use Rattle.urn.specs.Withdraw.{withdrawReasons, withdrawSaid}

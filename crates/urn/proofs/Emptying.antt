@@ -15,14 +15,14 @@ use borrow.Author.Tests.{ne-eqb, lt-ltb}
 use Rattle.jury.specs.Counts.{tabulate}
 use Rattle.jury.specs.Reason.{Reason, reasonAt, unless, firstOf}
 use Rattle.jury.proofs.Flags.{and-both}
-use Rattle.chains.specs.Slots.{Slot, slotBytes, slotOf, slotsOf, bytesOf, slotAt, freeSlot}
-use Rattle.chains.specs.Chains.{Entry, firstEntry, firstFree, withBallots, withFree, headSlot, layout}
-use Rattle.chains.specs.Sound.{all, member, distinct, inUrn, urnLength}
-use Rattle.chains.proofs.SlotLaws.{size-is}
-use Rattle.chains.proofs.Lists.{member-all, distinct-cons}
-use Rattle.chains.proofs.Linked.{at-other, apart, apart-rest}
-use Rattle.chains.proofs.Layouts.{Fit}
-use Rattle.chains.proofs.BytesLaws.{bytes-back}
+use Rattle.urn_chains.specs.Slots.{Slot, slotBytes, slotOf, slotsOf, bytesOf, slotAt, freeSlot}
+use Rattle.urn_chains.specs.Chains.{Entry, firstEntry, firstFree, withBallots, withFree, headSlot, layout}
+use Rattle.urn_chains.specs.Sound.{all, member, distinct, inUrn, urnLength}
+use Rattle.urn_chains.proofs.SlotLaws.{size-is}
+use Rattle.urn_chains.proofs.Lists.{member-all, distinct-cons}
+use Rattle.urn_chains.proofs.Linked.{at-other, apart, apart-rest}
+use Rattle.urn_chains.proofs.Layouts.{Fit}
+use Rattle.urn_chains.proofs.BytesLaws.{bytes-back}
 use Rattle.urn.specs.Facts.{gradedShape}
 use Rattle.urn.specs.Empty.{emptyReasons, allFree}
 use Rattle.urn.proofs.Putting.{set-next, set-head-juror}

@@ -11,18 +11,18 @@ use lib.ListN.{length, getD}
 use borrow.Author.Tests.{eqb-true, not-true}
 use Rattle.jury.specs.Shape.{gradedLimits}
 use Rattle.jury.proofs.Flags.{and-first, and-second, or-first, or-second}
-use Rattle.chains.specs.Slots.{Slot, slotBytes, slotsOf, slotAt}
-use Rattle.chains.specs.Chains.{chain, ballotSlots, ballotChain, freeChain}
-use Rattle.chains.specs.Sound.{all, member, juryOfOne, inUrn, slotCount, urnLength, urnSlots, soundSlots, sound}
+use Rattle.urn_chains.specs.Slots.{Slot, slotBytes, slotsOf, slotAt}
+use Rattle.urn_chains.specs.Chains.{chain, ballotSlots, ballotChain, freeChain}
+use Rattle.urn_chains.specs.Sound.{all, member, juryOfOne, inUrn, slotCount, urnLength, urnSlots, soundSlots, sound}
 use Rattle.urn.specs.Facts.{isEmpty, jurorsOf, factsOf}
 use Rattle.urn.specs.declared.facts.Facts.{Facts}
-use Rattle.chains.specs.declared.find.Link.the-variants.{Found, Absent}
-use Rattle.chains.specs.Inner.{SlotTable, jurorsAt, linkOf}
-use Rattle.chains.proofs.Lists.{all-append, eqb-sym}
-use Rattle.chains.proofs.Marks.{true-or-false}
-use Rattle.chains.proofs.SlotLaws.{slots-length}
-use Rattle.chains.proofs.SoundLaws.{Parts, sound-parts, parts-found, jurors-of-entries}
-use Rattle.chains.proofs.Judging.{table, few-bytes, slots-by-bytes, free-by-bytes, count-by-bytes}
+use Rattle.urn_chains.specs.declared.find.Link.the-variants.{Found, Absent}
+use Rattle.urn_chains.specs.Inner.{SlotTable, jurorsAt, linkOf}
+use Rattle.urn_chains.proofs.Lists.{all-append, eqb-sym}
+use Rattle.urn_chains.proofs.Marks.{true-or-false}
+use Rattle.urn_chains.proofs.SlotLaws.{slots-length}
+use Rattle.urn_chains.proofs.SoundLaws.{Parts, sound-parts, parts-found, jurors-of-entries}
+use Rattle.urn_chains.proofs.Judging.{table, few-bytes, slots-by-bytes, free-by-bytes, count-by-bytes}
 
 found-slot : (a b p s : ℕ) → Found a b ≡ Found p s → s ≡ b
 found-slot a b p s e = cc

@@ -8,8 +8,8 @@ use native.Mathlib.Numerals.{add-one}
 use native.Mathlib.Omega.{arith}
 use lib.ListN.{length, getD, set, take, drop, length-take, length-drop, length-set, length-append, drop-of-length-le, take-append-drop}
 use lib.Seq.{take-suc-set, drop-set-lt, take-set-le, drop-set-add, take-set-lt, take-all, take-length, drop-drop, take-at, drop-at, take-add, length-take-le}
-use Rattle.chains.specs.Slots.{Slot, slotBytes, slotOf, slotsOf, bytesOfSlot, slotAt}
-use Rattle.chains.proofs.SlotLaws.{size-is, slot-within}
+use Rattle.urn_chains.specs.Slots.{Slot, slotBytes, slotOf, slotsOf, bytesOfSlot, slotAt}
+use Rattle.urn_chains.proofs.SlotLaws.{size-is, slot-within}
 
 -- two stores and a copy behind them
 module _ (urn ballot last : List ℕ) (at next juror : ℕ) (fits : at + 2 + length ballot ≤ length urn) where

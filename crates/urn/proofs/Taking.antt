@@ -8,19 +8,19 @@ use native.Mathlib.Omega.{arith}
 use lib.Dec.{T}
 use lib.ListN.{length, getD, set, take, drop, replicate, length-set, length-replicate}
 use Rattle.jury.specs.Shape.{gradedLimits}
-use Rattle.chains.specs.Slots.{Slot, slotBytes, slotOf, slotsOf, bytesOf, slotAt, freeSlot}
-use Rattle.chains.specs.Chains.{Entry, chain, ballotSlots, ballotChain, freeChain, firstEntry, firstFree, entrySlot, headSlot, layout}
-use Rattle.chains.specs.Sound.{juryOfOne, slotCount, urnSlots, sound}
+use Rattle.urn_chains.specs.Slots.{Slot, slotBytes, slotOf, slotsOf, bytesOf, slotAt, freeSlot}
+use Rattle.urn_chains.specs.Chains.{Entry, chain, ballotSlots, ballotChain, freeChain, firstEntry, firstFree, entrySlot, headSlot, layout}
+use Rattle.urn_chains.specs.Sound.{juryOfOne, slotCount, urnSlots, sound}
 use Rattle.urn.specs.Withdraw.{without, slotOfJuror, withoutBallot}
-use Rattle.chains.specs.declared.find.Link.the-variants.{Found}
-use Rattle.chains.specs.Inner.{SlotTable, linkOf}
-use Rattle.chains.proofs.SlotLaws.{size-is, slots-length, slot-within, next-is}
-use Rattle.chains.proofs.Linked.{slotsIn, Linked, FreeLinked, at-set, at-other}
-use Rattle.chains.proofs.Layouts.{Fit}
-use Rattle.chains.proofs.BytesLaws.{Sized, slots-sized, bytes-back}
+use Rattle.urn_chains.specs.declared.find.Link.the-variants.{Found}
+use Rattle.urn_chains.specs.Inner.{SlotTable, linkOf}
+use Rattle.urn_chains.proofs.SlotLaws.{size-is, slots-length, slot-within, next-is}
+use Rattle.urn_chains.proofs.Linked.{slotsIn, Linked, FreeLinked, at-set, at-other}
+use Rattle.urn_chains.proofs.Layouts.{Fit}
+use Rattle.urn_chains.proofs.BytesLaws.{Sized, slots-sized, bytes-back}
 use Rattle.urn.proofs.Putting.{put-slots, set-next, set-head-juror}
-use Rattle.chains.proofs.Judging.{head-juror, slots-by-bytes}
-use Rattle.chains.proofs.Held.{held, held-free, head-is, head-free, fits, read-slots-are}
+use Rattle.urn_chains.proofs.Judging.{head-juror, slots-by-bytes}
+use Rattle.urn_chains.proofs.Held.{held, held-free, head-is, head-free, fits, read-slots-are}
 use Rattle.urn.proofs.FactLaws.{its-table, its-parts, its-length}
 use Rattle.urn.proofs.Admitting.{splice-length}
 use Rattle.urn.proofs.Withdrawing.{lastSlot, Split, split, renext, linked-at, withdraw-slots, passed-next, passed-ballot, entry-place, entry-positive, link-place}

@@ -14,7 +14,7 @@ use Rattle.jury.specs.Ballots.{rankedReasons, gradedReasons, ballotReasons}
 use Rattle.jury.proofs.Limits.{within, graded-is}
 use Rattle.tally.specs.Answer.{Said, refused, accepted, said, hasNumberIn}
 use Rattle.tally.proofs.Numbering.{All, Fine, first-fine, both, unless-fine, found-fine, said-fine, refused-fine}
-use Rattle.chains.specs.Sound.{juryOfOne}
+use Rattle.urn_chains.specs.Sound.{juryOfOne}
 use Rattle.urn.specs.declared.facts.Facts.{Facts}
 use Rattle.urn.specs.Facts.{gradedShape, factsOf, afterwards}
 use Rattle.urn.specs.Admit.{admitReasons, admitSaid, admitted}

@@ -16,23 +16,23 @@ use Rattle.jury.specs.Reason.{Reason, firstOf}
 use Rattle.jury.proofs.Flags.{and-first, and-second, and-both, true-T, or-first, or-second}
 use Rattle.tally.specs.Answer.{accepted, said}
 use Rattle.urn.specs.declared.facts.Facts.{Facts}
-use Rattle.chains.specs.Slots.{Slot, slotBytes, slotsOf, bytesOf}
-use Rattle.chains.specs.Chains.{Entry, ballotChain, freeChain, firstFree, layout}
-use Rattle.chains.specs.Sound.{all, member, distinct, juryOfOne, goodJuror, goodBallot, eachOnce, goodChains, slotCount, urnLength, urnSlots, soundSlots, sound}
+use Rattle.urn_chains.specs.Slots.{Slot, slotBytes, slotsOf, bytesOf}
+use Rattle.urn_chains.specs.Chains.{Entry, ballotChain, freeChain, firstFree, layout}
+use Rattle.urn_chains.specs.Sound.{all, member, distinct, juryOfOne, goodJuror, goodBallot, eachOnce, goodChains, slotCount, urnLength, urnSlots, soundSlots, sound}
 use Rattle.urn.specs.Facts.{gradedShape, isEmpty, jurorsOf, factsOf, afterwards}
 use Rattle.urn.specs.Admit.{admitReasons, admitSaid, withBallot, admitted}
 use Rattle.urn.specs.Withdraw.{withdrawReasons, withdrawSaid, without, slotOfJuror, withoutBallot, withdrawn}
 use Rattle.urn.specs.Empty.{emptyReasons, emptySaid, allFree, emptied}
 use Rattle.urn.specs.Theorems.{AfterEmptying, AfterAdmission, AfterWithdrawal, UrnHolds, TellTheSame, PreviewsTell}
-use Rattle.chains.specs.Inner.{SlotTable}
-use Rattle.chains.proofs.Lists.{all-first, all-rest, all-cons, all-move, distinct-first, distinct-rest, distinct-cons, distinct-move, eqb-sym}
-use Rattle.chains.proofs.Marks.{true-or-false}
-use Rattle.chains.proofs.SlotLaws.{slots-length}
-use Rattle.chains.proofs.SoundLaws.{Parts, chains-true}
-use Rattle.chains.proofs.Linked.{slotsIn, Linked}
-use Rattle.chains.proofs.Layouts.{Fit, chains-fit, layout-length, layout-sound, read-ballots, read-free}
-use Rattle.chains.proofs.BytesLaws.{Sized, slots-sized, layout-sized, bytes-length, slots-back, bytes-back, count-is, length-good, table-is, count-least, count-most}
-use Rattle.chains.proofs.Held.{held, fits, sound-layout}
+use Rattle.urn_chains.specs.Inner.{SlotTable}
+use Rattle.urn_chains.proofs.Lists.{all-first, all-rest, all-cons, all-move, distinct-first, distinct-rest, distinct-cons, distinct-move, eqb-sym}
+use Rattle.urn_chains.proofs.Marks.{true-or-false}
+use Rattle.urn_chains.proofs.SlotLaws.{slots-length}
+use Rattle.urn_chains.proofs.SoundLaws.{Parts, chains-true}
+use Rattle.urn_chains.proofs.Linked.{slotsIn, Linked}
+use Rattle.urn_chains.proofs.Layouts.{Fit, chains-fit, layout-length, layout-sound, read-ballots, read-free}
+use Rattle.urn_chains.proofs.BytesLaws.{Sized, slots-sized, layout-sized, bytes-length, slots-back, bytes-back, count-is, length-good, table-is, count-least, count-most}
+use Rattle.urn_chains.proofs.Held.{held, fits, sound-layout}
 use Rattle.urn.proofs.AdmitSlots.{fit-admit}
 use Rattle.urn.proofs.Admitting.{not-empty}
 use Rattle.urn.proofs.Withdrawing.{Split, split, fit-withdraw}

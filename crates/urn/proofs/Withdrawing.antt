@@ -12,17 +12,17 @@ use borrow.Author.Tests.{eq-eqb, eqb-true}
 use Rattle.jury.specs.Counts.{tabulate}
 use Rattle.jury.proofs.Cases.{same-or-not}
 use Rattle.jury.proofs.Flags.{and-first, and-second, or-first, or-second, never-true}
-use Rattle.chains.specs.Slots.{Slot, slotAt, freeSlot}
-use Rattle.chains.specs.Chains.{Entry, firstEntry, firstFree, entrySlot, headSlot, layout}
-use Rattle.chains.specs.Sound.{all, member, distinct, inUrn}
+use Rattle.urn_chains.specs.Slots.{Slot, slotAt, freeSlot}
+use Rattle.urn_chains.specs.Chains.{Entry, firstEntry, firstFree, entrySlot, headSlot, layout}
+use Rattle.urn_chains.specs.Sound.{all, member, distinct, inUrn}
 use Rattle.urn.specs.Withdraw.{without, slotOfJuror}
-use Rattle.chains.specs.declared.find.Link.the-variants.{Found, Absent}
-use Rattle.chains.specs.Inner.{linkOf}
-use Rattle.chains.proofs.Lists.{all-first, all-rest, all-append, all-move, all-member, all-weaken, member-move, member-append, distinct-move, distinct-first, distinct-rest, distinct-left, distinct-apart}
-use Rattle.chains.proofs.Marks.{true-or-false}
-use Rattle.chains.proofs.Judging.{clash}
-use Rattle.chains.proofs.Linked.{slotsIn, Linked, FreeLinked, none, more, at-set, at-other, apart, apart-rest, linked-set, free-set, positive, below}
-use Rattle.chains.proofs.Layouts.{Fit, layout-unique}
+use Rattle.urn_chains.specs.declared.find.Link.the-variants.{Found, Absent}
+use Rattle.urn_chains.specs.Inner.{linkOf}
+use Rattle.urn_chains.proofs.Lists.{all-first, all-rest, all-append, all-move, all-member, all-weaken, member-move, member-append, distinct-move, distinct-first, distinct-rest, distinct-left, distinct-apart}
+use Rattle.urn_chains.proofs.Marks.{true-or-false}
+use Rattle.urn_chains.proofs.Judging.{clash}
+use Rattle.urn_chains.proofs.Linked.{slotsIn, Linked, FreeLinked, none, more, at-set, at-other, apart, apart-rest, linked-set, free-set, positive, below}
+use Rattle.urn_chains.proofs.Layouts.{Fit, layout-unique}
 
 -- The last slot of these ballots, or `before` where there are none.
 pub lastSlot : ℕ → List Entry → ℕ

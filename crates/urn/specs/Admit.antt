@@ -8,9 +8,9 @@ use Rattle.jury.specs.Reason.{Reason, unless, firstOf}
 use Rattle.jury.specs.Ballots.{ballotReasons}
 use Rattle.tally.specs.Answer.{Said, said}
 use Rattle.urn.specs.declared.facts.Facts.{Facts}
-use Rattle.chains.specs.Slots.{Slot, bytesOf}
-use Rattle.chains.specs.Chains.{Entry, ballotChain, freeChain, firstFree, layout}
-use Rattle.chains.specs.Sound.{juryOfOne, goodJuror, urnSlots}
+use Rattle.urn_chains.specs.Slots.{Slot, bytesOf}
+use Rattle.urn_chains.specs.Chains.{Entry, ballotChain, freeChain, firstFree, layout}
+use Rattle.urn_chains.specs.Sound.{juryOfOne, goodJuror, urnSlots}
 use Rattle.urn.specs.Facts.{gradedShape, factsOf, afterwards}
 
 -- The tests in checking order: 1, 13, 14, the tests of the ballot as one of a jury of one (4, 5, 6), 15.

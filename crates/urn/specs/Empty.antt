@@ -6,9 +6,9 @@ use lib.ListN.{length}
 use Rattle.jury.specs.Counts.{tabulate}
 use Rattle.jury.specs.Reason.{Reason, unless, firstOf}
 use Rattle.tally.specs.Answer.{Said, said}
-use Rattle.chains.specs.Slots.{Slot, bytesOf}
-use Rattle.chains.specs.Chains.{layout}
-use Rattle.chains.specs.Sound.{slotCount, urnLength}
+use Rattle.urn_chains.specs.Slots.{Slot, bytesOf}
+use Rattle.urn_chains.specs.Chains.{layout}
+use Rattle.urn_chains.specs.Sound.{slotCount, urnLength}
 use Rattle.urn.specs.Facts.{gradedShape, afterwards}
 
 -- The tests in checking order: 1, then 13 where no urn has this length.

@@ -2,10 +2,10 @@
 use mathlib.Core.List.{List}
 use Prim.Native.Nat.{ℕ, _*_}
 use lib.ListN.{length, getD}
-use Rattle.chains.specs.declared.find.Link.{Link}
-use Rattle.chains.specs.Chains.{chain}
-use Rattle.chains.specs.Sound.{slotCount, urnSlots}
-use Rattle.chains.specs.Inner.{linkOf}
+use Rattle.urn_chains.specs.declared.find.Link.{Link}
+use Rattle.urn_chains.specs.Chains.{chain}
+use Rattle.urn_chains.specs.Sound.{slotCount, urnSlots}
+use Rattle.urn_chains.specs.Inner.{linkOf}
 
 -- Where a juror's ballot lies in an urn, and the slot before it in the ballot chain.
 unfoldable pub linkIn : ℕ → ℕ → List ℕ → ℕ → Link

@@ -7,8 +7,8 @@ use lib.ListN.{length, drop}
 use Rattle.jury.specs.Counts.{tabulate}
 use Rattle.tally.specs.Answer.{accepted}
 use Rattle.urn.specs.declared.facts.Facts.{Facts}
-use Rattle.chains.specs.Chains.{Entry, ballotChain, freeChain, firstFree}
-use Rattle.chains.specs.Sound.{slotCount, urnSlots, sound}
+use Rattle.urn_chains.specs.Chains.{Entry, ballotChain, freeChain, firstFree}
+use Rattle.urn_chains.specs.Sound.{slotCount, urnSlots, sound}
 use Rattle.urn.specs.Facts.{factsOf}
 use Rattle.urn.specs.Admit.{admitSaid, admitted}
 use Rattle.urn.specs.Withdraw.{withdrawSaid, without, slotOfJuror, withdrawn}

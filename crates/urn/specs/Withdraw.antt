@@ -8,9 +8,9 @@ use lib.ListN.{length}
 use Rattle.jury.specs.Reason.{Reason, unless, firstOf}
 use Rattle.tally.specs.Answer.{Said, said}
 use Rattle.urn.specs.declared.facts.Facts.{Facts}
-use Rattle.chains.specs.Slots.{Slot, bytesOf}
-use Rattle.chains.specs.Chains.{Entry, ballotChain, freeChain, layout}
-use Rattle.chains.specs.Sound.{goodJuror, urnSlots}
+use Rattle.urn_chains.specs.Slots.{Slot, bytesOf}
+use Rattle.urn_chains.specs.Chains.{Entry, ballotChain, freeChain, layout}
+use Rattle.urn_chains.specs.Sound.{goodJuror, urnSlots}
 use Rattle.urn.specs.Facts.{gradedShape, factsOf, afterwards}
 
 -- The tests in checking order: 1, 13, 14.

@@ -12,9 +12,9 @@ ghost use mathlib.Core.Bool.{true, false, _&&_};
 ghost use Prim.Native.Nat.{_*_, _≤_};
 ghost use lib.Dec.{T};
 ghost use lib.ListN.{length};
-ghost use Rattle.chains.specs.Slots.{bytesOf};
-ghost use Rattle.chains.specs.Chains.{freeChain};
-ghost use Rattle.chains.specs.Sound.{goodJuror, urnSlots, sound};
+ghost use Rattle.urn_chains.specs.Slots.{bytesOf};
+ghost use Rattle.urn_chains.specs.Chains.{freeChain};
+ghost use Rattle.urn_chains.specs.Sound.{goodJuror, urnSlots, sound};
 ghost use Rattle.urn.specs.Facts.{gradedShape, isEmpty, factsOf, countedBy};
 ghost use Rattle.urn.specs.Admit.{admitSaid, withBallot, admitted};
 

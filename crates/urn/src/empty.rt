@@ -1,11 +1,11 @@
 // The entry point that makes a lent table an empty urn.
 use crate::admit::is_graded;
 use crate::answer::Answer;
-use chains::sound;
 use jury::reason::Refusal;
+use urn_chains::sound;
 ghost use mathlib.Core.Path.{_≡_};
-ghost use Rattle.chains.specs.Slots.{bytesOf};
-ghost use Rattle.chains.specs.Inner.{SlotTable};
+ghost use Rattle.urn_chains.specs.Slots.{bytesOf};
+ghost use Rattle.urn_chains.specs.Inner.{SlotTable};
 ghost use Rattle.urn.specs.Facts.{countedBy};
 ghost use Rattle.urn.specs.Empty.{emptySaid, allFree, emptied};
 

@@ -1,14 +1,14 @@
 // What is asked of an urn before a ballot goes in or out.
-use chains::find;
-use chains::find::Link;
-use chains::sound;
-use chains::sound::Soundness;
+use urn_chains::find;
+use urn_chains::find::Link;
+use urn_chains::sound;
+use urn_chains::sound::Soundness;
 ghost use mathlib.Core.Path.{_≡_};
 ghost use mathlib.Core.Bool.{true};
 ghost use Prim.Native.Nat.{_≤_};
 ghost use lib.Dec.{T};
 ghost use Rattle.jury.specs.Shape.{gradedLimits};
-ghost use Rattle.chains.specs.Sound.{juryOfOne};
+ghost use Rattle.urn_chains.specs.Sound.{juryOfOne};
 ghost use Rattle.urn.specs.Inner.{linkIn};
 ghost use Rattle.urn.specs.Facts.{factsOf};
 

@@ -19,10 +19,10 @@ use Rattle.jury.specs.Accepted.{AcceptedBallots}
 use Rattle.jury.proofs.Flags.{and-second}
 use Rattle.jury.proofs.Limits.{within, graded-within, graded-is, bytes-are}
 use Rattle.jury.proofs.AcceptedLaws as ballots-laws
-use Rattle.chains.specs.Slots.{Slot, slotAt}
-use Rattle.chains.specs.Chains.{Entry, entryAt}
-use Rattle.chains.specs.Sound.{all, juryOfOne, noReason, goodBallot}
-use Rattle.chains.proofs.Lists.{all-first, all-rest}
+use Rattle.urn_chains.specs.Slots.{Slot, slotAt}
+use Rattle.urn_chains.specs.Chains.{Entry, entryAt}
+use Rattle.urn_chains.specs.Sound.{all, juryOfOne, noReason, goodBallot}
+use Rattle.urn_chains.proofs.Lists.{all-first, all-rest}
 use Rattle.jury.proofs.Cases.{below-or-not}
 use Rattle.urn_run.specs.Run.{joined}
 

@@ -13,15 +13,15 @@ use lib.Seq.{sets, sets-eq, length-sets, take-all, take-length, drop-drop}
 use Rattle.jury.specs.Shape.{gradedLimits}
 use Rattle.jury.proofs.Cases.{below-or-not}
 use Rattle.jury.proofs.Flags.{never-true}
-use Rattle.chains.specs.Slots.{Slot, slotBytes, slotsOf, slotAt}
-use Rattle.chains.specs.Chains.{Entry, chain, ends, entryAt, ballotSlots, ballotChain}
-use Rattle.chains.specs.Sound.{all, inUrn, juryOfOne, slotCount, urnSlots, sound}
-use Rattle.chains.specs.Inner.{SlotTable}
-use Rattle.chains.proofs.Lists.{all-first, all-rest}
-use Rattle.chains.proofs.Linked.{below}
-use Rattle.chains.proofs.Walking.{chain-step, chain-end, ends-step, ends-never}
-use Rattle.chains.proofs.SlotLaws.{slot-within, ballot-is, next-is}
-use Rattle.chains.proofs.Judging.{head-next, slots-by-bytes, clash}
+use Rattle.urn_chains.specs.Slots.{Slot, slotBytes, slotsOf, slotAt}
+use Rattle.urn_chains.specs.Chains.{Entry, chain, ends, entryAt, ballotSlots, ballotChain}
+use Rattle.urn_chains.specs.Sound.{all, inUrn, juryOfOne, slotCount, urnSlots, sound}
+use Rattle.urn_chains.specs.Inner.{SlotTable}
+use Rattle.urn_chains.proofs.Lists.{all-first, all-rest}
+use Rattle.urn_chains.proofs.Linked.{below}
+use Rattle.urn_chains.proofs.Walking.{chain-step, chain-end, ends-step, ends-never}
+use Rattle.urn_chains.proofs.SlotLaws.{slot-within, ballot-is, next-is}
+use Rattle.urn_chains.proofs.Judging.{head-next, slots-by-bytes, clash}
 use Rattle.urn.proofs.FactLaws.{its-table, its-parts, its-length, can-find}
 use Rattle.urn_run.specs.Run.{joined, chainBallots}
 

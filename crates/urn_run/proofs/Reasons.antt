@@ -29,9 +29,9 @@ use Rattle.tally.specs.Test.{testReasons, testSaid}
 use Rattle.tally.specs.Run.{Ran, lentReasons, runReasons, ranAfter, ran}
 use Rattle.tally.proofs.TestReasons.{orElse, never}
 use Rattle.tally.proofs.RunReasons.{firstOfThree, run-first, said-refused, RunPassed, run-passed, run-ready, ran-by}
-use Rattle.chains.specs.Chains.{Entry, entryAt, ballotSlots, ballotChain}
-use Rattle.chains.specs.Sound.{juryOfOne, urnSlots, sound}
-use Rattle.chains.proofs.Marks.{true-or-false}
+use Rattle.urn_chains.specs.Chains.{Entry, entryAt, ballotSlots, ballotChain}
+use Rattle.urn_chains.specs.Sound.{juryOfOne, urnSlots, sound}
+use Rattle.urn_chains.proofs.Marks.{true-or-false}
 use Rattle.urn.proofs.FactLaws.{its-parts}
 use Rattle.urn_run.specs.Run.{joined, chainBallots, ballotsIn, urnRunReasons, ranOnUrn}
 use Rattle.urn_run.proofs.Joined.{Good, good-along, good-accepted}

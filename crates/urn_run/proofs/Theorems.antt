@@ -27,8 +27,8 @@ use Rattle.tally.proofs.TestReasons.{never, test-passed}
 use Rattle.tally.proofs.Numbering.{Fine, All, FineSaid, first-fine, unless-fine, found-fine, list-fine, refused-fine}
 use Rattle.tally.proofs.Hiding.{board-tells-no-more}
 use Rattle.tally.proofs.Demands.{three-demands}
-use Rattle.chains.specs.Sound.{sound}
-use Rattle.chains.proofs.Marks.{true-or-false}
+use Rattle.urn_chains.specs.Sound.{sound}
+use Rattle.urn_chains.proofs.Marks.{true-or-false}
 use Rattle.urn_run.specs.Run.{chainBallots, ballotsIn, urnRunReasons, ranOnUrn}
 use Rattle.urn_run.specs.Theorems.{SameAsRun, UrnRunMemory, UrnAccuracy, UrnHidden, UrnTellsNoMore, UrnRunHolds}
 use Rattle.urn_run.proofs.Reasons.{by-1, by-13, by-4, same-run, ran-on-urn-by, chain-accepted, urn-run-passed, UrnRunPassed}

@@ -3,9 +3,9 @@ use mathlib.Core.Path.{_≡_, refl}
 use mathlib.Core.Bool.{true}
 use mathlib.Core.List.{List, [], _∷_}
 use Prim.Native.Nat.{ℕ}
-use Rattle.chains.specs.Slots.{slotBytes, slotOf, slotsOf, slotAt}
-use Rattle.chains.specs.Chains.{chain, entryAt, ballotSlots, ballotChain}
-use Rattle.chains.specs.Sound.{slotCount, urnSlots}
+use Rattle.urn_chains.specs.Slots.{slotBytes, slotOf, slotsOf, slotAt}
+use Rattle.urn_chains.specs.Chains.{chain, entryAt, ballotSlots, ballotChain}
+use Rattle.urn_chains.specs.Sound.{slotCount, urnSlots}
 use Rattle.urn_run.specs.Run.{joined, chainBallots, ballotsIn}
 
 unfoldable pub backwards : List ℕ

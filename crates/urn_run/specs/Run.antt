@@ -11,8 +11,8 @@ use Rattle.jury.specs.Shape.{gradedLimits, ballotBytes}
 use Rattle.jury.specs.Reason.{Reason, unless, listReason, firstOf}
 use Rattle.tally.specs.Answer.{sizeOf}
 use Rattle.tally.specs.Run.{lentReasons, Ran, ranAfter}
-use Rattle.chains.specs.Chains.{Entry, ballotChain}
-use Rattle.chains.specs.Sound.{urnSlots, sound}
+use Rattle.urn_chains.specs.Chains.{Entry, ballotChain}
+use Rattle.urn_chains.specs.Sound.{urnSlots, sound}
 
 -- The ballots of a chain, one after the other with nothing between.
 unfoldable pub joined : List Entry → List ℕ

@@ -22,7 +22,7 @@ use Rattle.tally.specs.Run.{ran}
 use Rattle.tally.specs.Count.{plainClosing}
 use Rattle.tally.specs.Hiding.{closingBytes}
 use Rattle.tally.specs.Demands.{listIn}
-use Rattle.chains.specs.Sound.{sound}
+use Rattle.urn_chains.specs.Sound.{sound}
 use Rattle.urn_run.specs.Run.{chainBallots, ballotsIn, ranOnUrn}
 
 -- A run on an urn equals the run on the ballots of its chain: answer, wire table and board, refusals too.

@@ -7,7 +7,7 @@ ghost use Prim.Native.Nat.{_≤_};
 ghost use lib.Dec.{T};
 ghost use lib.ListN.{length, drop};
 ghost use Rattle.jury.specs.Shape.{gradedLimits};
-ghost use Rattle.chains.specs.Sound.{juryOfOne, sound};
+ghost use Rattle.urn_chains.specs.Sound.{juryOfOne, sound};
 ghost use Rattle.urn_run.specs.Run.{chainBallots};
 
 // Copies the ballots of a sound urn, slot after slot along its ballot chain, to the front of the wire table.

@@ -1,10 +1,10 @@
 // The entry point [urn-run].
 use crate::load;
-use chains::sound::Soundness;
 use jury::reason::Refusal;
 use jury::reason::Verdict;
 use jury::shape::Shape;
 use tally::answer::Answer;
+use urn_chains::sound::Soundness;
 ghost use mathlib.Core.Path.{_≡_};
 ghost use Rattle.gates.specs.Gate.{gatesOf};
 ghost use Rattle.jury.specs.Reason.{firstOf};
@@ -25,7 +25,7 @@ fn test_run(
     if !shape.is_within_graded_limits() {
         return Answer::Refused(Refusal::Shape);
     }
-    let Soundness::Sound { ballots } = chains::sound::test(shape.candidates, shape.grades, urn)
+    let Soundness::Sound { ballots } = urn_chains::sound::test(shape.candidates, shape.grades, urn)
     else {
         return Answer::Refused(Refusal::Urn);
     };

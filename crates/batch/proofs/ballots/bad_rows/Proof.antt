@@ -15,9 +15,9 @@ use borrow.Author.Needs.{needs}
 use Rattle.gates.specs.declared.place.Place.{Place}
 use Rattle.jury.specs.Ballots.{ones, rowsOf, firstBadRow}
 use Rattle.jury.proofs.BallotLaws.{row-within, bad-end}
-use Rattle.lanes.specs.Lane.{laneCount, lane, laneOf}
-use Rattle.lanes.proofs.LaneLaws.{lane-none}
-use Rattle.lanes.proofs.ListLaws.{lanes-take, lanes-drop}
+use Rattle.batch_lanes.specs.Lane.{laneCount, lane, laneOf}
+use Rattle.batch_lanes.proofs.LaneLaws.{lane-none}
+use Rattle.batch_lanes.proofs.ListLaws.{lanes-take, lanes-drop}
 use Rattle.batch.specs.Ballots.{foundBit}
 use Rattle.batch.proofs.RowLaws.{rows-turn}
 use Rattle.batch.proofs.ballots.bad_rows.Statement.{statement}

@@ -7,7 +7,7 @@ use borrow.Author.Needs.{needs}
 use Rattle.gates.specs.declared.place.Place.{Place}
 use Rattle.gates.specs.declared.place.Place.the-variants.{Nowhere}
 use Rattle.jury.specs.Reason.{Reason, reasonOf, refusedFor, foundAt, firstOf}
-use Rattle.lanes.specs.Lane.{laneOf}
+use Rattle.batch_lanes.specs.Lane.{laneOf}
 use Rattle.batch.specs.Ballots.{firstJury, wordRankedReasons}
 use Rattle.batch.proofs.JuryLaws.{first-by-bits}
 use Rattle.batch.proofs.Reasons.{clash, gap}

@@ -6,7 +6,7 @@ use Prim.Native.Nat.{ℕ, _-_, _≤_, _<_}
 use native.Mathlib.Omega.{arith}
 use borrow.Author.Needs.{needs}
 use Rattle.jury.specs.Rankings.{before, someBelow, apart}
-use Rattle.lanes.specs.Lane.{laneCount, lane, laneOf}
+use Rattle.batch_lanes.specs.Lane.{laneCount, lane, laneOf}
 use Rattle.batch.proofs.RankLaws.{bit, both-lane, not-lane, some-none, some-more}
 use Rattle.batch.proofs.rankings.apart.Statement.{statement}
 use Rattle.batch.proofs.rankings.apart.Tie as tie

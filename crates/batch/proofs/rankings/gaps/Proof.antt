@@ -7,7 +7,7 @@ use native.Mathlib.Omega.{arith}
 use Rattle.gates.specs.declared.place.Place.the-variants.{At, Nowhere}
 use Rattle.jury.specs.Rankings.{before, firstOver, gap, firstGap}
 use Rattle.jury.proofs.Searches.{ballot-within}
-use Rattle.lanes.specs.Lane.{laneCount, lane, laneOf}
+use Rattle.batch_lanes.specs.Lane.{laneCount, lane, laneOf}
 use Rattle.batch.specs.Ballots.{foundBit}
 use Rattle.batch.proofs.RankLaws.{test-found, found-none, found-more}
 use Rattle.batch.proofs.rankings.gaps.Statement.{statement}

@@ -5,7 +5,7 @@ use Prim.Native.Nat.{ℕ, _-_, _≤_, _<_}
 use native.Mathlib.Omega.{arith}
 use borrow.Author.Needs.{needs}
 use Rattle.jury.specs.Rankings.{before, someBelow, gapAfter, gap}
-use Rattle.lanes.specs.Lane.{laneCount, lane, laneOf}
+use Rattle.batch_lanes.specs.Lane.{laneCount, lane, laneOf}
 use Rattle.batch.proofs.RankLaws.{bit, some-none, some-more}
 use Rattle.batch.proofs.rankings.gaps_in_ballot.Statement.{statement}
 use Rattle.batch.proofs.rankings.gaps_in_ballot.Tie as tie

@@ -13,8 +13,8 @@ use Rattle.jury.specs.Reason.{Reason, reasonOf, firstOf}
 use Rattle.tally.specs.Answer.{said, saidBy, sizeOf}
 use Rattle.tally.specs.Run.{Ran}
 use Rattle.tally.proofs.RunReasons.{said-refused, said-accepted}
-use Rattle.lanes.specs.Lane.{laneOf, wordsOf}
-use Rattle.lanes.proofs.ListLaws.{words-are}
+use Rattle.batch_lanes.specs.Lane.{laneOf, wordsOf}
+use Rattle.batch_lanes.proofs.ListLaws.{words-are}
 use Rattle.batch.specs.Run.{batchReasons, batchAfter}
 use Rattle.batch.proofs.Reasons.{batch-passed, batch-ready, batch-by}
 use Rattle.batch.proofs.run.run.Statement.{statement}

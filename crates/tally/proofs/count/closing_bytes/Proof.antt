@@ -14,9 +14,9 @@ use Rattle.jury.proofs.AcceptedLaws as ballots-laws
 use Rattle.jury.proofs.Flags.{true-T}
 use Rattle.jury.proofs.Limits.{within, bounds, ranked-bytes, graded-kind}
 use Rattle.jury.proofs.Matrix.{array-rows, array-columns}
-use Rattle.judgment.specs.Judgment.{judgmentOf}
-use Rattle.judgment.specs.Theorems.{EachGets}
-use Rattle.judgment.proofs.Theorems.{array-gets}
+use Rattle.rule_judgment.specs.Judgment.{judgmentOf}
+use Rattle.rule_judgment.specs.Theorems.{EachGets}
+use Rattle.rule_judgment.proofs.Theorems.{array-gets}
 use Rattle.tally.proofs.Rules.{closing-graded, closing-ranked}
 use Rattle.tally.proofs.count.closing_bytes.Statement.{statement}
 use Rattle.tally.proofs.count.closing_bytes.Tie as tie

@@ -7,12 +7,12 @@ use Prim.Native.Nat.{ℕ}
 use native.Mathlib.Omega.{arith}
 use borrow.Author.Needs.{needs}
 use Rattle.gates.specs.Gate.{Gate}
-use Rattle.words.specs.Writing.{Wrote}
-use Rattle.words.specs.declared.writer.Writer.{Writer}
+use Rattle.gate_words.specs.Writing.{Wrote}
+use Rattle.gate_words.specs.declared.writer.Writer.{Writer}
 use Rattle.jury.specs.Shape.{isRanking, gradedLimits, withinLimits, ballotBytes}
 use Rattle.jury.proofs.Flags.{T-true, true-T}
 use Rattle.jury.proofs.Limits.{Ranked, ranked, ranked-bytes, graded-kind, ranked-kind}
-use Rattle.ranking.specs.OwnRanking.{ownRanking}
+use Rattle.ranked_circuit.specs.OwnRanking.{ownRanking}
 use Rattle.tally.specs.OwnList.{ownList}
 use Rattle.tally.proofs.OwnList.{own-graded, own-ranked}
 use Rattle.tally.proofs.own.own_list.Statement.{statement}

@@ -1,4 +1,4 @@
--- `tally::write::write` meets its contract: `writer` writes the own list where the table has room for it.
+-- `tally::write::write` meets its contract: `graded_writer` writes the own list where the table has room for it.
 -- Assumes nothing.
 use mathlib.Core.Path.{_≡_, _∙_, refl, sym, ap}
 use mathlib.Core.Bool.{Bool, true, false}

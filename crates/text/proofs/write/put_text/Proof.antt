@@ -8,9 +8,9 @@ use lib.ListN.{length, getD, drop, length-append}
 use lib.Seq.{sets, length-sets}
 use Rattle.gates.specs.Gate.{gatesOf}
 use Rattle.gates.proofs.Table.{length-gates}
-use Rattle.lines.specs.Line.{lineOf}
+use Rattle.text_lines.specs.Line.{lineOf}
 use Rattle.text.specs.Text.{textOf}
-use Rattle.lines.proofs.Storing.{sets-append}
+use Rattle.text_lines.proofs.Storing.{sets-append}
 use Rattle.text.proofs.Storing.{text-from, text-end}
 use native.Mathlib.Omega.{arith}
 use borrow.Author.Needs.{needs}

@@ -8,8 +8,8 @@ use native.Mathlib.Omega.{arith}
 use lib.ListN.{set}
 use Rattle.jury.specs.Counts.{tabulate}
 use Rattle.jury.proofs.Tabulate.{upTo, fill-start, fill-step}
-use Rattle.shares.specs.Shares.{opened, part}
-use Rattle.shares.specs.Views.{piece}
+use Rattle.trustee_shares.specs.Shares.{opened, part}
+use Rattle.trustee_shares.specs.Views.{piece}
 use Rattle.trustees.proofs.Sums.{eight-tabulated}
 use Rattle.trustees.proofs.run.open_closing.Statement.{statement}
 use Rattle.trustees.proofs.run.open_closing.Tie as tie

@@ -11,7 +11,7 @@ use Rattle.jury.specs.Reason.{Reason, reasonOf, firstOf}
 use Rattle.jury.specs.ClosingBytes.{eightBytes}
 use Rattle.tally.specs.Answer.{Size, accepted, said, saidBy, sizeOf}
 use Rattle.tally.proofs.RunReasons.{said-refused, said-accepted}
-use Rattle.shares.specs.Views.{Dealing}
+use Rattle.trustee_shares.specs.Views.{Dealing}
 use Rattle.trustees.specs.Shared.{Shared, sharedReasons, sharedAfter}
 use Rattle.trustees.proofs.Reasons.{call-passed, shared-by}
 use Rattle.trustees.proofs.Sums.{Ready, call-ready, opened-closing}

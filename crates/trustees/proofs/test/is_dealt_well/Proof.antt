@@ -5,7 +5,7 @@ use mathlib.Core.Path.{_≡_, _∙_, sym}
 use mathlib.Core.Bool.{true}
 use native.Mathlib.Omega.{arith}
 use borrow.Author.Tests.{not-true, not-false}
-use Rattle.sharing.specs.Dealing.{onlyBits, dealtWell}
+use Rattle.trustee_gates.specs.Dealing.{onlyBits, dealtWell}
 use Rattle.trustees.proofs.test.is_dealt_well.Statement.{statement}
 use Rattle.trustees.proofs.test.is_dealt_well.Tie as tie
 

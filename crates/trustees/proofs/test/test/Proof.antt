@@ -12,7 +12,7 @@ use Rattle.jury.proofs.AcceptedLaws as ballots-laws
 use Rattle.tally.specs.Answer.{Size, refused, said, saidBy, sizeOf}
 use Rattle.tally.specs.Test.{testSaid}
 use Rattle.tally.proofs.TestReasons.{TestPassed, test-passed}
-use Rattle.shares.specs.Views.{Dealing}
+use Rattle.trustee_shares.specs.Views.{Dealing}
 use Rattle.trustees.specs.Shared.{sharedReasons}
 use Rattle.trustees.proofs.Reasons.{by-test, by-ballots, by-parts, small-sizes}
 use Rattle.trustees.proofs.test.test.Statement.{statement}

@@ -8,7 +8,7 @@ use lib.ListN.{length}
 use borrow.Author.Tests.{not-true, not-false}
 use Rattle.jury.specs.Reason.{reasonOf, refusedFor, unless, firstOf}
 use Rattle.tally.specs.Answer.{Size}
-use Rattle.shares.specs.Views.{Dealing}
+use Rattle.trustee_shares.specs.Views.{Dealing}
 use Rattle.trustees.specs.Shared.{tablesFit}
 use Rattle.trustees.proofs.Reasons.{partFound, part-by, tables-fit, trustees-most}
 use Rattle.trustees.proofs.test.test_parts.Statement.{statement}

@@ -6,10 +6,10 @@ use mathlib.Core.Option.{none}
 use mathlib.Core.List.{List}
 use Rattle.jury.specs.Reason.{reasonOf, firstOf}
 use Rattle.jury.proofs.Flags.{and-first, true-T}
-use Rattle.chains.specs.Sound.{goodJuror}
+use Rattle.urn_chains.specs.Sound.{goodJuror}
 use Rattle.urn.specs.Facts.{factsOf, countedBy, afterwards}
 use Rattle.urn.specs.Admit.{admitReasons, admitSaid, admitted}
-use Rattle.chains.proofs.BytesLaws.{good-length}
+use Rattle.urn_chains.proofs.BytesLaws.{good-length}
 use Rattle.urn.proofs.FactLaws.{facts-sound, facts-free}
 use Rattle.urn.proofs.Deciding.{Admissible, admissible, accepted-none, refused-kept, none-new}
 use native.Mathlib.Omega.{arith}

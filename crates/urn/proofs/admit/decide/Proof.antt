@@ -9,7 +9,7 @@ use Rattle.jury.specs.Reason.{reasonOf, refusedFor, firstOf}
 use Rattle.jury.specs.Ballots.{ballotReasons}
 use Rattle.jury.proofs.Flags.{T-true}
 use Rattle.jury.proofs.Limits.{graded-T}
-use Rattle.chains.specs.Sound.{juryOfOne, goodJuror}
+use Rattle.urn_chains.specs.Sound.{juryOfOne, goodJuror}
 use Rattle.urn.specs.Facts.{gradedShape, countedBy}
 use Rattle.urn.specs.Admit.{admitSaid}
 use Rattle.urn.proofs.Deciding.{admit-first, admit-13, admit-14, admit-ballot, admit-15, admit-none, said-refused, said-accepted, juror-present, juror-absent, juror-bad, graded-within}

@@ -1,7 +1,7 @@
 -- `urn::admit::is_graded` meets its contract: the test is the definition's.
 -- Assumes nothing.
 use borrow.Author.Needs.{needs}
-use Rattle.chains.specs.Sound.{juryOfOne}
+use Rattle.urn_chains.specs.Sound.{juryOfOne}
 use Rattle.urn.specs.Facts.{gradedShape}
 use Rattle.urn.proofs.admit.is_graded.Statement.{statement}
 use Rattle.urn.proofs.admit.is_graded.Tie as tie

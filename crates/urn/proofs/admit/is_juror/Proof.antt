@@ -4,7 +4,7 @@ use mathlib.Core.Path.{_≡_, refl}
 use lib.Dec.{leb}
 use borrow.Author.Tests.{le-leb, lt-leb}
 use Rattle.jury.proofs.Flags.{and-taken, and-left}
-use Rattle.chains.specs.Sound.{goodJuror}
+use Rattle.urn_chains.specs.Sound.{goodJuror}
 use native.Mathlib.Omega.{arith}
 use borrow.Author.Needs.{needs}
 use Rattle.urn.proofs.admit.is_juror.Statement.{statement}

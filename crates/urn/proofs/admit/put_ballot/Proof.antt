@@ -4,11 +4,11 @@ use mathlib.Core.Path.{_≡_, _∙_, refl, sym, ap, subst}
 use Prim.Native.Nat.{ℕ, _+_, _*_, _≤_, _<_}
 use mathlib.Core.List.{List, _∷_, _++_}
 use lib.ListN.{length, getD, set, take, drop, length-set}
-use Rattle.chains.specs.Slots.{slotBytes}
-use Rattle.chains.specs.Sound.{slotCount}
-use Rattle.chains.proofs.SlotLaws.{size-least}
-use Rattle.chains.proofs.Holding.{juror-most}
-use Rattle.chains.proofs.Judging.{few-bytes}
+use Rattle.urn_chains.specs.Slots.{slotBytes}
+use Rattle.urn_chains.specs.Sound.{slotCount}
+use Rattle.urn_chains.proofs.SlotLaws.{size-least}
+use Rattle.urn_chains.proofs.Holding.{juror-most}
+use Rattle.urn_chains.proofs.Judging.{few-bytes}
 use Rattle.urn.proofs.Deciding.{graded-within}
 use Rattle.urn.proofs.FactLaws.{its-table}
 use Rattle.urn.proofs.Admitting.{free-inside, admit-bytes, splice-length}

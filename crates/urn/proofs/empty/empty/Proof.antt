@@ -9,10 +9,10 @@ use borrow.Author.Tests.{not-true, not-false}
 use Rattle.jury.specs.Shape.{gradedLimits}
 use Rattle.jury.specs.Reason.{reasonOf}
 use Rattle.jury.proofs.Flags.{true-T}
-use Rattle.chains.specs.Slots.{bytesOf}
-use Rattle.chains.specs.Sound.{juryOfOne, slotCount, urnLength}
-use Rattle.chains.proofs.BytesLaws.{count-least}
-use Rattle.chains.proofs.Judging.{counted-false, counted-true, counted-is, few-bytes, table}
+use Rattle.urn_chains.specs.Slots.{bytesOf}
+use Rattle.urn_chains.specs.Sound.{juryOfOne, slotCount, urnLength}
+use Rattle.urn_chains.proofs.BytesLaws.{count-least}
+use Rattle.urn_chains.proofs.Judging.{counted-false, counted-true, counted-is, few-bytes, table}
 use Rattle.urn.specs.Facts.{gradedShape, countedBy}
 use Rattle.urn.specs.Empty.{emptySaid, allFree, emptied}
 use Rattle.urn.proofs.Deciding.{said-refused, said-accepted, none-new, some-old, graded-within}

@@ -5,14 +5,14 @@ use mathlib.Core.Bool.{Bool, true, false}
 use mathlib.Core.List.{List}
 use Prim.Native.Nat.{ℕ, _+_, _*_, _≤_, _<_}
 use lib.ListN.{length}
-use Rattle.chains.specs.Slots.{slotBytes}
-use Rattle.chains.specs.Chains.{ballotChain}
-use Rattle.chains.specs.Sound.{member, slotCount, urnSlots, sound}
+use Rattle.urn_chains.specs.Slots.{slotBytes}
+use Rattle.urn_chains.specs.Chains.{ballotChain}
+use Rattle.urn_chains.specs.Sound.{member, slotCount, urnSlots, sound}
 use Rattle.urn.specs.Inner.{linkIn}
 use Rattle.urn.specs.Facts.{jurorsOf}
-use Rattle.chains.proofs.SlotLaws.{size-least}
-use Rattle.chains.proofs.Walking.{not-walked}
-use Rattle.chains.proofs.Judging.{few-bytes, soundness-sound, soundness-unsound}
+use Rattle.urn_chains.proofs.SlotLaws.{size-least}
+use Rattle.urn_chains.proofs.Walking.{not-walked}
+use Rattle.urn_chains.proofs.Judging.{few-bytes, soundness-sound, soundness-unsound}
 use Rattle.urn.proofs.FactLaws.{link-found, link-absent, its-table, can-find, jurors-are, full-is, few-ballots, facts-are, no-facts, same-facts}
 use native.Mathlib.Omega.{arith}
 use borrow.Author.Needs.{needs}

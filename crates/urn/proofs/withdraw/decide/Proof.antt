@@ -7,7 +7,7 @@ use borrow.Author.Tests.{not-true, not-false}
 use Rattle.jury.specs.Reason.{reasonOf}
 use Rattle.jury.proofs.Flags.{T-true, and-both}
 use Rattle.tally.specs.Answer.{Said, accepted}
-use Rattle.chains.specs.Sound.{goodJuror}
+use Rattle.urn_chains.specs.Sound.{goodJuror}
 use Rattle.urn.specs.Facts.{gradedShape, countedBy}
 use Rattle.urn.specs.Withdraw.{withdrawSaid}
 use Rattle.urn.proofs.Deciding.{withdraw-first, withdraw-13, withdraw-14, withdraw-none, said-refused, said-accepted, juror-bad, juror-gone}

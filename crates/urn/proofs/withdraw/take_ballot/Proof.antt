@@ -8,14 +8,14 @@ use native.Mathlib.Nat.{sub-zero}
 use lib.Dec.{T}
 use lib.ListN.{length, getD, set, take, drop, replicate, length-set, length-take}
 use Rattle.jury.specs.Shape.{gradedLimits}
-use Rattle.chains.specs.Slots.{slotsOf, slotAt}
-use Rattle.chains.specs.Chains.{chain}
-use Rattle.chains.specs.Sound.{juryOfOne, slotCount, urnSlots}
+use Rattle.urn_chains.specs.Slots.{slotsOf, slotAt}
+use Rattle.urn_chains.specs.Chains.{chain}
+use Rattle.urn_chains.specs.Sound.{juryOfOne, slotCount, urnSlots}
 use Rattle.urn.specs.Inner.{linkIn}
-use Rattle.chains.specs.declared.find.Link.the-variants.{Found}
-use Rattle.chains.specs.Inner.{linkOf}
-use Rattle.chains.proofs.SlotLaws.{size-least}
-use Rattle.chains.proofs.Judging.{few-bytes}
+use Rattle.urn_chains.specs.declared.find.Link.the-variants.{Found}
+use Rattle.urn_chains.specs.Inner.{linkOf}
+use Rattle.urn_chains.proofs.SlotLaws.{size-least}
+use Rattle.urn_chains.proofs.Judging.{few-bytes}
 use Rattle.urn.proofs.Deciding.{graded-within}
 use Rattle.urn.proofs.FactLaws.{its-table}
 use Rattle.urn.proofs.Taking.{take-zeros, slot-below, slot-inside, link-inside, withdraw-bytes}

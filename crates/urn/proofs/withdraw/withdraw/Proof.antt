@@ -11,11 +11,11 @@ use borrow.Author.Tests.{not-true, not-false}
 use Rattle.jury.specs.Shape.{gradedLimits}
 use Rattle.jury.specs.Reason.{reasonOf, firstOf}
 use Rattle.jury.proofs.Flags.{and-second, true-T}
-use Rattle.chains.specs.Slots.{bytesOf, slotAt}
-use Rattle.chains.specs.Chains.{chain, ballotChain}
-use Rattle.chains.specs.Sound.{member, juryOfOne, goodJuror, slotCount, urnSlots, sound}
-use Rattle.chains.specs.declared.find.Link.the-variants.{Found}
-use Rattle.chains.proofs.Judging.{clash}
+use Rattle.urn_chains.specs.Slots.{bytesOf, slotAt}
+use Rattle.urn_chains.specs.Chains.{chain, ballotChain}
+use Rattle.urn_chains.specs.Sound.{member, juryOfOne, goodJuror, slotCount, urnSlots, sound}
+use Rattle.urn_chains.specs.declared.find.Link.the-variants.{Found}
+use Rattle.urn_chains.proofs.Judging.{clash}
 use Rattle.urn.specs.declared.facts.Facts.{Facts}
 use Rattle.urn.specs.Inner.{linkIn}
 use Rattle.urn.specs.Facts.{gradedShape, jurorsOf, factsOf, countedBy, afterwards}

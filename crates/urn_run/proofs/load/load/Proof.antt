@@ -7,11 +7,11 @@ use native.Mathlib.Omega.{arith}
 use lib.ListN.{length, getD}
 use lib.Seq.{sets}
 use borrow.Author.Needs.{needs}
-use Rattle.chains.specs.Slots.{slotsOf}
-use Rattle.chains.specs.Chains.{chain}
-use Rattle.chains.specs.Sound.{slotCount}
-use Rattle.chains.proofs.SlotLaws.{size-least}
-use Rattle.chains.proofs.Judging.{few-bytes}
+use Rattle.urn_chains.specs.Slots.{slotsOf}
+use Rattle.urn_chains.specs.Chains.{chain}
+use Rattle.urn_chains.specs.Sound.{slotCount}
+use Rattle.urn_chains.proofs.SlotLaws.{size-least}
+use Rattle.urn_chains.proofs.Judging.{few-bytes}
 use Rattle.urn.proofs.FactLaws.{its-table}
 use Rattle.urn_run.proofs.Loading.{OnLoad, along, load-begin, load-end, loaded, turn-more, turn-inside, turn-room, turn-on, copy-fits}
 use Rattle.urn_run.proofs.load.load.Statement.{statement}

@@ -14,8 +14,8 @@ use Rattle.tally.specs.Answer.{Size, refused, said, saidBy, sizeOf}
 use Rattle.tally.specs.Test.{testReasons, testSaid}
 use Rattle.tally.specs.Run.{lentReasons}
 use Rattle.tally.proofs.TestReasons.{TestPassed, test-passed}
-use Rattle.chains.specs.Sound.{sound}
-use Rattle.chains.proofs.Judging.{soundness-sound, soundness-unsound}
+use Rattle.urn_chains.specs.Sound.{sound}
+use Rattle.urn_chains.proofs.Judging.{soundness-sound, soundness-unsound}
 use Rattle.urn_run.specs.Run.{ballotsIn, urnRunReasons}
 use Rattle.urn_run.proofs.Reasons.{one-T, whole-within, by-1, by-13, by-list, by-4, by-lent}
 use Rattle.urn_run.proofs.run.test_run.Statement.{statement}

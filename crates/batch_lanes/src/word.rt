@@ -1,0 +1,63 @@
+// One word holds a bit for each of 64 juries, lowest first.
+ghost use mathlib.Core.Path.{_≡_};
+ghost use mathlib.Core.List.{_++_};
+ghost use Prim.Native.Nat.{ℕ, _+_, _<_, _≤_};
+ghost use lib.Dec.{eqb};
+ghost use lib.ListN.{length, replicate, drop};
+ghost use Rattle.gates.specs.Kind.{valueOf};
+ghost use Rattle.batch_lanes.specs.Lane.{laneCount, lane};
+
+// A word whose 64 bits are all 1.
+pub const ALL: u64 = 18446744073709551615;
+
+// The value of a kind in all lanes at once. A choice takes b in the lanes where a is 1, and c in the others.
+pub fn value(kind: u32, a: u64, b: u64, c: u64) -> u64
+    requires { ⌜ kind < 8 ⌝ }
+    ensures { λ r. ⌜ ((j : ℕ) → j < laneCount → lane j r ≡ valueOf kind (lane j a) (lane j b) (lane j c)) ⌝ }
+{
+    match kind {
+        0 => 0,
+        1 => ALL,
+        2 => a,
+        3 => a ^ ALL,
+        4 => a & b,
+        5 => a | b,
+        6 => a ^ b,
+        7 => c ^ (a & (b ^ c)),
+        8..=4294967295 => 0,
+    }
+}
+
+// Whether words are as many as first and second together. The sum is never formed: it could wrap.
+pub fn has_length(words: &[u64], first: usize, second: usize) -> bool
+    ensures { λ r. ⌜ r ≡ eqb (length (now (words .entry))) (first + second) ⌝ }
+{
+    if first <= words.len() {
+        words.len() - first == second
+    } else {
+        false
+    }
+}
+
+// Copies the words of one slice to the front of another.
+pub fn copy(from: &[u64], to: &mut [u64])
+    requires { ⌜ length (now from) ≤ length (now to) ⌝ }
+    ensures { λ _. ⌜ now (to .exit) ≡ now (from .entry) ++ drop (length (now (from .entry))) (now (to .entry)) ⌝ }
+{
+    let mut i = 0;
+    while i < from.len() {
+        to[i] = from[i];
+        i += 1;
+    }
+}
+
+// Sets every word to 0.
+pub fn empty(words: &mut [u64])
+    ensures { λ _. ⌜ now (words .exit) ≡ replicate (length (now (words .entry))) 0 ⌝ }
+{
+    let mut i = 0;
+    while i < words.len() {
+        words[i] = 0;
+        i += 1;
+    }
+}

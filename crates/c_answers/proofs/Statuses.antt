@@ -1,0 +1,81 @@
+-- A status tells what it has to where each reason has a number from 1 to the last, which is below that of a short answer array.
+-- Assumes nothing.
+use mathlib.Core.Path.{_≡_, _∙_, refl, sym}
+use mathlib.Core.Logic.{_↔_}
+use mathlib.Core.Bool.{Bool, true, false, _&&_, _||_}
+use mathlib.Core.List.{List, [], _∷_}
+use Prim.Native.Nat.{ℕ, _<_, _≤_}
+use native.Mathlib.Omega.{arith}
+use lib.Dec.{T, eqb, ltb, leb, leb→le}
+use lib.ListN.{length}
+use borrow.Author.Tests.{eqb-true, ltb-true, ltb-false}
+use Rattle.gates.proofs.Goodness.{and-left, and-right}
+use Rattle.jury.specs.Reason.{Reason}
+use Rattle.tally.specs.Answer.{Said, refused, accepted, hasNumberIn, Size}
+use Rattle.tally.specs.Measure.{Measures}
+use Rattle.c_answers.specs.Numbers.{sizeNumbers, measureNumbers, oneNumber, statusOf, shortAnswer, status}
+use Rattle.c_answers.specs.Status.{isAccepted, Tells}
+use Rattle.c_answers.proofs.Answering.{short-status, room-status}
+
+-- each of these numbers is one from 1 to the last
+unfoldable pub fit : ℕ → List ℕ → Bool
+fit last [] = true
+fit last (n ∷ ns) = (leb 1 n && leb n last) && fit last ns
+
+pub record Numbered (last : ℕ) (r : Reason) : Type 0 where
+  pub least : 1 ≤ r .number
+  pub most : r .number ≤ last
+
+module _ (last : ℕ) where
+  -- by the test of the first of them
+  by-first : (n : ℕ) (ns : List ℕ) (r : Reason) (t : Bool) → eqb (r .number) n ≡ t → T (leb 1 n && leb n last) → (T (hasNumberIn ns r) → Numbered last r) → T (t || hasNumberIn ns r) → Numbered last r
+  by-first n ns r true e m rest h =
+      let same = eqb-true (r .number) n e in
+      let low = leb→le 1 n (and-left (leb 1 n) (leb n last) m) in
+      let high = leb→le n last (and-right (leb 1 n) (leb n last) m) in
+      record { least = omega arith; most = omega arith }
+  by-first n ns r false e m rest h = rest h
+
+  pub numbered : (ns : List ℕ) (r : Reason) → T (fit last ns) → T (hasNumberIn ns r) → Numbered last r
+  unfolding fit hasNumberIn
+  numbered [] r m h = absurd h
+  numbered (n ∷ ns) r m h =
+      by-first n ns r (eqb (r .number) n) refl (and-left (leb 1 n && leb n last) (fit last ns) m) (λ p. numbered ns r (and-right (leb 1 n && leb n last) (fit last ns) m) p) h
+
+  -- a status of numbers that begin with 0 or with a reason's number
+  pub tells : last < shortAnswer → (needed : ℕ) (numbers answer : List ℕ) (acceptance : Bool)
+      → statusOf numbers ≤ last → ((statusOf numbers ≡ 0) ↔ T acceptance) → Tells last needed numbers answer acceptance
+  tells few needed numbers answer acceptance h zero =
+      record {
+        short = (λ e. by-length (ltb (length answer) needed) refl e, λ l. short-status needed answer l numbers);
+        zero-accepted = λ l. (λ e. zero .0 (sym (room-status needed answer l numbers) ∙ e), λ a. room-status needed answer l numbers ∙ zero .1 a);
+        reason = λ l. omega (arith, room-status needed answer l numbers);
+      }
+    where
+      by-length : (t : Bool) → ltb (length answer) needed ≡ t → status needed numbers answer ≡ shortAnswer → length answer < needed
+      by-length true t e = ltb-true (length answer) needed t
+      by-length false t e = absurd (omega (arith, few, room-status needed answer (ltb-false (length answer) needed t) numbers))
+
+  -- of a call whose answer begins with its reason's number, or with 0 where it is accepted
+  pub said-tells : {Values : Type 0} → last < shortAnswer → (needed : ℕ) (numbers : Said Values → List ℕ) (answer : List ℕ)
+      → ((r : Reason) → statusOf (numbers (refused r)) ≡ r .number) → ((v : Values) → statusOf (numbers (accepted v)) ≡ 0)
+      → (said : Said Values) → ((r : Reason) → said ≡ refused r → Numbered last r) → Tells last needed (numbers said) answer (isAccepted said)
+  unfolding isAccepted
+  said-tells few needed numbers answer refusal acceptance (refused r) h =
+      let n = h r refl in
+      tells few needed (numbers (refused r)) answer false (omega (arith, refusal r, n .most)) (λ e. absurd (omega (arith, refusal r, n .least)), λ a. absurd a)
+  said-tells few needed numbers answer refusal acceptance (accepted v) h =
+      tells few needed (numbers (accepted v)) answer true (omega (arith, acceptance v)) (λ e. tt, λ a. acceptance v)
+
+  -- of each kind of answer
+  pub size-tells : last < shortAnswer → (answer : List ℕ) (said : Said Size) → ((r : Reason) → said ≡ refused r → Numbered last r) → Tells last 4 (sizeNumbers said) answer (isAccepted said)
+  unfolding statusOf sizeNumbers
+  size-tells few answer said h = said-tells few 4 sizeNumbers answer (λ r. refl) (λ v. refl) said h
+
+  pub measure-tells : last < shortAnswer → (answer : List ℕ) (said : Said Measures) → ((r : Reason) → said ≡ refused r → Numbered last r) → Tells last 5 (measureNumbers said) answer (isAccepted said)
+  unfolding statusOf measureNumbers
+  measure-tells few answer said h = said-tells few 5 measureNumbers answer (λ r. refl) (λ v. refl) said h
+
+  pub one-tells : last < shortAnswer → (answer : List ℕ) (said : Said ℕ) → ((r : Reason) → said ≡ refused r → Numbered last r) → Tells last 3 (oneNumber said) answer (isAccepted said)
+  unfolding statusOf oneNumber
+  one-tells few answer said h = said-tells few 3 oneNumber answer (λ r. refl) (λ v. refl) said h

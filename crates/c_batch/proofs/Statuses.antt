@@ -1,0 +1,15 @@
+-- The status of a run for 64 juries tells what it has to, by the numbers of the reasons that concern it.
+-- Assumes nothing.
+use native.Mathlib.Omega.{arith}
+use Rattle.c_answers.proofs.Statuses.{fit, numbered, size-tells}
+use Rattle.batch.specs.Run.{batchRan}
+use Rattle.batch.proofs.Theorems.{batch-memory}
+use Rattle.c_batch.specs.Status.{lastReason, StatusTells}
+
+pub status-tells : StatusTells
+unfolding fit
+status-tells =
+    record {
+      runBatch = λ s table words tape wires board answer.
+          size-tells lastReason (omega arith) answer (batchRan s table words tape wires board .answer) (λ r e. numbered lastReason _ r tt (batch-memory .number s table words tape wires board r e));
+    }

@@ -1,0 +1,93 @@
+-- `jugyvaros::measure::jugy_measure` meets its contract: where the answer array is long enough, it says what the entry point says, or what it would say of a shape outside the limits.
+-- Assumes nothing.
+use mathlib.Core.Path.{_∙_, sym, ap}
+use mathlib.Core.List.{List, _++_}
+use Prim.Native.Nat.{ℕ}
+use lib.ListN.{drop}
+use borrow.Author.Needs.{needs}
+use Rattle.jury.specs.Shape.{withinLimits}
+use Rattle.jury.specs.Reason.{reasonOf}
+use Rattle.jury.proofs.Constructed.{shape-is, outside-is}
+use Rattle.tally.specs.Answer.{Said}
+use Rattle.tally.specs.Measure.{Measures, measuredBy, measureSaid}
+use Rattle.tally.proofs.Outside.{outside-measure}
+use Rattle.c_answers.specs.Numbers.{shapeOf, statusOf, measureNumbers}
+use Rattle.c_answers.proofs.Answering.{short-status, short-answered, room-status, room-answered}
+use Rattle.c_tally.proofs.measure.jugy_measure.Statement.{statement}
+use Rattle.c_tally.proofs.measure.jugy_measure.Tie as tie
+
+returns : tie.Need-returns
+unfolding shapeOf
+returns c =
+    let a = c .before .before .args in
+    let numbers = measureNumbers (measureSaid (shapeOf (a .candidates) (a .grades) (a .ballots))) in
+    (sym (short-status 5 (a .answer .now) (c .if1 .taken) numbers), sym (short-answered 5 (a .answer .now) (c .if1 .taken) numbers))
+
+new-requires : tie.Need-new-requires
+new-requires c κs = search needs
+
+enum-known-shape : tie.Need-enum-known-shape
+enum-known-shape c = search needs
+
+enum-told : tie.Need-enum-told
+enum-told c = search needs
+
+put-measures-requires : tie.Need-put-measures-requires
+put-measures-requires c κs = search needs
+
+same-length : tie.Need-same-length
+same-length c = search needs
+
+returns-2 : tie.Need-returns-2
+unfolding shapeOf measuredBy reasonOf
+returns-2 c =
+    let told = c .before .before .before .before in
+    let made = told .before .before in
+    let long = made .before in
+    let a = long .before .before .args in
+    let s = shapeOf (a .candidates) (a .grades) (a .ballots) in
+    let put = c .before .before .put-measures in
+    let outside = outside-is (withinLimits s) s (sym (made .new .ensures .0) ∙ told .enum-told .given .1) in
+    let numbers = measureNumbers (measureSaid s) in
+    let e = ap (λ (s : Said Measures). measureNumbers s) (sym (outside-measure s outside)) in
+    (put .ensures .0 ∙ ap statusOf e ∙ sym (room-status 5 (a .answer .now) (long .if1 .left) numbers), put .ensures .1 ∙ ap (λ (r : List ℕ). r ++ drop 5 (a .answer .now)) e ∙ sym (room-answered 5 (a .answer .now) (long .if1 .left) numbers))
+
+measure-requires : tie.Need-measure-requires
+measure-requires c κs = search needs
+
+put-measures-requires-2 : tie.Need-put-measures-requires-2
+put-measures-requires-2 c κs = search needs
+
+same-length-2 : tie.Need-same-length-2
+same-length-2 c = search needs
+
+returns-3 : tie.Need-returns-3
+unfolding shapeOf
+returns-3 c =
+    let said = c .before .before .before .before in
+    let known = said .before .before in
+    let made = known .before .before in
+    let long = made .before in
+    let a = long .before .before .args in
+    let s = shapeOf (a .candidates) (a .grades) (a .ballots) in
+    let put = c .before .before .put-measures2 in
+    let same = shape-is (withinLimits s) s (known .shape .given .0 .0) (sym (made .new .ensures .0) ∙ known .shape .given .1) in
+    let numbers = measureNumbers (measureSaid s) in
+    let e = ap (λ (s : Said Measures). measureNumbers s) (said .measure .ensures ∙ ap measureSaid same) in
+    (put .ensures .0 ∙ ap statusOf e ∙ sym (room-status 5 (a .answer .now) (long .if1 .left) numbers), put .ensures .1 ∙ ap (λ (r : List ℕ). r ++ drop 5 (a .answer .now)) e ∙ sym (room-answered 5 (a .answer .now) (long .if1 .left) numbers))
+
+pub jugy-measure-spec : {M : Type 1} → statement M
+jugy-measure-spec =
+    tie.close
+    (tie.spec
+    returns
+    new-requires
+    enum-known-shape
+    enum-told
+    put-measures-requires
+    same-length
+    returns-2
+    measure-requires
+    put-measures-requires-2
+    same-length-2
+    returns-3)

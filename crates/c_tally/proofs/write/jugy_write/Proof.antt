@@ -1,0 +1,101 @@
+-- `jugyvaros::write::jugy_write` meets its contract: where the answer array is long enough, it says what the entry point says, or what it would say of a shape outside the limits.
+-- Assumes nothing.
+use mathlib.Core.Path.{_∙_, sym, ap}
+use mathlib.Core.List.{List, _++_}
+use Prim.Native.Nat.{ℕ}
+use lib.ListN.{drop}
+use borrow.Author.Needs.{needs}
+use Rattle.jury.specs.declared.shape.Shape.{Shape}
+use Rattle.jury.specs.Shape.{withinLimits}
+use Rattle.jury.specs.Reason.{reasonOf, reasonAt}
+use Rattle.jury.proofs.Flags.{T-true}
+use Rattle.jury.proofs.Constructed.{shape-is, outside-is}
+use Rattle.tally.specs.Answer.{Said, saidBy, Size}
+use Rattle.tally.specs.Write.{writeSaid, written}
+use Rattle.tally.proofs.OwnList.{own-list-holds}
+use Rattle.tally.proofs.Writing.{write-refused, outside as outside-write}
+use Rattle.c_answers.specs.Numbers.{shapeOf, statusOf, sizeNumbers}
+use Rattle.c_answers.proofs.Answering.{short-status, short-answered, short-altered, room-status, room-answered, room-altered}
+use Rattle.c_tally.proofs.write.jugy_write.Statement.{statement}
+use Rattle.c_tally.proofs.write.jugy_write.Tie as tie
+
+returns : tie.Need-returns
+unfolding shapeOf
+returns c =
+    let a = c .before .before .before .args in
+    let numbers = sizeNumbers (writeSaid (shapeOf (a .candidates) (a .grades) (a .ballots)) (a .table .now)) in
+    (sym (short-status 4 (a .answer .now) (c .if1 .taken) numbers), (sym (short-answered 4 (a .answer .now) (c .if1 .taken) numbers), (sym (short-altered 4 (a .answer .now) (c .if1 .taken) (written (shapeOf (a .candidates) (a .grades) (a .ballots)) (a .table .now)) (a .table .now)), λ t. own-list-holds (shapeOf (a .candidates) (a .grades) (a .ballots)) (T-true (withinLimits (shapeOf (a .candidates) (a .grades) (a .ballots))) t))))
+
+new-requires : tie.Need-new-requires
+new-requires c κs = search needs
+
+enum-known-shape : tie.Need-enum-known-shape
+enum-known-shape c = search needs
+
+enum-told : tie.Need-enum-told
+enum-told c = search needs
+
+put-size-requires : tie.Need-put-size-requires
+put-size-requires c κs = search needs
+
+same-length : tie.Need-same-length
+same-length c = search needs
+
+returns-2 : tie.Need-returns-2
+unfolding shapeOf saidBy reasonOf
+returns-2 c =
+    let told = c .before .before .before .before in
+    let made = told .before .before in
+    let long = made .before in
+    let a = long .before .before .before .args in
+    let s = shapeOf (a .candidates) (a .grades) (a .ballots) in
+    let put = c .before .before .put-size in
+    let outside = outside-is (withinLimits s) s (sym (made .new .ensures .0) ∙ told .enum-told .given .1) in
+    let numbers = sizeNumbers (writeSaid s (a .table .now)) in
+    let refusal = write-refused s (a .table .now) (reasonAt 1 0) (outside-write s (a .table .now) outside) in
+    let e = ap (λ (s : Said Size). sizeNumbers s) (sym (refusal .0)) in
+    (put .ensures .0 ∙ ap statusOf e ∙ sym (room-status 4 (a .answer .now) (long .if1 .left) numbers), (put .ensures .1 ∙ ap (λ (r : List ℕ). r ++ drop 4 (a .answer .now)) e ∙ sym (room-answered 4 (a .answer .now) (long .if1 .left) numbers), (sym (room-altered 4 (a .answer .now) (long .if1 .left) (written s (a .table .now)) (a .table .now) ∙ refusal .1), λ t. own-list-holds s (T-true (withinLimits s) t))))
+
+write-requires : tie.Need-write-requires
+write-requires c κs = search needs
+
+put-size-requires-2 : tie.Need-put-size-requires-2
+put-size-requires-2 c κs = search needs
+
+same-length-2 : tie.Need-same-length-2
+same-length-2 c = search needs
+
+same-length-3 : tie.Need-same-length-3
+same-length-3 c = search needs
+
+returns-3 : tie.Need-returns-3
+unfolding shapeOf
+returns-3 c =
+    let said = c .before .before .before .before .before .before in
+    let known = said .before .before .before in
+    let made = known .before .before in
+    let long = made .before in
+    let a = long .before .before .before .args in
+    let s = shapeOf (a .candidates) (a .grades) (a .ballots) in
+    let put = c .before .before .put-size2 in
+    let same = shape-is (withinLimits s) s (known .shape .given .0 .0) (sym (made .new .ensures .0) ∙ known .shape .given .1) in
+    let numbers = sizeNumbers (writeSaid s (a .table .now)) in
+    let e = ap (λ (s : Said Size). sizeNumbers s) (said .write .ensures .0 ∙ ap (λ (z : Shape). writeSaid z (a .table .now)) same) in
+    (put .ensures .0 ∙ ap statusOf e ∙ sym (room-status 4 (a .answer .now) (long .if1 .left) numbers), (put .ensures .1 ∙ ap (λ (r : List ℕ). r ++ drop 4 (a .answer .now)) e ∙ sym (room-answered 4 (a .answer .now) (long .if1 .left) numbers), (said .write .ensures .1 .0 ∙ ap (λ (z : Shape). written z (a .table .now)) same ∙ sym (room-altered 4 (a .answer .now) (long .if1 .left) (written s (a .table .now)) (a .table .now)), λ t. own-list-holds s (T-true (withinLimits s) t))))
+
+pub jugy-write-spec : {M : Type 1} → statement M
+jugy-write-spec =
+    tie.close
+    (tie.spec
+    returns
+    new-requires
+    enum-known-shape
+    enum-told
+    put-size-requires
+    same-length
+    returns-2
+    write-requires
+    put-size-requires-2
+    same-length-2
+    same-length-3
+    returns-3)

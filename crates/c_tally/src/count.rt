@@ -1,0 +1,40 @@
+// Counting plainly, as a C program calls it.
+use crate::answer::COUNT_ANSWER;
+use crate::answer::put_count;
+use c_answers::array::SHORT_ANSWER;
+use jury::reason::Refusal;
+use jury::reason::Verdict;
+use jury::shape::Shape;
+use jury::shape::Shaped;
+use tally::count::Counted;
+ghost use mathlib.Core.Path.{_≡_};
+ghost use Rattle.tally.specs.Count.{countReason, plainClosing};
+ghost use Rattle.c_answers.specs.Numbers.{shapeOf, countAnswer, countNumbers, status, answered};
+
+// Counts plainly: reason, place and the eight closing bytes.
+#[no_mangle]
+pub extern "C" fn jugy_count(
+    candidates: usize,
+    grades: usize,
+    ballots: usize,
+    bytes: &[u8],
+    answer: &mut [usize],
+) -> usize
+    ensures { λ r. ⌜ r ≡ status countAnswer (countNumbers (countReason (shapeOf candidates grades ballots) (now (bytes .entry))) (plainClosing (shapeOf candidates grades ballots) (now (bytes .entry)))) (now (answer .entry)) ⌝ }
+    ensures { λ _. ⌜ now (answer .exit) ≡ answered countAnswer (countNumbers (countReason (shapeOf candidates grades ballots) (now (bytes .entry))) (plainClosing (shapeOf candidates grades ballots) (now (bytes .entry)))) (now (answer .entry)) ⌝ }
+{
+    if answer.len() < COUNT_ANSWER {
+        return SHORT_ANSWER;
+    }
+    let Shaped::Within(shape) = Shape::new(candidates, grades, ballots) else {
+        return put_count(
+            Counted {
+                verdict: Verdict::Refused(Refusal::Shape),
+                closing: [0u8; 8],
+            },
+            answer,
+        );
+    };
+    let counted = tally::count::count(shape, bytes);
+    put_count(counted, answer)
+}

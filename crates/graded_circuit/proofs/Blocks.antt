@@ -1,0 +1,95 @@
+-- Blocks put one behind the other: their lengths add up, and their operands point back if those of each do from its own place.
+-- Assumes nothing.
+use mathlib.Core.Path.{_≡_, _∙_, refl, ap, sym, subst}
+use mathlib.Core.List.{List, [], _∷_, _++_}
+use Prim.Native.Nat.{ℕ, zero, suc, _+_, _-_, _*_, _≤_, _<_}
+use native.Mathlib.Omega.{arith}
+use lib.Dec.{T}
+use lib.ListN.{length, length-append}
+use Rattle.gates.specs.Gate.{Gate}
+use Rattle.gates.specs.Test.{goodGate}
+use Rattle.gates.proofs.Laws.{AllGood, good-append, Holds, holds-append, operand-counts, good-one, good-two, good-three}
+use Rattle.gate_words.specs.Gates.{copyOf, notOf, andOf, orOf, xorOf, muxOf}
+use Rattle.gate_words.specs.Word.{Below}
+use Rattle.gate_words.specs.Adder.{addWithBit}
+use Rattle.gate_words.specs.Choice.{constants, copies, complements, choose, anyOf, parity}
+use Rattle.gate_words.specs.Counter.{counter, countSize, accumulator, addSize, Countable}
+use Rattle.gate_words.proofs.ChoiceSteps.{length-constants, length-each, length-choose, length-chain}
+use Rattle.gate_words.proofs.WordSteps.{length-add-bit}
+use Rattle.gate_words.proofs.CounterSteps.{length-counter, length-accumulator}
+use Rattle.gate_words.proofs.PointsBack.{constants-good, copies-good, complements-good, choose-good, any-good, chain-good, add-bit-good, counter-good, accumulator-good}
+
+-- a block of m gates, well-formed where its first gate makes wire n
+pub record Block (n : ℕ) (gs : List Gate) (m : ℕ) : Type 0 where
+  pub long : length gs ≡ m
+  pub good : AllGood n gs
+
+pub none-block : (n : ℕ) → Block n [] 0
+none-block n = record { long = refl; good = tt }
+
+pub both-block : {n k l m : ℕ} {gs hs : List Gate} → Block n gs l → n + l ≡ k → Block k hs m → Block n (gs ++ hs) (l + m)
+both-block {n} {k} {l} {m} {gs} {hs} a e b =
+    record {
+      long = omega (arith, length-append gs hs, a .long, b .long);
+      good = good-append n gs hs (a .good) (subst (λ (i : ℕ). AllGood i hs) (sym (ap (λ (i : ℕ). n + i) (a .long) ∙ e)) (b .good));
+    }
+
+pub sized : {n l m : ℕ} {gs : List Gate} → l ≡ m → Block n gs l → Block n gs m
+sized {n} {l} {m} {gs} e a = subst (Block n gs) e a
+
+-- a gate before a block
+pub gate-block : {n m : ℕ} {g : Gate} {gs : List Gate} → T (goodGate n g) → Block (suc n) gs m → Block n (g ∷ gs) (suc m)
+gate-block {n} {m} {g} {gs} t a = record { long = ap suc (a .long); good = (t, a .good) }
+
+-- the wires of two blocks
+pub split : (W : ℕ → ℕ) {n k l m : ℕ} {gs hs : List Gate} → Block n gs l → n + l ≡ k → Block k hs m → Holds W n (gs ++ hs) → Holds W n gs × Holds W k hs
+split W {n} {k} {l} {m} {gs} {hs} a e b h =
+    let s = holds-append W n gs hs h in
+    (s .0, subst (λ (i : ℕ). Holds W i hs) (ap (λ (i : ℕ). n + i) (a .long) ∙ e) (s .1))
+
+-- the blocks of words
+pub constants-block : (n v w : ℕ) → Block n (constants v w) w
+constants-block n v w = record { long = length-constants v w; good = constants-good n v w }
+
+pub copies-block : (n x w : ℕ) → x + w ≤ n → Block n (copies x w) w
+copies-block n x w h = record { long = length-each 2 x w; good = copies-good n x w h }
+
+pub complements-block : (n x w : ℕ) → x + w ≤ n → Block n (complements x w) w
+complements-block n x w h = record { long = length-each 3 x w; good = complements-good n x w h }
+
+pub choose-block : (n f x y w : ℕ) → f < n → x + w ≤ n → y + w ≤ n → Block n (choose f x y w) w
+choose-block n f x y w hf hx hy = record { long = length-choose f x y w; good = choose-good n f x y w hf hx hy }
+
+pub any-block : (n s at d m : ℕ) → s < n → Below n at d m → Block n (anyOf n s at d m) m
+any-block n s at d m hs bl = record { long = length-chain 5 n s at d m; good = any-good n s at d m hs bl }
+
+pub add-bit-block : (n x y e w : ℕ) → x + w ≤ n → y + w ≤ n → Block n (addWithBit n x y e w) (3 * w)
+add-bit-block n x y e w hx hy = record { long = length-add-bit n x y e w; good = add-bit-good n x y e w hx hy }
+
+pub parity-block : (n s at d m : ℕ) → s < n → Below n at d m → Block n (parity n s at d m) m
+parity-block n s at d m hs bl = record { long = length-chain 6 n s at d m; good = chain-good n 6 s at d m (omega arith) (operand-counts .6) hs bl }
+
+pub counter-block : (n at d m x r : ℕ) → Below n at d m → Countable m x r → Block n (counter n at d m x r) (countSize m x r + (r + 1))
+counter-block n at d m x r bl k = record { long = length-counter n at d m x r; good = counter-good n at d m x r bl k }
+
+pub accumulator-block : (n a at d m r : ℕ) → a + r < n → Below n at d m → Block n (accumulator n a at d m r) (addSize m r + (r + 1))
+accumulator-block n a at d m r ha bl = record { long = length-accumulator n a at d m r; good = accumulator-good n a at d m r ha bl }
+
+-- single gates
+pub copy-good : (n a : ℕ) → a < n → T (goodGate n (copyOf a))
+copy-good n a h = good-one n 2 a (omega arith) (operand-counts .2) h
+
+pub not-good : (n a : ℕ) → a < n → T (goodGate n (notOf a))
+not-good n a h = good-one n 3 a (omega arith) (operand-counts .3) h
+
+pub or-good : (n a b : ℕ) → a < n → b < n → T (goodGate n (orOf a b))
+or-good n a b ha hb = good-two n 5 a b (omega arith) (operand-counts .5) ha hb
+
+pub xor-good : (n a b : ℕ) → a < n → b < n → T (goodGate n (xorOf a b))
+xor-good n a b ha hb = good-two n 6 a b (omega arith) (operand-counts .6) ha hb
+
+pub and-good : (n a b : ℕ) → a < n → b < n → T (goodGate n (andOf a b))
+and-good n a b ha hb = good-two n 4 a b (omega arith) (operand-counts .4) ha hb
+
+pub mux-good : (n a b c : ℕ) → a < n → b < n → c < n → T (goodGate n (muxOf a b c))
+mux-good n a b c ha hb hc = good-three n 7 a b c (omega arith) (operand-counts .7) ha hb hc

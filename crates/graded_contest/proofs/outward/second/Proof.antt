@@ -1,0 +1,59 @@
+-- `graded_contest::outward::second` meets its contract: four gates.
+-- Assumes nothing.
+use mathlib.Core.Path.{_≡_, refl}
+use Prim.Native.Nat.{_+_}
+use native.Mathlib.Omega.{arith}
+use borrow.Author.Needs.{needs}
+use Rattle.gate_words.proofs.Writing.{room-less}
+use Rattle.gate_words.proofs.Emitting.{not-wrote, xor-wrote, mux-wrote, wrote-four}
+use Rattle.graded_circuit.proofs.Writers.{Stands, stands, stands-after, room-of}
+use Rattle.graded_contest.proofs.outward.second.Statement.{statement}
+use Rattle.graded_contest.proofs.outward.second.Tie as tie
+
+emit-requires : tie.Need-emit-requires
+emit-requires c κs =
+    room-less ((c .before .before .args) .w) _ _ (omega arith) ((c .before .before) .pre)
+
+one : (c : tie.After-emit) → Stands ((c .emit) .result) ((c .before .before .before .args) .w .wire + 1) 3
+one c =
+    stands-after ((c .before .before .before .args) .w) ((c .before .before .before .args) .table .now) _ ((c .emit) .last .1 .0) ((c .emit) .result) _ 1 3 ((c .emit) .ensures) refl (stands ((c .before .before .before .args) .w) ((c .before .before .before .args) .w .wire) _ _ refl (omega arith) ((c .before .before .before) .pre))
+
+emit-requires-2 : tie.Need-emit-requires-2
+emit-requires-2 c κs =
+    room-of ((c .before .before .before .emit) .result) _ _ _ (one (c .before .before .before)) (omega arith)
+
+two : (c : tie.After-emit2) → Stands ((c .emit2) .result) ((c .before .before .before .before .before .before .before .args) .w .wire + 1 + 1) 2
+two c =
+    stands-after ((c .before .before .before .before .emit) .result) ((c .before .before .before .before .emit) .last .1 .0) _ ((c .emit2) .last .1 .0) ((c .emit2) .result) _ 1 2 ((c .emit2) .ensures) refl (one (c .before .before .before .before))
+
+emit-requires-3 : tie.Need-emit-requires-3
+emit-requires-3 c κs =
+    room-of ((c .before .before .before .emit2) .result) _ _ _ (two (c .before .before .before)) (omega arith)
+
+add-emit : tie.Need-add-emit
+add-emit c =
+    omega (arith, (c .before .before .before .before .before .before .before .before .before .before .before .before .before .before) .pre .small)
+
+add-emit-2 : tie.Need-add-emit-2
+add-emit-2 c =
+    omega (arith, (c .before .before .before .before .before .before .before .before .before .before .before .before .before .before) .pre .small)
+
+emit-requires-4 : tie.Need-emit-requires-4
+emit-requires-4 c κs =
+    stands-after ((c .before .before .before .before .before .before .before .emit2) .result) ((c .before .before .before .before .before .before .before .emit2) .last .1 .0) _ ((c .before .before .before .emit3) .last .1 .0) ((c .before .before .before .emit3) .result) _ 1 1 ((c .before .before .before .emit3) .ensures) refl (two (c .before .before .before .before .before .before .before)) .left
+
+returns : tie.Need-returns
+returns c =
+    let a = (c .before .before .before .before .before .before .before .before .before .before .before .before .before .before .before .before .before .args) in
+    let n = a .w .wire in
+    wrote-four (a .w) (a .table .now) _ ((c .before .before .before .before .before .before .before .before .before .before .before .before .before .before .emit) .last .1 .0) ((c .before .before .before .before .before .before .before .before .before .before .before .before .before .before .emit) .result) _ ((c .before .before .before .before .before .before .before .before .before .before .emit2) .last .1 .0) ((c .before .before .before .before .before .before .before .before .before .before .emit2) .result) _ ((c .before .before .before .before .before .before .emit3) .last .1 .0) ((c .before .before .before .before .before .before .emit3) .result) _ ((c .before .before .emit4) .last .1 .0) ((c .before .before .emit4) .result)
+    (mux-wrote (a .w) (a .table .now) ((c .before .before .before .before .before .before .before .before .before .before .before .before .before .before .emit) .last .1 .0) ((c .before .before .before .before .before .before .before .before .before .before .before .before .before .before .emit) .result) (a .s) (a .j) (a .k) ((c .before .before .before .before .before .before .before .before .before .before .before .before .before .before .emit) .ensures))
+    (not-wrote ((c .before .before .before .before .before .before .before .before .before .before .before .before .before .before .emit) .result) ((c .before .before .before .before .before .before .before .before .before .before .before .before .before .before .emit) .last .1 .0) ((c .before .before .before .before .before .before .before .before .before .before .emit2) .last .1 .0) ((c .before .before .before .before .before .before .before .before .before .before .emit2) .result) n 0 0 ((c .before .before .before .before .before .before .before .before .before .before .emit2) .ensures))
+    (xor-wrote ((c .before .before .before .before .before .before .before .before .before .before .emit2) .result) ((c .before .before .before .before .before .before .before .before .before .before .emit2) .last .1 .0) ((c .before .before .before .before .before .before .emit3) .last .1 .0) ((c .before .before .before .before .before .before .emit3) .result) (a .f) (a .g) 0 ((c .before .before .before .before .before .before .emit3) .ensures))
+    (mux-wrote ((c .before .before .before .before .before .before .emit3) .result) ((c .before .before .before .before .before .before .emit3) .last .1 .0) ((c .before .before .emit4) .last .1 .0) ((c .before .before .emit4) .result) (n + 2) (n + 1) (a .f) ((c .before .before .emit4) .ensures))
+
+same-length : tie.Need-same-length
+same-length c = search needs
+
+pub second-spec : {M : Type 1} → statement M
+second-spec = tie.close (tie.spec emit-requires emit-requires-2 emit-requires-3 add-emit add-emit-2 emit-requires-4 same-length returns)

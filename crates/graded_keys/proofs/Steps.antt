@@ -1,0 +1,134 @@
+-- Loops that write the blocks of a contest: one piece, and what is left.
+-- Assumes nothing.
+use mathlib.Core.Path.{_≡_, _∙_, refl, sym, ap, subst}
+use mathlib.Core.List.{List, [], _∷_, _++_}
+use Prim.Native.Nat.{ℕ, zero, suc, _+_, _-_, _*_, _/_, _≤_, _<_}
+use native.Mathlib.Nat.{suc-mul, mul-le-mul, mul-le-mul-right}
+use native.Mathlib.Omega.{arith}
+use Rattle.gates.specs.Gate.{Gate}
+use Rattle.gate_words.specs.Gates.{constant, copyOf}
+use Rattle.gate_words.specs.Choice.{parity, chainEnd}
+use Rattle.graded_circuit.specs.Median.{Fits, medianLevels, medianDigits, medianSize}
+use Rattle.graded_circuit.proofs.MedianLaws.{fits-half, fits-some}
+use Rattle.graded_circuit.specs.declared.plan.Plan.{Plan}
+use Rattle.graded_circuit.specs.Versus.{versus, versusSpan, unequalAt, aboveAt}
+use Rattle.graded_circuit.specs.Outward.{resolveAt, outward, outwardSpan}
+use Rattle.graded_circuit.specs.Contest.{lower, lowerSpan, lowerUnequal, lowerFirst}
+use Rattle.graded_circuit.specs.Nearest.{stride, side, sideSpan, sides, either, eitherSpan, lastOf, firstOf, leftEnd, rightEnd}
+
+-- a number above 0
+above-zero : (t : ℕ) → 0 < t → t ≡ suc (t - 1)
+above-zero t h = omega arith
+
+-- one of those that are left
+pub one-less : (t k : ℕ) → 0 < t → t * k ≡ k + (t - 1) * k
+one-less t k h = omega (arith, ap (λ (x : ℕ). x * k) (above-zero t h), suc-mul (t - 1) k)
+
+pub sides-step : (n x y r t : ℕ) → 0 < t → sides n x y r t ≡ side n x y r ++ sides (n + sideSpan r) (x + stride r) (y + stride r) r (t - 1)
+sides-step n x y r t h = ap (sides n x y r) (above-zero t h) ∙ (unfold sides in refl)
+
+pub sides-none : (n x y r t : ℕ) → t ≤ 0 → sides n x y r t ≡ []
+unfolding sides
+sides-none n x y r t h = let e : t ≡ 0 = omega arith in rw e
+
+pub last-step : (n f x y u v r t : ℕ) → 0 < t → lastOf n f x y u v r t ≡ either f x y u v r ++ lastOf (n + eitherSpan r) (f + sideSpan r) (x + stride r) (y + stride r) n (n + suc r) r (t - 1)
+last-step n f x y u v r t h = ap (lastOf n f x y u v r) (above-zero t h) ∙ (unfold lastOf in refl)
+
+pub last-none : (n f x y u v r t : ℕ) → t ≤ 0 → lastOf n f x y u v r t ≡ []
+unfolding lastOf
+last-none n f x y u v r t h = let e : t ≡ 0 = omega arith in rw e
+
+pub first-step : (n f x y u v r t : ℕ) → 0 < t
+    → firstOf n f x y u v r t ≡ either (f + (t - 1) * sideSpan r) (x + (t - 1) * stride r) (y + (t - 1) * stride r) u v r ++ firstOf (n + eitherSpan r) f x y n (n + suc r) r (t - 1)
+first-step n f x y u v r t h = ap (firstOf n f x y u v r) (above-zero t h) ∙ (unfold firstOf in refl)
+
+pub first-none : (n f x y u v r t : ℕ) → t ≤ 0 → firstOf n f x y u v r t ≡ []
+unfolding firstOf
+first-none n f x y u v r t h = let e : t ≡ 0 = omega arith in rw e
+
+pub levels-step : (n at d m w : ℕ) → 0 < w → medianLevels n at d m w ≡ parity n at (at + d) d (m - 1) ++ medianLevels (n + (m - 1)) (at + d) (d + d) (m / 2) (w - 1)
+levels-step n at d m w h = ap (medianLevels n at d m) (above-zero w h) ∙ (unfold medianLevels in refl)
+
+pub levels-none : (n at d m w : ℕ) → w ≤ 0 → medianLevels n at d m w ≡ []
+unfolding medianLevels
+levels-none n at d m w h = let e : w ≡ 0 = omega arith in rw e
+
+pub digits-step : (n at d m w : ℕ) → 0 < w → medianDigits n at d m w ≡ (copyOf (chainEnd n at (m - 1)) ∷ []) ++ medianDigits (n + (m - 1)) (at + d) (d + d) (m / 2) (w - 1)
+digits-step n at d m w h = ap (medianDigits n at d m) (above-zero w h) ∙ (unfold medianDigits in refl)
+
+pub digits-none : (n at d m w : ℕ) → w ≤ 0 → medianDigits n at d m w ≡ []
+unfolding medianDigits
+digits-none n at d m w h = let e : w ≡ 0 = omega arith in rw e
+
+pub size-step : (m w : ℕ) → 0 < w → medianSize m w ≡ m - 1 + medianSize (m / 2) (w - 1)
+size-step m w h = ap (medianSize m) (above-zero w h) ∙ (unfold medianSize in refl)
+
+-- a digit or more: there are wires, and half of them fit a digit less
+pub fits-step : (m w : ℕ) → 0 < w → Fits m w → (0 < m) × Fits (m / 2) (w - 1)
+fits-step m w h f = let g = subst (Fits m) (above-zero w h) f in (fits-some m (w - 1) g, fits-half m (w - 1) g)
+
+-- fewer of them end no later
+pub fewer : (t c k : ℕ) → t ≤ c → t * k ≤ c * k
+fewer t c k h = mul-le-mul-right {m = t} {n = c} k h
+
+-- a product of small numbers
+pub product-most : (i k a b : ℕ) → i ≤ a → k ≤ b → i * k ≤ a * b
+product-most i k a b h g = mul-le-mul {n₁ = i} {m₁ = k} {n₂ = a} {m₂ = b} h g
+
+pub left-some : (n u r t : ℕ) → 0 < t → leftEnd n u r t ≡ n + (t - 1) * eitherSpan r
+left-some n u r t h = ap (leftEnd n u r) (above-zero t h) ∙ (unfold leftEnd in refl)
+
+pub left-none : (n u r t : ℕ) → t ≡ 0 → u ≡ leftEnd n u r t
+unfolding leftEnd
+left-none n u r t e = rw e
+
+pub right-some : (n v r t : ℕ) → 0 < t → rightEnd n v r t ≡ n + (t - 1) * eitherSpan r + suc r
+right-some n v r t h = ap (rightEnd n v r) (above-zero t h) ∙ (unfold rightEnd in refl)
+
+pub right-none : (n v r t : ℕ) → t ≡ 0 → v ≡ rightEnd n v r t
+unfolding rightEnd
+right-none n v r t e = rw e
+
+-- the part below the medians, by its cases
+module _ (p : Plan) (n x y digits t : ℕ) where
+  pub lower-zero : digits ≡ 0 → constant 0 ∷ [] ≡ lower p n x y digits t
+  unfolding lower
+  lower-zero e = rw e
+
+  pub lower-one : 0 < digits → t ≡ 0 → versus n x y (digits - 1) ≡ lower p n x y digits t
+  lower-one h e = sym (ap (λ (d : ℕ). lower p n x y d t) (above-zero digits h) ∙ ap (lower p n x y (suc (digits - 1))) e ∙ (unfold lower in refl))
+
+  pub lower-more : 0 < digits → 0 < t → outward p n x y (digits - 1) (t - 1) ≡ lower p n x y digits t
+  lower-more h k = sym (ap (λ (d : ℕ). lower p n x y d t) (above-zero digits h) ∙ ap (lower p n x y (suc (digits - 1))) (above-zero t k) ∙ (unfold lower in refl))
+
+module _ (n digits t : ℕ) where
+  pub lower-span-zero : digits ≡ 0 → lowerSpan digits t ≡ 1
+  unfolding lowerSpan
+  lower-span-zero e = rw e
+
+  pub lower-span-one : 0 < digits → t ≡ 0 → lowerSpan digits t ≡ versusSpan (digits - 1)
+  lower-span-one h e = ap (λ (d : ℕ). lowerSpan d t) (above-zero digits h) ∙ ap (lowerSpan (suc (digits - 1))) e ∙ (unfold lowerSpan in refl)
+
+  pub lower-span-more : 0 < digits → 0 < t → lowerSpan digits t ≡ outwardSpan (digits - 1) (t - 1)
+  lower-span-more h k = ap (λ (d : ℕ). lowerSpan d t) (above-zero digits h) ∙ ap (lowerSpan (suc (digits - 1))) (above-zero t k) ∙ (unfold lowerSpan in refl)
+
+  pub unequal-zero-at : digits ≡ 0 → n ≡ lowerUnequal n digits t
+  unfolding lowerUnequal
+  unequal-zero-at e = rw e
+
+  pub unequal-one-at : 0 < digits → t ≡ 0 → lowerUnequal n digits t ≡ unequalAt n (digits - 1)
+  unequal-one-at h e = ap (λ (d : ℕ). lowerUnequal n d t) (above-zero digits h) ∙ ap (lowerUnequal n (suc (digits - 1))) e ∙ (unfold lowerUnequal in refl)
+
+  pub unequal-more-at : 0 < digits → 0 < t → lowerUnequal n digits t ≡ resolveAt n (digits - 1) (t - 1) + 8
+  unequal-more-at h k = ap (λ (d : ℕ). lowerUnequal n d t) (above-zero digits h) ∙ ap (lowerUnequal n (suc (digits - 1))) (above-zero t k) ∙ (unfold lowerUnequal in refl)
+
+  module _ (x : ℕ) where
+    pub first-zero-at : digits ≡ 0 → n ≡ lowerFirst n x digits t
+    unfolding lowerFirst
+    first-zero-at e = rw e
+
+    pub first-one-at : 0 < digits → t ≡ 0 → lowerFirst n x digits t ≡ aboveAt n x (digits - 1)
+    first-one-at h e = ap (λ (d : ℕ). lowerFirst n x d t) (above-zero digits h) ∙ ap (lowerFirst n x (suc (digits - 1))) e ∙ (unfold lowerFirst in refl)
+
+    pub first-more-at : 0 < digits → 0 < t → lowerFirst n x digits t ≡ resolveAt n (digits - 1) (t - 1) + 9
+    first-more-at h k = ap (λ (d : ℕ). lowerFirst n x d t) (above-zero digits h) ∙ ap (lowerFirst n x (suc (digits - 1))) (above-zero t k) ∙ (unfold lowerFirst in refl)

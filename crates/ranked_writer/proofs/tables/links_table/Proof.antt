@@ -1,0 +1,81 @@
+-- `ranked_writer::tables::links_table` meets its contract: a comparison for each two candidates.
+-- Assumes nothing.
+use mathlib.Core.Path.{_≡_, _∙_, refl, sym, ap, subst}
+use mathlib.Core.List.{List}
+use Prim.Native.Nat.{ℕ, suc, _+_, _-_, _*_, _/_, _%_, _≤_, _<_}
+use native.Mathlib.Omega.{arith}
+use Rattle.gates.specs.Gate.{Gate}
+use Rattle.gate_words.specs.Writing.{Room}
+use Rattle.ranked_circuit.specs.Table.{place}
+use Rattle.ranked_circuit.specs.Stages.{linksBlock}
+use Rattle.ranked_circuit.specs.Paths.{linksSize}
+use Rattle.ranked_circuit.proofs.PathLaws.{links-sized}
+use Rattle.ranked_writer.proofs.Filling.{turn, square-small, same-square, TableTo, table-start, table-wire, table-next, table-room, table-end}
+use Rattle.ranked_writer.proofs.tables.links_table.Statement.{statement}
+use Rattle.ranked_writer.proofs.tables.links_table.Tie as tie
+
+abbrev Inv-loop : tie.InvT-loop
+Inv-loop table₀ p words k next₀ e₀ table next e =
+    (k ≡ p .candidates) × (e ≤ p .candidates * p .candidates) × TableTo next₀ table₀ (linksSize (p .digits)) (p .candidates) (linksBlock (place (words .first) (words .size) (p .candidates)) (p .digits)) (links-sized (place (words .first) (words .size) (p .candidates)) (p .digits)) e table next
+
+abbrev μ-loop : tie.MeasureT-loop
+μ-loop table₀ p words k next₀ e₀ table next e = p .candidates * p .candidates - e
+
+loop-holds : tie.Need-loop-holds Inv-loop μ-loop
+loop-holds c =
+    let a = (c .before .args) in
+    (refl, omega arith, table-start (a .w) (a .table .now) (linksSize (a .p .digits)) (a .p .candidates) (linksBlock (place (a .words .first) (a .words .size) (a .p .candidates)) (a .p .digits)) (links-sized (place (a .words .first) (a .words .size) (a .p .candidates)) (a .p .digits)))
+
+mul-loop : tie.Need-mul-loop Inv-loop μ-loop
+mul-loop c = omega (arith, square-small ((c .loop) .inv .0) ((c .before .before .pre) .0 .k-most))
+
+now-room : (c : tie.In-loop Inv-loop μ-loop) → Room ((c .before .loop) .next) (linksSize ((c .before .before .before .args) .p .digits))
+now-room c =
+    let a = (c .before .before .before .args) in
+    table-room (a .w) (a .table .now) (linksSize (a .p .digits)) (a .p .candidates) (linksBlock (place (a .words .first) (a .words .size) (a .p .candidates)) (a .p .digits)) (links-sized (place (a .words .first) (a .words .size) (a .p .candidates)) (a .p .digits)) ((c .before .loop) .e) ((c .before .loop) .table) ((c .before .loop) .next) (turn ((c .before .loop) .inv .0) ((c .loop-test) .taken) .few) ((c .before .before .before .pre) .1 .0) ((c .before .loop) .inv .2)
+
+now-wire : (c : tie.In-loop Inv-loop μ-loop) → (c .before .loop) .next .wire ≡ (c .before .before .before .args) .w .wire + (c .before .loop) .e * (linksSize ((c .before .before .before .args) .p .digits))
+now-wire c =
+    let a = (c .before .before .before .args) in
+    table-wire (a .w) (a .table .now) (linksSize (a .p .digits)) (a .p .candidates) (linksBlock (place (a .words .first) (a .words .size) (a .p .candidates)) (a .p .digits)) (links-sized (place (a .words .first) (a .words .size) (a .p .candidates)) (a .p .digits)) ((c .before .loop) .e) ((c .before .loop) .table) ((c .before .loop) .next) ((c .before .loop) .inv .2)
+
+div-links-block : tie.Need-div-links-block Inv-loop μ-loop
+div-links-block c = omega (arith, (c .before .before .loop) .inv .0, (c .before .before .before .before .pre) .0 .k-least)
+
+rem-links-block : tie.Need-rem-links-block Inv-loop μ-loop
+rem-links-block c = omega (arith, (c .before .before .loop) .inv .0, (c .before .before .before .before .pre) .0 .k-least)
+
+links-block-requires : tie.Need-links-block-requires Inv-loop μ-loop
+links-block-requires c κs =
+    let a = (c .before .before .before .before .args) in
+    let l = (c .before .before .loop) in
+    let t = turn ((c .before .before .loop) .inv .0) ((c .before .loop-test) .taken) in
+    let r = now-room (c .before) in
+    let w = now-wire (c .before) in
+    let before = (c .before .before .before .before .pre) .1 .1 in
+    ((c .before .before .before .before .pre) .0, (r, ((t .row, t .column), (omega (arith, w, before _ _ (t .row) (t .column)), omega (arith, w, before _ _ (t .column) (t .row))))))
+
+add-e : tie.Need-add-e Inv-loop μ-loop
+add-e c = omega (arith, turn ((c .before .before .before .before .before .loop) .inv .0) ((c .before .before .before .before .loop-test) .taken) .few, square-small ((c .before .before .before .before .before .loop) .inv .0) ((c .before .before .before .before .before .before .before .pre) .0 .k-most), same-square ((c .before .before .before .before .before .loop) .inv .0))
+
+loop-less : tie.Need-loop-less Inv-loop μ-loop
+loop-less c = omega (arith, turn ((c .before .before .before .before .before .loop) .inv .0) ((c .before .before .before .before .loop-test) .taken) .few)
+
+loop-again : tie.Need-loop-again Inv-loop μ-loop
+loop-again c =
+    let a = (c .before .before .before .before .before .before .before .args) in
+    let l = (c .before .before .before .before .before .loop) in
+    let h = (c .before .before .links-block) in
+    (l .inv .0, omega (arith, turn ((c .before .before .before .before .before .loop) .inv .0) ((c .before .before .before .before .loop-test) .taken) .few), table-next (a .w) (a .table .now) (linksSize (a .p .digits)) (a .p .candidates) (linksBlock (place (a .words .first) (a .words .size) (a .p .candidates)) (a .p .digits)) (links-sized (place (a .words .first) (a .words .size) (a .p .candidates)) (a .p .digits)) (l .e) (l .table) (l .next) (h .last .1 .0) (h .result) (l .inv .0) (l .inv .2) (h .ensures))
+
+same-length : tie.Need-same-length Inv-loop μ-loop
+same-length c = (c .before .loop) .inv .2 .long
+
+returns : tie.Need-returns Inv-loop μ-loop
+returns c =
+    let a = (c .before .before .before .args) in
+    let l = (c .before .loop) in
+    table-end (a .w) (a .table .now) (linksSize (a .p .digits)) (a .p .candidates) (linksBlock (place (a .words .first) (a .words .size) (a .p .candidates)) (a .p .digits)) (links-sized (place (a .words .first) (a .words .size) (a .p .candidates)) (a .p .digits)) (l .e) (l .table) (l .next) (omega (arith, (c .loop-test) .left, same-square (l .inv .0))) (l .inv .1) (l .inv .2)
+
+pub links-table-spec : {M : Type 1} → statement M
+links-table-spec = tie.close (tie.spec Inv-loop μ-loop loop-holds mul-loop div-links-block rem-links-block links-block-requires add-e loop-less loop-again same-length returns)
