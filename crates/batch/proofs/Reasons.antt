@@ -20,16 +20,16 @@ use Rattle.jury.specs.declared.shape.Shape.{Shape}
 use Rattle.jury.specs.Shape.{isRanking, ballotBytes}
 use Rattle.jury.specs.Reason.{Reason, unless, foundAt, firstOf}
 use Rattle.jury.specs.Ballots.{rowsOf, firstBadRow, gradedReasons, rankedReasons}
-use Rattle.jury.specs.Rankings.{firstOver, firstClash, firstGap}
+use Rattle.jury.specs.Rankings.{firstOver, firstNotAsymmetric, firstNotWeakOrder}
 use Rattle.jury.proofs.BallotLaws.{kindReason}
 use Rattle.jury.proofs.Searches.{none-first, first-none}
-use Rattle.tally.specs.Answer.{refused, said, Size, sizeOf}
-use Rattle.tally.specs.Test.{testReasons, testSaid}
+use Rattle.tally.specs.Answer.{refused, outcome, Size, sizeOf}
+use Rattle.tally.specs.Test.{testReasons, testOutcome}
 use Rattle.tally.proofs.TestReasons.{orElse, first-append, TestPassed, test-passed}
-use Rattle.tally.proofs.RunReasons.{firstOfThree, said-refused}
+use Rattle.tally.proofs.RunReasons.{firstOfThree, outcome-refused}
 use Rattle.batch_lanes.specs.Lane.{laneCount, laneOf}
 use Rattle.batch.specs.Ballots.{inJury, firstJury, wordGradedReasons, wordRankedReasons, wordBallotReasons}
-use Rattle.batch.specs.Run.{wordLentReasons, batchReasons, batchAfter, batchRan}
+use Rattle.batch.specs.Run.{wordBufferReasons, batchReasons, batchAfter, batchResult}
 
 -- the tests 7, 9 and 10, from their outcomes
 unfoldable pub lentFound : Bool → Bool → Bool → Option Reason
@@ -44,8 +44,8 @@ lent-outcome true true true e = (refl, refl, refl)
 
 module _ (i k : ℕ) (size : Size) (tape wires board : List ℕ) where
   pub lent-by : (t u v : Bool) → eqb (length tape) (size .conditional) ≡ t → eqb (length wires) (i + size .gates) ≡ u → eqb (length board) (size .conditional + k) ≡ v
-      → firstOf (wordLentReasons i k size tape wires board) ≡ lentFound t u v
-  unfolding wordLentReasons lentFound
+      → firstOf (wordBufferReasons i k size tape wires board) ≡ lentFound t u v
+  unfolding wordBufferReasons lentFound
   lent-by t u v e f g = rw (e, f, g)
 
   pub record LentPassed : Type 0 where
@@ -53,7 +53,7 @@ module _ (i k : ℕ) (size : Size) (tape wires board : List ℕ) where
     pub wiresLength : length wires ≡ i + size .gates
     pub boardLength : length board ≡ size .conditional + k
 
-  lent-passed : firstOf (wordLentReasons i k size tape wires board) ≡ none → LentPassed
+  lent-passed : firstOf (wordBufferReasons i k size tape wires board) ≡ none → LentPassed
   lent-passed e =
       let t = eqb (length tape) (size .conditional) in
       let u = eqb (length wires) (i + size .gates) in
@@ -65,7 +65,7 @@ module _ (i k : ℕ) (size : Size) (tape wires board : List ℕ) where
         boardLength = eqb-true (length board) (size .conditional + k) (q .2);
       }
 
-  lent-passed-back : LentPassed → firstOf (wordLentReasons i k size tape wires board) ≡ none
+  lent-passed-back : LentPassed → firstOf (wordBufferReasons i k size tape wires board) ≡ none
   unfolding lentFound unless firstOf
   lent-passed-back l =
       lent-by true true true (eq-eqb (length tape) (size .conditional) (l .tapeLength)) (eq-eqb (length wires) (i + size .gates) (l .wiresLength))
@@ -76,19 +76,19 @@ abbrev pub badRow : Shape → List ℕ → Place
 badRow s xs = firstBadRow 0 (rowsOf (s .grades) (s .ballots * s .candidates) xs)
 
 abbrev pub clash : Shape → List ℕ → Place
-clash s = firstClash (s .candidates) (s .ballots)
+clash s = firstNotAsymmetric (s .candidates) (s .ballots)
 
-abbrev pub gap : Shape → List ℕ → Place
-gap s = firstGap (s .candidates) (s .ballots)
+abbrev pub notWeakOrder : Shape → List ℕ → Place
+notWeakOrder s = firstNotWeakOrder (s .candidates) (s .ballots)
 
 -- the tests of the kind of the shape, from their outcomes
 unfoldable pub kindFound : Bool → Place → Place → Place → Option Reason
-kindFound ranking row clash gap = firstOf (cond ranking (foundAt 11 clash ∷ foundAt 12 gap ∷ []) (foundAt 6 row ∷ []))
+kindFound ranking row clash notWeakOrder = firstOf (cond ranking (foundAt 11 clash ∷ foundAt 12 notWeakOrder ∷ []) (foundAt 6 row ∷ []))
 
 -- those of them that are made find nothing
 unfoldable pub Clear : Bool → Place → Place → Place → Type 0
-Clear true row clash gap = (clash ≡ Nowhere) × (gap ≡ Nowhere)
-Clear false row clash gap = row ≡ Nowhere
+Clear true row clash notWeakOrder = (clash ≡ Nowhere) × (notWeakOrder ≡ Nowhere)
+Clear false row clash notWeakOrder = row ≡ Nowhere
 
 kind-clear : (t : Bool) (p c g : Place) → kindFound t p c g ≡ none → Clear t p c g
 unfolding kindFound Clear foundAt firstOf
@@ -162,7 +162,7 @@ first-last true (none ∷ os) = first-last true os
 first-last true (some r ∷ os) = refl
 
 -- what the tests of one jury answer
-pub alone-kind : (s : Shape) (xs : List ℕ) → kindReason s xs ≡ kindFound (isRanking s) (badRow s xs) (clash s xs) (gap s xs)
+pub alone-kind : (s : Shape) (xs : List ℕ) → kindReason s xs ≡ kindFound (isRanking s) (badRow s xs) (clash s xs) (notWeakOrder s xs)
 unfolding kindReason kindFound gradedReasons rankedReasons
 alone-kind s xs = refl
 
@@ -171,7 +171,7 @@ module _ (s : Shape) (words : List ℕ) where
   pub wordKind : Option Reason
   wordKind = firstOf (cond (isRanking s) (wordRankedReasons s words) (wordGradedReasons s words))
 
-  pub word-kind : wordKind ≡ kindFound (isRanking s) (over (λ j. badRow s (laneOf j words))) (over (λ j. clash s (laneOf j words))) (over (λ j. gap s (laneOf j words)))
+  pub word-kind : wordKind ≡ kindFound (isRanking s) (over (λ j. badRow s (laneOf j words))) (over (λ j. clash s (laneOf j words))) (over (λ j. notWeakOrder s (laneOf j words)))
   unfolding wordKind kindFound wordGradedReasons wordRankedReasons firstJury
   word-kind = refl
 
@@ -201,7 +201,7 @@ module _ (s : Shape) (words : List ℕ) where
         size = eqb-true (length words) (ballotBytes s) (q .0);
         kinds = λ j h.
             alone-kind s (laneOf j words)
-            ∙ none-in-juries (isRanking s) (λ j. badRow s (laneOf j words)) (λ j. clash s (laneOf j words)) (λ j. gap s (laneOf j words)) (sym word-kind ∙ q .1) j h;
+            ∙ none-in-juries (isRanking s) (λ j. badRow s (laneOf j words)) (λ j. clash s (laneOf j words)) (λ j. notWeakOrder s (laneOf j words)) (sym word-kind ∙ q .1) j h;
       }
 
   ballots-passed-back : BallotsPassed → firstOf (wordBallotReasons s words) ≡ none
@@ -210,7 +210,7 @@ module _ (s : Shape) (words : List ℕ) where
       ballots-by true (eq-eqb (length words) (ballotBytes s) (b .size))
       ∙ ap (ballotsFound true)
       (word-kind
-      ∙ juries-none (isRanking s) (λ j. badRow s (laneOf j words)) (λ j. clash s (laneOf j words)) (λ j. gap s (laneOf j words)) (λ j h. sym (alone-kind s (laneOf j words)) ∙ b .kinds j h))
+      ∙ juries-none (isRanking s) (λ j. badRow s (laneOf j words)) (λ j. clash s (laneOf j words)) (λ j. notWeakOrder s (laneOf j words)) (λ j h. sym (alone-kind s (laneOf j words)) ∙ b .kinds j h))
 
 three-passed : (a b c : Option Reason) → firstOfThree a b c ≡ none → (a ≡ none) × (b ≡ none) × (c ≡ none)
 unfolding firstOfThree orElse
@@ -221,20 +221,20 @@ three-passed (some r) b c e = let z : _≡_ {A = ℕ} 0 1 = cc in absurd (omega 
 
 module _ (s : Shape) (table ballots tape wires board : List ℕ) where
   pub batch-first : firstOf (batchReasons s table ballots tape wires board)
-      ≡ firstOfThree (firstOf (testReasons s table)) (firstOf (wordBallotReasons s ballots)) (firstOf (wordLentReasons (ballotBytes s) (s .candidates) (sizeOf (gatesOf table)) tape wires board))
+      ≡ firstOfThree (firstOf (testReasons s table)) (firstOf (wordBallotReasons s ballots)) (firstOf (wordBufferReasons (ballotBytes s) (s .candidates) (sizeOf (gatesOf table)) tape wires board))
   unfolding batchReasons firstOfThree
   batch-first =
-      let lent = wordLentReasons (ballotBytes s) (s .candidates) (sizeOf (gatesOf table)) tape wires board in
+      let lent = wordBufferReasons (ballotBytes s) (s .candidates) (sizeOf (gatesOf table)) tape wires board in
       first-append (testReasons s table ++ wordBallotReasons s ballots) lent
       ∙ ap (λ (r : Option Reason). orElse r (firstOf lent)) (first-append (testReasons s table) (wordBallotReasons s ballots))
 
   -- the answer by the first group in which a test applies
-  pub by-test : (r : Reason) → testSaid s table ≡ refused r → firstOf (batchReasons s table ballots tape wires board) ≡ some r
-  unfolding testSaid firstOfThree orElse
+  pub by-test : (r : Reason) → testOutcome s table ≡ refused r → firstOf (batchReasons s table ballots tape wires board) ≡ some r
+  unfolding testOutcome firstOfThree orElse
   by-test r e =
       batch-first
-      ∙ ap (λ (o : Option Reason). firstOfThree o (firstOf (wordBallotReasons s ballots)) (firstOf (wordLentReasons (ballotBytes s) (s .candidates) (sizeOf (gatesOf table)) tape wires board)))
-      (said-refused (firstOf (testReasons s table)) (sizeOf (gatesOf table)) r e)
+      ∙ ap (λ (o : Option Reason). firstOfThree o (firstOf (wordBallotReasons s ballots)) (firstOf (wordBufferReasons (ballotBytes s) (s .candidates) (sizeOf (gatesOf table)) tape wires board)))
+      (outcome-refused (firstOf (testReasons s table)) (sizeOf (gatesOf table)) r e)
 
   module _ (t : firstOf (testReasons s table) ≡ none) where
     pub by-ballots : (r : Reason) → firstOf (wordBallotReasons s ballots) ≡ some r → firstOf (batchReasons s table ballots tape wires board) ≡ some r
@@ -242,10 +242,10 @@ module _ (s : Shape) (table ballots tape wires board : List ℕ) where
     by-ballots r e = batch-first ∙ rw (t, e)
 
     pub by-lent : (size : Size) (o : Option Reason) → size ≡ sizeOf (gatesOf table) → firstOf (wordBallotReasons s ballots) ≡ none
-        → firstOf (wordLentReasons (ballotBytes s) (s .candidates) size tape wires board) ≡ o → firstOf (batchReasons s table ballots tape wires board) ≡ o
+        → firstOf (wordBufferReasons (ballotBytes s) (s .candidates) size tape wires board) ≡ o → firstOf (batchReasons s table ballots tape wires board) ≡ o
     unfolding firstOfThree orElse
     by-lent size o f b e =
-        batch-first ∙ rw (t, b) (ap (λ (z : Size). firstOf (wordLentReasons (ballotBytes s) (s .candidates) z tape wires board)) (sym f) ∙ e)
+        batch-first ∙ rw (t, b) (ap (λ (z : Size). firstOf (wordBufferReasons (ballotBytes s) (s .candidates) z tape wires board)) (sym f) ∙ e)
 
   -- an accepted call, as facts
   pub record BatchPassed : Type 0 where
@@ -256,13 +256,13 @@ module _ (s : Shape) (table ballots tape wires board : List ℕ) where
     pub boardLength : length board ≡ conditionalCount (gatesOf table) + s .candidates
 
   pub batch-passed : firstOf (batchReasons s table ballots tape wires board) ≡ none → BatchPassed
-  unfolding testSaid said sizeOf
+  unfolding testOutcome outcome sizeOf
   batch-passed e =
       let size = sizeOf (gatesOf table) in
-      let q = three-passed (firstOf (testReasons s table)) (firstOf (wordBallotReasons s ballots)) (firstOf (wordLentReasons (ballotBytes s) (s .candidates) size tape wires board)) (sym batch-first ∙ e) in
+      let q = three-passed (firstOf (testReasons s table)) (firstOf (wordBallotReasons s ballots)) (firstOf (wordBufferReasons (ballotBytes s) (s .candidates) size tape wires board)) (sym batch-first ∙ e) in
       let l = lent-passed (ballotBytes s) (s .candidates) size tape wires board (q .2) in
       record {
-        test = test-passed s table size (ap (λ (r : Option Reason). said r size) (q .0));
+        test = test-passed s table size (ap (λ (r : Option Reason). outcome r size) (q .0));
         ballotsPassed = ballots-passed s ballots (q .1);
         tapeLength = l .tapeLength;
         wiresLength = l .wiresLength;
@@ -295,6 +295,6 @@ module _ (s : Shape) (table ballots tape wires board : List ℕ) where
       }
 
   -- the whole of a call by its first reason
-  pub batch-by : (o : Option Reason) → firstOf (batchReasons s table ballots tape wires board) ≡ o → batchRan s table ballots tape wires board ≡ batchAfter o s (gatesOf table) ballots tape wires board
-  unfolding batchRan
+  pub batch-by : (o : Option Reason) → firstOf (batchReasons s table ballots tape wires board) ≡ o → batchResult s table ballots tape wires board ≡ batchAfter o s (gatesOf table) ballots tape wires board
+  unfolding batchResult
   batch-by o e = ap (λ (r : Option Reason). batchAfter r s (gatesOf table) ballots tape wires board) e

@@ -20,18 +20,18 @@ use Rattle.jury.specs.Reason.{Reason, reasonAt, unless, foundAt, firstOf}
 use Rattle.jury.specs.Rankings.{firstOver, orElse}
 use Rattle.jury.proofs.BallotLaws.{judged, kindReason, judged-by}
 use Rattle.jury.proofs.Searches.{none-first}
-use Rattle.tally.specs.Answer.{refused, said, hasNumberIn, sizeOf}
-use Rattle.tally.specs.Test.{testReasons, testSaid}
-use Rattle.tally.specs.Run.{Ran, lentReasons, runReasons, ranAfter}
+use Rattle.tally.specs.Answer.{refused, outcome, hasNumberIn, sizeOf}
+use Rattle.tally.specs.Test.{testReasons, testOutcome}
+use Rattle.tally.specs.Run.{RunResult, bufferReasons, runReasons, runResultAfter}
 use Rattle.tally.proofs.TestReasons as test
 use Rattle.tally.proofs.RunReasons as single
 use Rattle.tally.proofs.Numbering as numbering
 use Rattle.batch_lanes.specs.Lane.{laneCount, laneOf}
 use Rattle.batch_lanes.proofs.ListLaws.{lanes-length, lanes-bits}
 use Rattle.batch.specs.Ballots.{inJury}
-use Rattle.batch.specs.Run.{wordLentReasons, batchReasons, batchAfter, batchRan}
+use Rattle.batch.specs.Run.{wordBufferReasons, batchReasons, batchAfter, batchResult}
 use Rattle.batch.specs.Theorems.{ranAlone, isOfBallots, RefusedAsAlone, FaultAsAlone}
-use Rattle.batch.proofs.Reasons.{in-no-jury, none-over, over, lentFound, lent-by, badRow, clash, gap, kindFound, none-in-juries, ballotsFound, alone-kind, wordKind, word-kind, ballots-by, batch-first, batch-by}
+use Rattle.batch.proofs.Reasons.{in-no-jury, none-over, over, lentFound, lent-by, badRow, clash, notWeakOrder, kindFound, none-in-juries, ballotsFound, alone-kind, wordKind, word-kind, ballots-by, batch-first, batch-by}
 
 -- the tests of what is lent, where no tape byte is above 1
 lent-bits : (t u v : Bool) → single.lentFound t Nowhere u v ≡ lentFound t u v
@@ -70,10 +70,10 @@ small-other m false false true e f g h = absurd (subst (λ (m : ℕ). OneToThree
 small-other m false false false e f g h = refl
 
 test-other : (s : Shape) (table : List ℕ) (r : Reason) → firstOf (testReasons s table) ≡ some r → isOfBallots r ≡ false
-unfolding testSaid said isOfBallots hasNumberIn
+unfolding testOutcome outcome isOfBallots hasNumberIn
 test-other s table r e =
     small-other (r .number) (eqb (r .number) 6) (eqb (r .number) 11) (eqb (r .number) 12) refl refl refl
-    (numbering.test-number s table r (ap (λ (o : Option Reason). said o (sizeOf (gatesOf table))) e))
+    (numbering.test-number s table r (ap (λ (o : Option Reason). outcome o (sizeOf (gatesOf table))) e))
 
 -- what the first jury in which something is found tells
 abbrev Found : ℕ → ℕ → (ℕ → Place) → Type 0
@@ -217,7 +217,7 @@ module _ (s : Shape) (table ballots tape wires board : List ℕ) where
       ≡ single.firstOfThree (firstOf (testReasons s table)) (ballotsFound sizeRight (wordKind s ballots)) (lentFound tapeRight wiresRight boardRight)
   batch-reason =
       batch-first s table ballots tape wires board
-      ∙ ap (λ (o : Option Reason). single.firstOfThree (firstOf (testReasons s table)) o (firstOf (wordLentReasons (ballotBytes s) (s .candidates) (sizeOf (gatesOf table)) tape wires board)))
+      ∙ ap (λ (o : Option Reason). single.firstOfThree (firstOf (testReasons s table)) o (firstOf (wordBufferReasons (ballotBytes s) (s .candidates) (sizeOf (gatesOf table)) tape wires board)))
       (ballots-by s ballots sizeRight refl)
       ∙ ap (single.firstOfThree (firstOf (testReasons s table)) (ballotsFound sizeRight (wordKind s ballots)))
       (lent-by (ballotBytes s) (s .candidates) (sizeOf (gatesOf table)) tape wires board tapeRight wiresRight boardRight refl refl refl)
@@ -226,7 +226,7 @@ module _ (s : Shape) (table ballots tape wires board : List ℕ) where
       ≡ single.firstOfThree (firstOf (testReasons s table)) (ballotsFound sizeRight (kindReason s (laneOf j ballots))) (lentFound tapeRight wiresRight boardRight)
   alone-reason j =
       single.run-first s table (laneOf j ballots) (laneOf j tape) (laneOf j wires) (laneOf j board)
-      ∙ ap (λ (o : Option Reason). single.firstOfThree (firstOf (testReasons s table)) o (firstOf (lentReasons (ballotBytes s) (s .candidates) (sizeOf (gatesOf table)) (laneOf j tape) (laneOf j wires) (laneOf j board))))
+      ∙ ap (λ (o : Option Reason). single.firstOfThree (firstOf (testReasons s table)) o (firstOf (bufferReasons (ballotBytes s) (s .candidates) (sizeOf (gatesOf table)) (laneOf j tape) (laneOf j wires) (laneOf j board))))
       (judged-by s (laneOf j ballots) sizeRight Nowhere (kindReason s (laneOf j ballots)) (ap (λ (n : ℕ). eqb n (ballotBytes s)) (lanes-length j ballots)) (none-above 0 (laneOf j ballots) (lanes-bits j ballots)) refl
       ∙ judged-bits sizeRight (kindReason s (laneOf j ballots)))
       ∙ ap (single.firstOfThree (firstOf (testReasons s table)) (ballotsFound sizeRight (kindReason s (laneOf j ballots))))
@@ -242,14 +242,14 @@ module _ (s : Shape) (table ballots tape wires board : List ℕ) where
   batch-after none r e = test.never (sizeOf (gatesOf table)) r (sym e)
   batch-after (some q) r e = let same : q ≡ r = cc in ap some same
 
-  batch-refused : (r : Reason) → batchRan s table ballots tape wires board .answer ≡ refused r → firstOf (batchReasons s table ballots tape wires board) ≡ some r
+  batch-refused : (r : Reason) → batchResult s table ballots tape wires board .answer ≡ refused r → firstOf (batchReasons s table ballots tape wires board) ≡ some r
   batch-refused r e =
       let o = firstOf (batchReasons s table ballots tape wires board) in
-      batch-after o r (sym (ap (λ (z : Ran). z .answer) (batch-by s table ballots tape wires board o refl)) ∙ e)
+      batch-after o r (sym (ap (λ (z : RunResult). z .answer) (batch-by s table ballots tape wires board o refl)) ∙ e)
 
   module _ (j : ℕ) where
-    alone-after : (o : Option Reason) (r : Reason) → ranAfter o s (gatesOf table) (laneOf j ballots) (laneOf j tape) (laneOf j wires) (laneOf j board) .answer ≡ refused r → o ≡ some r
-    unfolding ranAfter
+    alone-after : (o : Option Reason) (r : Reason) → runResultAfter o s (gatesOf table) (laneOf j ballots) (laneOf j tape) (laneOf j wires) (laneOf j board) .answer ≡ refused r → o ≡ some r
+    unfolding runResultAfter
     alone-after none r e = test.never (sizeOf (gatesOf table)) r (sym e)
     alone-after (some q) r e = let same : q ≡ r = cc in ap some same
 
@@ -257,30 +257,30 @@ module _ (s : Shape) (table ballots tape wires board : List ℕ) where
         → firstOf (runReasons s table (laneOf j ballots) (laneOf j tape) (laneOf j wires) (laneOf j board)) ≡ some r
     alone-refused r e =
         let o = firstOf (runReasons s table (laneOf j ballots) (laneOf j tape) (laneOf j wires) (laneOf j board)) in
-        alone-after o r (sym (ap (λ (z : Ran). z .answer) (single.ran-by s table (laneOf j ballots) (laneOf j tape) (laneOf j wires) (laneOf j board) o refl)) ∙ e)
+        alone-after o r (sym (ap (λ (z : RunResult). z .answer) (single.ran-by s table (laneOf j ballots) (laneOf j tape) (laneOf j wires) (laneOf j board) o refl)) ∙ e)
 
     refused-alone : (r : Reason) → firstOf (runReasons s table (laneOf j ballots) (laneOf j tape) (laneOf j wires) (laneOf j board)) ≡ some r
         → ranAlone j s table ballots tape wires board .answer ≡ refused r
-    unfolding ranAfter
-    refused-alone r e = ap (λ (z : Ran). z .answer) (single.ran-by s table (laneOf j ballots) (laneOf j tape) (laneOf j wires) (laneOf j board) (some r) e)
+    unfolding runResultAfter
+    refused-alone r e = ap (λ (z : RunResult). z .answer) (single.ran-by s table (laneOf j ballots) (laneOf j tape) (laneOf j wires) (laneOf j board) (some r) e)
 
 -- the three searches of a shape, by juries
 abbrev rows : Shape → List ℕ → ℕ → Place
 rows s ballots j = badRow s (laneOf j ballots)
 
-abbrev clashes : Shape → List ℕ → ℕ → Place
-clashes s ballots j = clash s (laneOf j ballots)
+abbrev not_asymmetric : Shape → List ℕ → ℕ → Place
+not_asymmetric s ballots j = clash s (laneOf j ballots)
 
-abbrev gaps : Shape → List ℕ → ℕ → Place
-gaps s ballots j = gap s (laneOf j ballots)
+abbrev not_weak_order : Shape → List ℕ → ℕ → Place
+not_weak_order s ballots j = notWeakOrder s (laneOf j ballots)
 
 pub refused-as-alone : RefusedAsAlone
 refused-as-alone s table ballots tape wires board r e n j h =
     refused-alone s table ballots tape wires board j r
     (alone-reason s table ballots tape wires board j
     ∙ same-otherwise (firstOf (testReasons s table)) _ (wordKind s ballots) (kindReason s (laneOf j ballots)) _ r
-    (λ none. alone-kind s (laneOf j ballots) ∙ none-in-juries (isRanking s) (rows s ballots) (clashes s ballots) (gaps s ballots) (sym (word-kind s ballots) ∙ none) j h)
-    (λ k. true≢false (sym (kind-number (isRanking s) (over (rows s ballots)) (over (clashes s ballots)) (over (gaps s ballots)) r (sym (word-kind s ballots) ∙ k)) ∙ n))
+    (λ none. alone-kind s (laneOf j ballots) ∙ none-in-juries (isRanking s) (rows s ballots) (not_asymmetric s ballots) (not_weak_order s ballots) (sym (word-kind s ballots) ∙ none) j h)
+    (λ k. true≢false (sym (kind-number (isRanking s) (over (rows s ballots)) (over (not_asymmetric s ballots)) (over (not_weak_order s ballots)) r (sym (word-kind s ballots) ∙ k)) ∙ n))
     (sym (batch-reason s table ballots tape wires board) ∙ batch-refused s table ballots tape wires board r e))
 
 no-reason : (q : Reason) → none ≡ some q → ⊥
@@ -303,7 +303,7 @@ fault-as-alone s table ballots tape wires board r e n =
     let l = lentFound (tapeRight s table ballots tape wires board) (wiresRight s table ballots tape wires board) (boardRight s table ballots tape wires board) in
     let o = is-of-kind (firstOf (testReasons s table)) (sizeRight s table ballots tape wires board) (wordKind s ballots) l r (λ t. true≢false (sym n ∙ test-other s table r t))
     (λ t. true≢false (sym n ∙ lent-other _ _ _ r t)) (not-4 r n) (sym (batch-reason s table ballots tape wires board) ∙ batch-refused s table ballots tape wires board r e) in
-    let f = faulty (isRanking s) (rows s ballots) (clashes s ballots) (gaps s ballots) (over (rows s ballots)) (over (clashes s ballots)) (over (gaps s ballots)) r refl refl refl (sym (word-kind s ballots) ∙ o .2) in (
+    let f = faulty (isRanking s) (rows s ballots) (not_asymmetric s ballots) (not_weak_order s ballots) (over (rows s ballots)) (over (not_asymmetric s ballots)) (over (not_weak_order s ballots)) r refl refl refl (sym (word-kind s ballots) ∙ o .2) in (
       f .0,
       (
         f .1 .0,
@@ -321,7 +321,7 @@ fault-as-alone s table ballots tape wires board r e n =
 
     -- a single run that is refused for what its ballots say
     its-kind : firstOf (testReasons s table) ≡ none → sizeRight s table ballots tape wires board ≡ true → (j : ℕ) (q : Reason) → isOfBallots q ≡ true
-        → ranAlone j s table ballots tape wires board .answer ≡ refused q → kindFound (isRanking s) (rows s ballots j) (clashes s ballots j) (gaps s ballots j) ≡ some q
+        → ranAlone j s table ballots tape wires board .answer ≡ refused q → kindFound (isRanking s) (rows s ballots j) (not_asymmetric s ballots j) (not_weak_order s ballots j) ≡ some q
     its-kind a b j q m x =
         sym (alone-kind s (laneOf j ballots))
         ∙ is-of-kind none true (kindReason s (laneOf j ballots)) (lentFound (tapeRight s table ballots tape wires board) (wiresRight s table ballots tape wires board) (boardRight s table ballots tape wires board)) q

@@ -30,7 +30,7 @@ use Rattle.jury.proofs.AcceptedLaws as ballots-laws
 use Rattle.jury.proofs.Cases.{below-or-not}
 use Rattle.tally.specs.Answer.{refused, accepted, hasNumberIn, Size, sizeOf}
 use Rattle.tally.specs.Test.{testReasons}
-use Rattle.tally.specs.Run.{Ran}
+use Rattle.tally.specs.Run.{RunResult}
 use Rattle.tally.specs.Hiding.{closingBytes}
 use Rattle.tally.specs.Demands.{listIn}
 use Rattle.tally.proofs.TestReasons.{never}
@@ -41,7 +41,7 @@ use Rattle.tally.proofs.Numbering.{Fine, All, FineSaid, first-fine, both, unles
 use Rattle.batch_lanes.specs.Lane.{laneCount, laneOf, wordsOf}
 use Rattle.batch_lanes.proofs.ListLaws.{lanes-length, lanes-bits, lanes-zeros, lanes-of-words, length-words}
 use Rattle.batch.specs.Ballots.{wordGradedReasons, wordRankedReasons, wordBallotReasons}
-use Rattle.batch.specs.Run.{wordLentReasons, batchReasons, batchAfter, batchRan}
+use Rattle.batch.specs.Run.{wordBufferReasons, batchReasons, batchAfter, batchResult}
 use Rattle.batch.specs.Theorems.{ranAlone, EachAsAlone, AcceptedAsAll, BatchMemory, BatchAccuracy, BatchHiding}
 use Rattle.batch.proofs.Reasons.{BatchPassed, batch-passed, batch-passed-back, batch-by}
 
@@ -86,12 +86,12 @@ module _ (s : Shape) (table ballots tape wires board : List ℕ) where
   answered size none e f = (e, cc)
   answered size (some r) e f = never size r f
 
-  whole : batchRan s table ballots tape wires board ≡ batchAfter (firstOf (batchReasons s table ballots tape wires board)) s (gatesOf table) ballots tape wires board
+  whole : batchResult s table ballots tape wires board ≡ batchAfter (firstOf (batchReasons s table ballots tape wires board)) s (gatesOf table) ballots tape wires board
   whole = batch-by s table ballots tape wires board (firstOf (batchReasons s table ballots tape wires board)) refl
 
-  batch-accepted : (size : Size) → batchRan s table ballots tape wires board .answer ≡ accepted size
+  batch-accepted : (size : Size) → batchResult s table ballots tape wires board .answer ≡ accepted size
       → (firstOf (batchReasons s table ballots tape wires board) ≡ none) × (size ≡ sizeOf (gatesOf table))
-  batch-accepted size e = answered size (firstOf (batchReasons s table ballots tape wires board)) refl (sym (ap (λ (r : Ran). r .answer) whole) ∙ e)
+  batch-accepted size e = answered size (firstOf (batchReasons s table ballots tape wires board)) refl (sym (ap (λ (r : RunResult). r .answer) whole) ∙ e)
 
   -- the facts of an accepted call are those of every single run
   module _ (p : BatchPassed s table ballots tape wires board) where
@@ -125,7 +125,7 @@ module _ (s : Shape) (table ballots tape wires board : List ℕ) where
         (λ i. board-finished (wiresOf (laneOf i ballots) (gatesOf table)) (gatesOf table) (s .candidates) (laneOf i tape) (omega (arith, enough, length-wires (laneOf i ballots) (gatesOf table))) (lanes-length i tape ∙ p .tapeLength) .size)
         (λ i x. board-bits (laneOf i ballots) (gatesOf table) (s .candidates) (laneOf i tape) (good i) (lanes-bits i ballots) enough (lanes-length i tape ∙ p .tapeLength) x)
 
-    outcome : batchRan s table ballots tape wires board ≡ batchAfter none s (gatesOf table) ballots tape wires board
+    outcome : batchResult s table ballots tape wires board ≡ batchAfter none s (gatesOf table) ballots tape wires board
     outcome = batch-by s table ballots tape wires board none (batch-passed-back s table ballots tape wires board p)
 
     alone-answer : (j : ℕ) → j < laneCount → ranAlone j s table ballots tape wires board .answer ≡ accepted (sizeOf (gatesOf table))
@@ -133,18 +133,18 @@ module _ (s : Shape) (table ballots tape wires board : List ℕ) where
         let q = alone-passed j h in
         run-answer s table (laneOf j ballots) (laneOf j wires) (laneOf j board) (laneOf j tape) q (laneOf j tape) (q .mask)
 
-    alone-wires : (j : ℕ) → j < laneCount → laneOf j (batchRan s table ballots tape wires board .wires) ≡ ranAlone j s table ballots tape wires board .wires
+    alone-wires : (j : ℕ) → j < laneCount → laneOf j (batchResult s table ballots tape wires board .wires) ≡ ranAlone j s table ballots tape wires board .wires
     unfolding batchAfter
     alone-wires j h =
         let q = alone-passed j h in
-        ap (λ (r : Ran). laneOf j (r .wires)) outcome ∙ lanes-zeros j (length wires) ∙ ap (λ (n : ℕ). replicate n 0) (sym (lanes-length j wires))
+        ap (λ (r : RunResult). laneOf j (r .wires)) outcome ∙ lanes-zeros j (length wires) ∙ ap (λ (n : ℕ). replicate n 0) (sym (lanes-length j wires))
         ∙ sym (run-wires s table (laneOf j ballots) (laneOf j wires) (laneOf j board) (laneOf j tape) q (laneOf j tape) (q .mask))
 
-    alone-board : (j : ℕ) → j < laneCount → laneOf j (batchRan s table ballots tape wires board .board) ≡ ranAlone j s table ballots tape wires board .board
+    alone-board : (j : ℕ) → j < laneCount → laneOf j (batchResult s table ballots tape wires board .board) ≡ ranAlone j s table ballots tape wires board .board
     unfolding batchAfter lists
     alone-board j h =
         let q = alone-passed j h in
-        ap (λ (r : Ran). laneOf j (r .board)) outcome ∙ lane-board j h
+        ap (λ (r : RunResult). laneOf j (r .board)) outcome ∙ lane-board j h
         ∙ sym (run-board s table (laneOf j ballots) (laneOf j wires) (laneOf j board) (laneOf j tape) q (laneOf j tape) (q .mask))
 
 -- Each jury has its single run.
@@ -161,7 +161,7 @@ each-as-alone s table ballots tape wires board size e j h =
 pub accepted-as-all : AcceptedAsAll
 unfolding batchAfter
 accepted-as-all s table ballots tape wires board size e =
-    ap (λ (r : Ran). r .answer) (batch-by s table ballots tape wires board none (batch-passed-back s table ballots tape wires board passed))
+    ap (λ (r : RunResult). r .answer) (batch-by s table ballots tape wires board none (batch-passed-back s table ballots tape wires board passed))
     ∙ ap accepted (sym (ran-accepted s table (laneOf 0 ballots) (laneOf 0 wires) (laneOf 0 board) (laneOf 0 tape) size (e 0 (omega arith)) .1))
   where
     alone : (j : ℕ) → j < laneCount → RunPassed s table (laneOf j ballots) (laneOf j tape) (laneOf j wires) (laneOf j board)
@@ -195,9 +195,9 @@ kinds-concern s words true = (found-fine concerned 11 _ (λ i. tt), (found-fine 
 kinds-concern s words false = (found-fine concerned 6 _ (λ i. tt), tt)
 
 all-concern : (s : Shape) (table ballots tape wires board : List ℕ) → All concerned (batchReasons s table ballots tape wires board)
-unfolding batchReasons All testReasons wordBallotReasons wordLentReasons hasNumberIn reasonAt concerned
+unfolding batchReasons All testReasons wordBallotReasons wordBufferReasons hasNumberIn reasonAt concerned
 all-concern s table ballots tape wires board =
-    both concerned (testReasons s table ++ wordBallotReasons s ballots) (wordLentReasons (ballotBytes s) (s .candidates) (sizeOf (gatesOf table)) tape wires board)
+    both concerned (testReasons s table ++ wordBallotReasons s ballots) (wordBufferReasons (ballotBytes s) (s .candidates) (sizeOf (gatesOf table)) tape wires board)
     (both concerned (testReasons s table) (wordBallotReasons s ballots)
     (unless-fine concerned _ 1 tt, (list-fine concerned _ tt (λ g. tt), tt))
     (unless-fine concerned _ 4 tt, kinds-concern s ballots (isRanking s)))
@@ -224,17 +224,17 @@ module _ (s : Shape) (table ballots tape wires board : List ℕ) where
   after-lengths (some r) e = (refl, refl)
 
 pub batch-memory : BatchMemory
-unfolding batchRan concerned batchAfter
+unfolding batchResult concerned batchAfter
 batch-memory =
     record {
       number = λ s table ballots tape wires board r e.
-          refused-fine concerned (batchRan s table ballots tape wires board .answer) r
+          refused-fine concerned (batchResult s table ballots tape wires board .answer) r
           (after-fine (firstOf (batchReasons s table ballots tape wires board)) s (gatesOf table) ballots tape wires board
           (first-fine concerned (batchReasons s table ballots tape wires board) (all-concern s table ballots tape wires board))) e;
       refusal = λ s table ballots tape wires board r e. after-refusal s table ballots tape wires board (firstOf (batchReasons s table ballots tape wires board)) r e;
       empties = λ s table ballots tape wires board size e.
           let a = batch-accepted s table ballots tape wires board size e in
-          ap (λ (r : Ran). r .wires) (batch-by s table ballots tape wires board none (a .0));
+          ap (λ (r : RunResult). r .wires) (batch-by s table ballots tape wires board none (a .0));
       lengths = λ s table ballots tape wires board. after-lengths s table ballots tape wires board (firstOf (batchReasons s table ballots tape wires board)) refl;
     }
 

@@ -11,7 +11,7 @@ use Rattle.jury.specs.declared.shape.Shape.{Shape}
 use Rattle.jury.specs.Shape.{isRanking, ballotBytes}
 use Rattle.jury.specs.Reason.{Reason, unless, foundAt}
 use Rattle.jury.specs.Ballots.{rowsOf, firstBadRow}
-use Rattle.jury.specs.Rankings.{firstOver, firstClash, firstGap}
+use Rattle.jury.specs.Rankings.{firstOver, firstNotAsymmetric, firstNotWeakOrder}
 use Rattle.batch_lanes.specs.Lane.{laneCount, lane, laneOf}
 
 -- The jury in place of what was found in it.
@@ -29,7 +29,7 @@ wordGradedReasons s words = foundAt 6 (firstJury (λ xs. firstBadRow 0 (rowsOf (
 
 -- What rankings must say, over all juries: first 11, then 12.
 unfoldable pub wordRankedReasons : Shape → List ℕ → List (Option Reason)
-wordRankedReasons s words = foundAt 11 (firstJury (firstClash (s .candidates) (s .ballots)) words) ∷ foundAt 12 (firstJury (firstGap (s .candidates) (s .ballots)) words) ∷ []
+wordRankedReasons s words = foundAt 11 (firstJury (firstNotAsymmetric (s .candidates) (s .ballots)) words) ∷ foundAt 12 (firstJury (firstNotWeakOrder (s .candidates) (s .ballots)) words) ∷ []
 
 -- The tests of the ballots in checking order: 4, which counts words, and then those of the kind of the shape. A bit is never above 1, so 5 does not concern words (request 2.11).
 unfoldable pub wordBallotReasons : Shape → List ℕ → List (Option Reason)

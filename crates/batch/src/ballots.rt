@@ -50,13 +50,13 @@ fn test_rankings(shape: Shape, ballots: &[u64]) -> Verdict
     requires { ⌜ length (now ballots) ≡ shape .ballots * shape .candidates * shape .candidates ⌝ }
     ensures { λ r. ⌜ refusedFor r ≡ firstOf (wordRankedReasons shape (now (ballots .entry))) ⌝ }
 {
-    let clashes = crate::rankings::clashes(ballots, shape.candidates, shape.ballots);
-    if let Place::At(j) = first_jury(clashes) {
-        return Verdict::Refused(Refusal::BallotClash(j));
+    let not_asymmetric = crate::rankings::not_asymmetric(ballots, shape.candidates, shape.ballots);
+    if let Place::At(j) = first_jury(not_asymmetric) {
+        return Verdict::Refused(Refusal::NotAsymmetric(j));
     }
-    let gaps = crate::rankings::gaps(ballots, shape.candidates, shape.ballots);
-    match first_jury(gaps) {
-        Place::At(j) => Verdict::Refused(Refusal::BallotGap(j)),
+    let not_weak_order = crate::rankings::not_weak_order(ballots, shape.candidates, shape.ballots);
+    match first_jury(not_weak_order) {
+        Place::At(j) => Verdict::Refused(Refusal::NotWeakOrder(j)),
         Place::Nowhere => Verdict::Accepted,
     }
 }

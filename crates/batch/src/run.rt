@@ -7,11 +7,11 @@ use tally::answer::Answer;
 ghost use mathlib.Core.Path.{_≡_};
 ghost use Rattle.gates.specs.Gate.{gatesOf};
 ghost use Rattle.jury.specs.Reason.{refusedFor, firstOf};
-ghost use Rattle.tally.specs.Answer.{saidBy, said, sizeOf};
-ghost use Rattle.batch.specs.Run.{wordLentReasons, batchReasons, batchRan};
+ghost use Rattle.tally.specs.Answer.{outcomeOf, outcome, sizeOf};
+ghost use Rattle.batch.specs.Run.{wordBufferReasons, batchReasons, batchResult};
 
 // Reasons 7, 9 and 10, for a list of so many inputs, outputs, gates and conditional gates.
-fn test_lent(
+fn test_buffers(
     inputs: usize,
     outputs: usize,
     gates: usize,
@@ -20,7 +20,7 @@ fn test_lent(
     wires: &[u64],
     board: &[u64],
 ) -> Verdict
-    ensures { λ r. ⌜ refusedFor r ≡ firstOf (wordLentReasons inputs outputs (record { gates = gates; conditional = conditional }) (now (tape .entry)) (now (wires .entry)) (now (board .entry))) ⌝ }
+    ensures { λ r. ⌜ refusedFor r ≡ firstOf (wordBufferReasons inputs outputs (record { gates = gates; conditional = conditional }) (now (tape .entry)) (now (wires .entry)) (now (board .entry))) ⌝ }
 {
     if !word::has_length(tape, conditional, 0) {
         return Verdict::Refused(Refusal::TapeLength);
@@ -43,7 +43,7 @@ fn test_run(
     wires: &[u64],
     board: &[u64],
 ) -> Answer
-    ensures { λ r. ⌜ saidBy r ≡ said (firstOf (batchReasons shape (now (table .entry)) (now (ballots .entry)) (now (tape .entry)) (now (wires .entry)) (now (board .entry)))) (sizeOf (gatesOf (now (table .entry)))) ⌝ }
+    ensures { λ r. ⌜ outcomeOf r ≡ outcome (firstOf (batchReasons shape (now (table .entry)) (now (ballots .entry)) (now (tape .entry)) (now (wires .entry)) (now (board .entry)))) (sizeOf (gatesOf (now (table .entry)))) ⌝ }
 {
     let answer = tally::test::test(shape, table);
     let Answer::Accepted { gates, conditional } = answer else {
@@ -53,7 +53,7 @@ fn test_run(
         return Answer::Refused(reason);
     }
     let inputs = shape.ballot_bytes();
-    match test_lent(
+    match test_buffers(
         inputs,
         shape.candidates,
         gates,
@@ -77,9 +77,9 @@ pub fn run(
     wires: &mut [u64],
     board: &mut [u64],
 ) -> Answer
-    ensures { λ r. ⌜ saidBy r ≡ (batchRan shape (now (table .entry)) (now (ballots .entry)) (now (tape .entry)) (now (wires .entry)) (now (board .entry))) .answer ⌝ }
-    ensures { λ _. ⌜ now (wires .exit) ≡ (batchRan shape (now (table .entry)) (now (ballots .entry)) (now (tape .entry)) (now (wires .entry)) (now (board .entry))) .wires ⌝ }
-    ensures { λ _. ⌜ now (board .exit) ≡ (batchRan shape (now (table .entry)) (now (ballots .entry)) (now (tape .entry)) (now (wires .entry)) (now (board .entry))) .board ⌝ }
+    ensures { λ r. ⌜ outcomeOf r ≡ (batchResult shape (now (table .entry)) (now (ballots .entry)) (now (tape .entry)) (now (wires .entry)) (now (board .entry))) .answer ⌝ }
+    ensures { λ _. ⌜ now (wires .exit) ≡ (batchResult shape (now (table .entry)) (now (ballots .entry)) (now (tape .entry)) (now (wires .entry)) (now (board .entry))) .wires ⌝ }
+    ensures { λ _. ⌜ now (board .exit) ≡ (batchResult shape (now (table .entry)) (now (ballots .entry)) (now (tape .entry)) (now (wires .entry)) (now (board .entry))) .board ⌝ }
 {
     let answer = test_run(shape, table, ballots, tape, wires, board);
     if let Answer::Accepted {

@@ -11,10 +11,10 @@ use lib.ListN.{length}
 use borrow.Author.Tests.{eqb-true, ltb-true, ltb-false}
 use Rattle.gates.proofs.Goodness.{and-left, and-right}
 use Rattle.jury.specs.Reason.{Reason}
-use Rattle.tally.specs.Answer.{Said, refused, accepted, hasNumberIn, Size}
+use Rattle.tally.specs.Answer.{Outcome, refused, accepted, hasNumberIn, Size}
 use Rattle.tally.specs.Measure.{Measures}
 use Rattle.c_answers.specs.Numbers.{sizeNumbers, measureNumbers, oneNumber, statusOf, shortAnswer, status}
-use Rattle.c_answers.specs.Status.{isAccepted, Tells}
+use Rattle.c_answers.specs.Status.{isAccepted, StatusReads}
 use Rattle.c_answers.proofs.Answering.{short-status, room-status}
 
 -- each of these numbers is one from 1 to the last
@@ -44,7 +44,7 @@ module _ (last : ℕ) where
 
   -- a status of numbers that begin with 0 or with a reason's number
   pub tells : last < shortAnswer → (needed : ℕ) (numbers answer : List ℕ) (acceptance : Bool)
-      → statusOf numbers ≤ last → ((statusOf numbers ≡ 0) ↔ T acceptance) → Tells last needed numbers answer acceptance
+      → statusOf numbers ≤ last → ((statusOf numbers ≡ 0) ↔ T acceptance) → StatusReads last needed numbers answer acceptance
   tells few needed numbers answer acceptance h zero =
       record {
         short = (λ e. by-length (ltb (length answer) needed) refl e, λ l. short-status needed answer l numbers);
@@ -57,25 +57,25 @@ module _ (last : ℕ) where
       by-length false t e = absurd (omega (arith, few, room-status needed answer (ltb-false (length answer) needed t) numbers))
 
   -- of a call whose answer begins with its reason's number, or with 0 where it is accepted
-  pub said-tells : {Values : Type 0} → last < shortAnswer → (needed : ℕ) (numbers : Said Values → List ℕ) (answer : List ℕ)
+  pub outcome-tells : {Values : Type 0} → last < shortAnswer → (needed : ℕ) (numbers : Outcome Values → List ℕ) (answer : List ℕ)
       → ((r : Reason) → statusOf (numbers (refused r)) ≡ r .number) → ((v : Values) → statusOf (numbers (accepted v)) ≡ 0)
-      → (said : Said Values) → ((r : Reason) → said ≡ refused r → Numbered last r) → Tells last needed (numbers said) answer (isAccepted said)
+      → (outcome : Outcome Values) → ((r : Reason) → outcome ≡ refused r → Numbered last r) → StatusReads last needed (numbers outcome) answer (isAccepted outcome)
   unfolding isAccepted
-  said-tells few needed numbers answer refusal acceptance (refused r) h =
+  outcome-tells few needed numbers answer refusal acceptance (refused r) h =
       let n = h r refl in
       tells few needed (numbers (refused r)) answer false (omega (arith, refusal r, n .most)) (λ e. absurd (omega (arith, refusal r, n .least)), λ a. absurd a)
-  said-tells few needed numbers answer refusal acceptance (accepted v) h =
+  outcome-tells few needed numbers answer refusal acceptance (accepted v) h =
       tells few needed (numbers (accepted v)) answer true (omega (arith, acceptance v)) (λ e. tt, λ a. acceptance v)
 
   -- of each kind of answer
-  pub size-tells : last < shortAnswer → (answer : List ℕ) (said : Said Size) → ((r : Reason) → said ≡ refused r → Numbered last r) → Tells last 4 (sizeNumbers said) answer (isAccepted said)
+  pub size-tells : last < shortAnswer → (answer : List ℕ) (outcome : Outcome Size) → ((r : Reason) → outcome ≡ refused r → Numbered last r) → StatusReads last 4 (sizeNumbers outcome) answer (isAccepted outcome)
   unfolding statusOf sizeNumbers
-  size-tells few answer said h = said-tells few 4 sizeNumbers answer (λ r. refl) (λ v. refl) said h
+  size-tells few answer outcome h = outcome-tells few 4 sizeNumbers answer (λ r. refl) (λ v. refl) outcome h
 
-  pub measure-tells : last < shortAnswer → (answer : List ℕ) (said : Said Measures) → ((r : Reason) → said ≡ refused r → Numbered last r) → Tells last 5 (measureNumbers said) answer (isAccepted said)
+  pub measure-tells : last < shortAnswer → (answer : List ℕ) (outcome : Outcome Measures) → ((r : Reason) → outcome ≡ refused r → Numbered last r) → StatusReads last 5 (measureNumbers outcome) answer (isAccepted outcome)
   unfolding statusOf measureNumbers
-  measure-tells few answer said h = said-tells few 5 measureNumbers answer (λ r. refl) (λ v. refl) said h
+  measure-tells few answer outcome h = outcome-tells few 5 measureNumbers answer (λ r. refl) (λ v. refl) outcome h
 
-  pub one-tells : last < shortAnswer → (answer : List ℕ) (said : Said ℕ) → ((r : Reason) → said ≡ refused r → Numbered last r) → Tells last 3 (oneNumber said) answer (isAccepted said)
+  pub one-tells : last < shortAnswer → (answer : List ℕ) (outcome : Outcome ℕ) → ((r : Reason) → outcome ≡ refused r → Numbered last r) → StatusReads last 3 (oneNumber outcome) answer (isAccepted outcome)
   unfolding statusOf oneNumber
-  one-tells few answer said h = said-tells few 3 oneNumber answer (λ r. refl) (λ v. refl) said h
+  one-tells few answer outcome h = outcome-tells few 3 oneNumber answer (λ r. refl) (λ v. refl) outcome h

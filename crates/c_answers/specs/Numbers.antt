@@ -7,29 +7,29 @@ use lib.Dec.{ltb}
 use lib.ListN.{length, getD, drop}
 use Rattle.jury.specs.declared.shape.Shape.{Shape}
 use Rattle.jury.specs.Reason.{Reason}
-use Rattle.tally.specs.Answer.{Said, refused, accepted, Size}
+use Rattle.tally.specs.Answer.{Outcome, refused, accepted, Size}
 use Rattle.tally.specs.Measure.{Measures}
 
 unfoldable pub shapeOf : ℕ → ℕ → ℕ → Shape
 shapeOf candidates grades ballots = record { candidates = candidates; grades = grades; ballots = ballots }
 
 -- Writing, testing and running: reason, 0 where accepted; place; G; C. A refusal has no G and C: they are 0.
-unfoldable pub sizeNumbers : Said Size → List ℕ
+unfoldable pub sizeNumbers : Outcome Size → List ℕ
 sizeNumbers (refused r) = r .number ∷ r .place ∷ 0 ∷ 0 ∷ []
 sizeNumbers (accepted size) = 0 ∷ 0 ∷ size .gates ∷ size .conditional ∷ []
 
 -- Measuring: the same, and I behind them.
-unfoldable pub measureNumbers : Said Measures → List ℕ
+unfoldable pub measureNumbers : Outcome Measures → List ℕ
 measureNumbers (refused r) = r .number ∷ r .place ∷ 0 ∷ 0 ∷ 0 ∷ []
 measureNumbers (accepted m) = 0 ∷ 0 ∷ m .gates ∷ m .conditional ∷ m .inputs ∷ []
 
 -- Counting plainly: reason and place, then the eight closing bytes, which are 0 on a refusal.
-unfoldable pub countNumbers : Option Reason → List ℕ → List ℕ
-countNumbers none closing = 0 ∷ 0 ∷ closing
-countNumbers (some r) closing = r .number ∷ r .place ∷ closing
+unfoldable pub answerNumbers : Option Reason → List ℕ → List ℕ
+answerNumbers none closing = 0 ∷ 0 ∷ closing
+answerNumbers (some r) closing = r .number ∷ r .place ∷ closing
 
 -- Calls that tell one number, as the length of a text or the ballots of an urn: reason and place, then that number, 0 on a refusal.
-unfoldable pub oneNumber : Said ℕ → List ℕ
+unfoldable pub oneNumber : Outcome ℕ → List ℕ
 oneNumber (refused r) = r .number ∷ r .place ∷ 0 ∷ []
 oneNumber (accepted told) = 0 ∷ 0 ∷ told ∷ []
 

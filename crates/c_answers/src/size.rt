@@ -5,19 +5,19 @@ ghost use mathlib.Core.Path.{_≡_};
 ghost use mathlib.Core.List.{_++_};
 ghost use Prim.Native.Nat.{_≤_};
 ghost use lib.ListN.{length, drop};
-ghost use Rattle.tally.specs.Answer.{saidBy};
+ghost use Rattle.tally.specs.Answer.{outcomeOf};
 ghost use Rattle.c_answers.specs.Numbers.{sizeAnswer, sizeNumbers, statusOf};
 
 // How many numbers such an answer has: reason, place, G and C.
 pub const SIZE_ANSWER: usize = 4;
 
 // The answer of writing, testing or running, and its status.
-pub fn put_size(said: Answer, answer: &mut [usize]) -> usize
+pub fn put_size(outcome: Answer, answer: &mut [usize]) -> usize
     requires { ⌜ sizeAnswer ≤ length (now answer) ⌝ }
-    ensures { λ r. ⌜ r ≡ statusOf (sizeNumbers (saidBy said)) ⌝ }
-    ensures { λ _. ⌜ now (answer .exit) ≡ sizeNumbers (saidBy said) ++ drop sizeAnswer (now (answer .entry)) ⌝ }
+    ensures { λ r. ⌜ r ≡ statusOf (sizeNumbers (outcomeOf outcome)) ⌝ }
+    ensures { λ _. ⌜ now (answer .exit) ≡ sizeNumbers (outcomeOf outcome) ++ drop sizeAnswer (now (answer .entry)) ⌝ }
 {
-    match said {
+    match outcome {
         Answer::Accepted { gates, conditional } => {
             put(&[0, 0, gates, conditional], answer);
             0

@@ -2,14 +2,14 @@
 -- Assumes nothing.
 use native.Mathlib.Omega.{arith}
 use Rattle.c_answers.proofs.Statuses.{fit, numbered, size-tells}
-use Rattle.batch.specs.Run.{batchRan}
+use Rattle.batch.specs.Run.{batchResult}
 use Rattle.batch.proofs.Theorems.{batch-memory}
-use Rattle.c_batch.specs.Status.{lastReason, StatusTells}
+use Rattle.c_batch.specs.Status.{lastReason, StatusMeans}
 
-pub status-tells : StatusTells
+pub status-tells : StatusMeans
 unfolding fit
 status-tells =
     record {
       runBatch = λ s table words tape wires board answer.
-          size-tells lastReason (omega arith) answer (batchRan s table words tape wires board .answer) (λ r e. numbered lastReason _ r tt (batch-memory .number s table words tape wires board r e));
+          size-tells lastReason (omega arith) answer (batchResult s table words tape wires board .answer) (λ r e. numbered lastReason _ r tt (batch-memory .number s table words tape wires board r e));
     }

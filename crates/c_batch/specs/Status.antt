@@ -3,12 +3,12 @@ use mathlib.Core.List.{List}
 use Prim.Native.Nat.{ℕ}
 use Rattle.jury.specs.declared.shape.Shape.{Shape}
 use Rattle.c_answers.specs.Numbers.{sizeAnswer, sizeNumbers}
-use Rattle.c_answers.specs.Status.{isAccepted, Tells}
-use Rattle.batch.specs.Run.{batchRan}
+use Rattle.c_answers.specs.Status.{isAccepted, StatusReads}
+use Rattle.batch.specs.Run.{batchResult}
 
 abbrev pub lastReason : ℕ
 lastReason = 12
 
-pub record StatusTells : Type 0 where
+pub record StatusMeans : Type 0 where
   pub runBatch : (s : Shape) (table words tape wires board answer : List ℕ)
-      → Tells lastReason sizeAnswer (sizeNumbers (batchRan s table words tape wires board .answer)) answer (isAccepted (batchRan s table words tape wires board .answer))
+      → StatusReads lastReason sizeAnswer (sizeNumbers (batchResult s table words tape wires board .answer)) answer (isAccepted (batchResult s table words tape wires board .answer))

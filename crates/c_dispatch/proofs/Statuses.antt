@@ -8,19 +8,19 @@ use mathlib.Core.List.{List}
 use Prim.Native.Nat.{ℕ}
 use native.Mathlib.Omega.{arith}
 use Rattle.jury.specs.Reason.{Reason, reasonAt}
-use Rattle.tally.specs.Answer.{said, refused}
-use Rattle.tally.specs.Run.{ran}
+use Rattle.tally.specs.Answer.{outcome, refused}
+use Rattle.tally.specs.Run.{runResult}
 use Rattle.tally.proofs.Numbering.{run-number}
 use Rattle.dispatch_rounds.specs.declared.statement.Statement.{Statement}
 use Rattle.dispatch_rounds.specs.Tables.{Tables, shapeOf}
 use Rattle.dispatch.specs.Dispatch.{dispatched}
 use Rattle.dispatch.specs.Theorems.{juryAt, piecesAt}
 use Rattle.dispatch.proofs.Theorems.{dispatching}
-use Rattle.c_answers.specs.Numbers.{countNumbers, statusOf}
-use Rattle.c_answers.specs.Status.{isAccepted, Tells}
+use Rattle.c_answers.specs.Numbers.{answerNumbers, statusOf}
+use Rattle.c_answers.specs.Status.{isAccepted, StatusReads}
 use Rattle.c_answers.proofs.Statuses.{fit, Numbered, numbered, tells}
 use Rattle.c_dispatch.specs.Dispatch.{dispatchAnswer}
-use Rattle.c_dispatch.specs.Status.{lastReason, StatusTells}
+use Rattle.c_dispatch.specs.Status.{lastReason, StatusMeans}
 
 -- a reason of its own
 own : (r : Reason) (n : ℕ) → r ≡ reasonAt n 0 → r .number ≡ n
@@ -41,14 +41,14 @@ reason-numbered count ss share t r e =
 
 -- reason and place stand before the numbers of rounds
 rounds-tell : (answer : List ℕ) (o : Option Reason) (rounds : List ℕ) → ((r : Reason) → o ≡ some r → Numbered lastReason r)
-    → Tells lastReason dispatchAnswer (countNumbers o rounds) answer (isAccepted (said o rounds))
-unfolding statusOf countNumbers isAccepted said
+    → StatusReads lastReason dispatchAnswer (answerNumbers o rounds) answer (isAccepted (outcome o rounds))
+unfolding statusOf answerNumbers isAccepted outcome
 rounds-tell answer (some r) rounds h =
     let n = h r refl in
-    tells lastReason (omega arith) dispatchAnswer (countNumbers (some r) rounds) answer false (n .most) (λ e. absurd (omega (arith, n .least)), λ a. absurd a)
-rounds-tell answer none rounds h = tells lastReason (omega arith) dispatchAnswer (countNumbers none rounds) answer true (omega arith) (λ e. tt, λ a. refl)
+    tells lastReason (omega arith) dispatchAnswer (answerNumbers (some r) rounds) answer false (n .most) (λ e. absurd (omega (arith, n .least)), λ a. absurd a)
+rounds-tell answer none rounds h = tells lastReason (omega arith) dispatchAnswer (answerNumbers none rounds) answer true (omega arith) (λ e. tt, λ a. refl)
 
-pub status-tells : StatusTells
+pub status-tells : StatusMeans
 status-tells =
     record {
       dispatch = λ count ss share t answer. rounds-tell answer (dispatched count ss share t .reason) (dispatched count ss share t .rounds) (reason-numbered count ss share t);

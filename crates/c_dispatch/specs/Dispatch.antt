@@ -5,7 +5,7 @@ use lib.ListN.{getD}
 use Rattle.dispatch_rounds.specs.declared.statement.Statement.{Statement}
 use Rattle.dispatch_rounds.specs.Tables.{lent}
 use Rattle.dispatch.specs.Dispatch.{Dispatch, dispatched}
-use Rattle.c_answers.specs.Numbers.{countNumbers}
+use Rattle.c_answers.specs.Numbers.{answerNumbers}
 
 -- Four numbers a jury: k, d, n and G. A number that the array does not hold counts as 0, and a statement with k = 0 is turned away for reason 1.
 unfoldable pub statementAt : List ℕ → ℕ → Statement
@@ -23,7 +23,7 @@ called count share statements lists ballots tapes wires boards = dispatched coun
 
 -- Reason, 0 where accepted; place; then the juries' numbers of rounds, eight of them, which are 0 on a refusal.
 abbrev pub dispatchNumbers : Dispatch → List ℕ
-dispatchNumbers d = countNumbers (d .reason) (d .rounds)
+dispatchNumbers d = answerNumbers (d .reason) (d .rounds)
 
 abbrev pub dispatchAnswer : ℕ
 dispatchAnswer = 10

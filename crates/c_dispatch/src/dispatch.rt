@@ -2,14 +2,14 @@
 use c_answers::array::SHORT_ANSWER;
 use c_answers::array::put;
 use dispatch::dispatch::Dispatched;
-use dispatch::outcome::Outcome;
+use dispatch::verdict::JuriesVerdict;
 use dispatch_rounds::statement::Statement;
 ghost use mathlib.Core.Path.{_≡_};
 ghost use mathlib.Core.List.{_∷_, _++_};
 ghost use Prim.Native.Nat.{_+_, _*_, _≤_, _<_};
 ghost use lib.ListN.{length, getD, drop};
-ghost use Rattle.dispatch.specs.Reasons.{outcomeReason};
-ghost use Rattle.c_answers.specs.Numbers.{countNumbers, statusOf, status, answered, altered};
+ghost use Rattle.dispatch.specs.Reasons.{verdictReason};
+ghost use Rattle.c_answers.specs.Numbers.{answerNumbers, statusOf, status, answered, altered};
 ghost use Rattle.c_dispatch.specs.Dispatch.{statementAt, statementsIn, called, dispatchNumbers, dispatchAnswer};
 
 // How many numbers the answer has: reason, place and eight numbers of rounds.
@@ -71,20 +71,20 @@ fn ten(reason: usize, place: usize, rounds: [usize; 8]) -> [usize; 10]
 }
 
 // The answer of the dispatcher, and its status.
-fn put_rounds(said: Dispatched, answer: &mut [usize]) -> usize
+fn put_rounds(outcome: Dispatched, answer: &mut [usize]) -> usize
     requires { ⌜ dispatchAnswer ≤ length (now answer) ⌝ }
-    ensures { λ r. ⌜ r ≡ statusOf (countNumbers (outcomeReason (said .outcome)) (said .rounds)) ⌝ }
-    ensures { λ _. ⌜ now (answer .exit) ≡ countNumbers (outcomeReason (said .outcome)) (said .rounds) ++ drop dispatchAnswer (now (answer .entry)) ⌝ }
+    ensures { λ r. ⌜ r ≡ statusOf (answerNumbers (verdictReason (outcome .verdict)) (outcome .rounds)) ⌝ }
+    ensures { λ _. ⌜ now (answer .exit) ≡ answerNumbers (verdictReason (outcome .verdict)) (outcome .rounds) ++ drop dispatchAnswer (now (answer .entry)) ⌝ }
 {
-    let outcome = said.outcome;
-    let rounds = said.rounds;
-    match outcome {
-        Outcome::Accepted => {
+    let verdict = outcome.verdict;
+    let rounds = outcome.rounds;
+    match verdict {
+        JuriesVerdict::Accepted => {
             let numbers = ten(0, 0, rounds);
             put(&numbers, answer);
             0
         }
-        Outcome::Refused { reason, jury } => {
+        JuriesVerdict::Refused { reason, jury } => {
             let number = reason.number();
             let numbers = ten(number, jury, rounds);
             put(&numbers, answer);
@@ -115,7 +115,7 @@ pub extern "C" fn jugy_dispatch(
         return SHORT_ANSWER;
     }
     let stated = statements_in(statements);
-    let said = dispatch::dispatch::dispatch(
+    let outcome = dispatch::dispatch::dispatch(
         count,
         stated,
         share,
@@ -125,5 +125,5 @@ pub extern "C" fn jugy_dispatch(
         wires,
         boards,
     );
-    put_rounds(said, answer)
+    put_rounds(outcome, answer)
 }

@@ -10,7 +10,7 @@ ghost use Prim.Native.Nat.{_≤_};
 ghost use lib.ListN.{length, drop};
 ghost use Rattle.jury.specs.Reason.{refusedFor};
 ghost use Rattle.tally.specs.Measure.{measuredBy};
-ghost use Rattle.c_answers.specs.Numbers.{measureAnswer, countAnswer, measureNumbers, countNumbers, statusOf};
+ghost use Rattle.c_answers.specs.Numbers.{measureAnswer, countAnswer, measureNumbers, answerNumbers, statusOf};
 
 // How many numbers the answers have: reason and place, then G, C and I, or eight closing bytes.
 pub(crate) const MEASURE_ANSWER: usize = 5;
@@ -18,12 +18,12 @@ pub(crate) const MEASURE_ANSWER: usize = 5;
 pub(crate) const COUNT_ANSWER: usize = 10;
 
 // The answer of measuring, and its status.
-pub(crate) fn put_measures(said: Measured, answer: &mut [usize]) -> usize
+pub(crate) fn put_measures(outcome: Measured, answer: &mut [usize]) -> usize
     requires { ⌜ measureAnswer ≤ length (now answer) ⌝ }
-    ensures { λ r. ⌜ r ≡ statusOf (measureNumbers (measuredBy said)) ⌝ }
-    ensures { λ _. ⌜ now (answer .exit) ≡ measureNumbers (measuredBy said) ++ drop measureAnswer (now (answer .entry)) ⌝ }
+    ensures { λ r. ⌜ r ≡ statusOf (measureNumbers (measuredBy outcome)) ⌝ }
+    ensures { λ _. ⌜ now (answer .exit) ≡ measureNumbers (measuredBy outcome) ++ drop measureAnswer (now (answer .entry)) ⌝ }
 {
-    match said {
+    match outcome {
         Measured::Accepted {
             gates,
             conditional,
@@ -62,8 +62,8 @@ fn ten(reason: usize, place: usize, closing: [u8; 8]) -> [usize; 10]
 // The answer of a plain count, and its status.
 pub(crate) fn put_count(counted: Counted, answer: &mut [usize]) -> usize
     requires { ⌜ countAnswer ≤ length (now answer) ⌝ }
-    ensures { λ r. ⌜ r ≡ statusOf (countNumbers (refusedFor (counted .verdict)) (counted .closing)) ⌝ }
-    ensures { λ _. ⌜ now (answer .exit) ≡ countNumbers (refusedFor (counted .verdict)) (counted .closing) ++ drop countAnswer (now (answer .entry)) ⌝ }
+    ensures { λ r. ⌜ r ≡ statusOf (answerNumbers (refusedFor (counted .verdict)) (counted .closing)) ⌝ }
+    ensures { λ _. ⌜ now (answer .exit) ≡ answerNumbers (refusedFor (counted .verdict)) (counted .closing) ++ drop countAnswer (now (answer .entry)) ⌝ }
 {
     let verdict = counted.verdict;
     let closing = counted.closing;

@@ -5,11 +5,11 @@ use c_answers::array::SHORT_ANSWER;
 use jury::reason::Refusal;
 use jury::reason::Verdict;
 use jury::shape::Shape;
-use jury::shape::Shaped;
+use jury::shape::ShapeResult;
 use tally::count::Counted;
 ghost use mathlib.Core.Path.{_≡_};
 ghost use Rattle.tally.specs.Count.{countReason, plainClosing};
-ghost use Rattle.c_answers.specs.Numbers.{shapeOf, countAnswer, countNumbers, status, answered};
+ghost use Rattle.c_answers.specs.Numbers.{shapeOf, countAnswer, answerNumbers, status, answered};
 
 // Counts plainly: reason, place and the eight closing bytes.
 #[no_mangle]
@@ -20,13 +20,13 @@ pub extern "C" fn jugy_count(
     bytes: &[u8],
     answer: &mut [usize],
 ) -> usize
-    ensures { λ r. ⌜ r ≡ status countAnswer (countNumbers (countReason (shapeOf candidates grades ballots) (now (bytes .entry))) (plainClosing (shapeOf candidates grades ballots) (now (bytes .entry)))) (now (answer .entry)) ⌝ }
-    ensures { λ _. ⌜ now (answer .exit) ≡ answered countAnswer (countNumbers (countReason (shapeOf candidates grades ballots) (now (bytes .entry))) (plainClosing (shapeOf candidates grades ballots) (now (bytes .entry)))) (now (answer .entry)) ⌝ }
+    ensures { λ r. ⌜ r ≡ status countAnswer (answerNumbers (countReason (shapeOf candidates grades ballots) (now (bytes .entry))) (plainClosing (shapeOf candidates grades ballots) (now (bytes .entry)))) (now (answer .entry)) ⌝ }
+    ensures { λ _. ⌜ now (answer .exit) ≡ answered countAnswer (answerNumbers (countReason (shapeOf candidates grades ballots) (now (bytes .entry))) (plainClosing (shapeOf candidates grades ballots) (now (bytes .entry)))) (now (answer .entry)) ⌝ }
 {
     if answer.len() < COUNT_ANSWER {
         return SHORT_ANSWER;
     }
-    let Shaped::Within(shape) = Shape::new(candidates, grades, ballots) else {
+    let ShapeResult::Within(shape) = Shape::new(candidates, grades, ballots) else {
         return put_count(
             Counted {
                 verdict: Verdict::Refused(Refusal::Shape),

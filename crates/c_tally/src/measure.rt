@@ -4,10 +4,10 @@ use crate::answer::put_measures;
 use c_answers::array::SHORT_ANSWER;
 use jury::reason::Refusal;
 use jury::shape::Shape;
-use jury::shape::Shaped;
+use jury::shape::ShapeResult;
 use tally::measure::Measured;
 ghost use mathlib.Core.Path.{_≡_};
-ghost use Rattle.tally.specs.Measure.{measureSaid};
+ghost use Rattle.tally.specs.Measure.{measureOutcome};
 ghost use Rattle.c_answers.specs.Numbers.{shapeOf, measureAnswer, measureNumbers, status, answered};
 
 // Measures the own list of a shape: reason, place, G, C and I.
@@ -18,15 +18,15 @@ pub extern "C" fn jugy_measure(
     ballots: usize,
     answer: &mut [usize],
 ) -> usize
-    ensures { λ r. ⌜ r ≡ status measureAnswer (measureNumbers (measureSaid (shapeOf candidates grades ballots))) (now (answer .entry)) ⌝ }
-    ensures { λ _. ⌜ now (answer .exit) ≡ answered measureAnswer (measureNumbers (measureSaid (shapeOf candidates grades ballots))) (now (answer .entry)) ⌝ }
+    ensures { λ r. ⌜ r ≡ status measureAnswer (measureNumbers (measureOutcome (shapeOf candidates grades ballots))) (now (answer .entry)) ⌝ }
+    ensures { λ _. ⌜ now (answer .exit) ≡ answered measureAnswer (measureNumbers (measureOutcome (shapeOf candidates grades ballots))) (now (answer .entry)) ⌝ }
 {
     if answer.len() < MEASURE_ANSWER {
         return SHORT_ANSWER;
     }
-    let Shaped::Within(shape) = Shape::new(candidates, grades, ballots) else {
+    let ShapeResult::Within(shape) = Shape::new(candidates, grades, ballots) else {
         return put_measures(Measured::Refused(Refusal::Shape), answer);
     };
-    let said = tally::measure::measure(shape);
-    put_measures(said, answer)
+    let outcome = tally::measure::measure(shape);
+    put_measures(outcome, answer)
 }

@@ -4,10 +4,10 @@ use c_answers::size::SIZE_ANSWER;
 use c_answers::size::put_size;
 use jury::reason::Refusal;
 use jury::shape::Shape;
-use jury::shape::Shaped;
+use jury::shape::ShapeResult;
 use tally::answer::Answer;
 ghost use mathlib.Core.Path.{_≡_};
-ghost use Rattle.tally.specs.Run.{ran};
+ghost use Rattle.tally.specs.Run.{runResult};
 ghost use Rattle.c_answers.specs.Numbers.{shapeOf, sizeAnswer, sizeNumbers, status, answered, altered};
 
 // Runs a list on the bytes of the ballots: reason, place, G and C.
@@ -23,17 +23,17 @@ pub extern "C" fn jugy_run(
     board: &mut [u8],
     answer: &mut [usize],
 ) -> usize
-    ensures { λ r. ⌜ r ≡ status sizeAnswer (sizeNumbers ((ran (shapeOf candidates grades ballots) (now (table .entry)) (now (bytes .entry)) (now (tape .entry)) (now (wires .entry)) (now (board .entry))) .answer)) (now (answer .entry)) ⌝ }
-    ensures { λ _. ⌜ now (answer .exit) ≡ answered sizeAnswer (sizeNumbers ((ran (shapeOf candidates grades ballots) (now (table .entry)) (now (bytes .entry)) (now (tape .entry)) (now (wires .entry)) (now (board .entry))) .answer)) (now (answer .entry)) ⌝ }
-    ensures { λ _. ⌜ now (wires .exit) ≡ altered sizeAnswer (now (answer .entry)) ((ran (shapeOf candidates grades ballots) (now (table .entry)) (now (bytes .entry)) (now (tape .entry)) (now (wires .entry)) (now (board .entry))) .wires) (now (wires .entry)) ⌝ }
-    ensures { λ _. ⌜ now (board .exit) ≡ altered sizeAnswer (now (answer .entry)) ((ran (shapeOf candidates grades ballots) (now (table .entry)) (now (bytes .entry)) (now (tape .entry)) (now (wires .entry)) (now (board .entry))) .board) (now (board .entry)) ⌝ }
+    ensures { λ r. ⌜ r ≡ status sizeAnswer (sizeNumbers ((runResult (shapeOf candidates grades ballots) (now (table .entry)) (now (bytes .entry)) (now (tape .entry)) (now (wires .entry)) (now (board .entry))) .answer)) (now (answer .entry)) ⌝ }
+    ensures { λ _. ⌜ now (answer .exit) ≡ answered sizeAnswer (sizeNumbers ((runResult (shapeOf candidates grades ballots) (now (table .entry)) (now (bytes .entry)) (now (tape .entry)) (now (wires .entry)) (now (board .entry))) .answer)) (now (answer .entry)) ⌝ }
+    ensures { λ _. ⌜ now (wires .exit) ≡ altered sizeAnswer (now (answer .entry)) ((runResult (shapeOf candidates grades ballots) (now (table .entry)) (now (bytes .entry)) (now (tape .entry)) (now (wires .entry)) (now (board .entry))) .wires) (now (wires .entry)) ⌝ }
+    ensures { λ _. ⌜ now (board .exit) ≡ altered sizeAnswer (now (answer .entry)) ((runResult (shapeOf candidates grades ballots) (now (table .entry)) (now (bytes .entry)) (now (tape .entry)) (now (wires .entry)) (now (board .entry))) .board) (now (board .entry)) ⌝ }
 {
     if answer.len() < SIZE_ANSWER {
         return SHORT_ANSWER;
     }
-    let Shaped::Within(shape) = Shape::new(candidates, grades, ballots) else {
+    let ShapeResult::Within(shape) = Shape::new(candidates, grades, ballots) else {
         return put_size(Answer::Refused(Refusal::Shape), answer);
     };
-    let said = tally::run::run(shape, table, bytes, tape, wires, board);
-    put_size(said, answer)
+    let outcome = tally::run::run(shape, table, bytes, tape, wires, board);
+    put_size(outcome, answer)
 }

@@ -4,10 +4,10 @@ use c_answers::size::SIZE_ANSWER;
 use c_answers::size::put_size;
 use jury::reason::Refusal;
 use jury::shape::Shape;
-use jury::shape::Shaped;
+use jury::shape::ShapeResult;
 use tally::answer::Answer;
 ghost use mathlib.Core.Path.{_≡_};
-ghost use Rattle.tally.specs.Test.{testSaid};
+ghost use Rattle.tally.specs.Test.{testOutcome};
 ghost use Rattle.c_answers.specs.Numbers.{shapeOf, sizeAnswer, sizeNumbers, status, answered};
 
 // Tests anyone's list for a shape: reason, place, G and C.
@@ -19,15 +19,15 @@ pub extern "C" fn jugy_test(
     table: &[u32],
     answer: &mut [usize],
 ) -> usize
-    ensures { λ r. ⌜ r ≡ status sizeAnswer (sizeNumbers (testSaid (shapeOf candidates grades ballots) (now (table .entry)))) (now (answer .entry)) ⌝ }
-    ensures { λ _. ⌜ now (answer .exit) ≡ answered sizeAnswer (sizeNumbers (testSaid (shapeOf candidates grades ballots) (now (table .entry)))) (now (answer .entry)) ⌝ }
+    ensures { λ r. ⌜ r ≡ status sizeAnswer (sizeNumbers (testOutcome (shapeOf candidates grades ballots) (now (table .entry)))) (now (answer .entry)) ⌝ }
+    ensures { λ _. ⌜ now (answer .exit) ≡ answered sizeAnswer (sizeNumbers (testOutcome (shapeOf candidates grades ballots) (now (table .entry)))) (now (answer .entry)) ⌝ }
 {
     if answer.len() < SIZE_ANSWER {
         return SHORT_ANSWER;
     }
-    let Shaped::Within(shape) = Shape::new(candidates, grades, ballots) else {
+    let ShapeResult::Within(shape) = Shape::new(candidates, grades, ballots) else {
         return put_size(Answer::Refused(Refusal::Shape), answer);
     };
-    let said = tally::test::test(shape, table);
-    put_size(said, answer)
+    let outcome = tally::test::test(shape, table);
+    put_size(outcome, answer)
 }

@@ -4,12 +4,12 @@ use c_answers::size::SIZE_ANSWER;
 use c_answers::size::put_size;
 use jury::reason::Refusal;
 use jury::shape::Shape;
-use jury::shape::Shaped;
+use jury::shape::ShapeResult;
 use tally::answer::Answer;
 ghost use mathlib.Core.Path.{_≡_};
 ghost use lib.Dec.{T};
 ghost use Rattle.jury.specs.Shape.{withinLimits};
-ghost use Rattle.tally.specs.Write.{writeSaid, written, OwnListHolds};
+ghost use Rattle.tally.specs.Write.{writeOutcome, written, OwnListHolds};
 ghost use Rattle.c_answers.specs.Numbers.{shapeOf, sizeAnswer, sizeNumbers, status, answered, altered};
 
 // Writes the own list of a shape: reason, place, G and C.
@@ -21,17 +21,17 @@ pub extern "C" fn jugy_write(
     table: &mut [u32],
     answer: &mut [usize],
 ) -> usize
-    ensures { λ r. ⌜ r ≡ status sizeAnswer (sizeNumbers (writeSaid (shapeOf candidates grades ballots) (now (table .entry)))) (now (answer .entry)) ⌝ }
-    ensures { λ _. ⌜ now (answer .exit) ≡ answered sizeAnswer (sizeNumbers (writeSaid (shapeOf candidates grades ballots) (now (table .entry)))) (now (answer .entry)) ⌝ }
+    ensures { λ r. ⌜ r ≡ status sizeAnswer (sizeNumbers (writeOutcome (shapeOf candidates grades ballots) (now (table .entry)))) (now (answer .entry)) ⌝ }
+    ensures { λ _. ⌜ now (answer .exit) ≡ answered sizeAnswer (sizeNumbers (writeOutcome (shapeOf candidates grades ballots) (now (table .entry)))) (now (answer .entry)) ⌝ }
     ensures { λ _. ⌜ now (table .exit) ≡ altered sizeAnswer (now (answer .entry)) (written (shapeOf candidates grades ballots) (now (table .entry))) (now (table .entry)) ⌝ }
     ensures { λ _. ⌜ (T (withinLimits (shapeOf candidates grades ballots)) → OwnListHolds (shapeOf candidates grades ballots)) ⌝ }
 {
     if answer.len() < SIZE_ANSWER {
         return SHORT_ANSWER;
     }
-    let Shaped::Within(shape) = Shape::new(candidates, grades, ballots) else {
+    let ShapeResult::Within(shape) = Shape::new(candidates, grades, ballots) else {
         return put_size(Answer::Refused(Refusal::Shape), answer);
     };
-    let said = tally::write::write(shape, table);
-    put_size(said, answer)
+    let outcome = tally::write::write(shape, table);
+    put_size(outcome, answer)
 }

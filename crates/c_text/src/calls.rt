@@ -7,18 +7,18 @@ ghost use mathlib.Core.Path.{_≡_};
 ghost use mathlib.Core.List.{_++_};
 ghost use Prim.Native.Nat.{_≤_};
 ghost use lib.ListN.{length, drop};
-ghost use Rattle.text.specs.Answer.{lengthSaid};
-ghost use Rattle.text.specs.Write.{textSaid, textWritten};
-ghost use Rattle.text.specs.Read.{readSaid, numbersRead};
+ghost use Rattle.text.specs.Answer.{lengthOutcome};
+ghost use Rattle.text.specs.Write.{textOutcome, textWritten};
+ghost use Rattle.text.specs.Read.{readOutcome, numbersRead};
 ghost use Rattle.c_answers.specs.Numbers.{oneAnswer, oneNumber, shapeOf, statusOf, status, answered, altered};
 
 // The answer of writing or reading a text, and its status.
-fn put_length(said: Answer, answer: &mut [usize]) -> usize
+fn put_length(outcome: Answer, answer: &mut [usize]) -> usize
     requires { ⌜ oneAnswer ≤ length (now answer) ⌝ }
-    ensures { λ r. ⌜ r ≡ statusOf (oneNumber (lengthSaid said)) ⌝ }
-    ensures { λ _. ⌜ now (answer .exit) ≡ oneNumber (lengthSaid said) ++ drop oneAnswer (now (answer .entry)) ⌝ }
+    ensures { λ r. ⌜ r ≡ statusOf (oneNumber (lengthOutcome outcome)) ⌝ }
+    ensures { λ _. ⌜ now (answer .exit) ≡ oneNumber (lengthOutcome outcome) ++ drop oneAnswer (now (answer .entry)) ⌝ }
 {
-    match said {
+    match outcome {
         Answer::Accepted { length } => {
             answer[0] = 0;
             answer[1] = 0;
@@ -46,8 +46,8 @@ pub extern "C" fn jugy_write_text(
     output: &mut [u8],
     answer: &mut [usize],
 ) -> usize
-    ensures { λ r. ⌜ r ≡ status oneAnswer (oneNumber (textSaid (shapeOf candidates grades ballots) (now (table .entry)) (now (output .entry)))) (now (answer .entry)) ⌝ }
-    ensures { λ _. ⌜ now (answer .exit) ≡ answered oneAnswer (oneNumber (textSaid (shapeOf candidates grades ballots) (now (table .entry)) (now (output .entry)))) (now (answer .entry)) ⌝ }
+    ensures { λ r. ⌜ r ≡ status oneAnswer (oneNumber (textOutcome (shapeOf candidates grades ballots) (now (table .entry)) (now (output .entry)))) (now (answer .entry)) ⌝ }
+    ensures { λ _. ⌜ now (answer .exit) ≡ answered oneAnswer (oneNumber (textOutcome (shapeOf candidates grades ballots) (now (table .entry)) (now (output .entry)))) (now (answer .entry)) ⌝ }
     ensures { λ _. ⌜ now (output .exit) ≡ altered oneAnswer (now (answer .entry)) (textWritten (shapeOf candidates grades ballots) (now (table .entry)) (now (output .entry))) (now (output .entry)) ⌝ }
 {
     if answer.len() < ONE_ANSWER {
@@ -58,8 +58,8 @@ pub extern "C" fn jugy_write_text(
         grades,
         ballots,
     };
-    let said = text::write::write(shape, table, output);
-    put_length(said, answer)
+    let outcome = text::write::write(shape, table, output);
+    put_length(outcome, answer)
 }
 
 // Reads a text as a list for a shape: reason, place and the numbers written.
@@ -72,8 +72,8 @@ pub extern "C" fn jugy_read_text(
     output: &mut [u32],
     answer: &mut [usize],
 ) -> usize
-    ensures { λ r. ⌜ r ≡ status oneAnswer (oneNumber (readSaid (shapeOf candidates grades ballots) (now (text .entry)) (now (output .entry)))) (now (answer .entry)) ⌝ }
-    ensures { λ _. ⌜ now (answer .exit) ≡ answered oneAnswer (oneNumber (readSaid (shapeOf candidates grades ballots) (now (text .entry)) (now (output .entry)))) (now (answer .entry)) ⌝ }
+    ensures { λ r. ⌜ r ≡ status oneAnswer (oneNumber (readOutcome (shapeOf candidates grades ballots) (now (text .entry)) (now (output .entry)))) (now (answer .entry)) ⌝ }
+    ensures { λ _. ⌜ now (answer .exit) ≡ answered oneAnswer (oneNumber (readOutcome (shapeOf candidates grades ballots) (now (text .entry)) (now (output .entry)))) (now (answer .entry)) ⌝ }
     ensures { λ _. ⌜ now (output .exit) ≡ altered oneAnswer (now (answer .entry)) (numbersRead (shapeOf candidates grades ballots) (now (text .entry)) (now (output .entry))) (now (output .entry)) ⌝ }
 {
     if answer.len() < ONE_ANSWER {
@@ -84,6 +84,6 @@ pub extern "C" fn jugy_read_text(
         grades,
         ballots,
     };
-    let said = text::read::read(shape, text, output);
-    put_length(said, answer)
+    let outcome = text::read::read(shape, text, output);
+    put_length(outcome, answer)
 }

@@ -5,21 +5,21 @@ use mathlib.Core.List.{List}
 use Prim.Native.Nat.{ℕ}
 use native.Mathlib.Omega.{arith}
 use Rattle.jury.specs.declared.shape.Shape.{Shape}
-use Rattle.tally.specs.Answer.{Said, refused, accepted, Size}
+use Rattle.tally.specs.Answer.{Outcome, refused, accepted, Size}
 use Rattle.c_answers.specs.Numbers.{sizeNumbers, statusOf}
-use Rattle.c_answers.proofs.Statuses.{fit, numbered, said-tells}
+use Rattle.c_answers.proofs.Statuses.{fit, numbered, outcome-tells}
 use Rattle.trustee_shares.specs.Views.{Dealing}
 use Rattle.trustees.specs.Shared.{shared}
 use Rattle.trustees.proofs.Demands.{number}
 use Rattle.c_trustees.specs.Numbers.{tallyNumbers, tallyAnswer}
-use Rattle.c_trustees.specs.Status.{lastReason, StatusTells}
+use Rattle.c_trustees.specs.Status.{lastReason, StatusMeans}
 
-pub status-tells : StatusTells
+pub status-tells : StatusMeans
 unfolding fit statusOf sizeNumbers tallyNumbers
 status-tells =
     record {
       trustees = λ s table ballots t d wireParts published answer.
           let left = shared s table ballots t d wireParts published in
-          said-tells lastReason (omega arith) tallyAnswer (λ (said : Said Size). tallyNumbers said (left .closing)) answer (λ r. refl) (λ v. refl) (left .answer)
+          outcome-tells lastReason (omega arith) tallyAnswer (λ (outcome : Outcome Size). tallyNumbers outcome (left .closing)) answer (λ r. refl) (λ v. refl) (left .answer)
           (λ r e. numbered lastReason _ r tt (number s table ballots t d wireParts published r e));
     }

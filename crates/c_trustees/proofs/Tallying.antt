@@ -6,7 +6,7 @@ use Prim.Native.Nat.{ℕ, suc, _+_, _≤_, _<_}
 use native.Mathlib.Omega.{arith}
 use lib.ListN.{length, getD, set, take, drop, length-append, length-drop, drop-of-length-le}
 use lib.Seq.{sets, sets-eq, take-at, drop-cons, drop-drop, drop-append-add}
-use Rattle.tally.specs.Answer.{Said, refused, accepted, Size}
+use Rattle.tally.specs.Answer.{Outcome, refused, accepted, Size}
 use Rattle.c_answers.specs.Numbers.{sizeNumbers, statusOf}
 use Rattle.c_trustees.specs.Numbers.{tallyNumbers, tallyAnswer}
 
@@ -21,18 +21,18 @@ bytes-further a closing i h =
 pub bytes-end : (a closing : List ℕ) (i : ℕ) → length closing ≤ i → sets a (4 + i) (drop i closing) ≡ a
 bytes-end a closing i h = ap (λ (l : List ℕ). sets a (4 + i) l) (drop-of-length-le closing {i = i} h)
 
-size-long : (said : Said Size) → length (sizeNumbers said) ≡ 4
+size-long : (outcome : Outcome Size) → length (sizeNumbers outcome) ≡ 4
 unfolding sizeNumbers
 size-long (refused r) = refl
 size-long (accepted size) = refl
 
 -- four numbers and the bytes behind them
-pub all-put : (said : Said Size) (closing answer answer₁ answer₂ : List ℕ) → length closing ≡ 8 → tallyAnswer ≤ length answer → answer₁ ≡ sizeNumbers said ++ drop 4 answer → answer₂ ≡ sets answer₁ 4 closing
-    → answer₂ ≡ tallyNumbers said closing ++ drop tallyAnswer answer
+pub all-put : (outcome : Outcome Size) (closing answer answer₁ answer₂ : List ℕ) → length closing ≡ 8 → tallyAnswer ≤ length answer → answer₁ ≡ sizeNumbers outcome ++ drop 4 answer → answer₂ ≡ sets answer₁ 4 closing
+    → answer₂ ≡ tallyNumbers outcome closing ++ drop tallyAnswer answer
 unfolding tallyNumbers
-all-put said closing answer answer₁ answer₂ l h e f =
-    let n = sizeNumbers said in
-    let long = size-long said in
+all-put outcome closing answer answer₁ answer₂ l h e f =
+    let n = sizeNumbers outcome in
+    let long = size-long outcome in
     let whole : length answer₁ ≡ length answer = ap length e ∙ omega (arith, length-append n (drop 4 answer), length-drop 4 answer) in
     let rest : drop (4 + length closing) answer₁ ≡ drop tallyAnswer answer =
     ap (λ (m : ℕ). drop (m + length closing) answer₁) (sym long) ∙ ap (drop (length n + length closing)) e ∙ drop-append-add n (drop 4 answer) (length closing)
@@ -41,10 +41,10 @@ all-put said closing answer answer₁ answer₂ l h e f =
     ∙ ap (λ (xs : List ℕ). xs ++ closing ++ drop (4 + length closing) answer₁) (ap (take 4) e ∙ take-at n (drop 4 answer) 4 long)
     ∙ ap (λ (xs : List ℕ). n ++ closing ++ xs) rest
 
-pub tally-status : (said : Said Size) (closing : List ℕ) → statusOf (sizeNumbers said) ≡ statusOf (tallyNumbers said closing)
+pub tally-status : (outcome : Outcome Size) (closing : List ℕ) → statusOf (sizeNumbers outcome) ≡ statusOf (tallyNumbers outcome closing)
 unfolding statusOf tallyNumbers sizeNumbers
 tally-status (refused r) closing = refl
 tally-status (accepted size) closing = refl
 
-pub tallied : (a b : Said Size) (xs ys : List ℕ) → a ≡ b → xs ≡ ys → tallyNumbers a xs ≡ tallyNumbers b ys
-tallied a b xs ys e f = ap (λ (s : Said Size). tallyNumbers s xs) e ∙ ap (tallyNumbers b) f
+pub tallied : (a b : Outcome Size) (xs ys : List ℕ) → a ≡ b → xs ≡ ys → tallyNumbers a xs ≡ tallyNumbers b ys
+tallied a b xs ys e f = ap (λ (s : Outcome Size). tallyNumbers s xs) e ∙ ap (tallyNumbers b) f

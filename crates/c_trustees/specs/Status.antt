@@ -2,7 +2,7 @@
 use mathlib.Core.List.{List}
 use Prim.Native.Nat.{ℕ}
 use Rattle.jury.specs.declared.shape.Shape.{Shape}
-use Rattle.c_answers.specs.Status.{isAccepted, Tells}
+use Rattle.c_answers.specs.Status.{isAccepted, StatusReads}
 use Rattle.trustee_shares.specs.Views.{Dealing}
 use Rattle.trustees.specs.Shared.{shared}
 use Rattle.c_trustees.specs.Numbers.{tallyNumbers, tallyAnswer}
@@ -10,7 +10,7 @@ use Rattle.c_trustees.specs.Numbers.{tallyNumbers, tallyAnswer}
 abbrev pub lastReason : ℕ
 lastReason = 18
 
-pub record StatusTells : Type 0 where
+pub record StatusMeans : Type 0 where
   pub trustees : (s : Shape) (table ballots : List ℕ) (t : ℕ) (d : Dealing) (wireParts published answer : List ℕ)
-      → Tells lastReason tallyAnswer (tallyNumbers (shared s table ballots t d wireParts published .answer) (shared s table ballots t d wireParts published .closing)) answer
+      → StatusReads lastReason tallyAnswer (tallyNumbers (shared s table ballots t d wireParts published .answer) (shared s table ballots t d wireParts published .closing)) answer
       (isAccepted (shared s table ballots t d wireParts published .answer))

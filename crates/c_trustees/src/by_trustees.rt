@@ -11,7 +11,7 @@ ghost use mathlib.Core.List.{_++_};
 ghost use Prim.Native.Nat.{_≤_};
 ghost use lib.ListN.{length, drop};
 ghost use lib.Seq.{sets};
-ghost use Rattle.tally.specs.Answer.{saidBy};
+ghost use Rattle.tally.specs.Answer.{outcomeOf};
 ghost use Rattle.trustees.specs.Shared.{shared};
 ghost use Rattle.c_answers.specs.Numbers.{sizeAnswer, shapeOf, statusOf, status, answered, altered};
 ghost use Rattle.c_trustees.specs.Numbers.{tallyNumbers, tallyAnswer};
@@ -36,13 +36,13 @@ fn put_closing(closing: [u8; 8], answer: &mut [usize])
 }
 
 // The whole answer, and its status.
-fn put_tally(said: Tallied, answer: &mut [usize]) -> usize
+fn put_tally(outcome: Tallied, answer: &mut [usize]) -> usize
     requires { ⌜ tallyAnswer ≤ length (now answer) ⌝ }
-    ensures { λ r. ⌜ r ≡ statusOf (tallyNumbers (saidBy (said .answer)) (said .closing)) ⌝ }
-    ensures { λ _. ⌜ now (answer .exit) ≡ tallyNumbers (saidBy (said .answer)) (said .closing) ++ drop tallyAnswer (now (answer .entry)) ⌝ }
+    ensures { λ r. ⌜ r ≡ statusOf (tallyNumbers (outcomeOf (outcome .answer)) (outcome .closing)) ⌝ }
+    ensures { λ _. ⌜ now (answer .exit) ≡ tallyNumbers (outcomeOf (outcome .answer)) (outcome .closing) ++ drop tallyAnswer (now (answer .entry)) ⌝ }
 {
-    let size = said.answer;
-    let closing = said.closing;
+    let size = outcome.answer;
+    let closing = outcome.closing;
     let status = put_size(size, answer);
     put_closing(closing, answer);
     status
@@ -76,7 +76,7 @@ pub extern "C" fn jugy_trustees(
         grades,
         ballots,
     };
-    let said = run(
+    let outcome = run(
         shape,
         table,
         bytes,
@@ -86,5 +86,5 @@ pub extern "C" fn jugy_trustees(
         wires,
         published,
     );
-    put_tally(said, answer)
+    put_tally(outcome, answer)
 }

@@ -8,18 +8,18 @@ ghost use mathlib.Core.List.{_++_};
 ghost use Prim.Native.Nat.{_≤_};
 ghost use lib.ListN.{length, drop};
 ghost use Rattle.urn.specs.Facts.{factsOf, countedBy};
-ghost use Rattle.urn.specs.Admit.{admitSaid, admitted};
-ghost use Rattle.urn.specs.Withdraw.{withdrawSaid, withdrawn};
-ghost use Rattle.urn.specs.Empty.{emptySaid, emptied};
+ghost use Rattle.urn.specs.Admit.{admitOutcome, admitted};
+ghost use Rattle.urn.specs.Withdraw.{withdrawOutcome, withdrawn};
+ghost use Rattle.urn.specs.Empty.{emptyOutcome, emptied};
 ghost use Rattle.c_answers.specs.Numbers.{oneAnswer, oneNumber, statusOf, status, answered, altered};
 
 // The answer of a call on an urn, and its status.
-fn put_turnout(said: Answer, answer: &mut [usize]) -> usize
+fn put_count(outcome: Answer, answer: &mut [usize]) -> usize
     requires { ⌜ oneAnswer ≤ length (now answer) ⌝ }
-    ensures { λ r. ⌜ r ≡ statusOf (oneNumber (countedBy said)) ⌝ }
-    ensures { λ _. ⌜ now (answer .exit) ≡ oneNumber (countedBy said) ++ drop oneAnswer (now (answer .entry)) ⌝ }
+    ensures { λ r. ⌜ r ≡ statusOf (oneNumber (countedBy outcome)) ⌝ }
+    ensures { λ _. ⌜ now (answer .exit) ≡ oneNumber (countedBy outcome) ++ drop oneAnswer (now (answer .entry)) ⌝ }
 {
-    match said {
+    match outcome {
         Answer::Accepted { ballots } => {
             put(&[0, 0, ballots], answer);
             0
@@ -41,15 +41,15 @@ pub extern "C" fn jugy_empty_urn(
     bytes: &mut [u8],
     answer: &mut [usize],
 ) -> usize
-    ensures { λ r. ⌜ r ≡ status oneAnswer (oneNumber (emptySaid candidates grades (now (bytes .entry)))) (now (answer .entry)) ⌝ }
-    ensures { λ _. ⌜ now (answer .exit) ≡ answered oneAnswer (oneNumber (emptySaid candidates grades (now (bytes .entry)))) (now (answer .entry)) ⌝ }
+    ensures { λ r. ⌜ r ≡ status oneAnswer (oneNumber (emptyOutcome candidates grades (now (bytes .entry)))) (now (answer .entry)) ⌝ }
+    ensures { λ _. ⌜ now (answer .exit) ≡ answered oneAnswer (oneNumber (emptyOutcome candidates grades (now (bytes .entry)))) (now (answer .entry)) ⌝ }
     ensures { λ _. ⌜ now (bytes .exit) ≡ altered oneAnswer (now (answer .entry)) (emptied candidates grades (now (bytes .entry))) (now (bytes .entry)) ⌝ }
 {
     if answer.len() < ONE_ANSWER {
         return SHORT_ANSWER;
     }
-    let said = urn::empty::empty(candidates, grades, bytes);
-    put_turnout(said, answer)
+    let outcome = urn::empty::empty(candidates, grades, bytes);
+    put_count(outcome, answer)
 }
 
 // Admits the ballot of a juror: reason, place and the new number of ballots.
@@ -62,15 +62,15 @@ pub extern "C" fn jugy_admit(
     ballot: &[u8],
     answer: &mut [usize],
 ) -> usize
-    ensures { λ r. ⌜ r ≡ status oneAnswer (oneNumber (admitSaid candidates grades (factsOf candidates grades (now (bytes .entry)) juror) juror (now (ballot .entry)))) (now (answer .entry)) ⌝ }
-    ensures { λ _. ⌜ now (answer .exit) ≡ answered oneAnswer (oneNumber (admitSaid candidates grades (factsOf candidates grades (now (bytes .entry)) juror) juror (now (ballot .entry)))) (now (answer .entry)) ⌝ }
+    ensures { λ r. ⌜ r ≡ status oneAnswer (oneNumber (admitOutcome candidates grades (factsOf candidates grades (now (bytes .entry)) juror) juror (now (ballot .entry)))) (now (answer .entry)) ⌝ }
+    ensures { λ _. ⌜ now (answer .exit) ≡ answered oneAnswer (oneNumber (admitOutcome candidates grades (factsOf candidates grades (now (bytes .entry)) juror) juror (now (ballot .entry)))) (now (answer .entry)) ⌝ }
     ensures { λ _. ⌜ now (bytes .exit) ≡ altered oneAnswer (now (answer .entry)) (admitted candidates grades (now (bytes .entry)) juror (now (ballot .entry))) (now (bytes .entry)) ⌝ }
 {
     if answer.len() < ONE_ANSWER {
         return SHORT_ANSWER;
     }
-    let said = urn::admit::admit(candidates, grades, bytes, juror, ballot);
-    put_turnout(said, answer)
+    let outcome = urn::admit::admit(candidates, grades, bytes, juror, ballot);
+    put_count(outcome, answer)
 }
 
 // Withdraws the ballot of a juror: reason, place and the new number of ballots.
@@ -82,15 +82,15 @@ pub extern "C" fn jugy_withdraw(
     juror: usize,
     answer: &mut [usize],
 ) -> usize
-    ensures { λ r. ⌜ r ≡ status oneAnswer (oneNumber (withdrawSaid candidates grades (factsOf candidates grades (now (bytes .entry)) juror) juror)) (now (answer .entry)) ⌝ }
-    ensures { λ _. ⌜ now (answer .exit) ≡ answered oneAnswer (oneNumber (withdrawSaid candidates grades (factsOf candidates grades (now (bytes .entry)) juror) juror)) (now (answer .entry)) ⌝ }
+    ensures { λ r. ⌜ r ≡ status oneAnswer (oneNumber (withdrawOutcome candidates grades (factsOf candidates grades (now (bytes .entry)) juror) juror)) (now (answer .entry)) ⌝ }
+    ensures { λ _. ⌜ now (answer .exit) ≡ answered oneAnswer (oneNumber (withdrawOutcome candidates grades (factsOf candidates grades (now (bytes .entry)) juror) juror)) (now (answer .entry)) ⌝ }
     ensures { λ _. ⌜ now (bytes .exit) ≡ altered oneAnswer (now (answer .entry)) (withdrawn candidates grades (now (bytes .entry)) juror) (now (bytes .entry)) ⌝ }
 {
     if answer.len() < ONE_ANSWER {
         return SHORT_ANSWER;
     }
-    let said = urn::withdraw::withdraw(candidates, grades, bytes, juror);
-    put_turnout(said, answer)
+    let outcome = urn::withdraw::withdraw(candidates, grades, bytes, juror);
+    put_count(outcome, answer)
 }
 
 // What an admission would answer. The urn is not altered.
@@ -103,14 +103,14 @@ pub extern "C" fn jugy_preview_admit(
     ballot: &[u8],
     answer: &mut [usize],
 ) -> usize
-    ensures { λ r. ⌜ r ≡ status oneAnswer (oneNumber (admitSaid candidates grades (factsOf candidates grades (now (bytes .entry)) juror) juror (now (ballot .entry)))) (now (answer .entry)) ⌝ }
-    ensures { λ _. ⌜ now (answer .exit) ≡ answered oneAnswer (oneNumber (admitSaid candidates grades (factsOf candidates grades (now (bytes .entry)) juror) juror (now (ballot .entry)))) (now (answer .entry)) ⌝ }
+    ensures { λ r. ⌜ r ≡ status oneAnswer (oneNumber (admitOutcome candidates grades (factsOf candidates grades (now (bytes .entry)) juror) juror (now (ballot .entry)))) (now (answer .entry)) ⌝ }
+    ensures { λ _. ⌜ now (answer .exit) ≡ answered oneAnswer (oneNumber (admitOutcome candidates grades (factsOf candidates grades (now (bytes .entry)) juror) juror (now (ballot .entry)))) (now (answer .entry)) ⌝ }
 {
     if answer.len() < ONE_ANSWER {
         return SHORT_ANSWER;
     }
-    let said = urn::admit::preview(candidates, grades, bytes, juror, ballot);
-    put_turnout(said, answer)
+    let outcome = urn::admit::preview(candidates, grades, bytes, juror, ballot);
+    put_count(outcome, answer)
 }
 
 // What a withdrawal would answer. The urn is not altered.
@@ -122,12 +122,12 @@ pub extern "C" fn jugy_preview_withdraw(
     juror: usize,
     answer: &mut [usize],
 ) -> usize
-    ensures { λ r. ⌜ r ≡ status oneAnswer (oneNumber (withdrawSaid candidates grades (factsOf candidates grades (now (bytes .entry)) juror) juror)) (now (answer .entry)) ⌝ }
-    ensures { λ _. ⌜ now (answer .exit) ≡ answered oneAnswer (oneNumber (withdrawSaid candidates grades (factsOf candidates grades (now (bytes .entry)) juror) juror)) (now (answer .entry)) ⌝ }
+    ensures { λ r. ⌜ r ≡ status oneAnswer (oneNumber (withdrawOutcome candidates grades (factsOf candidates grades (now (bytes .entry)) juror) juror)) (now (answer .entry)) ⌝ }
+    ensures { λ _. ⌜ now (answer .exit) ≡ answered oneAnswer (oneNumber (withdrawOutcome candidates grades (factsOf candidates grades (now (bytes .entry)) juror) juror)) (now (answer .entry)) ⌝ }
 {
     if answer.len() < ONE_ANSWER {
         return SHORT_ANSWER;
     }
-    let said = urn::withdraw::preview(candidates, grades, bytes, juror);
-    put_turnout(said, answer)
+    let outcome = urn::withdraw::preview(candidates, grades, bytes, juror);
+    put_count(outcome, answer)
 }

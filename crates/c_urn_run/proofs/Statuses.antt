@@ -4,9 +4,9 @@ use native.Mathlib.Omega.{arith}
 use Rattle.c_answers.proofs.Statuses.{fit, numbered, size-tells}
 use Rattle.urn_run.specs.Run.{ranOnUrn}
 use Rattle.urn_run.proofs.Theorems.{urn-run-holds}
-use Rattle.c_urn_run.specs.Status.{lastReason, StatusTells}
+use Rattle.c_urn_run.specs.Status.{lastReason, StatusMeans}
 
-pub status-tells : StatusTells
+pub status-tells : StatusMeans
 unfolding fit
 status-tells =
     record {

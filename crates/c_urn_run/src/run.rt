@@ -34,6 +34,6 @@ pub extern "C" fn jugy_run_urn(
         grades,
         ballots,
     };
-    let said = urn_run::run::run_on_urn(shape, table, bytes, tape, wires, board);
-    put_size(said, answer)
+    let outcome = urn_run::run::run_on_urn(shape, table, bytes, tape, wires, board);
+    put_size(outcome, answer)
 }

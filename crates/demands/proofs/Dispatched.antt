@@ -7,7 +7,7 @@ use Prim.Native.Nat.{ℕ}
 use lib.ListN.{getD, take}
 use Rattle.gates.specs.Gate.{gatesOf}
 use Rattle.tally.specs.Answer.{accepted, sizeOf}
-use Rattle.tally.specs.Run.{ran}
+use Rattle.tally.specs.Run.{runResult}
 use Rattle.tally.specs.Hiding.{closingBytes}
 use Rattle.tally.specs.Demands.{listIn}
 use Rattle.tally.specs.Rule.{Wins}
@@ -25,8 +25,8 @@ dispatch-accuracy count ss share t j table size accepts below wrote own i lt =
     let p = piecesAt j (take count ss) t in
     let e = dispatching .each count ss share t j accepts below in
     let a = three-demands .accuracy s table size wrote in
-    let h = subst (λ (l : List ℕ). ran s l (p .ballots) (p .tapes) (p .wires) (p .boards) .answer ≡ accepted (sizeOf (gatesOf (p .lists)))) own (e .runs) in
-    let b = e .board ∙ ap (λ (l : List ℕ). ran s l (p .ballots) (p .tapes) (p .wires) (p .boards) .board) own in
+    let h = subst (λ (l : List ℕ). runResult s l (p .ballots) (p .tapes) (p .wires) (p .boards) .answer ≡ accepted (sizeOf (gatesOf (p .lists)))) own (e .runs) in
+    let b = e .board ∙ ap (λ (l : List ℕ). runResult s l (p .ballots) (p .tapes) (p .wires) (p .boards) .board) own in
     record {
       winner = subst (λ (l : List ℕ). (getD (closingBytes s l) i 0 ≡ 1) ↔ Wins s (p .ballots) i) (sym b) (a .winners (p .ballots) (p .tapes) (p .wires) (p .boards) _ h i lt);
       loser = subst (λ (l : List ℕ). (getD (closingBytes s l) i 0 ≡ 0) ↔ (¬ Wins s (p .ballots) i)) (sym b) (a .losers (p .ballots) (p .tapes) (p .wires) (p .boards) _ h i lt);

@@ -6,7 +6,7 @@ use mathlib.Core.List.{List}
 use Prim.Native.Nat.{ℕ, _<_}
 use lib.ListN.{length, getD, take}
 use Rattle.tally.specs.Answer.{accepted, Size}
-use Rattle.tally.specs.Write.{writeSaid}
+use Rattle.tally.specs.Write.{writeOutcome}
 use Rattle.tally.specs.Hiding.{closingBytes}
 use Rattle.tally.specs.Demands.{listIn}
 use Rattle.tally.specs.Rule.{Wins}
@@ -26,6 +26,6 @@ abbrev pub DispatchAccuracy : Type 0
 DispatchAccuracy =
     (count : ℕ) (ss : List Statement) (share : ℕ) (t : Tables) (j : ℕ) (table : List ℕ) (size : Size)
     → dispatched count ss share t .reason ≡ none → j < length (take count ss)
-    → writeSaid (shapeOf (juryAt j (take count ss))) table ≡ accepted size
+    → writeOutcome (shapeOf (juryAt j (take count ss))) table ≡ accepted size
     → piecesAt j (take count ss) t .lists ≡ listIn (shapeOf (juryAt j (take count ss))) size table
     → (i : ℕ) → i < shapeOf (juryAt j (take count ss)) .candidates → Tallies count ss share t j i

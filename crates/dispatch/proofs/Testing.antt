@@ -17,7 +17,7 @@ use Rattle.gates.proofs.Evaluating.{accepted-list}
 use Rattle.jury.specs.Shape.{ballotBytes}
 use Rattle.jury.proofs.Limits.{bounds}
 use Rattle.jury.specs.Reason.{Reason, reasonOf, firstOf}
-use Rattle.tally.specs.Answer.{Said, refused, accepted, said, Size, sizeOf, saidBy}
+use Rattle.tally.specs.Answer.{Outcome, refused, accepted, outcome, Size, sizeOf, outcomeOf}
 use Rattle.tally.specs.declared.answer.Answer.{Answer}
 use Rattle.tally.specs.declared.answer.Answer.the-variants as answer
 use Rattle.tally.proofs.TestReasons.{never, TestPassed}
@@ -74,8 +74,8 @@ module _ (s : Statement) (t : Tables) where
   bad-jury j ss r e = ap (λ (o : Option Reason). firstOf (atJury j o ∷ juryReasons (suc j) ss (behind s t))) e
 
 -- the reason in an answer is the first of the tests
-pub refusal-is : (a : Answer) (o : Option Reason) (size : Size) → saidBy a ≡ said o size → refusalIn a ≡ o
-unfolding saidBy said refusalIn
+pub refusal-is : (a : Answer) (o : Option Reason) (size : Size) → outcomeOf a ≡ outcome o size → refusalIn a ≡ o
+unfolding outcomeOf outcome refusalIn
 refusal-is (answer.Accepted g c) none size e = refl
 refusal-is (answer.Accepted g c) (some r) size e = never (record { gates = g; conditional = c }) r (sym e)
 refusal-is (answer.Refused q) none size e = never size (reasonOf q) e
@@ -87,15 +87,15 @@ unfolding atJury
 at-jury-some j r e = let z : _≡_ {A = ℕ} 0 1 = cc in absurd (omega arith)
 
 -- an accepted answer: no reason applies, and it counts the marks of the list
-pub accepted-mark : (a : Answer) (o : Option Reason) (gs : List Gate) (g c : ℕ) → saidBy a ≡ said o (sizeOf gs) → a ≡ answer.Accepted g c → (o ≡ none) × (c ≡ conditionalCount gs)
-unfolding saidBy said sizeOf
+pub accepted-mark : (a : Answer) (o : Option Reason) (gs : List Gate) (g c : ℕ) → outcomeOf a ≡ outcome o (sizeOf gs) → a ≡ answer.Accepted g c → (o ≡ none) × (c ≡ conditionalCount gs)
+unfolding outcomeOf outcome sizeOf
 accepted-mark a none gs g c e f =
-    let same : record { gates = g; conditional = c } ≡ sizeOf gs = same-size (ap saidBy (sym f) ∙ e) in
+    let same : record { gates = g; conditional = c } ≡ sizeOf gs = same-size (ap outcomeOf (sym f) ∙ e) in
     (refl, ap (λ (x : Size). x .conditional) same)
   where
     same-size : accepted (record { gates = g; conditional = c }) ≡ accepted (sizeOf gs) → record { gates = g; conditional = c } ≡ sizeOf gs
     same-size h = cc
-accepted-mark a (some r) gs g c e f = never (record { gates = g; conditional = c }) r (sym e ∙ ap saidBy f)
+accepted-mark a (some r) gs g c e f = never (record { gates = g; conditional = c }) r (sym e ∙ ap outcomeOf f)
 
 -- The juries before j passed, and the first reason is that of the juries ahead.
 pub record TestedSoFar (ss : List Statement) (t : Tables) (j : ℕ) (left : List Statement) (at : Places) (conditional : List ℕ) : Type 0 where

@@ -17,7 +17,7 @@ use Rattle.gates.specs.Board.{boardOf}
 use Rattle.jury.specs.Shape.{ballotBytes}
 use Rattle.jury.specs.Reason.{Reason, reasonAt, unless, firstOf}
 use Rattle.tally.specs.Answer.{refused, accepted, sizeOf}
-use Rattle.tally.specs.Run.{Ran, ran, ranAfter}
+use Rattle.tally.specs.Run.{RunResult, runResult, runResultAfter}
 use Rattle.tally.specs.Hiding.{closingBytes, Hidden}
 use Rattle.tally.proofs.Hiding.{run-answer, run-board, board-tells-no-more}
 use Rattle.tally.proofs.RunReasons.{ran-by}
@@ -328,8 +328,8 @@ refusals =
         let q = f .its in
         let p = piecesAt k qs t in
         let s = juryAt k qs in
-        let said : ranAt k qs t .answer ≡ refused q =
-        unfold ranAfter reasonsOf in (ap (λ (x : Ran). x .answer) (ran-by (shapeOf s) (p .lists) (p .ballots) (p .tapes) (p .wires) (p .boards) (some q) (f .bad))) in
+        let outcome : ranAt k qs t .answer ≡ refused q =
+        unfold runResultAfter reasonsOf in (ap (λ (x : RunResult). x .answer) (ran-by (shapeOf s) (p .lists) (p .ballots) (p .tapes) (p .wires) (p .boards) (some q) (f .bad))) in
         let place : r .place ≡ 0 + k = unfold reasonAt in (ap (λ (x : Reason). x .place) (f .named)) in
         let here : k ≡ r .place = omega arith in
         record {
@@ -337,7 +337,7 @@ refusals =
           before = λ (j : ℕ) (h : j < r .place). run-accepted qs t j (f .before j (omega arith));
           its = q;
           number = unfold reasonAt in (ap (λ (x : Reason). x .number) (f .named));
-          run = subst (λ (i : ℕ). ranAt i qs t .answer ≡ refused q) here said;
+          run = subst (λ (i : ℕ). ranAt i qs t .answer ≡ refused q) here outcome;
         }
 
     name : (count : ℕ) (ss : List Statement) (share : ℕ) (t : Tables) (r : Reason) (a b : Bool) → (leb 1 count && leb count 8) ≡ a → (leb 1 share && leb share 65536) ≡ b
@@ -415,20 +415,20 @@ untouched =
 
 -- demand 3 for two juries, by their runs
 hidden : (s s′ : Statement) (p q : Tables) (x y : List ℕ)
-    → ran (shapeOf s) (p .lists) (p .ballots) (p .tapes) (p .wires) (p .boards) .answer ≡ accepted (sizeOf (gatesOf (p .lists)))
-    → ran (shapeOf s′) (q .lists) (q .ballots) (q .tapes) (q .wires) (q .boards) .answer ≡ accepted (sizeOf (gatesOf (q .lists)))
+    → runResult (shapeOf s) (p .lists) (p .ballots) (p .tapes) (p .wires) (p .boards) .answer ≡ accepted (sizeOf (gatesOf (p .lists)))
+    → runResult (shapeOf s′) (q .lists) (q .ballots) (q .tapes) (q .wires) (q .boards) .answer ≡ accepted (sizeOf (gatesOf (q .lists)))
     → x ≡ ranBoard s p → y ≡ ranBoard s′ q → s ≡ s′ → p .lists ≡ q .lists → closingBytes (shapeOf s) x ≡ closingBytes (shapeOf s) y
     → Hidden (shapeOf s) (p .lists) (p .ballots) (q .ballots) (p .wires) (q .wires) (p .boards) (q .boards)
 unfolding ranBoard
 hidden s s′ p q x y runs runs′ e f st list closing =
-    let first : ran (shapeOf s) (p .lists) (q .ballots) (q .tapes) (q .wires) (q .boards) .answer ≡ accepted (sizeOf (gatesOf (p .lists))) =
-    subst (λ (z : Statement). ran (shapeOf z) (p .lists) (q .ballots) (q .tapes) (q .wires) (q .boards) .answer ≡ accepted (sizeOf (gatesOf (p .lists)))) (sym st)
-    (subst (λ (l : List ℕ). ran (shapeOf s′) l (q .ballots) (q .tapes) (q .wires) (q .boards) .answer ≡ accepted (sizeOf (gatesOf l))) (sym list) runs′) in
-    let same : y ≡ ran (shapeOf s) (p .lists) (q .ballots) (q .tapes) (q .wires) (q .boards) .board =
-    f ∙ ap (λ (l : List ℕ). ran (shapeOf s′) l (q .ballots) (q .tapes) (q .wires) (q .boards) .board) (sym list)
-    ∙ ap (λ (z : Statement). ran (shapeOf z) (p .lists) (q .ballots) (q .tapes) (q .wires) (q .boards) .board) (sym st) in
-    let ends : closingBytes (shapeOf s) (ran (shapeOf s) (p .lists) (p .ballots) (p .tapes) (p .wires) (p .boards) .board)
-    ≡ closingBytes (shapeOf s) (ran (shapeOf s) (p .lists) (q .ballots) (q .tapes) (q .wires) (q .boards) .board) =
+    let first : runResult (shapeOf s) (p .lists) (q .ballots) (q .tapes) (q .wires) (q .boards) .answer ≡ accepted (sizeOf (gatesOf (p .lists))) =
+    subst (λ (z : Statement). runResult (shapeOf z) (p .lists) (q .ballots) (q .tapes) (q .wires) (q .boards) .answer ≡ accepted (sizeOf (gatesOf (p .lists)))) (sym st)
+    (subst (λ (l : List ℕ). runResult (shapeOf s′) l (q .ballots) (q .tapes) (q .wires) (q .boards) .answer ≡ accepted (sizeOf (gatesOf l))) (sym list) runs′) in
+    let same : y ≡ runResult (shapeOf s) (p .lists) (q .ballots) (q .tapes) (q .wires) (q .boards) .board =
+    f ∙ ap (λ (l : List ℕ). runResult (shapeOf s′) l (q .ballots) (q .tapes) (q .wires) (q .boards) .board) (sym list)
+    ∙ ap (λ (z : Statement). runResult (shapeOf z) (p .lists) (q .ballots) (q .tapes) (q .wires) (q .boards) .board) (sym st) in
+    let ends : closingBytes (shapeOf s) (runResult (shapeOf s) (p .lists) (p .ballots) (p .tapes) (p .wires) (p .boards) .board)
+    ≡ closingBytes (shapeOf s) (runResult (shapeOf s) (p .lists) (q .ballots) (q .tapes) (q .wires) (q .boards) .board) =
     sym (ap (closingBytes (shapeOf s)) e) ∙ closing ∙ ap (closingBytes (shapeOf s)) same in
     board-tells-no-more (shapeOf s) (p .lists) (p .ballots) (q .ballots) (p .tapes) (q .tapes) (p .wires) (q .wires) (p .boards) (q .boards) _ _ runs first ends .2
 

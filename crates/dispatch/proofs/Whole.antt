@@ -16,7 +16,7 @@ use Rattle.gates.specs.Board.{conditionalCount, boardOf}
 use Rattle.gates.proofs.Counting.{count-nil}
 use Rattle.jury.specs.Shape.{ballotBytes}
 use Rattle.jury.specs.Reason.{Reason, reasonAt, unless, firstOf}
-use Rattle.tally.specs.Run.{Ran, ran, ranAfter}
+use Rattle.tally.specs.Run.{RunResult, runResult, runResultAfter}
 use Rattle.tally.proofs.RunReasons.{ran-by}
 use Rattle.dispatch_rounds.specs.declared.statement.Statement.{Statement}
 use Rattle.dispatch_rounds.specs.Tables.{Tables, shapeOf, conditionalIn, piecesOf, behind, through}
@@ -98,14 +98,14 @@ most-none = refl
 
 -- a jury that has done all its gates has the board of an undivided run
 board-all : (given : ℕ) (s : Statement) (t : Tables) → firstOf (reasonsOf s t) ≡ none → s .gates ≤ given → juryBoard given s (piecesOf s t) ≡ ranBoard s (piecesOf s t)
-unfolding juryBoard ranBoard ranAfter reasonsOf
+unfolding juryBoard ranBoard runResultAfter reasonsOf
 board-all given s t e h =
     let p = piecesOf s t in
     let k = jury-passed s t e in
     let gs = gatesOf (p .lists) in
     ap (λ (n : ℕ). boardAfter (p .ballots) gs (s .candidates) (p .tapes) n (p .boards)) (min-eq-right h)
     ∙ after-all (p .ballots) gs (s .candidates) (p .tapes) (s .gates) (p .boards) (omega (arith, k .gates))
-    ∙ sym (ap (λ (r : Ran). r .board) (ran-by (shapeOf s) (p .lists) (p .ballots) (p .tapes) (p .wires) (p .boards) none e))
+    ∙ sym (ap (λ (r : RunResult). r .board) (ran-by (shapeOf s) (p .lists) (p .ballots) (p .tapes) (p .wires) (p .boards) none e))
 
 pub boards-end : (given j : ℕ) (ss : List Statement) (t : Tables) → firstOf (juryReasons j ss t) ≡ none → mostGates ss ≤ given
     → boardsGiven given ss t ≡ through ranBoard (λ (t : Tables). t .boards) ss t

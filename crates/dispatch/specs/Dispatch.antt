@@ -4,7 +4,7 @@ use mathlib.Core.List.{List, []}
 use Prim.Native.Nat.{ℕ, _+_}
 use lib.ListN.{length, take, replicate}
 use Rattle.jury.specs.Reason.{Reason, firstOf}
-use Rattle.tally.specs.Run.{ran}
+use Rattle.tally.specs.Run.{runResult}
 use Rattle.dispatch_rounds.specs.declared.statement.Statement.{Statement}
 use Rattle.dispatch_rounds.specs.Tables.{Tables, shapeOf, through}
 use Rattle.dispatch.specs.Reasons.{dispatchReasons}
@@ -12,7 +12,7 @@ use Rattle.dispatch_rounds.specs.Rounds.{eightOf, roundsFor}
 
 -- The board that an undivided run leaves on a jury's pieces.
 unfoldable pub ranBoard : Statement → Tables → List ℕ
-ranBoard s p = ran (shapeOf s) (p .lists) (p .ballots) (p .tapes) (p .wires) (p .boards) .board
+ranBoard s p = runResult (shapeOf s) (p .lists) (p .ballots) (p .tapes) (p .wires) (p .boards) .board
 
 -- What a call leaves: its reason, if any, how many rounds each jury took, the wire table and the boards.
 pub record Dispatch : Type 0 where

@@ -14,8 +14,8 @@ use Rattle.dispatch_rounds.specs.declared.statement.Statement.{Statement}
 use Rattle.dispatch_rounds.specs.Tables.{Tables, shapeOf}
 use Rattle.dispatch_rounds.specs.Reasons.{juryReasons}
 use Rattle.dispatch_rounds.specs.Rounds.{eightOf, RoundState}
-use Rattle.dispatch.specs.declared.outcome.Tests.{Tests}
-use Rattle.dispatch.specs.Reasons.{outcomeReason}
+use Rattle.dispatch.specs.declared.verdict.Tests.{Tests}
+use Rattle.dispatch.specs.Reasons.{verdictReason}
 
 -- The wires of all juries.
 unfoldable pub wireBytes : List Statement → ℕ
@@ -29,9 +29,9 @@ mostGates (s ∷ ss) = max (s .gates) (mostGates ss)
 
 -- What the tests of all juries found.
 pub record TestsFound (ss : List Statement) (t : Tables) (r : Tests) : Type 0 where
-  pub reason : outcomeReason (r .outcome) ≡ firstOf (juryReasons 0 ss t)
-  pub conditional : outcomeReason (r .outcome) ≡ none → r .conditional ≡ eightOf (λ (s : Statement) (p : Tables). conditionalCount (gatesOf (p .lists))) ss t
-  pub wires : outcomeReason (r .outcome) ≡ none → r .wires ≡ wireBytes ss
+  pub reason : verdictReason (r .verdict) ≡ firstOf (juryReasons 0 ss t)
+  pub conditional : verdictReason (r .verdict) ≡ none → r .conditional ≡ eightOf (λ (s : Statement) (p : Tables). conditionalCount (gatesOf (p .lists))) ss t
+  pub wires : verdictReason (r .verdict) ≡ none → r .wires ≡ wireBytes ss
 
 -- The reason that is the answer of a jury's tests, if any.
 unfoldable pub refusalIn : Answer → Option Reason

@@ -9,8 +9,8 @@ use Rattle.jury.specs.Reason.{Reason, reasonAt, reasonOf, unless}
 use Rattle.dispatch_rounds.specs.declared.statement.Statement.{Statement}
 use Rattle.dispatch_rounds.specs.Tables.{Tables}
 use Rattle.dispatch_rounds.specs.Reasons.{juryReasons}
-use Rattle.dispatch.specs.declared.outcome.Outcome.{Outcome}
-use Rattle.dispatch.specs.declared.outcome.Outcome.the-variants.{Accepted, Refused}
+use Rattle.dispatch.specs.declared.verdict.JuriesVerdict.{JuriesVerdict}
+use Rattle.dispatch.specs.declared.verdict.JuriesVerdict.the-variants.{Accepted, Refused}
 
 -- All of them: 19 for the number of juries, 20 for the gates of a round, then those of the juries. Statements past the number are not looked at.
 unfoldable pub dispatchReasons : ℕ → List Statement → ℕ → Tables → List (Option Reason)
@@ -20,6 +20,6 @@ dispatchReasons count ss share t =
     ∷ juryReasons 0 (take count ss) t
 
 -- The number and place for each case of the program's enum.
-unfoldable pub outcomeReason : Outcome → Option Reason
-outcomeReason Accepted = none
-outcomeReason (Refused reason jury) = some (reasonAt (reasonOf reason .number) jury)
+unfoldable pub verdictReason : JuriesVerdict → Option Reason
+verdictReason Accepted = none
+verdictReason (Refused reason jury) = some (reasonAt (reasonOf reason .number) jury)

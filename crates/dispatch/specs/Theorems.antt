@@ -8,7 +8,7 @@ use lib.ListN.{length, getD, take, replicate}
 use Rattle.gates.specs.Gate.{gatesOf}
 use Rattle.jury.specs.Reason.{Reason, reasonAt}
 use Rattle.tally.specs.Answer.{refused, accepted, sizeOf}
-use Rattle.tally.specs.Run.{Ran, ran}
+use Rattle.tally.specs.Run.{RunResult, runResult}
 use Rattle.tally.specs.Hiding.{closingBytes, Hidden}
 use Rattle.dispatch_rounds.specs.declared.statement.Statement.{Statement}
 use Rattle.dispatch_rounds.specs.Tables.{Tables, lent, shapeOf, piecesOf, behind}
@@ -29,8 +29,8 @@ abbrev pub piecesAt : ℕ → List Statement → Tables → Tables
 piecesAt j ss t = piecesOf (juryAt j ss) (tablesFrom j ss t)
 
 -- What an undivided run on jury j's pieces answers and leaves.
-abbrev pub ranAt : ℕ → List Statement → Tables → Ran
-ranAt j ss t = let p = piecesAt j ss t in ran (shapeOf (juryAt j ss)) (p .lists) (p .ballots) (p .tapes) (p .wires) (p .boards)
+abbrev pub ranAt : ℕ → List Statement → Tables → RunResult
+ranAt j ss t = let p = piecesAt j ss t in runResult (shapeOf (juryAt j ss)) (p .lists) (p .ballots) (p .tapes) (p .wires) (p .boards)
 
 -- Such a run is accepted.
 abbrev pub RunsAt : ℕ → List Statement → Tables → Type 0

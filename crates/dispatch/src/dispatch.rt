@@ -1,6 +1,6 @@
 // The entry point of the dispatcher.
-use crate::outcome::Outcome;
 use crate::tests::test_juries;
+use crate::verdict::JuriesVerdict;
 use dispatch_rounds::round::round;
 use dispatch_rounds::statement::Statement;
 use jury::reason::Refusal;
@@ -10,7 +10,7 @@ ghost use Prim.Native.Nat.{_≤_, max};
 ghost use lib.Dec.{leb};
 ghost use lib.ListN.{take};
 ghost use Rattle.dispatch_rounds.specs.Tables.{Tables, lent};
-ghost use Rattle.dispatch.specs.Reasons.{outcomeReason};
+ghost use Rattle.dispatch.specs.Reasons.{verdictReason};
 ghost use Rattle.dispatch_rounds.specs.Rounds.{eightOf, roundsFor};
 ghost use Rattle.dispatch.specs.Dispatch.{dispatched};
 ghost use Rattle.dispatch.specs.Inner.{Ready, Finished, mostGates};
@@ -23,9 +23,9 @@ pub const LEAST_SHARE: usize = 1;
 
 pub const MOST_SHARE: usize = 65536;
 
-// The answer of a call: its outcome, and how many rounds each jury took; 0 where there is no jury, and all 0 on a refusal.
+// The answer of a call: its verdict, and how many rounds each jury took; 0 where there is no jury, and all 0 on a refusal.
 pub struct Dispatched {
-    pub outcome: Outcome,
+    pub verdict: JuriesVerdict,
     pub rounds: [usize; 8],
 }
 
@@ -122,14 +122,14 @@ pub fn dispatch(
     wires: &mut [u8],
     boards: &mut [u8],
 ) -> Dispatched
-    ensures { λ r. ⌜ outcomeReason (r .outcome) ≡ (dispatched count statements share (lent (now (lists .entry)) (now (ballots .entry)) (now (tapes .entry)) (now (wires .entry)) (now (boards .entry)))) .reason ⌝ }
+    ensures { λ r. ⌜ verdictReason (r .verdict) ≡ (dispatched count statements share (lent (now (lists .entry)) (now (ballots .entry)) (now (tapes .entry)) (now (wires .entry)) (now (boards .entry)))) .reason ⌝ }
     ensures { λ r. ⌜ r .rounds ≡ (dispatched count statements share (lent (now (lists .entry)) (now (ballots .entry)) (now (tapes .entry)) (now (wires .entry)) (now (boards .entry)))) .rounds ⌝ }
     ensures { λ _. ⌜ now (wires .exit) ≡ (dispatched count statements share (lent (now (lists .entry)) (now (ballots .entry)) (now (tapes .entry)) (now (wires .entry)) (now (boards .entry)))) .wires ⌝ }
     ensures { λ _. ⌜ now (boards .exit) ≡ (dispatched count statements share (lent (now (lists .entry)) (now (ballots .entry)) (now (tapes .entry)) (now (wires .entry)) (now (boards .entry)))) .boards ⌝ }
 {
     if !is_between(LEAST_JURIES, count, MOST_JURIES) {
         return Dispatched {
-            outcome: Outcome::Refused {
+            verdict: JuriesVerdict::Refused {
                 reason: Refusal::Juries,
                 jury: 0,
             },
@@ -138,7 +138,7 @@ pub fn dispatch(
     }
     if !is_between(LEAST_SHARE, share, MOST_SHARE) {
         return Dispatched {
-            outcome: Outcome::Refused {
+            verdict: JuriesVerdict::Refused {
                 reason: Refusal::GatesPerRound,
                 jury: 0,
             },
@@ -146,10 +146,10 @@ pub fn dispatch(
         };
     }
     let tests = test_juries(count, statements, lists, ballots, tapes, wires, boards);
-    let outcome = tests.outcome;
-    let Outcome::Accepted = outcome else {
+    let verdict = tests.verdict;
+    let JuriesVerdict::Accepted = verdict else {
         return Dispatched {
-            outcome,
+            verdict,
             rounds: [0usize; 8],
         };
     };
@@ -168,7 +168,7 @@ pub fn dispatch(
     );
     tally::empty::empty(&mut wires[..end]);
     Dispatched {
-        outcome,
+        verdict,
         rounds: rounds_of(count, statements, share),
     }
 }

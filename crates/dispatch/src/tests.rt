@@ -1,6 +1,6 @@
 // The tests of all juries, before the first gate.
-use crate::outcome::Outcome;
-use crate::outcome::Tests;
+use crate::verdict::JuriesVerdict;
+use crate::verdict::Tests;
 use dispatch_rounds::statement::Places;
 use dispatch_rounds::statement::Statement;
 use jury::reason::Verdict;
@@ -11,10 +11,10 @@ ghost use Prim.Native.Nat.{_+_, _*_, _≤_};
 ghost use lib.ListN.{take};
 ghost use Rattle.gates.specs.Gate.{gatesOf};
 ghost use Rattle.jury.specs.Reason.{firstOf};
-ghost use Rattle.tally.specs.Answer.{saidBy, said, sizeOf};
+ghost use Rattle.tally.specs.Answer.{outcomeOf, outcome, sizeOf};
 ghost use Rattle.dispatch_rounds.specs.Tables.{lent, fitting, listOf};
 ghost use Rattle.dispatch_rounds.specs.Reasons.{reasonsOf, atJury};
-ghost use Rattle.dispatch.specs.Reasons.{outcomeReason};
+ghost use Rattle.dispatch.specs.Reasons.{verdictReason};
 ghost use Rattle.dispatch.specs.Inner.{refusalIn, TestsFound};
 
 // The length of a piece of first and second bytes together, where so many are left. The sum is formed only where it fits.
@@ -46,7 +46,7 @@ fn test_jury(
     wires: &[u8],
     boards: &[u8],
 ) -> Answer
-    ensures { λ r. ⌜ saidBy r ≡ said (firstOf (reasonsOf statement (lent (now (lists .entry)) (now (ballots .entry)) (now (tapes .entry)) (now (wires .entry)) (now (boards .entry))))) (sizeOf (gatesOf (listOf statement (lent (now (lists .entry)) (now (ballots .entry)) (now (tapes .entry)) (now (wires .entry)) (now (boards .entry)))))) ⌝ }
+    ensures { λ r. ⌜ outcomeOf r ≡ outcome (firstOf (reasonsOf statement (lent (now (lists .entry)) (now (ballots .entry)) (now (tapes .entry)) (now (wires .entry)) (now (boards .entry))))) (sizeOf (gatesOf (listOf statement (lent (now (lists .entry)) (now (ballots .entry)) (now (tapes .entry)) (now (wires .entry)) (now (boards .entry)))))) ⌝ }
 {
     let shape = Shape {
         candidates: statement.candidates,
@@ -66,7 +66,7 @@ fn test_jury(
     let masks = bytes_fitting(conditional, 0, tapes.len());
     let values = bytes_fitting(inputs, gates, wires.len());
     let shown = bytes_fitting(conditional, shape.candidates, boards.len());
-    match tally::run::test_lent(
+    match tally::run::test_buffers(
         inputs,
         shape.candidates,
         gates,
@@ -80,16 +80,16 @@ fn test_jury(
     }
 }
 
-// The outcome of a call whose first bad jury, if there is one, is this.
-fn outcome_of(answer: Answer, jury: usize) -> Outcome
-    ensures { λ r. ⌜ outcomeReason r ≡ atJury jury (refusalIn answer) ⌝ }
+// The verdict of a call whose first bad jury, if there is one, is this.
+fn outcome_of(answer: Answer, jury: usize) -> JuriesVerdict
+    ensures { λ r. ⌜ verdictReason r ≡ atJury jury (refusalIn answer) ⌝ }
 {
     match answer {
-        Answer::Refused(reason) => Outcome::Refused { reason, jury },
+        Answer::Refused(reason) => JuriesVerdict::Refused { reason, jury },
         Answer::Accepted {
             gates: _,
             conditional: _,
-        } => Outcome::Accepted,
+        } => JuriesVerdict::Accepted,
     }
 }
 
@@ -136,7 +136,7 @@ pub(crate) fn test_juries(
         } = answer
         else {
             return Tests {
-                outcome: outcome_of(answer, j),
+                verdict: outcome_of(answer, j),
                 conditional,
                 wires: w,
             };
@@ -146,7 +146,7 @@ pub(crate) fn test_juries(
         j += 1;
     }
     Tests {
-        outcome: Outcome::Accepted,
+        verdict: JuriesVerdict::Accepted,
         conditional,
         wires: at.wires,
     }

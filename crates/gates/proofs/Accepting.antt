@@ -15,7 +15,7 @@ use Rattle.gates.specs.Open.Board.{conditionals, conditionalCount}
 use Rattle.gates.specs.Open.Test.{firstBad, judged, tested}
 use Rattle.gates.specs.declared.place.Place.{Place}
 use Rattle.gates.specs.declared.place.Place.the-variants.{Nowhere}
-use Rattle.gates.specs.declared.list.Tested.the-variants.{Accepted, PartOfAGate, TooManyGates}
+use Rattle.gates.specs.declared.list.ListCheck.the-variants.{Accepted, PartOfAGate, TooManyGates}
 use Rattle.gates.proofs.Laws.{AllGood, good-none, none-bad, length-numbers, read-whole}
 
 pub good-list-accepted : (inputs k : ℕ) (gs : List Gate) → AllGood inputs gs → k ≤ length gs → length gs ≤ 1048576

@@ -7,7 +7,7 @@ use Rattle.gates.specs.Open.Gate.{gatesOf}
 use Rattle.gates.specs.Open.Wires.{wire, value, wiresOf, outputsOf}
 use Rattle.gates.specs.Open.Board.{conditionals, conditionalCount, shownBit, shownBits, boardOf}
 use Rattle.gates.specs.Open.Test.{goodOperand, goodGate, firstBad, judged, tested}
-use Rattle.gates.specs.declared.list.Tested.the-variants.{Accepted}
+use Rattle.gates.specs.declared.list.ListCheck.the-variants.{Accepted}
 
 unfoldable pub oneGate : List ℕ
 oneGate = 4 ∷ 0 ∷ 1 ∷ 0 ∷ []

@@ -5,11 +5,11 @@ use mathlib.Core.Bool.{Bool, true, false, cond}
 use Prim.Native.Nat.{ℕ}
 use native.Mathlib.Omega.{arith}
 use Rattle.jury.specs.declared.shape.Shape.{Shape}
-use Rattle.jury.specs.declared.shape.Shaped.{Shaped}
-use Rattle.jury.specs.declared.shape.Shaped.the-variants.{Within, Outside}
+use Rattle.jury.specs.declared.shape.ShapeResult.{ShapeResult}
+use Rattle.jury.specs.declared.shape.ShapeResult.the-variants.{Within, Outside}
 
 -- the shape in an answer, any other where there is none
-held : Shape → Shaped → Shape
+held : Shape → ShapeResult → Shape
 held s (Within x) = x
 held s Outside = s
 

@@ -48,11 +48,15 @@ fn test_rankings(shape: Shape, ballots: &[u8]) -> Verdict
     requires { ⌜ length (now ballots) ≡ shape .ballots * shape .candidates * shape .candidates ⌝ }
     ensures { λ r. ⌜ refusedFor r ≡ firstOf (rankedReasons shape (now (ballots .entry))) ⌝ }
 {
-    if let Place::At(i) = crate::rankings::first_clash(ballots, shape.candidates, shape.ballots) {
-        return Verdict::Refused(Refusal::BallotClash(i));
+    if let Place::At(i) = crate::rankings::first_not_asymmetric(
+        ballots,
+        shape.candidates,
+        shape.ballots,
+    ) {
+        return Verdict::Refused(Refusal::NotAsymmetric(i));
     }
-    match crate::rankings::first_gap(ballots, shape.candidates, shape.ballots) {
-        Place::At(b) => Verdict::Refused(Refusal::BallotGap(b)),
+    match crate::rankings::first_not_weak_order(ballots, shape.candidates, shape.ballots) {
+        Place::At(b) => Verdict::Refused(Refusal::NotWeakOrder(b)),
         Place::Nowhere => Verdict::Accepted,
     }
 }

@@ -7,7 +7,7 @@ use Rattle.gates.specs.Gate.{Gate, numbersOf}
 use Rattle.gates.specs.Board.{conditionalCount}
 use Rattle.gates.specs.Wires.{wiresOf, outputsOf}
 use Rattle.gates.specs.Test.{tested}
-use Rattle.gates.specs.declared.list.Tested.the-variants.{Accepted}
+use Rattle.gates.specs.declared.list.ListCheck.the-variants.{Accepted}
 use Rattle.jury.specs.Width.{widthOf}
 use Rattle.rule_schulze.specs.Schulze.{closingBytes}
 use Rattle.rule_schulze.specs.Votes.{votes}

@@ -13,7 +13,7 @@ use Rattle.jury.specs.Reason.{Reason, reasonOf, firstOf}
 use Rattle.jury.specs.Ballots.{ballotReasons}
 use Rattle.tally.specs.Rule.{closingFor}
 use Rattle.tally.specs.OwnList.{ownList}
-use Rattle.tally.specs.Answer.{Said, refused, accepted, said}
+use Rattle.tally.specs.Answer.{Outcome, refused, accepted, outcome}
 use Rattle.tally.specs.Write.{writeReasons}
 use Rattle.rehearsal.specs.declared.rehearse.Rehearsed.{Rehearsed}
 use Rattle.rehearsal.specs.declared.rehearse.Rehearsed.the-variants.{Winners, Refused}
@@ -38,11 +38,11 @@ pub record Printed : Type 0 where
 unfoldable pub printedOf : Shape → List ℕ → Printed
 printedOf s ballots = record { jury = s; winners = closingFor s ballots }
 
-unfoldable pub rehearsalSaid : List ℕ → List ℕ → Said Printed
-rehearsalSaid input table = said (firstOf (rehearsalReasons input table)) (printedOf (shapeIn input) (ballotsIn input))
+unfoldable pub rehearsalOutcome : List ℕ → List ℕ → Outcome Printed
+rehearsalOutcome input table = outcome (firstOf (rehearsalReasons input table)) (printedOf (shapeIn input) (ballotsIn input))
 
 -- What each case of the program's enum means, as a number with values: the k closing bytes stand on the board from a place on.
-unfoldable pub saidOn : List ℕ → Rehearsed → Said Printed
+unfoldable pub saidOn : List ℕ → Rehearsed → Outcome Printed
 saidOn board (Winners s first) = accepted (record { jury = s; winners = take (s .candidates) (drop first board) })
 saidOn board (Refused r) = refused (reasonOf r)
 
@@ -72,5 +72,5 @@ pub record Cut (s : Shape) (list : List ℕ) (gates conditional : ℕ) (tape wir
   pub boardLength : 4008 ≤ length board
 
 -- What it answers.
-unfoldable pub runSaid : Shape → List ℕ → Said Printed
-runSaid s ballots = said (firstOf (ballotReasons s ballots)) (printedOf s ballots)
+unfoldable pub runOutcome : Shape → List ℕ → Outcome Printed
+runOutcome s ballots = outcome (firstOf (ballotReasons s ballots)) (printedOf s ballots)

@@ -1,14 +1,14 @@
 // The rehearsal of a jury: its list is written and run on lent buffers.
 use jury::reason::Refusal;
 use jury::shape::Shape;
-use jury::shape::Shaped;
+use jury::shape::ShapeResult;
 use tally::answer::Answer;
 ghost use mathlib.Core.Path.{_≡_};
 ghost use mathlib.Core.Bool.{cond};
 ghost use Prim.Native.Nat.{_≤_};
 ghost use lib.ListN.{length, getD};
 ghost use Rattle.jury.specs.Shape.{withinLimits};
-ghost use Rattle.rehearsal.specs.Rehearsal.{Lent, Cut, shapeIn, rehearsalSaid, runSaid, saidOn, endOn};
+ghost use Rattle.rehearsal.specs.Rehearsal.{Lent, Cut, shapeIn, rehearsalOutcome, runOutcome, saidOn, endOn};
 
 // The shape and the place of the closing bytes on the board, or the first reason that applies.
 pub enum Rehearsed {
@@ -28,8 +28,8 @@ fn byte(input: &[u8], i: usize) -> usize
 }
 
 // The shape that the first three bytes give, or that there is none within the limits.
-fn shape(input: &[u8]) -> Shaped
-    ensures { λ r. ⌜ r ≡ cond (withinLimits (shapeIn (now (input .entry)))) (Shaped.Within (shapeIn (now (input .entry)))) Shaped.Outside ⌝ }
+fn shape(input: &[u8]) -> ShapeResult
+    ensures { λ r. ⌜ r ≡ cond (withinLimits (shapeIn (now (input .entry)))) (ShapeResult.Within (shapeIn (now (input .entry)))) ShapeResult.Outside ⌝ }
 {
     Shape::new(byte(input, 0), byte(input, 1), byte(input, 2))
 }
@@ -46,7 +46,7 @@ fn run_list(
     board: &mut [u8],
 ) -> Rehearsed
     requires { ⌜ Cut shape (now list) gates conditional (now tape) (now wires) (now board) ⌝ }
-    ensures { λ r. ⌜ saidOn (now (board .exit)) r ≡ runSaid shape (now (ballots .entry)) ⌝ }
+    ensures { λ r. ⌜ saidOn (now (board .exit)) r ≡ runOutcome shape (now (ballots .entry)) ⌝ }
     ensures { λ r. ⌜ endOn r ≤ length (now (board .exit)) ⌝ }
 {
     let answer = tally::run::run(
@@ -80,7 +80,7 @@ fn rehearse_shape(
 ) -> Rehearsed
     requires { ⌜ shape ≡ shapeIn (now input) ⌝ }
     requires { ⌜ Lent (now table) (now tape) (now wires) (now board) ⌝ }
-    ensures { λ r. ⌜ saidOn (now (board .exit)) r ≡ rehearsalSaid (now (input .entry)) (now (table .entry)) ⌝ }
+    ensures { λ r. ⌜ saidOn (now (board .exit)) r ≡ rehearsalOutcome (now (input .entry)) (now (table .entry)) ⌝ }
     ensures { λ r. ⌜ endOn r ≤ length (now (board .exit)) ⌝ }
 {
     match tally::write::write(shape, table) {
@@ -114,11 +114,11 @@ pub fn rehearse(
     board: &mut [u8],
 ) -> Rehearsed
     requires { ⌜ Lent (now table) (now tape) (now wires) (now board) ⌝ }
-    ensures { λ r. ⌜ saidOn (now (board .exit)) r ≡ rehearsalSaid (now (input .entry)) (now (table .entry)) ⌝ }
+    ensures { λ r. ⌜ saidOn (now (board .exit)) r ≡ rehearsalOutcome (now (input .entry)) (now (table .entry)) ⌝ }
     ensures { λ r. ⌜ endOn r ≤ length (now (board .exit)) ⌝ }
 {
     match shape(input) {
-        Shaped::Outside => Rehearsed::Refused(Refusal::Shape),
-        Shaped::Within(shape) => rehearse_shape(shape, input, table, tape, wires, board),
+        ShapeResult::Outside => Rehearsed::Refused(Refusal::Shape),
+        ShapeResult::Within(shape) => rehearse_shape(shape, input, table, tape, wires, board),
     }
 }

@@ -20,22 +20,22 @@ use Rattle.jury.specs.Shape.{ballotBytes}
 use Rattle.jury.specs.Reason.{Reason, reasonAt, unless, foundAt, firstOf}
 use Rattle.jury.specs.Shape.{isRanking}
 use Rattle.jury.specs.Ballots.{rowsOf, firstBadRow, gradedReasons, rankedReasons, ballotReasons}
-use Rattle.jury.specs.Rankings.{firstClash, firstGap}
+use Rattle.jury.specs.Rankings.{firstNotAsymmetric, firstNotWeakOrder}
 use Rattle.jury.specs.Accepted.{AcceptedBallots}
 use Rattle.jury.proofs.BallotLaws.{judged, kindReason, judged-by}
-use Rattle.tally.specs.Answer.{refused, accepted, said, Size, sizeOf}
+use Rattle.tally.specs.Answer.{refused, accepted, outcome, Size, sizeOf}
 use Rattle.tally.specs.Rule.{closingFor, Wins}
 use Rattle.tally.specs.OwnList.{ownList}
 use Rattle.tally.specs.Count.{plainClosing}
-use Rattle.tally.specs.Test.{testReasons, testSaid}
-use Rattle.tally.specs.Write.{writeReasons, writeSaid, written, OwnListHolds}
-use Rattle.tally.specs.Run.{Ran, lentReasons, runReasons, ranAfter, ran}
+use Rattle.tally.specs.Test.{testReasons, testOutcome}
+use Rattle.tally.specs.Write.{writeReasons, writeOutcome, written, OwnListHolds}
+use Rattle.tally.specs.Run.{RunResult, bufferReasons, runReasons, runResultAfter, runResult}
 use Rattle.tally.specs.Hiding.{closingBytes}
 use Rattle.tally.specs.Demands.{Memory, listIn, Accuracy, ThreeDemands}
 use Rattle.tally.proofs.Rules.{byte-says}
 use Rattle.tally.proofs.PlainFacts.{plain-first}
 use Rattle.tally.proofs.TestReasons.{never, orElse, TestPassed, test-passed}
-use Rattle.tally.proofs.RunReasons.{lentFound, lent-by, firstOfThree, run-first, said-refused, RunPassed, run-passed, ran-by}
+use Rattle.tally.proofs.RunReasons.{lentFound, lent-by, firstOfThree, run-first, outcome-refused, RunPassed, run-passed, ran-by}
 use Rattle.tally.proofs.Hiding.{ran-accepted, run-answer, run-wires, run-finished, run-closing, board-tells-no-more}
 use Rattle.tally.proofs.Numbering as numbering
 use Rattle.tally.proofs.OwnList.{own-list-holds}
@@ -43,29 +43,29 @@ use Rattle.tally.proofs.Writing as writing
 
 -- the whole of a call that was refused
 module _ (s : Shape) (table ballots tape wires board : List ℕ) where
-  after-refusal : (o : Option Reason) (r : Reason) → ranAfter o s (gatesOf table) ballots tape wires board .answer ≡ refused r
-      → (o ≡ some r) × (ranAfter o s (gatesOf table) ballots tape wires board .wires ≡ wires) × (ranAfter o s (gatesOf table) ballots tape wires board .board ≡ board)
-  unfolding ranAfter
+  after-refusal : (o : Option Reason) (r : Reason) → runResultAfter o s (gatesOf table) ballots tape wires board .answer ≡ refused r
+      → (o ≡ some r) × (runResultAfter o s (gatesOf table) ballots tape wires board .wires ≡ wires) × (runResultAfter o s (gatesOf table) ballots tape wires board .board ≡ board)
+  unfolding runResultAfter
   after-refusal none r e = never (sizeOf (gatesOf table)) r (sym e)
   after-refusal (some q) r e = let same : q ≡ r = cc in (ap some same, refl, refl)
 
-  whole : ran s table ballots tape wires board ≡ ranAfter (firstOf (runReasons s table ballots tape wires board)) s (gatesOf table) ballots tape wires board
+  whole : runResult s table ballots tape wires board ≡ runResultAfter (firstOf (runReasons s table ballots tape wires board)) s (gatesOf table) ballots tape wires board
   whole = ran-by s table ballots tape wires board (firstOf (runReasons s table ballots tape wires board)) refl
 
-  ran-refused : (r : Reason) → ran s table ballots tape wires board .answer ≡ refused r
-      → (firstOf (runReasons s table ballots tape wires board) ≡ some r) × (ran s table ballots tape wires board .wires ≡ wires) × (ran s table ballots tape wires board .board ≡ board)
+  ran-refused : (r : Reason) → runResult s table ballots tape wires board .answer ≡ refused r
+      → (firstOf (runReasons s table ballots tape wires board) ≡ some r) × (runResult s table ballots tape wires board .wires ≡ wires) × (runResult s table ballots tape wires board .board ≡ board)
   ran-refused r e =
       let o = firstOf (runReasons s table ballots tape wires board) in
-      let q = after-refusal o r (sym (ap (λ (z : Ran). z .answer) whole) ∙ e) in
-      (q .0, ap (λ (z : Ran). z .wires) whole ∙ q .1, ap (λ (z : Ran). z .board) whole ∙ q .2)
+      let q = after-refusal o r (sym (ap (λ (z : RunResult). z .answer) whole) ∙ e) in
+      (q .0, ap (λ (z : RunResult). z .wires) whole ∙ q .1, ap (λ (z : RunResult). z .board) whole ∙ q .2)
 
   -- no run changes a length
   lengths : (o : Option Reason) → firstOf (runReasons s table ballots tape wires board) ≡ o
-      → (length (ran s table ballots tape wires board .wires) ≡ length wires) × (length (ran s table ballots tape wires board .board) ≡ length board)
-  unfolding ranAfter
+      → (length (runResult s table ballots tape wires board .wires) ≡ length wires) × (length (runResult s table ballots tape wires board .board) ≡ length board)
+  unfolding runResultAfter
   lengths (some r) e =
       let f = ran-by s table ballots tape wires board (some r) e in
-      (ap (λ (z : Ran). length (z .wires)) f, ap (λ (z : Ran). length (z .board)) f)
+      (ap (λ (z : RunResult). length (z .wires)) f, ap (λ (z : RunResult). length (z .board)) f)
   lengths none e =
       let p = run-passed s table ballots tape wires board e in
       let f = run-finished s table ballots wires board tape p tape (p .mask) in (
@@ -79,15 +79,15 @@ unfolding foundAt firstOf reasonAt
 row-number (At i) r e = let n : 6 ≡ r .number = cc in omega arith
 row-number Nowhere r e = let z : _≡_ {A = ℕ} 0 1 = cc in absurd (omega arith)
 
-ranks-number : (clash gap : Place) (r : Reason) → firstOf (foundAt 11 clash ∷ foundAt 12 gap ∷ []) ≡ some r → 4 ≤ r .number
+ranks-number : (clash notWeakOrder : Place) (r : Reason) → firstOf (foundAt 11 clash ∷ foundAt 12 notWeakOrder ∷ []) ≡ some r → 4 ≤ r .number
 unfolding foundAt firstOf reasonAt
-ranks-number (At i) gap r e = let n : 11 ≡ r .number = cc in omega arith
+ranks-number (At i) notWeakOrder r e = let n : 11 ≡ r .number = cc in omega arith
 ranks-number Nowhere (At b) r e = let n : 12 ≡ r .number = cc in omega arith
 ranks-number Nowhere Nowhere r e = let z : _≡_ {A = ℕ} 0 1 = cc in absurd (omega arith)
 
 kind-number : (s : Shape) (xs : List ℕ) (t : Bool) (r : Reason) → firstOf (cond t (rankedReasons s xs) (gradedReasons s xs)) ≡ some r → 4 ≤ r .number
 unfolding rankedReasons gradedReasons
-kind-number s xs true r e = ranks-number (firstClash (s .candidates) (s .ballots) xs) (firstGap (s .candidates) (s .ballots) xs) r e
+kind-number s xs true r e = ranks-number (firstNotAsymmetric (s .candidates) (s .ballots) xs) (firstNotWeakOrder (s .candidates) (s .ballots) xs) r e
 kind-number s xs false r e = row-number (firstBadRow 0 (rowsOf (s .grades) (s .ballots * s .candidates) xs)) r e
 
 ballots-number : (size : Bool) (byte : Place) (kind : Option Reason) → ((q : Reason) → kind ≡ some q → 4 ≤ q .number) → (r : Reason) → judged size byte kind ≡ some r → 4 ≤ r .number
@@ -128,18 +128,18 @@ module _ (s : Shape) (table : List ℕ) (size : Size) (p : writing.WritePassed s
   unfolding list
   test =
       test-passed s list (sizeOf (gatesOf list))
-      (ap (testSaid s) (writing.list-in s table size p) ∙ own-list-holds s (p .within) .passes ∙ ap accepted (ap sizeOf (sym gates)))
+      (ap (testOutcome s) (writing.list-in s table size p) ∙ own-list-holds s (p .within) .passes ∙ ap accepted (ap sizeOf (sym gates)))
 
-  number : (ballots tape wires board : List ℕ) (r : Reason) → ran s list ballots tape wires board .answer ≡ refused r → 4 ≤ r .number
+  number : (ballots tape wires board : List ℕ) (r : Reason) → runResult s list ballots tape wires board .answer ≡ refused r → 4 ≤ r .number
   number ballots tape wires board r e =
-      let lent = lentReasons (ballotBytes s) (s .candidates) (sizeOf (gatesOf list)) tape wires board in
+      let lent = bufferReasons (ballotBytes s) (s .candidates) (sizeOf (gatesOf list)) tape wires board in
       late (firstOf (testReasons s list)) (firstOf (ballotReasons s ballots)) (firstOf lent) r (test .reasons)
       (λ q f. ballots-number _ _ (kindReason s ballots) (λ o g. kind-number s ballots (isRanking s) o (unfold kindReason in g)) q (sym (judged-by s ballots _ _ _ refl refl refl) ∙ f))
       (λ q f. lent-number _ _ _ _ q (sym (lent-by (ballotBytes s) (s .candidates) (sizeOf (gatesOf list)) tape wires board _ _ _ _ refl refl refl refl) ∙ f))
       (sym (run-first s list ballots tape wires board) ∙ ran-refused s list ballots tape wires board r e .0)
 
   accepts : (ballots tape wires board : List ℕ) → AcceptedBallots s ballots → MaskTape (gatesOf list) tape
-      → length wires ≡ ballotBytes s + size .gates → length board ≡ size .conditional + s .candidates → ran s list ballots tape wires board .answer ≡ accepted size
+      → length wires ≡ ballotBytes s + size .gates → length board ≡ size .conditional + s .candidates → runResult s list ballots tape wires board .answer ≡ accepted size
   unfolding sizeOf
   accepts ballots tape wires board a m w b =
       let q : RunPassed s list ballots tape wires board = record {
@@ -151,27 +151,27 @@ module _ (s : Shape) (table : List ℕ) (size : Size) (p : writing.WritePassed s
       } in
       run-answer s list ballots wires board tape q tape m ∙ ap accepted own-size
 
-  module _ (ballots tape wires board : List ℕ) (answer : Size) (e : ran s list ballots tape wires board .answer ≡ accepted answer) where
+  module _ (ballots tape wires board : List ℕ) (answer : Size) (e : runResult s list ballots tape wires board .answer ≡ accepted answer) where
     passed : RunPassed s list ballots tape wires board
     passed = run-passed s list ballots tape wires board (ran-accepted s list ballots wires board tape answer e .0)
 
-    closing : closingBytes s (ran s list ballots tape wires board .board) ≡ closingFor s ballots
+    closing : closingBytes s (runResult s list ballots tape wires board .board) ≡ closingFor s ballots
     closing =
         run-closing s list ballots wires board tape passed tape (passed .mask)
         ∙ ap (λ (gs : List Gate). outputsOf (s .candidates) (wiresOf ballots gs)) gates
         ∙ own-list-holds s (p .within) .closing ballots (passed .ballotsPassed)
 
-    plain : closingBytes s (ran s list ballots tape wires board .board) ≡ take (s .candidates) (plainClosing s ballots)
+    plain : closingBytes s (runResult s list ballots tape wires board .board) ≡ take (s .candidates) (plainClosing s ballots)
     plain = closing ∙ sym (plain-first s ballots (passed .ballotsPassed))
 
     module _ (i : ℕ) (h : i < s .candidates) where
-      byte : getD (closingBytes s (ran s list ballots tape wires board .board)) i 0 ≡ getD (closingFor s ballots) i 0
+      byte : getD (closingBytes s (runResult s list ballots tape wires board .board)) i 0 ≡ getD (closingFor s ballots) i 0
       byte = ap (λ (bytes : List ℕ). getD bytes i 0) closing
 
-      winner : (getD (closingBytes s (ran s list ballots tape wires board .board)) i 0 ≡ 1) ↔ Wins s ballots i
+      winner : (getD (closingBytes s (runResult s list ballots tape wires board .board)) i 0 ≡ 1) ↔ Wins s ballots i
       winner = let iff = byte-says s ballots (passed .ballotsPassed) i h .one in (λ one. iff .0 (sym byte ∙ one), λ wins. byte ∙ iff .1 wins)
 
-      loser : (getD (closingBytes s (ran s list ballots tape wires board .board)) i 0 ≡ 0) ↔ (¬ Wins s ballots i)
+      loser : (getD (closingBytes s (runResult s list ballots tape wires board .board)) i 0 ≡ 0) ↔ (¬ Wins s ballots i)
       loser = let iff = byte-says s ballots (passed .ballotsPassed) i h .zero in (λ zero. iff .0 (sym byte ∙ zero), λ loses. byte ∙ iff .1 loses)
 
 memory : Memory
@@ -191,10 +191,10 @@ memory =
       run-length = λ s table ballots tape wires board. lengths s table ballots tape wires board (firstOf (runReasons s table ballots tape wires board)) refl;
     }
   where
-    refused-reason : (s : Shape) (table : List ℕ) (r : Reason) → writeSaid s table ≡ refused r → firstOf (writeReasons s table) ≡ some r
-    refused-reason s table r e = said-refused (firstOf (writeReasons s table)) (sizeOf (ownList s)) r (unfold writeSaid in e)
+    refused-reason : (s : Shape) (table : List ℕ) (r : Reason) → writeOutcome s table ≡ refused r → firstOf (writeReasons s table) ≡ some r
+    refused-reason s table r e = outcome-refused (firstOf (writeReasons s table)) (sizeOf (ownList s)) r (unfold writeOutcome in e)
 
-accuracy : (s : Shape) (table : List ℕ) (size : Size) → writeSaid s table ≡ accepted size → Accuracy s table size
+accuracy : (s : Shape) (table : List ℕ) (size : Size) → writeOutcome s table ≡ accepted size → Accuracy s table size
 unfolding list
 accuracy s table size e =
     let p = writing.write-passed s table size e in

@@ -14,8 +14,8 @@ use Rattle.rule_judgment.specs.Raised.{Raised, RaisedOften, unchanged, once-mor
 use Rattle.rule_judgment.proofs.Raising.{liked-more}
 use Rattle.tally.specs.Answer.{accepted, Size}
 use Rattle.tally.specs.Count.{plainClosing}
-use Rattle.tally.specs.Write.{writeSaid}
-use Rattle.tally.specs.Run.{ran}
+use Rattle.tally.specs.Write.{writeOutcome}
+use Rattle.tally.specs.Run.{runResult}
 use Rattle.tally.specs.Hiding.{closingBytes}
 use Rattle.tally.specs.Demands.{listIn, Accuracy}
 use Rattle.tally.specs.Monotone.{TwoRuns, byteBefore, byteAfter, MonotoneOnGates}

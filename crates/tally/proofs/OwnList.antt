@@ -9,7 +9,7 @@ use Rattle.gates.specs.Gate.{Gate, numbersOf}
 use Rattle.gates.specs.Wires.{wiresOf, outputsOf}
 use Rattle.gates.specs.Board.{conditionalCount}
 use Rattle.gates.specs.Test.{tested}
-use Rattle.gates.specs.declared.list.Tested.the-variants.{Accepted}
+use Rattle.gates.specs.declared.list.ListCheck.the-variants.{Accepted}
 use Rattle.gates.proofs.Accepting.{good-list-accepted}
 use Rattle.jury.specs.declared.shape.Shape.{Shape}
 use Rattle.jury.specs.Shape.{isRanking, gradedLimits, withinLimits, ballotBytes}
@@ -26,7 +26,7 @@ use Rattle.ranked_circuit.proofs.OwnRankingLaws.{own-ranking-holds}
 use Rattle.tally.specs.Answer.{accepted, sizeOf}
 use Rattle.tally.specs.Rule.{closingFor}
 use Rattle.tally.specs.OwnList.{ownList, gateBound}
-use Rattle.tally.specs.Test.{testSaid}
+use Rattle.tally.specs.Test.{testOutcome}
 use Rattle.tally.specs.Write.{OwnListHolds}
 use Rattle.tally.proofs.Rules.{either, closing-graded, closing-ranked}
 use Rattle.tally.proofs.TestReasons.{list-accepted}
@@ -85,7 +85,7 @@ module _ (s : Shape) (w : withinLimits s ≡ true) where
   holds : Holds
   holds = either (isRanking s) ranked-holds graded-holds
 
-  own-passes : testSaid s (numbersOf (ownList s)) ≡ accepted (sizeOf (ownList s))
+  own-passes : testOutcome s (numbersOf (ownList s)) ≡ accepted (sizeOf (ownList s))
   unfolding sizeOf
   own-passes = list-accepted s (numbersOf (ownList s)) w (length (ownList s)) (conditionalCount (ownList s)) (holds .takes)
 

@@ -5,17 +5,17 @@ use Prim.Native.Nat.{ℕ}
 use Rattle.gates.specs.HidingExample.{oneGate}
 use Rattle.jury.specs.declared.shape.Shape.{Shape}
 use Rattle.tally.specs.Answer.{accepted}
-use Rattle.tally.specs.Run.{ran}
+use Rattle.tally.specs.Run.{runResult}
 
 unfoldable pub oneBallot : Shape
 oneBallot = record { candidates = 1; grades = 2; ballots = 1 }
 
 pub record PairOfRuns : Type 0 where
   -- the better grade under the mask 0
-  pub first-run : ran oneBallot oneGate (1 ∷ 0 ∷ []) (0 ∷ []) (9 ∷ 9 ∷ 9 ∷ []) (9 ∷ 9 ∷ [])
+  pub first-run : runResult oneBallot oneGate (1 ∷ 0 ∷ []) (0 ∷ []) (9 ∷ 9 ∷ 9 ∷ []) (9 ∷ 9 ∷ [])
       ≡ record { answer = accepted (record { gates = 1; conditional = 1 }); wires = 0 ∷ 0 ∷ 0 ∷ []; board = 1 ∷ 0 ∷ [] }
   -- the worse grade under the mask 1, over other old bytes: the same board
-  pub second-run : ran oneBallot oneGate (0 ∷ 1 ∷ []) (1 ∷ []) (7 ∷ 7 ∷ 7 ∷ []) (7 ∷ 7 ∷ [])
+  pub second-run : runResult oneBallot oneGate (0 ∷ 1 ∷ []) (1 ∷ []) (7 ∷ 7 ∷ 7 ∷ []) (7 ∷ 7 ∷ [])
       ≡ record { answer = accepted (record { gates = 1; conditional = 1 }); wires = 0 ∷ 0 ∷ 0 ∷ []; board = 1 ∷ 0 ∷ [] }
   -- the worse grade under the mask 0: another board
-  pub other-tape : ran oneBallot oneGate (0 ∷ 1 ∷ []) (0 ∷ []) (7 ∷ 7 ∷ 7 ∷ []) (7 ∷ 7 ∷ []) .board ≡ 0 ∷ 0 ∷ []
+  pub other-tape : runResult oneBallot oneGate (0 ∷ 1 ∷ []) (0 ∷ []) (7 ∷ 7 ∷ 7 ∷ []) (7 ∷ 7 ∷ []) .board ≡ 0 ∷ 0 ∷ []

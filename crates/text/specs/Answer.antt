@@ -1,7 +1,7 @@
 -- What writing and reading a text answer, by the numbers of the reasons.
 use Prim.Native.Nat.{ℕ}
 use Rattle.jury.specs.Reason.{Reason, reasonAt, reasonOf}
-use Rattle.tally.specs.Answer.{Said, refused, accepted}
+use Rattle.tally.specs.Answer.{Outcome, refused, accepted}
 use Rattle.text.specs.declared.answer.TextRefusal.{TextRefusal}
 use Rattle.text.specs.declared.answer.TextRefusal.the-variants.{OfList, Line, Output}
 use Rattle.text.specs.declared.answer.Answer.{Answer}
@@ -14,6 +14,6 @@ textReasonOf (Line i) = reasonAt 23 i
 textReasonOf Output = reasonAt 24 0
 
 -- An accepted call answers how many characters or numbers it wrote.
-unfoldable pub lengthSaid : Answer → Said ℕ
-lengthSaid (Accepted length) = accepted length
-lengthSaid (Refused r) = refused (textReasonOf r)
+unfoldable pub lengthOutcome : Answer → Outcome ℕ
+lengthOutcome (Accepted length) = accepted length
+lengthOutcome (Refused r) = refused (textReasonOf r)

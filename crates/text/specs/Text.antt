@@ -29,9 +29,9 @@ unfoldable pub otherAt : Option Gate → ℕ → Place → Place
 otherAt none i later = At i
 otherAt (some g) i later = later
 
-unfoldable pub firstOther : ℕ → List (List ℕ) → Place
-firstOther i [] = Nowhere
-firstOther i (line ∷ lines) = otherAt (gateOf line) i (firstOther (suc i) lines)
+unfoldable pub firstMalformed : ℕ → List (List ℕ) → Place
+firstMalformed i [] = Nowhere
+firstMalformed i (line ∷ lines) = otherAt (gateOf line) i (firstMalformed (suc i) lines)
 
 -- The gates of those lines that are gates.
 unfoldable pub gateBefore : Option Gate → List Gate → List Gate

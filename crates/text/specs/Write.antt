@@ -7,7 +7,7 @@ use lib.ListN.{length, drop}
 use Rattle.gates.specs.Gate.{gatesOf}
 use Rattle.jury.specs.declared.shape.Shape.{Shape}
 use Rattle.jury.specs.Reason.{Reason, unless, firstOf}
-use Rattle.tally.specs.Answer.{Said, said}
+use Rattle.tally.specs.Answer.{Outcome, outcome}
 use Rattle.tally.specs.Test.{testReasons}
 use Rattle.text.specs.Text.{textOf}
 
@@ -16,8 +16,8 @@ unfoldable pub textReasons : Shape → List ℕ → List ℕ → List (Option Re
 textReasons s table output = testReasons s table ++ unless (leb (length (textOf (gatesOf table))) (length output)) 24 ∷ []
 
 -- An accepted call answers how many characters it wrote.
-unfoldable pub textSaid : Shape → List ℕ → List ℕ → Said ℕ
-textSaid s table output = said (firstOf (textReasons s table output)) (length (textOf (gatesOf table)))
+unfoldable pub textOutcome : Shape → List ℕ → List ℕ → Outcome ℕ
+textOutcome s table output = outcome (firstOf (textReasons s table output)) (length (textOf (gatesOf table)))
 
 -- An output afterwards: what was written and then what stood behind it, or all as it was on a refusal.
 unfoldable pub outputAfter : Option Reason → List ℕ → List ℕ → List ℕ

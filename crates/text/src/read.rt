@@ -7,12 +7,12 @@ use gates::place::Place;
 use jury::reason::Refusal;
 use jury::shape::Shape;
 ghost use mathlib.Core.Path.{_≡_};
-ghost use Rattle.text.specs.Answer.{lengthSaid};
-ghost use Rattle.text.specs.Read.{readSaid, numbersRead};
+ghost use Rattle.text.specs.Answer.{lengthOutcome};
+ghost use Rattle.text.specs.Read.{readOutcome, numbersRead};
 
 // Reads a text as a list for a jury of a shape: four numbers a line, an operand that is not in use being 0.
 pub fn read(shape: Shape, text: &[u8], output: &mut [u32]) -> Answer
-    ensures { λ r. ⌜ lengthSaid r ≡ readSaid shape (now (text .entry)) (now (output .entry)) ⌝ }
+    ensures { λ r. ⌜ lengthOutcome r ≡ readOutcome shape (now (text .entry)) (now (output .entry)) ⌝ }
     ensures { λ _. ⌜ now (output .exit) ≡ numbersRead shape (now (text .entry)) (now (output .entry)) ⌝ }
 {
     if !shape.is_within_limits() {

@@ -16,14 +16,14 @@ use Rattle.text_lines.specs.Decimal.{Taken, taken, numberIn}
 use Rattle.text_lines.specs.Line.{knownKind, operandIn, endIn, gateIn}
 use Rattle.text_lines.specs.Inner.{numberFound, NumberWithin}
 use Rattle.text_lines.specs.declared.decimal.Found.{Found}
-use Rattle.text_lines.specs.declared.decimal.Found.the-variants.{Value, Other}
+use Rattle.text_lines.specs.declared.decimal.Found.the-variants.{Value, Malformed}
 
 module _ (text : List ℕ) (r : Found) (o : Option (Taken ℕ)) (e : numberFound text r ≡ o) where
   pub found : (value next : ℕ) → r ≡ Value value next → o ≡ taken value (drop next text)
   unfolding numberFound
   found value next p = sym e ∙ ap (numberFound text) p
 
-  pub lost : r ≡ Other → o ≡ none
+  pub lost : r ≡ Malformed → o ≡ none
   unfolding numberFound
   lost p = sym e ∙ ap (numberFound text) p
 

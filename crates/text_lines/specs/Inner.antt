@@ -12,16 +12,16 @@ use Rattle.text_lines.specs.declared.line.Line.the-variants as line
 
 unfoldable pub numberFound : List ℕ → Found → Option (Taken ℕ)
 numberFound text (number.Value value next) = taken value (drop next text)
-numberFound text number.Other = none
+numberFound text number.Malformed = none
 
 abbrev pub NumberWithin : List ℕ → Found → Type 0
 NumberWithin text (number.Value value next) = next ≤ length text
-NumberWithin text number.Other = Unit {0}
+NumberWithin text number.Malformed = Unit {0}
 
 unfoldable pub lineFound : List ℕ → Line → Option (Taken Gate)
 lineFound text (line.Gate kind a b c next) = taken (record { kind = kind; a = a; b = b; c = c }) (drop next text)
-lineFound text line.Other = none
+lineFound text line.Malformed = none
 
 abbrev pub LineWithin : List ℕ → Line → Type 0
 LineWithin text (line.Gate kind a b c next) = next ≤ length text
-LineWithin text line.Other = Unit {0}
+LineWithin text line.Malformed = Unit {0}

@@ -16,7 +16,7 @@ const LARGEST: u64 = 4294967295;
 // A number that was found, with the place behind it, or that there is none.
 pub(crate) enum Found {
     Value { value: u32, next: usize },
-    Other,
+    Malformed,
 }
 
 fn is_digit(c: u8) -> bool
@@ -50,7 +50,7 @@ fn digits(text: &[u8], at: usize, first: u32) -> Found
         }
         value = 10 * value + (wide(c) - 48);
         if LARGEST < value {
-            return Found::Other;
+            return Found::Malformed;
         }
         i += 1;
     }
@@ -67,11 +67,11 @@ pub(crate) fn number(text: &[u8], at: usize) -> Found
     ensures { λ r. ⌜ NumberWithin (now (text .entry)) r ⌝ }
 {
     if text.len() <= at {
-        return Found::Other;
+        return Found::Malformed;
     }
     let c = text[at];
     if !is_digit(c) {
-        return Found::Other;
+        return Found::Malformed;
     }
     if c == ZERO {
         return Found::Value {

@@ -21,7 +21,7 @@ pub enum Line {
         c: u32,
         next: usize,
     },
-    Other,
+    Malformed,
 }
 
 // An operand at a place of a text: a space and a number where it is in use.
@@ -34,10 +34,10 @@ fn operand(used: bool, text: &[u8], at: usize) -> Found
         return Found::Value { value: 0, next: at };
     }
     if text.len() <= at {
-        return Found::Other;
+        return Found::Malformed;
     }
     if text[at] != SPACE {
-        return Found::Other;
+        return Found::Malformed;
     }
     decimal::number(text, at + 1)
 }
@@ -53,10 +53,10 @@ pub fn gate_at(text: &[u8], at: usize) -> Line
         next: kind_end,
     } = decimal::number(text, at)
     else {
-        return Line::Other;
+        return Line::Malformed;
     };
     if 7 < kind {
-        return Line::Other;
+        return Line::Malformed;
     }
     let counts = kind::OPERANDS;
     let count = kind::operands(&counts, kind);
@@ -65,27 +65,27 @@ pub fn gate_at(text: &[u8], at: usize) -> Line
         next: a_end,
     } = operand(0 < count, text, kind_end)
     else {
-        return Line::Other;
+        return Line::Malformed;
     };
     let Found::Value {
         value: b,
         next: b_end,
     } = operand(1 < count, text, a_end)
     else {
-        return Line::Other;
+        return Line::Malformed;
     };
     let Found::Value {
         value: c,
         next: c_end,
     } = operand(2 < count, text, b_end)
     else {
-        return Line::Other;
+        return Line::Malformed;
     };
     if text.len() <= c_end {
-        return Line::Other;
+        return Line::Malformed;
     }
     if text[c_end] != LINE_FEED {
-        return Line::Other;
+        return Line::Malformed;
     }
     Line::Gate {
         kind,

@@ -20,10 +20,10 @@ use Rattle.jury.specs.Accepted.{AcceptedBallots}
 use Rattle.jury.proofs.AcceptedLaws as ballots-laws
 use Rattle.jury.proofs.Flags.{and-first, and-second}
 use Rattle.jury.proofs.Limits.{bounds, inputs-bound}
-use Rattle.tally.specs.Answer.{refused, accepted, said, Size, sizeOf}
-use Rattle.tally.specs.Test.{testReasons, testSaid}
+use Rattle.tally.specs.Answer.{refused, accepted, outcome, Size, sizeOf}
+use Rattle.tally.specs.Test.{testReasons, testOutcome}
 use Rattle.tally.proofs.TestReasons.{orElse, first-append, TestPassed, test-passed}
-use Rattle.tally.proofs.RunReasons.{firstOfThree, said-refused}
+use Rattle.tally.proofs.RunReasons.{firstOfThree, outcome-refused}
 use Rattle.trustee_shares.specs.Views.{Dealing, GoodDealing}
 use Rattle.trustee_gates.specs.Dealing.{dealtWell}
 use Rattle.trustee_gates.proofs.Dealt.{dealt-good, good-dealt}
@@ -142,12 +142,12 @@ module _ (s : Shape) (table ballots : List ℕ) (t : ℕ) (d : Dealing) (wirePar
       ∙ ap (λ (r : Option Reason). orElse r (firstOf parts)) (first-append (testReasons s table) (ballotReasons s ballots))
 
   -- the answer by the first group in which a test applies
-  pub by-test : (r : Reason) → testSaid s table ≡ refused r → firstOf (sharedReasons s table ballots t d wireParts published) ≡ some r
-  unfolding testSaid firstOfThree orElse
+  pub by-test : (r : Reason) → testOutcome s table ≡ refused r → firstOf (sharedReasons s table ballots t d wireParts published) ≡ some r
+  unfolding testOutcome firstOfThree orElse
   by-test r e =
       shared-first
       ∙ ap (λ (o : Option Reason). firstOfThree o (firstOf (ballotReasons s ballots)) (firstOf (partReasons (s .candidates) (sizeOf (gatesOf table)) ballots t d wireParts published)))
-      (said-refused (firstOf (testReasons s table)) (sizeOf (gatesOf table)) r e)
+      (outcome-refused (firstOf (testReasons s table)) (sizeOf (gatesOf table)) r e)
 
   module _ (p : firstOf (testReasons s table) ≡ none) where
     pub by-ballots : (r : Reason) → firstOf (ballotReasons s ballots) ≡ some r → firstOf (sharedReasons s table ballots t d wireParts published) ≡ some r
@@ -167,11 +167,11 @@ module _ (s : Shape) (table ballots : List ℕ) (t : ℕ) (d : Dealing) (wirePar
     pub parts : PartsPassed (s .candidates) (sizeOf (gatesOf table)) ballots t d wireParts published
 
   pub call-passed : firstOf (sharedReasons s table ballots t d wireParts published) ≡ none → CallPassed
-  unfolding testSaid said
+  unfolding testOutcome outcome
   call-passed e =
       let size = sizeOf (gatesOf table) in
       let q = three-passed (firstOf (testReasons s table)) (firstOf (ballotReasons s ballots)) (firstOf (partReasons (s .candidates) size ballots t d wireParts published)) (sym shared-first ∙ e) in
-      let p = test-passed s table size (ap (λ (r : Option Reason). said r size) (q .0)) in
+      let p = test-passed s table size (ap (λ (r : Option Reason). outcome r size) (q .0)) in
       record {
         test = p;
         ballotsPassed = ballots-laws.accepted s ballots (p .within) (q .1);

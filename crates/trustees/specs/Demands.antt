@@ -14,9 +14,9 @@ use Rattle.jury.specs.ClosingBytes.{eightBytes}
 use Rattle.tally.specs.Answer.{refused, accepted, hasNumberIn, Size, sizeOf}
 use Rattle.tally.specs.Rule.{Wins}
 use Rattle.tally.specs.Count.{plainClosing}
-use Rattle.tally.specs.Run.{ran}
+use Rattle.tally.specs.Run.{runResult}
 use Rattle.tally.specs.Hiding.{closingBytes}
-use Rattle.tally.specs.Write.{writeSaid}
+use Rattle.tally.specs.Write.{writeOutcome}
 use Rattle.tally.specs.Demands.{listIn}
 use Rattle.trustee_shares.specs.Shares.{opened, part}
 use Rattle.trustee_shares.specs.Views.{Dealing, wirePartsOf, viewOf}
@@ -40,8 +40,8 @@ pub record Accuracy (s : Shape) (table ballots : List ℕ) (t : ℕ) (d : Dealin
   pub every-wire : (x : ℕ) → x < length ballots + length (gatesOf table)
       → opened t (λ p. part (wirePartsOf t (length ballots) (gatesOf table) d p) x) ≡ wire (wiresOf ballots (gatesOf table)) x
   pub last-wires : shared s table ballots t d wireParts published .closing ≡ eightBytes (outputsOf (s .candidates) (wiresOf ballots (gatesOf table)))
-  pub plain-run : (tape wires board : List ℕ) (run : Size) → ran s table ballots tape wires board .answer ≡ accepted run
-      → shared s table ballots t d wireParts published .closing ≡ eightBytes (closingBytes s (ran s table ballots tape wires board .board))
+  pub plain-run : (tape wires board : List ℕ) (run : Size) → runResult s table ballots tape wires board .answer ≡ accepted run
+      → shared s table ballots t d wireParts published .closing ≡ eightBytes (closingBytes s (runResult s table ballots tape wires board .board))
 
 -- Under the list that the core writes for a shape, the sums are the plain count's bytes: 1 for each candidate that wins by the rule of the shape's kind, 0 for each that does not.
 pub record OwnList (s : Shape) (table : List ℕ) (size : Size) : Type 0 where
@@ -72,5 +72,5 @@ pub record Demands : Type 0 where
   pub memory : Memory
   pub accuracy : (s : Shape) (table ballots : List ℕ) (t : ℕ) (d : Dealing) (wireParts published : List ℕ) (size : Size) → shared s table ballots t d wireParts published .answer ≡ accepted size
       → Accuracy s table ballots t d wireParts published size
-  pub own-list : (s : Shape) (table : List ℕ) (size : Size) → writeSaid s table ≡ accepted size → OwnList s table size
+  pub own-list : (s : Shape) (table : List ℕ) (size : Size) → writeOutcome s table ≡ accepted size → OwnList s table size
   pub hiding : ViewsTellNoMore

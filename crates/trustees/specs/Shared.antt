@@ -11,7 +11,7 @@ use Rattle.jury.specs.Reason.{Reason, unless, firstOf}
 use Rattle.jury.specs.Ballots.{ballotReasons}
 use Rattle.jury.specs.Counts.{tabulate}
 use Rattle.jury.specs.ClosingBytes.{eightBytes}
-use Rattle.tally.specs.Answer.{Said, refused, accepted, Size, sizeOf}
+use Rattle.tally.specs.Answer.{Outcome, refused, accepted, Size, sizeOf}
 use Rattle.tally.specs.Test.{testReasons}
 use Rattle.trustee_shares.specs.Shares.{opened, part, Held}
 use Rattle.trustee_shares.specs.Views.{joined, Dealing, wirePartsOf, closingParts, publishedOf}
@@ -44,7 +44,7 @@ closingSums t k parts = eightBytes (tabulate k (λ j. opened t (λ p. part (clos
 
 -- What a call leaves: its answer, the sums, the wire parts and what is published.
 pub record Shared : Type 0 where
-  pub answer : Said Size
+  pub answer : Outcome Size
   pub closing : List ℕ
   pub wireParts : List ℕ
   pub published : List ℕ

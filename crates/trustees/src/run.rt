@@ -6,7 +6,7 @@ ghost use Prim.Native.Nat.{_+_, _*_, _≤_};
 ghost use lib.ListN.{length};
 ghost use Rattle.jury.specs.Counts.{tabulate};
 ghost use Rattle.jury.specs.ClosingBytes.{eightBytes};
-ghost use Rattle.tally.specs.Answer.{saidBy};
+ghost use Rattle.tally.specs.Answer.{outcomeOf};
 ghost use Rattle.trustee_shares.specs.Shares.{opened, part};
 ghost use Rattle.trustee_shares.specs.Views.{piece};
 ghost use Rattle.trustees.specs.Shared.{shared};
@@ -44,7 +44,7 @@ pub fn run(
     wires: &mut [u8],
     published: &mut [u8],
 ) -> Tallied
-    ensures { λ r. ⌜ saidBy (r .answer) ≡ (shared shape (now (table .entry)) (now (ballots .entry)) t (record { ballotParts = now (parts .entry); dealerParts = now (dealt .entry) }) (now (wires .entry)) (now (published .entry))) .answer ⌝ }
+    ensures { λ r. ⌜ outcomeOf (r .answer) ≡ (shared shape (now (table .entry)) (now (ballots .entry)) t (record { ballotParts = now (parts .entry); dealerParts = now (dealt .entry) }) (now (wires .entry)) (now (published .entry))) .answer ⌝ }
     ensures { λ r. ⌜ r .closing ≡ (shared shape (now (table .entry)) (now (ballots .entry)) t (record { ballotParts = now (parts .entry); dealerParts = now (dealt .entry) }) (now (wires .entry)) (now (published .entry))) .closing ⌝ }
     ensures { λ _. ⌜ now (wires .exit) ≡ (shared shape (now (table .entry)) (now (ballots .entry)) t (record { ballotParts = now (parts .entry); dealerParts = now (dealt .entry) }) (now (wires .entry)) (now (published .entry))) .wireParts ⌝ }
     ensures { λ _. ⌜ now (published .exit) ≡ (shared shape (now (table .entry)) (now (ballots .entry)) t (record { ballotParts = now (parts .entry); dealerParts = now (dealt .entry) }) (now (wires .entry)) (now (published .entry))) .published ⌝ }

@@ -10,7 +10,7 @@ ghost use lib.Dec.{leb};
 ghost use lib.ListN.{length};
 ghost use Rattle.gates.specs.Gate.{gatesOf};
 ghost use Rattle.jury.specs.Reason.{refusedFor, firstOf};
-ghost use Rattle.tally.specs.Answer.{saidBy, said, sizeOf};
+ghost use Rattle.tally.specs.Answer.{outcomeOf, outcome, sizeOf};
 ghost use Rattle.trustee_gates.specs.Dealing.{dealtWell};
 ghost use Rattle.trustees.specs.Shared.{tablesFit, partReasons, sharedReasons};
 ghost use Rattle.trustees.specs.Inner.{SmallSizes, DealtSizes};
@@ -122,7 +122,7 @@ pub(crate) fn test(
     wires: &[u8],
     published: &[u8],
 ) -> Answer
-    ensures { λ r. ⌜ saidBy r ≡ said (firstOf (sharedReasons shape (now (table .entry)) (now (ballots .entry)) t (record { ballotParts = now (parts .entry); dealerParts = now (dealt .entry) }) (now (wires .entry)) (now (published .entry)))) (sizeOf (gatesOf (now (table .entry)))) ⌝ }
+    ensures { λ r. ⌜ outcomeOf r ≡ outcome (firstOf (sharedReasons shape (now (table .entry)) (now (ballots .entry)) t (record { ballotParts = now (parts .entry); dealerParts = now (dealt .entry) }) (now (wires .entry)) (now (published .entry)))) (sizeOf (gatesOf (now (table .entry)))) ⌝ }
 {
     let answer = tally::test::test(shape, table);
     let Answer::Accepted { gates, conditional } = answer else {

@@ -11,13 +11,13 @@ use Rattle.jury.specs.Shape.{gradedLimits}
 use Rattle.jury.proofs.Flags.{and-second, T-true, true-T}
 use Rattle.jury.specs.Reason.{Reason, reasonAt, unless, firstOf}
 use Rattle.jury.specs.Ballots.{ballotReasons}
-use Rattle.tally.specs.Answer.{Said, refused, accepted, said}
+use Rattle.tally.specs.Answer.{Outcome, refused, accepted, outcome}
 use Rattle.urn.specs.declared.facts.Facts.{Facts}
 use Rattle.urn_chains.specs.Sound.{juryOfOne, goodJuror, noReason, goodBallot}
 use Rattle.urn_chains.proofs.Holding.{good-graded}
 use Rattle.urn.specs.Facts.{gradedShape, afterwards}
-use Rattle.urn.specs.Admit.{admitReasons, admitSaid}
-use Rattle.urn.specs.Withdraw.{withdrawReasons, withdrawSaid}
+use Rattle.urn.specs.Admit.{admitReasons, admitOutcome}
+use Rattle.urn.specs.Withdraw.{withdrawReasons, withdrawOutcome}
 
 pub admitFirst : Bool → Bool → Bool → Option Reason → Bool → Option Reason
 admitFirst graded sound juror ballot free = firstOf (unless graded 1 ∷ unless sound 13 ∷ unless juror 14 ∷ ballot ∷ unless free 15 ∷ [])
@@ -89,13 +89,13 @@ withdrawable k d f j e =
     record { graded = p .0; isSound = p .1; juror = p .2 }
 
 -- an answer tells whether there was a reason
-pub accepted-none : (o : Option Reason) (v m : ℕ) → said o v ≡ accepted m → o ≡ none
-unfolding said
+pub accepted-none : (o : Option Reason) (v m : ℕ) → outcome o v ≡ accepted m → o ≡ none
+unfolding outcome
 accepted-none none v m e = refl
 accepted-none (some r) v m e = let z : _≡_ {A = ℕ} 0 1 = cc in absurd (omega arith)
 
-pub refused-kept : (o : Option Reason) (v : ℕ) (r : Reason) (new old : List ℕ) → said o v ≡ refused r → afterwards o new old ≡ old
-unfolding said afterwards
+pub refused-kept : (o : Option Reason) (v : ℕ) (r : Reason) (new old : List ℕ) → outcome o v ≡ refused r → afterwards o new old ≡ old
+unfolding outcome afterwards
 refused-kept none v r new old e = let z : _≡_ {A = ℕ} 0 1 = cc in absurd (omega arith)
 refused-kept (some q) v r new old e = refl
 
@@ -133,13 +133,13 @@ module _ (a b c : Bool) (o : Option Reason) (g : Bool) where
   unfolding admitFirst firstOf unless
   admit-none h i j l m = rw (h, i, j, l, m)
 
-pub said-refused : (o : Option Reason) (v : ℕ) (r : Reason) → o ≡ some r → refused r ≡ said o v
-unfolding said
-said-refused o v r e = ap (λ (p : Option Reason). said p v) (sym e)
+pub outcome-refused : (o : Option Reason) (v : ℕ) (r : Reason) → o ≡ some r → refused r ≡ outcome o v
+unfolding outcome
+outcome-refused o v r e = ap (λ (p : Option Reason). outcome p v) (sym e)
 
-pub said-accepted : (o : Option Reason) (v : ℕ) → o ≡ none → accepted v ≡ said o v
-unfolding said
-said-accepted o v e = ap (λ (p : Option Reason). said p v) (sym e)
+pub outcome-accepted : (o : Option Reason) (v : ℕ) → o ≡ none → accepted v ≡ outcome o v
+unfolding outcome
+outcome-accepted o v e = ap (λ (p : Option Reason). outcome p v) (sym e)
 
 pub juror-present : (t p : Bool) → t ≡ true → p ≡ true → (t && not p) ≡ false
 juror-present t p h i = rw (h, i)

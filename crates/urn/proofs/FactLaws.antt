@@ -16,7 +16,7 @@ use Rattle.urn_chains.specs.Chains.{chain, ballotSlots, ballotChain, freeChain}
 use Rattle.urn_chains.specs.Sound.{all, member, juryOfOne, inUrn, slotCount, urnLength, urnSlots, soundSlots, sound}
 use Rattle.urn.specs.Facts.{isEmpty, jurorsOf, factsOf}
 use Rattle.urn.specs.declared.facts.Facts.{Facts}
-use Rattle.urn_chains.specs.declared.find.Link.the-variants.{Found, Absent}
+use Rattle.urn_chains.specs.declared.find.ChainPosition.the-variants.{Found, Absent}
 use Rattle.urn_chains.specs.Inner.{SlotTable, jurorsAt, linkOf}
 use Rattle.urn_chains.proofs.Lists.{all-append, eqb-sym}
 use Rattle.urn_chains.proofs.Marks.{true-or-false}

@@ -12,7 +12,7 @@ use Rattle.urn_chains.specs.Slots.{Slot, slotBytes, slotOf, slotsOf, bytesOf, s
 use Rattle.urn_chains.specs.Chains.{Entry, chain, ballotSlots, ballotChain, freeChain, firstEntry, firstFree, entrySlot, headSlot, layout}
 use Rattle.urn_chains.specs.Sound.{juryOfOne, slotCount, urnSlots, sound}
 use Rattle.urn.specs.Withdraw.{without, slotOfJuror, withoutBallot}
-use Rattle.urn_chains.specs.declared.find.Link.the-variants.{Found}
+use Rattle.urn_chains.specs.declared.find.ChainPosition.the-variants.{Found}
 use Rattle.urn_chains.specs.Inner.{SlotTable, linkOf}
 use Rattle.urn_chains.proofs.SlotLaws.{size-is, slots-length, slot-within, next-is}
 use Rattle.urn_chains.proofs.Linked.{slotsIn, Linked, FreeLinked, at-set, at-other}

@@ -12,14 +12,14 @@ use Rattle.jury.specs.Reason.{Reason, reasonAt, unless, firstOf}
 use Rattle.jury.specs.Shape.{isRanking, gradedLimits}
 use Rattle.jury.specs.Ballots.{rankedReasons, gradedReasons, ballotReasons}
 use Rattle.jury.proofs.Limits.{within, graded-is}
-use Rattle.tally.specs.Answer.{Said, refused, accepted, said, hasNumberIn}
-use Rattle.tally.proofs.Numbering.{All, Fine, first-fine, both, unless-fine, found-fine, said-fine, refused-fine}
+use Rattle.tally.specs.Answer.{Outcome, refused, accepted, outcome, hasNumberIn}
+use Rattle.tally.proofs.Numbering.{All, Fine, first-fine, both, unless-fine, found-fine, outcome-fine, refused-fine}
 use Rattle.urn_chains.specs.Sound.{juryOfOne}
 use Rattle.urn.specs.declared.facts.Facts.{Facts}
 use Rattle.urn.specs.Facts.{gradedShape, factsOf, afterwards}
-use Rattle.urn.specs.Admit.{admitReasons, admitSaid, admitted}
-use Rattle.urn.specs.Withdraw.{withdrawReasons, withdrawSaid, withdrawn}
-use Rattle.urn.specs.Empty.{emptyReasons, emptySaid, emptied}
+use Rattle.urn.specs.Admit.{admitReasons, admitOutcome, admitted}
+use Rattle.urn.specs.Withdraw.{withdrawReasons, withdrawOutcome, withdrawn}
+use Rattle.urn.specs.Empty.{emptyReasons, emptyOutcome, emptied}
 use Rattle.urn.specs.Theorems.{AfterEmptying, AfterAdmission, AfterWithdrawal, UrnHolds}
 use Rattle.urn.specs.Memory.{UrnMemory}
 use Rattle.urn.proofs.Deciding.{refused-kept}
@@ -58,30 +58,30 @@ unfolding admitReasons
 admit-first k d f j x false e = first-of (gradedShape k d) _ e
 admit-first k d f j x true e = first-fine admitting (admitReasons k d f j x) (admit-fine k d f j x e)
 
-admit-numbered : (k d : ℕ) (f : Facts) (j : ℕ) (x : List ℕ) (r : Reason) → admitSaid k d f j x ≡ refused r → T (hasNumberIn (1 ∷ 13 ∷ 14 ∷ 4 ∷ 5 ∷ 6 ∷ 15 ∷ []) r)
-unfolding admitSaid admitting
-admit-numbered k d f j x r e = refused-fine admitting (admitSaid k d f j x) r (said-fine admitting _ _ (admit-first k d f j x (gradedShape k d) refl)) e
+admit-numbered : (k d : ℕ) (f : Facts) (j : ℕ) (x : List ℕ) (r : Reason) → admitOutcome k d f j x ≡ refused r → T (hasNumberIn (1 ∷ 13 ∷ 14 ∷ 4 ∷ 5 ∷ 6 ∷ 15 ∷ []) r)
+unfolding admitOutcome admitting
+admit-numbered k d f j x r e = refused-fine admitting (admitOutcome k d f j x) r (outcome-fine admitting _ _ (admit-first k d f j x (gradedShape k d) refl)) e
 
-withdraw-numbered : (k d : ℕ) (f : Facts) (j : ℕ) (r : Reason) → withdrawSaid k d f j ≡ refused r → T (hasNumberIn (1 ∷ 13 ∷ 14 ∷ []) r)
-unfolding withdrawSaid withdrawReasons All hasNumberIn reasonAt
+withdraw-numbered : (k d : ℕ) (f : Facts) (j : ℕ) (r : Reason) → withdrawOutcome k d f j ≡ refused r → T (hasNumberIn (1 ∷ 13 ∷ 14 ∷ []) r)
+unfolding withdrawOutcome withdrawReasons All hasNumberIn reasonAt
 withdraw-numbered k d f j r e =
     let ns : List ℕ = 1 ∷ 13 ∷ 14 ∷ [] in
-    refused-fine ns (withdrawSaid k d f j) r (said-fine ns _ _ (first-fine ns (withdrawReasons k d f j) (unless-fine ns _ 1 tt, (unless-fine ns _ 13 tt, (unless-fine ns _ 14 tt, tt))))) e
+    refused-fine ns (withdrawOutcome k d f j) r (outcome-fine ns _ _ (first-fine ns (withdrawReasons k d f j) (unless-fine ns _ 1 tt, (unless-fine ns _ 13 tt, (unless-fine ns _ 14 tt, tt))))) e
 
-empty-numbered : (k d : ℕ) (table : List ℕ) (r : Reason) → emptySaid k d table ≡ refused r → T (hasNumberIn (1 ∷ 13 ∷ []) r)
-unfolding emptySaid emptyReasons All hasNumberIn reasonAt
+empty-numbered : (k d : ℕ) (table : List ℕ) (r : Reason) → emptyOutcome k d table ≡ refused r → T (hasNumberIn (1 ∷ 13 ∷ []) r)
+unfolding emptyOutcome emptyReasons All hasNumberIn reasonAt
 empty-numbered k d table r e =
     let ns : List ℕ = 1 ∷ 13 ∷ [] in
-    refused-fine ns (emptySaid k d table) r (said-fine ns _ _ (first-fine ns (emptyReasons k d table) (unless-fine ns _ 1 tt, (unless-fine ns _ 13 tt, tt)))) e
+    refused-fine ns (emptyOutcome k d table) r (outcome-fine ns _ _ (first-fine ns (emptyReasons k d table) (unless-fine ns _ 1 tt, (unless-fine ns _ 13 tt, tt)))) e
 
 -- a length stays where it stays after a refusal and after an accepted call
-kept : (o : Option Reason) (v : ℕ) (new old : List ℕ) → ((count : ℕ) → said o v ≡ accepted count → length (afterwards o new old) ≡ length old) → length (afterwards o new old) ≡ length old
-unfolding said afterwards
+kept : (o : Option Reason) (v : ℕ) (new old : List ℕ) → ((count : ℕ) → outcome o v ≡ accepted count → length (afterwards o new old) ≡ length old) → length (afterwards o new old) ≡ length old
+unfolding outcome afterwards
 kept none v new old f = f v refl
 kept (some r) v new old f = refl
 
 pub urn-memory : UrnMemory
-unfolding admitSaid admitted withdrawSaid withdrawn emptySaid emptied
+unfolding admitOutcome admitted withdrawOutcome withdrawn emptyOutcome emptied
 urn-memory =
     record {
       empty-number = empty-numbered;

@@ -14,15 +14,15 @@ use Rattle.jury.specs.Shape.{gradedLimits}
 use Rattle.jury.specs.Counts.{tabulate}
 use Rattle.jury.specs.Reason.{Reason, firstOf}
 use Rattle.jury.proofs.Flags.{and-first, and-second, and-both, true-T, or-first, or-second}
-use Rattle.tally.specs.Answer.{accepted, said}
+use Rattle.tally.specs.Answer.{accepted, outcome}
 use Rattle.urn.specs.declared.facts.Facts.{Facts}
 use Rattle.urn_chains.specs.Slots.{Slot, slotBytes, slotsOf, bytesOf}
 use Rattle.urn_chains.specs.Chains.{Entry, ballotChain, freeChain, firstFree, layout}
 use Rattle.urn_chains.specs.Sound.{all, member, distinct, juryOfOne, goodJuror, goodBallot, eachOnce, goodChains, slotCount, urnLength, urnSlots, soundSlots, sound}
 use Rattle.urn.specs.Facts.{gradedShape, isEmpty, jurorsOf, factsOf, afterwards}
-use Rattle.urn.specs.Admit.{admitReasons, admitSaid, withBallot, admitted}
-use Rattle.urn.specs.Withdraw.{withdrawReasons, withdrawSaid, without, slotOfJuror, withoutBallot, withdrawn}
-use Rattle.urn.specs.Empty.{emptyReasons, emptySaid, allFree, emptied}
+use Rattle.urn.specs.Admit.{admitReasons, admitOutcome, withBallot, admitted}
+use Rattle.urn.specs.Withdraw.{withdrawReasons, withdrawOutcome, without, slotOfJuror, withoutBallot, withdrawn}
+use Rattle.urn.specs.Empty.{emptyReasons, emptyOutcome, allFree, emptied}
 use Rattle.urn.specs.Theorems.{AfterEmptying, AfterAdmission, AfterWithdrawal, UrnHolds, TellTheSame, PreviewsTell}
 use Rattle.urn_chains.specs.Inner.{SlotTable}
 use Rattle.urn_chains.proofs.Lists.{all-first, all-rest, all-cons, all-move, distinct-first, distinct-rest, distinct-cons, distinct-move, eqb-sym}
@@ -50,8 +50,8 @@ same-facts-of f g a b c d =
 pub previews-tell : PreviewsTell
 previews-tell =
     record {
-      admission = λ k d one other j x t. ap (λ (f : Facts). admitSaid k d f j x) (same-facts-of (factsOf k d one j) (factsOf k d other j) (t .soundness) (t .ballots) (t .present) (t .full));
-      withdrawal = λ k d one other j t. ap (λ (f : Facts). withdrawSaid k d f j) (same-facts-of (factsOf k d one j) (factsOf k d other j) (t .soundness) (t .ballots) (t .present) (t .full));
+      admission = λ k d one other j x t. ap (λ (f : Facts). admitOutcome k d f j x) (same-facts-of (factsOf k d one j) (factsOf k d other j) (t .soundness) (t .ballots) (t .present) (t .full));
+      withdrawal = λ k d one other j t. ap (λ (f : Facts). withdrawOutcome k d f j) (same-facts-of (factsOf k d one j) (factsOf k d other j) (t .soundness) (t .ballots) (t .present) (t .full));
       unsound = λ k d one other j e f.
           let q = no-facts k d one j e ∙ sym (no-facts k d other j f) in
           record { soundness = ap (λ (x : Facts). x .sound) q; ballots = ap (λ (x : Facts). x .ballots) q; present = ap (λ (x : Facts). x .present) q; full = ap (λ (x : Facts). x .full) q };
@@ -190,13 +190,13 @@ undo k d urn w e j x u is wr a gj cut =
     ∙ own k d urn w e
 
 -- the count that an accepted call answers
-count-said : (o : Option Reason) (v count : ℕ) → said o v ≡ accepted count → count ≡ v
-unfolding said
-count-said none v count e = cc
-count-said (some r) v count e = let z : _≡_ {A = ℕ} 0 1 = cc in absurd (omega arith)
+count-outcome : (o : Option Reason) (v count : ℕ) → outcome o v ≡ accepted count → count ≡ v
+unfolding outcome
+count-outcome none v count e = cc
+count-outcome (some r) v count e = let z : _≡_ {A = ℕ} 0 1 = cc in absurd (omega arith)
 
-after-admission : (k d : ℕ) (urn : List ℕ) (j : ℕ) (x : List ℕ) (count : ℕ) → admitSaid k d (factsOf k d urn j) j x ≡ accepted count → AfterAdmission k d urn j x count
-unfolding admitSaid admitted withBallot withdrawn withoutBallot
+after-admission : (k d : ℕ) (urn : List ℕ) (j : ℕ) (x : List ℕ) (count : ℕ) → admitOutcome k d (factsOf k d urn j) j x ≡ accepted count → AfterAdmission k d urn j x count
+unfolding admitOutcome admitted withBallot withdrawn withoutBallot
 after-admission k d urn j x count h =
     let f = factsOf k d urn j in
     let o = accepted-none (firstOf (admitReasons k d f j x)) (f .ballots + 1) count h in
@@ -222,14 +222,14 @@ after-admission k d urn j x count h =
       stays-sound = ap (sound k d) new ∙ wr .isSound;
       same-length = ap length new ∙ wr .size ∙ sym (long k d urn w e);
       ballots = chain;
-      counted = omega (arith, count-said (firstOf (admitReasons k d f j x)) (f .ballots + 1) count h, before, after);
+      counted = omega (arith, count-outcome (firstOf (admitReasons k d f j x)) (f .ballots + 1) count h, before, after);
       free = ap (λ (v : List ℕ). freeChain (urnSlots k d v)) new ∙ wr .free;
       undone = ap (λ (v : List ℕ). withdrawn k d v j) new ∙ back;
     }
 
 -- all slots free
-after-emptying : (k d : ℕ) (table : List ℕ) (count : ℕ) → emptySaid k d table ≡ accepted count → AfterEmptying k d table count
-unfolding emptySaid emptied allFree jurorsOf all distinct
+after-emptying : (k d : ℕ) (table : List ℕ) (count : ℕ) → emptyOutcome k d table ≡ accepted count → AfterEmptying k d table count
+unfolding emptyOutcome emptied allFree jurorsOf all distinct
 after-emptying k d table count h =
     let b = k * d in
     let m = length table in
@@ -246,7 +246,7 @@ after-emptying k d table count h =
       made-sound = ap (sound k d) new ∙ wr .isSound;
       same-length = ap length new ∙ wr .size ∙ sym (table-is b m l);
       ballots = chain;
-      counted = count-said (firstOf (emptyReasons k d table)) 0 count h ∙ sym (ap length chain);
+      counted = count-outcome (firstOf (emptyReasons k d table)) 0 count h ∙ sym (ap length chain);
       free = ap (λ (v : List ℕ). freeChain (urnSlots k d v)) new ∙ wr .free;
     }
 
@@ -261,8 +261,8 @@ again k d urn es s is e f j x count a = (
   a .free ∙ ap (drop 1) f,
 )
 
-after-withdrawal : (k d : ℕ) (urn : List ℕ) (j count : ℕ) → withdrawSaid k d (factsOf k d urn j) j ≡ accepted count → AfterWithdrawal k d urn j count
-unfolding withdrawSaid withdrawn withoutBallot
+after-withdrawal : (k d : ℕ) (urn : List ℕ) (j count : ℕ) → withdrawOutcome k d (factsOf k d urn j) j ≡ accepted count → AfterWithdrawal k d urn j count
+unfolding withdrawOutcome withdrawn withoutBallot
 after-withdrawal k d urn j count h =
     let f = factsOf k d urn j in
     let o = accepted-none (firstOf (withdrawReasons k d f j)) (f .ballots - 1) count h in
@@ -288,7 +288,7 @@ after-withdrawal k d urn j count h =
       stays-sound = ap (sound k d) new ∙ wr .isSound;
       same-length = ap length new ∙ wr .size ∙ sym (long k d urn w e);
       ballots = chain;
-      counted = omega (arith, count-said (firstOf (withdrawReasons k d f j)) (f .ballots - 1) count h, before, with-one, after);
+      counted = omega (arith, count-outcome (firstOf (withdrawReasons k d f j)) (f .ballots - 1) count h, before, with-one, after);
       free = free;
       taken-again = λ next ballot more a.
           again k d (withdrawn k d urn j) (without j es) (slotOfJuror j es) is chain free next ballot more

@@ -16,12 +16,12 @@ use Rattle.urn_chains.specs.Slots.{Slot, slotAt, freeSlot}
 use Rattle.urn_chains.specs.Chains.{Entry, firstEntry, firstFree, entrySlot, headSlot, layout}
 use Rattle.urn_chains.specs.Sound.{all, member, distinct, inUrn}
 use Rattle.urn.specs.Withdraw.{without, slotOfJuror}
-use Rattle.urn_chains.specs.declared.find.Link.the-variants.{Found, Absent}
+use Rattle.urn_chains.specs.declared.find.ChainPosition.the-variants.{Found, Absent}
 use Rattle.urn_chains.specs.Inner.{linkOf}
 use Rattle.urn_chains.proofs.Lists.{all-first, all-rest, all-append, all-move, all-member, all-weaken, member-move, member-append, distinct-move, distinct-first, distinct-rest, distinct-left, distinct-apart}
 use Rattle.urn_chains.proofs.Marks.{true-or-false}
 use Rattle.urn_chains.proofs.Judging.{clash}
-use Rattle.urn_chains.proofs.Linked.{slotsIn, Linked, FreeLinked, none, more, at-set, at-other, apart, apart-rest, linked-set, free-set, positive, below}
+use Rattle.urn_chains.proofs.Linked.{slotsIn, Linked, FreeLinked, none, more, at-set, at-other, neitherAfterNorBefore, apart-rest, linked-set, free-set, positive, below}
 use Rattle.urn_chains.proofs.Layouts.{Fit, layout-unique}
 
 -- The last slot of these ballots, or `before` where there are none.

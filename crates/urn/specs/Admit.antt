@@ -6,7 +6,7 @@ use Prim.Native.Nat.{ℕ, _+_, _*_}
 use lib.ListN.{length, drop}
 use Rattle.jury.specs.Reason.{Reason, unless, firstOf}
 use Rattle.jury.specs.Ballots.{ballotReasons}
-use Rattle.tally.specs.Answer.{Said, said}
+use Rattle.tally.specs.Answer.{Outcome, outcome}
 use Rattle.urn.specs.declared.facts.Facts.{Facts}
 use Rattle.urn_chains.specs.Slots.{Slot, bytesOf}
 use Rattle.urn_chains.specs.Chains.{Entry, ballotChain, freeChain, firstFree, layout}
@@ -22,8 +22,8 @@ admitReasons k d facts juror ballot =
     ∷ (ballotReasons (juryOfOne k d) ballot ++ (unless (not (facts .full)) 15 ∷ []))
 
 -- The answer: a reason, or the new number of ballots.
-unfoldable pub admitSaid : ℕ → ℕ → Facts → ℕ → List ℕ → Said ℕ
-admitSaid k d facts juror ballot = said (firstOf (admitReasons k d facts juror ballot)) (facts .ballots + 1)
+unfoldable pub admitOutcome : ℕ → ℕ → Facts → ℕ → List ℕ → Outcome ℕ
+admitOutcome k d facts juror ballot = outcome (firstOf (admitReasons k d facts juror ballot)) (facts .ballots + 1)
 
 -- The ballot in the first free slot, before the ballots that were there; that slot is free no longer.
 unfoldable pub withBallot : ℕ → List Slot → ℕ → List ℕ → List Slot

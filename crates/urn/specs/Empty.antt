@@ -5,7 +5,7 @@ use Prim.Native.Nat.{ℕ, suc, _-_, _*_}
 use lib.ListN.{length}
 use Rattle.jury.specs.Counts.{tabulate}
 use Rattle.jury.specs.Reason.{Reason, unless, firstOf}
-use Rattle.tally.specs.Answer.{Said, said}
+use Rattle.tally.specs.Answer.{Outcome, outcome}
 use Rattle.urn_chains.specs.Slots.{Slot, bytesOf}
 use Rattle.urn_chains.specs.Chains.{layout}
 use Rattle.urn_chains.specs.Sound.{slotCount, urnLength}
@@ -16,8 +16,8 @@ unfoldable pub emptyReasons : ℕ → ℕ → List ℕ → List (Option Reason)
 emptyReasons k d table = unless (gradedShape k d) 1 ∷ unless (urnLength (k * d) (length table)) 13 ∷ []
 
 -- The answer: a reason, or the number of ballots, which is 0.
-unfoldable pub emptySaid : ℕ → ℕ → List ℕ → Said ℕ
-emptySaid k d table = said (firstOf (emptyReasons k d table)) 0
+unfoldable pub emptyOutcome : ℕ → ℕ → List ℕ → Outcome ℕ
+emptyOutcome k d table = outcome (firstOf (emptyReasons k d table)) 0
 
 -- The n slots of an urn without a ballot, of ballots of b bytes: slots 1, 2 and so on are free, in this order.
 unfoldable pub allFree : ℕ → ℕ → List Slot

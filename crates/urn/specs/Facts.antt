@@ -6,7 +6,7 @@ use Prim.Native.Nat.{ℕ}
 use lib.ListN.{length}
 use Rattle.jury.specs.Shape.{gradedLimits}
 use Rattle.jury.specs.Reason.{Reason, reasonOf}
-use Rattle.tally.specs.Answer.{Said, refused, accepted}
+use Rattle.tally.specs.Answer.{Outcome, refused, accepted}
 use Rattle.urn.specs.declared.answer.Answer.{Answer}
 use Rattle.urn.specs.declared.answer.Answer.the-variants.{Accepted, Refused}
 use Rattle.urn.specs.declared.facts.Facts.{Facts}
@@ -37,6 +37,6 @@ afterwards (some r) new old = old
 afterwards none new old = new
 
 -- The number and the values for each case of the program's enum.
-unfoldable pub countedBy : Answer → Said ℕ
+unfoldable pub countedBy : Answer → Outcome ℕ
 countedBy (Accepted ballots) = accepted ballots
 countedBy (Refused r) = refused (reasonOf r)

@@ -10,9 +10,9 @@ use Rattle.urn.specs.declared.facts.Facts.{Facts}
 use Rattle.urn_chains.specs.Chains.{Entry, ballotChain, freeChain, firstFree}
 use Rattle.urn_chains.specs.Sound.{slotCount, urnSlots, sound}
 use Rattle.urn.specs.Facts.{factsOf}
-use Rattle.urn.specs.Admit.{admitSaid, admitted}
-use Rattle.urn.specs.Withdraw.{withdrawSaid, without, slotOfJuror, withdrawn}
-use Rattle.urn.specs.Empty.{emptySaid, emptied}
+use Rattle.urn.specs.Admit.{admitOutcome, admitted}
+use Rattle.urn.specs.Withdraw.{withdrawOutcome, without, slotOfJuror, withdrawn}
+use Rattle.urn.specs.Empty.{emptyOutcome, emptied}
 
 -- A table that is made an empty urn is a sound one of the same length without a ballot, and all its slots from 1 on are free, in this order.
 pub record AfterEmptying (k d : ℕ) (table : List ℕ) (count : ℕ) : Type 0 where
@@ -40,14 +40,14 @@ pub record AfterWithdrawal (k d : ℕ) (urn : List ℕ) (juror count : ℕ) : Ty
   pub counted : count ≡ length (ballotChain (urnSlots k d (withdrawn k d urn juror)))
   pub free : freeChain (urnSlots k d (withdrawn k d urn juror)) ≡ slotOfJuror juror (ballotChain (urnSlots k d urn)) ∷ freeChain (urnSlots k d urn)
   -- the ballot that is admitted next, whosever it is, takes the same slot again, and the slots that were free before are those that are free after
-  pub taken-again : (next : ℕ) (ballot : List ℕ) (more : ℕ) → admitSaid k d (factsOf k d (withdrawn k d urn juror) next) next ballot ≡ accepted more
+  pub taken-again : (next : ℕ) (ballot : List ℕ) (more : ℕ) → admitOutcome k d (factsOf k d (withdrawn k d urn juror) next) next ballot ≡ accepted more
       → (ballotChain (urnSlots k d (admitted k d (withdrawn k d urn juror) next ballot)) ≡ record { slot = slotOfJuror juror (ballotChain (urnSlots k d urn)); juror = next; ballot = ballot } ∷ without juror (ballotChain (urnSlots k d urn)))
       × (freeChain (urnSlots k d (admitted k d (withdrawn k d urn juror) next ballot)) ≡ freeChain (urnSlots k d urn))
 
 pub record UrnHolds : Type 0 where
-  pub emptying : (k d : ℕ) (table : List ℕ) (count : ℕ) → emptySaid k d table ≡ accepted count → AfterEmptying k d table count
-  pub admission : (k d : ℕ) (urn : List ℕ) (juror : ℕ) (ballot : List ℕ) (count : ℕ) → admitSaid k d (factsOf k d urn juror) juror ballot ≡ accepted count → AfterAdmission k d urn juror ballot count
-  pub withdrawal : (k d : ℕ) (urn : List ℕ) (juror count : ℕ) → withdrawSaid k d (factsOf k d urn juror) juror ≡ accepted count → AfterWithdrawal k d urn juror count
+  pub emptying : (k d : ℕ) (table : List ℕ) (count : ℕ) → emptyOutcome k d table ≡ accepted count → AfterEmptying k d table count
+  pub admission : (k d : ℕ) (urn : List ℕ) (juror : ℕ) (ballot : List ℕ) (count : ℕ) → admitOutcome k d (factsOf k d urn juror) juror ballot ≡ accepted count → AfterAdmission k d urn juror ballot count
+  pub withdrawal : (k d : ℕ) (urn : List ℕ) (juror count : ℕ) → withdrawOutcome k d (factsOf k d urn juror) juror ≡ accepted count → AfterWithdrawal k d urn juror count
 
 -- Two urns, of any bytes and any lengths, of which the same is to be told: both are unsound, or both are sound with as many ballots, agreeing on whether this juror is in and whether a slot is free.
 pub record TellTheSame (k d : ℕ) (one other : List ℕ) (juror : ℕ) : Type 0 where
@@ -58,7 +58,7 @@ pub record TellTheSame (k d : ℕ) (one other : List ℕ) (juror : ℕ) : Type 0
 
 -- The previews answer the same for both. Their contracts give them the answers of admission and withdrawal themselves.
 pub record PreviewsTell : Type 0 where
-  pub admission : (k d : ℕ) (one other : List ℕ) (juror : ℕ) (ballot : List ℕ) → TellTheSame k d one other juror → admitSaid k d (factsOf k d one juror) juror ballot ≡ admitSaid k d (factsOf k d other juror) juror ballot
-  pub withdrawal : (k d : ℕ) (one other : List ℕ) (juror : ℕ) → TellTheSame k d one other juror → withdrawSaid k d (factsOf k d one juror) juror ≡ withdrawSaid k d (factsOf k d other juror) juror
+  pub admission : (k d : ℕ) (one other : List ℕ) (juror : ℕ) (ballot : List ℕ) → TellTheSame k d one other juror → admitOutcome k d (factsOf k d one juror) juror ballot ≡ admitOutcome k d (factsOf k d other juror) juror ballot
+  pub withdrawal : (k d : ℕ) (one other : List ℕ) (juror : ℕ) → TellTheSame k d one other juror → withdrawOutcome k d (factsOf k d one juror) juror ≡ withdrawOutcome k d (factsOf k d other juror) juror
   -- and of an unsound urn nothing but that is told
   pub unsound : (k d : ℕ) (one other : List ℕ) (juror : ℕ) → sound k d one ≡ false → sound k d other ≡ false → TellTheSame k d one other juror

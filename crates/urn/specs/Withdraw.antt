@@ -6,7 +6,7 @@ use Prim.Native.Nat.{ℕ, _-_, _*_}
 use lib.Dec.{eqb}
 use lib.ListN.{length}
 use Rattle.jury.specs.Reason.{Reason, unless, firstOf}
-use Rattle.tally.specs.Answer.{Said, said}
+use Rattle.tally.specs.Answer.{Outcome, outcome}
 use Rattle.urn.specs.declared.facts.Facts.{Facts}
 use Rattle.urn_chains.specs.Slots.{Slot, bytesOf}
 use Rattle.urn_chains.specs.Chains.{Entry, ballotChain, freeChain, layout}
@@ -22,8 +22,8 @@ withdrawReasons k d facts juror =
     ∷ []
 
 -- The answer: a reason, or the new number of ballots.
-unfoldable pub withdrawSaid : ℕ → ℕ → Facts → ℕ → Said ℕ
-withdrawSaid k d facts juror = said (firstOf (withdrawReasons k d facts juror)) (facts .ballots - 1)
+unfoldable pub withdrawOutcome : ℕ → ℕ → Facts → ℕ → Outcome ℕ
+withdrawOutcome k d facts juror = outcome (firstOf (withdrawReasons k d facts juror)) (facts .ballots - 1)
 
 -- The ballots without that of this juror, who has one at most.
 unfoldable pub without : ℕ → List Entry → List Entry

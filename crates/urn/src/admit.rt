@@ -16,7 +16,7 @@ ghost use Rattle.urn_chains.specs.Slots.{bytesOf};
 ghost use Rattle.urn_chains.specs.Chains.{freeChain};
 ghost use Rattle.urn_chains.specs.Sound.{goodJuror, urnSlots, sound};
 ghost use Rattle.urn.specs.Facts.{gradedShape, isEmpty, factsOf, countedBy};
-ghost use Rattle.urn.specs.Admit.{admitSaid, withBallot, admitted};
+ghost use Rattle.urn.specs.Admit.{admitOutcome, withBallot, admitted};
 
 // The most that a juror's number can be: it is kept in a byte.
 pub const MOST_JURORS: usize = 255;
@@ -44,7 +44,7 @@ pub(crate) fn is_juror(juror: usize) -> bool
 fn decide(k: usize, d: usize, facts: Facts, juror: usize, ballot: &[u8]) -> Answer
     requires { ⌜ T (gradedShape k d) ⌝ }
     requires { ⌜ facts .ballots ≤ 256 ⌝ }
-    ensures { λ r. ⌜ countedBy r ≡ admitSaid k d facts juror (now (ballot .entry)) ⌝ }
+    ensures { λ r. ⌜ countedBy r ≡ admitOutcome k d facts juror (now (ballot .entry)) ⌝ }
 {
     if !facts.sound {
         return Answer::Refused(Refusal::Urn);
@@ -73,7 +73,7 @@ fn decide(k: usize, d: usize, facts: Facts, juror: usize, ballot: &[u8]) -> Answ
 
 // What an admission would answer. The urn is lent for reading alone.
 pub fn preview(k: usize, d: usize, urn: &[u8], juror: usize, ballot: &[u8]) -> Answer
-    ensures { λ r. ⌜ countedBy r ≡ admitSaid k d (factsOf k d (now (urn .entry)) juror) juror (now (ballot .entry)) ⌝ }
+    ensures { λ r. ⌜ countedBy r ≡ admitOutcome k d (factsOf k d (now (urn .entry)) juror) juror (now (ballot .entry)) ⌝ }
 {
     if !is_graded(k, d) {
         return Answer::Refused(Refusal::Shape);
@@ -103,7 +103,7 @@ fn put_ballot(k: usize, d: usize, urn: &mut [u8], juror: usize, ballot: &[u8])
 
 // Admits the ballot of a juror.
 pub fn admit(k: usize, d: usize, urn: &mut [u8], juror: usize, ballot: &[u8]) -> Answer
-    ensures { λ r. ⌜ countedBy r ≡ admitSaid k d (factsOf k d (now (urn .entry)) juror) juror (now (ballot .entry)) ⌝ }
+    ensures { λ r. ⌜ countedBy r ≡ admitOutcome k d (factsOf k d (now (urn .entry)) juror) juror (now (ballot .entry)) ⌝ }
     ensures { λ _. ⌜ now (urn .exit) ≡ admitted k d (now (urn .entry)) juror (now (ballot .entry)) ⌝ }
 {
     let answer = preview(k, d, urn, juror, ballot);

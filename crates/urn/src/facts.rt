@@ -1,6 +1,6 @@
 // What is asked of an urn before a ballot goes in or out.
 use urn_chains::find;
-use urn_chains::find::Link;
+use urn_chains::find::ChainPosition;
 use urn_chains::sound;
 use urn_chains::sound::Soundness;
 ghost use mathlib.Core.Path.{_≡_};
@@ -22,49 +22,49 @@ pub struct Facts {
 }
 
 // The facts, and where the juror's ballot lies in a sound urn.
-pub(crate) struct Looked {
+pub(crate) struct UrnCheck {
     pub(crate) facts: Facts,
-    pub(crate) link: Link,
+    pub(crate) link: ChainPosition,
 }
 
-pub(crate) fn look(k: usize, d: usize, urn: &[u8], juror: usize) -> Looked
+pub(crate) fn look(k: usize, d: usize, urn: &[u8], juror: usize) -> UrnCheck
     requires { ⌜ T (gradedLimits (juryOfOne k d)) ⌝ }
     ensures { λ r. ⌜ r .facts ≡ factsOf k d (now (urn .entry)) juror ⌝ }
     ensures { λ r. ⌜ r .facts .ballots ≤ 256 ⌝ }
     ensures { λ r. ⌜ (r .facts .sound ≡ true → r .link ≡ linkIn k d (now (urn .entry)) juror) ⌝ }
 {
     let Soundness::Sound { ballots } = sound::test(k, d, urn) else {
-        return Looked {
+        return UrnCheck {
             facts: Facts {
                 sound: false,
                 ballots: 0,
                 present: false,
                 full: false,
             },
-            link: Link::Absent,
+            link: ChainPosition::Absent,
         };
     };
     let bytes = k * d;
     let slots = urn.len() / (2 + bytes);
     let full = urn[1] == 0;
     match find::find(urn, bytes, slots, juror) {
-        Link::Found { before, slot } => Looked {
+        ChainPosition::Found { before, slot } => UrnCheck {
             facts: Facts {
                 sound: true,
                 ballots,
                 present: true,
                 full,
             },
-            link: Link::Found { before, slot },
+            link: ChainPosition::Found { before, slot },
         },
-        Link::Absent => Looked {
+        ChainPosition::Absent => UrnCheck {
             facts: Facts {
                 sound: true,
                 ballots,
                 present: false,
                 full,
             },
-            link: Link::Absent,
+            link: ChainPosition::Absent,
         },
     }
 }

@@ -6,22 +6,22 @@ use crate::facts;
 use crate::facts::Facts;
 use crate::put;
 use jury::reason::Refusal;
-use urn_chains::find::Link;
+use urn_chains::find::ChainPosition;
 ghost use mathlib.Core.Path.{_≡_};
 ghost use mathlib.Core.Bool.{true};
 ghost use Prim.Native.Nat.{_*_};
 ghost use lib.Dec.{T};
 ghost use Rattle.urn_chains.specs.Slots.{bytesOf, slotAt};
 ghost use Rattle.urn_chains.specs.Sound.{urnSlots, sound};
-ghost use Rattle.urn_chains.specs.declared.find.Link.the-variants.{Found};
+ghost use Rattle.urn_chains.specs.declared.find.ChainPosition.the-variants.{Found};
 ghost use Rattle.urn.specs.Inner.{linkIn};
 ghost use Rattle.urn.specs.Facts.{gradedShape, factsOf, countedBy};
-ghost use Rattle.urn.specs.Withdraw.{withdrawSaid, withoutBallot, withdrawn};
+ghost use Rattle.urn.specs.Withdraw.{withdrawOutcome, withoutBallot, withdrawn};
 
 // The answer to a withdrawal, by what is asked of the urn alone.
 fn decide(k: usize, d: usize, facts: Facts, juror: usize) -> Answer
     requires { ⌜ T (gradedShape k d) ⌝ }
-    ensures { λ r. ⌜ countedBy r ≡ withdrawSaid k d facts juror ⌝ }
+    ensures { λ r. ⌜ countedBy r ≡ withdrawOutcome k d facts juror ⌝ }
 {
     if !facts.sound {
         return Answer::Refused(Refusal::Urn);
@@ -43,7 +43,7 @@ fn decide(k: usize, d: usize, facts: Facts, juror: usize) -> Answer
 
 // What a withdrawal would answer. The urn is lent for reading alone.
 pub fn preview(k: usize, d: usize, urn: &[u8], juror: usize) -> Answer
-    ensures { λ r. ⌜ countedBy r ≡ withdrawSaid k d (factsOf k d (now (urn .entry)) juror) juror ⌝ }
+    ensures { λ r. ⌜ countedBy r ≡ withdrawOutcome k d (factsOf k d (now (urn .entry)) juror) juror ⌝ }
 {
     if !is_graded(k, d) {
         return Answer::Refused(Refusal::Shape);
@@ -72,7 +72,7 @@ fn take_ballot(k: usize, d: usize, urn: &mut [u8], before: usize, slot: usize)
 
 // Withdraws the ballot of a juror.
 pub fn withdraw(k: usize, d: usize, urn: &mut [u8], juror: usize) -> Answer
-    ensures { λ r. ⌜ countedBy r ≡ withdrawSaid k d (factsOf k d (now (urn .entry)) juror) juror ⌝ }
+    ensures { λ r. ⌜ countedBy r ≡ withdrawOutcome k d (factsOf k d (now (urn .entry)) juror) juror ⌝ }
     ensures { λ _. ⌜ now (urn .exit) ≡ withdrawn k d (now (urn .entry)) juror ⌝ }
 {
     if !is_graded(k, d) {
@@ -82,7 +82,7 @@ pub fn withdraw(k: usize, d: usize, urn: &mut [u8], juror: usize) -> Answer
     let link = looked.link;
     let answer = decide(k, d, looked.facts, juror);
     if let Answer::Accepted { ballots: _ } = answer {
-        if let Link::Found { before, slot } = link {
+        if let ChainPosition::Found { before, slot } = link {
             take_ballot(k, d, urn, before, slot);
         }
     }

@@ -12,8 +12,8 @@ use borrow.Author.Tests.{eq-eqb, ne-eqb}
 use Rattle.urn_chains.specs.Slots.{Slot, slotAt}
 use Rattle.urn_chains.specs.Chains.{chain}
 use Rattle.urn_chains.specs.Sound.{all, inUrn}
-use Rattle.urn_chains.specs.declared.find.Link.{Link}
-use Rattle.urn_chains.specs.declared.find.Link.the-variants.{Found, Absent}
+use Rattle.urn_chains.specs.declared.find.ChainPosition.{ChainPosition}
+use Rattle.urn_chains.specs.declared.find.ChainPosition.the-variants.{Found, Absent}
 use Rattle.urn_chains.specs.Inner.{linkOf}
 use Rattle.urn_chains.proofs.Lists.{all-first, all-rest}
 use Rattle.urn_chains.proofs.Linked.{below}

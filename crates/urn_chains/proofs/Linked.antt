@@ -42,9 +42,9 @@ unfolding slotAt
 at-other slots i j s h = getD-set-other slots i j s _ h
 
 -- the first of a list is not among those that are not in it
-pub apart : (x y : ℕ) (ys : List ℕ) → member x (y ∷ ys) ≡ false → y ≢ x
+pub neitherAfterNorBefore : (x y : ℕ) (ys : List ℕ) → member x (y ∷ ys) ≡ false → y ≢ x
 unfolding member
-apart x y ys e q = let t = sym (or-first (eqb x y) (member x ys) (eq-eqb x y (sym q))) ∙ e in let z : _≡_ {A = ℕ} 0 1 = cc in omega arith
+neitherAfterNorBefore x y ys e q = let t = sym (or-first (eqb x y) (member x ys) (eq-eqb x y (sym q))) ∙ e in let z : _≡_ {A = ℕ} 0 1 = cc in omega arith
 
 pub apart-rest : (x y : ℕ) (ys : List ℕ) → member x (y ∷ ys) ≡ false → member x ys ≡ false
 unfolding member
@@ -53,12 +53,12 @@ apart-rest x y ys e = never-true (member x ys) (λ h. let t = sym (or-second (eq
 pub linked-set : (slots : List Slot) (x : ℕ) (s : Slot) (es : List Entry) → member x (slotsIn es) ≡ false → Linked slots es → Linked (set slots x s) es
 linked-set slots x s [] h none = none
 linked-set slots x s (e ∷ es) h (more q l) =
-    more (at-other slots x (e .slot) s (apart x (e .slot) (slotsIn es) h) ∙ q) (linked-set slots x s es (apart-rest x (e .slot) (slotsIn es) h) l)
+    more (at-other slots x (e .slot) s (neitherAfterNorBefore x (e .slot) (slotsIn es) h) ∙ q) (linked-set slots x s es (apart-rest x (e .slot) (slotsIn es) h) l)
 
 pub free-set : (b : ℕ) (slots : List Slot) (x : ℕ) (s : Slot) (is : List ℕ) → member x is ≡ false → FreeLinked b slots is → FreeLinked b (set slots x s) is
 free-set b slots x s [] h none = none
 free-set b slots x s (i ∷ is) h (more q l) =
-    more (at-other slots x i s (apart x i is h) ∙ q) (free-set b slots x s is (apart-rest x i is h) l)
+    more (at-other slots x i s (neitherAfterNorBefore x i is h) ∙ q) (free-set b slots x s is (apart-rest x i is h) l)
 
 -- the chain of slots that hold these ballots
 pub positive : (n i : ℕ) → inUrn n i ≡ true → 0 < i

@@ -12,8 +12,8 @@ use Rattle.jury.proofs.Flags.{and-first, and-second, and-both}
 use Rattle.urn_chains.proofs.Holding.{juror-most}
 use Rattle.urn_chains.specs.Slots.{Slot, slotBytes, slotsOf, slotAt}
 use Rattle.urn_chains.specs.Sound.{goodJuror, goodBallot, inUrn, allZero, emptySlot}
-use Rattle.urn_chains.specs.declared.walk.Look.{Look}
-use Rattle.urn_chains.specs.declared.walk.Look.the-variants.{Well, Wrong}
+use Rattle.urn_chains.specs.declared.walk.SlotCheck.{SlotCheck}
+use Rattle.urn_chains.specs.declared.walk.SlotCheck.the-variants.{Sound, Wrong}
 use Rattle.urn_chains.specs.Inner.{looked, ballotAt, freeAt}
 use Rattle.urn_chains.proofs.SlotLaws.{slots-length, next-is, juror-is, ballot-is}
 
@@ -21,9 +21,9 @@ pub look-wrong : (t : Bool) (s : Slot) → t ≡ false → Wrong ≡ looked t s
 unfolding looked
 look-wrong t s e = ap (λ (u : Bool). looked u s) (sym e)
 
-pub look-well : (t : Bool) (s : Slot) (j n : ℕ) → t ≡ true → j ≡ s .juror → n ≡ s .next → Well j n ≡ looked t s
+pub look-well : (t : Bool) (s : Slot) (j n : ℕ) → t ≡ true → j ≡ s .juror → n ≡ s .next → Sound j n ≡ looked t s
 unfolding looked
-look-well t s j n e f g = ap (λ (x : ℕ). Well x n) f ∙ ap (Well (s .juror)) g ∙ ap (λ (u : Bool). looked u s) (sym e)
+look-well t s j n e f g = ap (λ (x : ℕ). Sound x n) f ∙ ap (Sound (s .juror)) g ∙ ap (λ (u : Bool). looked u s) (sym e)
 
 pub in-urn : (n i : ℕ) → 0 < i → i < n → inUrn n i ≡ true
 unfolding inUrn

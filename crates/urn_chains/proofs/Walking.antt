@@ -12,7 +12,7 @@ use borrow.Author.Tests.{ne-eqb}
 use Rattle.urn_chains.specs.Slots.{Slot, slotAt}
 use Rattle.urn_chains.specs.Chains.{chain, ends}
 use Rattle.urn_chains.specs.Sound.{all}
-use Rattle.urn_chains.specs.declared.walk.Look.the-variants.{Well, Wrong}
+use Rattle.urn_chains.specs.declared.walk.SlotCheck.the-variants.{Sound, Wrong}
 use Rattle.urn_chains.specs.Inner.{Walked, noMarks, markAll, fresh, jurorsAt, looked, ballotAt, freeAt, ballotsFrom, freeFrom}
 use Rattle.jury.proofs.Cases.{below-or-not}
 
@@ -50,7 +50,7 @@ unfolding ends
 ends-never i slots h = ne-eqb i 0 (λ e. omega arith)
 
 -- what a look tells
-pub looked-well : (t : Bool) (s : Slot) (j n : ℕ) → looked t s ≡ Well j n → (t ≡ true) × (j ≡ s .juror) × (n ≡ s .next)
+pub looked-well : (t : Bool) (s : Slot) (j n : ℕ) → looked t s ≡ Sound j n → (t ≡ true) × (j ≡ s .juror) × (n ≡ s .next)
 unfolding looked
 looked-well true s j n e = (refl, cc, cc)
 looked-well false s j n e = let z : _≡_ {A = ℕ} 0 1 = cc in absurd (omega arith)

@@ -10,10 +10,10 @@ use Rattle.urn_chains.specs.Slots.{Slot, slotBytes, slotAt}
 use Rattle.urn_chains.specs.Chains.{chain, ends}
 use Rattle.urn_chains.specs.declared.sound.Soundness.{Soundness}
 use Rattle.urn_chains.specs.declared.sound.Soundness.the-variants.{Sound, Unsound}
-use Rattle.urn_chains.specs.declared.find.Link.{Link}
-use Rattle.urn_chains.specs.declared.find.Link.the-variants.{Found, Absent}
-use Rattle.urn_chains.specs.declared.walk.Look.{Look}
-use Rattle.urn_chains.specs.declared.walk.Look.the-variants.{Well, Wrong}
+use Rattle.urn_chains.specs.declared.find.ChainPosition.{ChainPosition}
+use Rattle.urn_chains.specs.declared.find.ChainPosition.the-variants.{Found, Absent}
+use Rattle.urn_chains.specs.declared.walk.SlotCheck.{SlotCheck}
+use Rattle.urn_chains.specs.declared.walk.SlotCheck.the-variants.{Sound, Wrong}
 use Rattle.urn_chains.specs.Sound.{all, juryOfOne, goodBallot, goodJuror, inUrn, emptySlot}
 
 -- The bytes are n slots for ballots of b bytes.
@@ -42,8 +42,8 @@ unfoldable pub jurorsAt : List Slot → List ℕ → List ℕ
 jurorsAt slots is = map (λ i. slotAt slots i .juror) is
 
 -- What a look at a slot answers.
-unfoldable pub looked : Bool → Slot → Look
-looked true s = Well (s .juror) (s .next)
+unfoldable pub looked : Bool → Slot → SlotCheck
+looked true s = Sound (s .juror) (s .next)
 looked false s = Wrong
 
 -- Slot i is one of the slots from 1 on, and holds a good ballot of a juror.
@@ -76,6 +76,6 @@ soundness true ballots = Sound ballots
 soundness false ballots = Unsound
 
 -- Where the juror's ballot lies among these slots, and the slot before it in the chain, the first of these following slot `before`.
-unfoldable pub linkOf : List Slot → ℕ → ℕ → List ℕ → Link
+unfoldable pub linkOf : List Slot → ℕ → ℕ → List ℕ → ChainPosition
 linkOf slots juror before [] = Absent
 linkOf slots juror before (i ∷ is) = cond (eqb (slotAt slots i .juror) juror) (Found before i) (linkOf slots juror i is)

@@ -9,13 +9,13 @@ ghost use Rattle.urn_chains.specs.Sound.{all, inUrn};
 ghost use Rattle.urn_chains.specs.Inner.{SlotTable, linkOf};
 
 // A ballot's slot, and the slot before it in the ballot chain: slot 0 where it is the first.
-pub enum Link {
+pub enum ChainPosition {
     Found { before: usize, slot: usize },
     Absent,
 }
 
 // Looks for the juror's ballot along the ballot chain of an urn of ballots of `bytes` bytes.
-pub fn find(urn: &[u8], bytes: usize, slots: usize, juror: usize) -> Link
+pub fn find(urn: &[u8], bytes: usize, slots: usize, juror: usize) -> ChainPosition
     requires { ⌜ SlotTable bytes slots (now urn) ⌝ }
     requires { ⌜ all (inUrn slots) (chain slots (getD (now urn) 0 0) (slotsOf bytes slots (now urn))) ≡ true ⌝ }
     ensures { λ r. ⌜ r ≡ linkOf (slotsOf bytes slots (now (urn .entry))) juror 0 (chain slots (getD (now (urn .entry)) 0 0) (slotsOf bytes slots (now (urn .entry)))) ⌝ }
@@ -26,15 +26,15 @@ pub fn find(urn: &[u8], bytes: usize, slots: usize, juror: usize) -> Link
     let mut slot = wide(urn[0]);
     while slot != 0 {
         if count == slots {
-            return Link::Absent;
+            return ChainPosition::Absent;
         }
         let at = slot * size;
         if wide(urn[at + 1]) == juror {
-            return Link::Found { before, slot };
+            return ChainPosition::Found { before, slot };
         }
         before = slot;
         slot = wide(urn[at]);
         count += 1;
     }
-    Link::Absent
+    ChainPosition::Absent
 }

@@ -21,8 +21,8 @@ pub struct Walk {
 }
 
 // What one slot of a chain has to say: its juror's number and the next slot's index, where it is as it has to be.
-pub enum Look {
-    Well { juror: usize, next: usize },
+pub enum SlotCheck {
+    Sound { juror: usize, next: usize },
     Wrong,
 }
 
@@ -61,14 +61,14 @@ fn holds_ballot(k: usize, d: usize, juror: u8, ballot: &[u8]) -> bool
 }
 
 // A slot of the ballot chain.
-fn look_at_ballot(urn: &[u8], k: usize, d: usize, slots: usize, slot: usize) -> Look
+fn look_at_ballot(urn: &[u8], k: usize, d: usize, slots: usize, slot: usize) -> SlotCheck
     requires { ⌜ T (gradedLimits (juryOfOne k d)) ⌝ }
     requires { ⌜ SlotTable (k * d) slots (now urn) ⌝ }
     requires { ⌜ 0 < slot ⌝ }
     ensures { λ r. ⌜ r ≡ looked (ballotAt k d (slotsOf (k * d) slots (now (urn .entry))) slot) (slotAt (slotsOf (k * d) slots (now (urn .entry))) slot) ⌝ }
 {
     if slots <= slot {
-        return Look::Wrong;
+        return SlotCheck::Wrong;
     }
     let size = 2 + k * d;
     let at = slot * size;
@@ -76,22 +76,22 @@ fn look_at_ballot(urn: &[u8], k: usize, d: usize, slots: usize, slot: usize) -> 
     let end = at + size;
     let juror = urn[at + 1];
     if !holds_ballot(k, d, juror, &urn[from..end]) {
-        return Look::Wrong;
+        return SlotCheck::Wrong;
     }
-    Look::Well {
+    SlotCheck::Sound {
         juror: wide(juror),
         next: wide(urn[at]),
     }
 }
 
 // A slot of the free chain, of an urn whose ballots have so many bytes.
-fn look_at_free(urn: &[u8], bytes: usize, slots: usize, slot: usize) -> Look
+fn look_at_free(urn: &[u8], bytes: usize, slots: usize, slot: usize) -> SlotCheck
     requires { ⌜ SlotTable bytes slots (now urn) ⌝ }
     requires { ⌜ 0 < slot ⌝ }
     ensures { λ r. ⌜ r ≡ looked (freeAt (slotsOf bytes slots (now (urn .entry))) slot) (slotAt (slotsOf bytes slots (now (urn .entry))) slot) ⌝ }
 {
     if slots <= slot {
-        return Look::Wrong;
+        return SlotCheck::Wrong;
     }
     let size = 2 + bytes;
     let at = slot * size;
@@ -99,12 +99,12 @@ fn look_at_free(urn: &[u8], bytes: usize, slots: usize, slot: usize) -> Look
     let end = at + size;
     let juror = urn[at + 1];
     if juror != 0 {
-        return Look::Wrong;
+        return SlotCheck::Wrong;
     }
     if !is_zero(&urn[from..end]) {
-        return Look::Wrong;
+        return SlotCheck::Wrong;
     }
-    Look::Well {
+    SlotCheck::Sound {
         juror: wide(juror),
         next: wide(urn[at]),
     }
@@ -130,7 +130,7 @@ pub fn walk_ballots(urn: &[u8], k: usize, d: usize, slots: usize) -> Walk
             };
         }
         let look = look_at_ballot(urn, k, d, slots, slot);
-        let Look::Well { juror, next } = look else {
+        let SlotCheck::Sound { juror, next } = look else {
             return Walk {
                 good: false,
                 marks,
@@ -181,7 +181,7 @@ pub fn walk_free(urn: &[u8], bytes: usize, slots: usize, met: [bool; 256]) -> Wa
             };
         }
         let look = look_at_free(urn, bytes, slots, slot);
-        let Look::Well { juror: _, next } = look else {
+        let SlotCheck::Sound { juror: _, next } = look else {
             return Walk {
                 good: false,
                 marks,

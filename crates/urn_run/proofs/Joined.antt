@@ -86,16 +86,16 @@ module _ (k d m n : ℕ) (xs ys : List ℕ) (g : Good k d m xs) (h : Good k d n 
       }
 
 -- a good ballot of a jury of one
-nothing-said : (o : Option Reason) → noReason o ≡ true → o ≡ none
+nothing-outcome : (o : Option Reason) → noReason o ≡ true → o ≡ none
 unfolding noReason
-nothing-said none e = refl
-nothing-said (some r) e = let z : _≡_ {A = ℕ} 0 1 = cc in absurd (omega arith)
+nothing-outcome none e = refl
+nothing-outcome (some r) e = let z : _≡_ {A = ℕ} 0 1 = cc in absurd (omega arith)
 
 pub good-one : (k d : ℕ) (x : List ℕ) → gradedLimits (juryOfOne k d) ≡ true → goodBallot k d x ≡ true → Good k d 1 x
 unfolding goodBallot juryOfOne
 good-one k d x w e =
     let o = firstOf (ballotReasons (juryOfOne k d) x) in
-    let a = ballots-laws.accepted (juryOfOne k d) x (graded-within (juryOfOne k d) w) (nothing-said o (and-second (eqb (length x) (k * d)) (noReason o) e)) in
+    let a = ballots-laws.accepted (juryOfOne k d) x (graded-within (juryOfOne k d) w) (nothing-outcome o (and-second (eqb (length x) (k * d)) (noReason o) e)) in
     let b = ballots-laws.graded (juryOfOne k d) x a w in
     record {
       size = b .size ∙ bytes-are (juryOfOne k d) (within (juryOfOne k d) w) ∙ mul-assoc 1 k d;

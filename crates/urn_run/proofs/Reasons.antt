@@ -24,11 +24,11 @@ use Rattle.jury.proofs.Flags.{true-T}
 use Rattle.jury.proofs.Limits.{Within, within, within-back, graded-within, bytes-are}
 use Rattle.jury.proofs.BallotLaws.{judged, judged-by, kindReason}
 use Rattle.jury.proofs.AcceptedLaws as ballots-laws
-use Rattle.tally.specs.Answer.{refused, accepted, said, Size, sizeOf}
-use Rattle.tally.specs.Test.{testReasons, testSaid}
-use Rattle.tally.specs.Run.{Ran, lentReasons, runReasons, ranAfter, ran}
+use Rattle.tally.specs.Answer.{refused, accepted, outcome, Size, sizeOf}
+use Rattle.tally.specs.Test.{testReasons, testOutcome}
+use Rattle.tally.specs.Run.{RunResult, bufferReasons, runReasons, runResultAfter, runResult}
 use Rattle.tally.proofs.TestReasons.{orElse, never}
-use Rattle.tally.proofs.RunReasons.{firstOfThree, run-first, said-refused, RunPassed, run-passed, run-ready, ran-by}
+use Rattle.tally.proofs.RunReasons.{firstOfThree, run-first, outcome-refused, RunPassed, run-passed, run-ready, ran-by}
 use Rattle.urn_chains.specs.Chains.{Entry, entryAt, ballotSlots, ballotChain}
 use Rattle.urn_chains.specs.Sound.{juryOfOne, urnSlots, sound}
 use Rattle.urn_chains.proofs.Marks.{true-or-false}
@@ -127,7 +127,7 @@ module _ (s : Shape) (table urn tape wires board : List ℕ) where
   pub urn-first : firstOf (urnRunReasons s table urn tape wires board)
       ≡ firstOnUrn (gradedLimits s) (sound (s .candidates) (s .grades) urn) (listReason (tested (ballotBytes s) (s .candidates) table))
       (unless (eqb (ballotsIn (s .candidates) (s .grades) urn) (s .ballots)) 4)
-      (firstOf (lentReasons (ballotBytes s) (s .candidates) (sizeOf (gatesOf table)) tape wires board))
+      (firstOf (bufferReasons (ballotBytes s) (s .candidates) (sizeOf (gatesOf table)) tape wires board))
   unfolding urnRunReasons firstOnUrn
   urn-first = simp first-cons
 
@@ -142,10 +142,10 @@ module _ (s : Shape) (table urn tape wires board : List ℕ) where
     by-13 e = urn-first ∙ rw (g, e)
 
     module _ (e : sound (s .candidates) (s .grades) urn ≡ true) where
-      pub by-list : (r : Reason) → testSaid s table ≡ refused r → firstOf (urnRunReasons s table urn tape wires board) ≡ some r
-      unfolding firstOnUrn orElse unless testSaid
+      pub by-list : (r : Reason) → testOutcome s table ≡ refused r → firstOf (urnRunReasons s table urn tape wires board) ≡ some r
+      unfolding firstOnUrn orElse unless testOutcome
       by-list r q =
-          let t : listReason (tested (ballotBytes s) (s .candidates) table) ≡ some r = sym (list-first s g table) ∙ said-refused (firstOf (testReasons s table)) (sizeOf (gatesOf table)) r q in
+          let t : listReason (tested (ballotBytes s) (s .candidates) table) ≡ some r = sym (list-first s g table) ∙ outcome-refused (firstOf (testReasons s table)) (sizeOf (gatesOf table)) r q in
           urn-first ∙ rw (g, e, t)
 
       module _ (p : firstOf (testReasons s table) ≡ none) where
@@ -156,17 +156,17 @@ module _ (s : Shape) (table urn tape wires board : List ℕ) where
             urn-first ∙ rw (g, e, t, ne-eqb (ballotsIn (s .candidates) (s .grades) urn) (s .ballots) n)
 
         pub by-lent : (size : Size) (o : Option Reason) → size ≡ sizeOf (gatesOf table) → ballotsIn (s .candidates) (s .grades) urn ≡ s .ballots
-            → firstOf (lentReasons (ballotBytes s) (s .candidates) size tape wires board) ≡ o → firstOf (urnRunReasons s table urn tape wires board) ≡ o
+            → firstOf (bufferReasons (ballotBytes s) (s .candidates) size tape wires board) ≡ o → firstOf (urnRunReasons s table urn tape wires board) ≡ o
         unfolding firstOnUrn orElse unless
         by-lent size o f n q =
             let t : listReason (tested (ballotBytes s) (s .candidates) table) ≡ none = sym (list-first s g table) ∙ p in
             urn-first ∙ rw (g, e, t, eq-eqb (ballotsIn (s .candidates) (s .grades) urn) (s .ballots) n)
-            (ap (λ (z : Size). firstOf (lentReasons (ballotBytes s) (s .candidates) z tape wires board)) (sym f) ∙ q)
+            (ap (λ (z : Size). firstOf (bufferReasons (ballotBytes s) (s .candidates) z tape wires board)) (sym f) ∙ q)
 
       -- the reasons are those of the run on the ballots of the chain
       pub same-reasons : firstOf (urnRunReasons s table urn tape wires board) ≡ firstOf (runReasons s table (chainBallots (s .candidates) (s .grades) urn) tape wires board)
       same-reasons =
-          let lent = firstOf (lentReasons (ballotBytes s) (s .candidates) (sizeOf (gatesOf table)) tape wires board) in
+          let lent = firstOf (bufferReasons (ballotBytes s) (s .candidates) (sizeOf (gatesOf table)) tape wires board) in
           urn-first ∙ opened (listReason (tested (ballotBytes s) (s .candidates) table)) _ lent
           ∙ ap (λ (o : Option Reason). firstOfThree o (unless (eqb (ballotsIn (s .candidates) (s .grades) urn) (s .ballots)) 4) lent) (sym (list-first s g table))
           ∙ ap (λ (o : Option Reason). firstOfThree (firstOf (testReasons s table)) o lent) (sym (ballots-first s g urn e))
@@ -175,18 +175,18 @@ module _ (s : Shape) (table urn tape wires board : List ℕ) where
           opened : (list number lent : Option Reason) → firstOnUrn (gradedLimits s) (sound (s .candidates) (s .grades) urn) list number lent ≡ firstOfThree list number lent
           opened list number lent = unfold firstOnUrn firstOfThree orElse unless in (rw (g, e) (unfold orElse in or-assoc list number lent))
 
-      pub same-run : ranOnUrn s table urn tape wires board ≡ ran s table (chainBallots (s .candidates) (s .grades) urn) tape wires board
+      pub same-run : ranOnUrn s table urn tape wires board ≡ runResult s table (chainBallots (s .candidates) (s .grades) urn) tape wires board
       unfolding ranOnUrn
       same-run =
           let xs = chainBallots (s .candidates) (s .grades) urn in
           let o = firstOf (runReasons s table xs tape wires board) in
-          ap (λ (r : Option Reason). ranAfter r s (gatesOf table) xs tape wires board) same-reasons ∙ sym (ran-by s table xs tape wires board o refl)
+          ap (λ (r : Option Reason). runResultAfter r s (gatesOf table) xs tape wires board) same-reasons ∙ sym (ran-by s table xs tape wires board o refl)
 
   -- the whole of a call by its first reason
   pub ran-on-urn-by : (o : Option Reason) → firstOf (urnRunReasons s table urn tape wires board) ≡ o
-      → ranOnUrn s table urn tape wires board ≡ ranAfter o s (gatesOf table) (chainBallots (s .candidates) (s .grades) urn) tape wires board
+      → ranOnUrn s table urn tape wires board ≡ runResultAfter o s (gatesOf table) (chainBallots (s .candidates) (s .grades) urn) tape wires board
   unfolding ranOnUrn
-  ran-on-urn-by o e = ap (λ (r : Option Reason). ranAfter r s (gatesOf table) (chainBallots (s .candidates) (s .grades) urn) tape wires board) e
+  ran-on-urn-by o e = ap (λ (r : Option Reason). runResultAfter r s (gatesOf table) (chainBallots (s .candidates) (s .grades) urn) tape wires board) e
 
   -- what an accepted run on an urn has passed
   pub record UrnRunPassed : Type 0 where

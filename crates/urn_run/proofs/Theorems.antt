@@ -17,10 +17,10 @@ use Rattle.gates.specs.Test.{tested}
 use Rattle.jury.specs.declared.shape.Shape.{Shape}
 use Rattle.jury.specs.Shape.{gradedLimits, ballotBytes}
 use Rattle.jury.specs.Reason.{Reason, reasonAt, unless, listReason, firstOf}
-use Rattle.tally.specs.Answer.{Said, refused, accepted, hasNumberIn, Size, sizeOf}
-use Rattle.tally.specs.Test.{testSaid}
-use Rattle.tally.specs.Write.{writeSaid}
-use Rattle.tally.specs.Run.{Ran, lentReasons, runReasons, ranAfter, ran}
+use Rattle.tally.specs.Answer.{Outcome, refused, accepted, hasNumberIn, Size, sizeOf}
+use Rattle.tally.specs.Test.{testOutcome}
+use Rattle.tally.specs.Write.{writeOutcome}
+use Rattle.tally.specs.Run.{RunResult, bufferReasons, runReasons, runResultAfter, runResult}
 use Rattle.tally.specs.Hiding.{closingBytes, Hidden}
 use Rattle.tally.specs.Demands.{listIn, Accuracy}
 use Rattle.tally.proofs.TestReasons.{never, test-passed}
@@ -36,23 +36,23 @@ use Rattle.urn_run.proofs.Reasons.{by-1, by-13, by-4, same-run, ran-on-
 -- a call that is refused
 module _ (s : Shape) (table urn tape wires board : List ℕ) where
   refusal-is : (r : Reason) → firstOf (urnRunReasons s table urn tape wires board) ≡ some r → ranOnUrn s table urn tape wires board .answer ≡ refused r
-  unfolding ranAfter
-  refusal-is r e = ap (λ (z : Ran). z .answer) (ran-on-urn-by s table urn tape wires board (some r) e)
+  unfolding runResultAfter
+  refusal-is r e = ap (λ (z : RunResult). z .answer) (ran-on-urn-by s table urn tape wires board (some r) e)
 
   -- a call by its answer
   after-refusal : (o : Option Reason) (r : Reason) → firstOf (urnRunReasons s table urn tape wires board) ≡ o → ranOnUrn s table urn tape wires board .answer ≡ refused r
       → (ranOnUrn s table urn tape wires board .wires ≡ wires) × (ranOnUrn s table urn tape wires board .board ≡ board)
-  unfolding ranAfter
-  after-refusal none r e q = never (sizeOf (gatesOf table)) r (sym q ∙ ap (λ (z : Ran). z .answer) (ran-on-urn-by s table urn tape wires board none e))
+  unfolding runResultAfter
+  after-refusal none r e q = never (sizeOf (gatesOf table)) r (sym q ∙ ap (λ (z : RunResult). z .answer) (ran-on-urn-by s table urn tape wires board none e))
   after-refusal (some r′) r e q =
       let f = ran-on-urn-by s table urn tape wires board (some r′) e in
-      (ap (λ (z : Ran). z .wires) f, ap (λ (z : Ran). z .board) f)
+      (ap (λ (z : RunResult). z .wires) f, ap (λ (z : RunResult). z .board) f)
 
   answered : (o : Option Reason) (size : Size) → firstOf (urnRunReasons s table urn tape wires board) ≡ o → ranOnUrn s table urn tape wires board .answer ≡ accepted size
       → firstOf (urnRunReasons s table urn tape wires board) ≡ none
-  unfolding ranAfter
+  unfolding runResultAfter
   answered none size e q = e
-  answered (some r) size e q = never size r (sym (ap (λ (z : Ran). z .answer) (ran-on-urn-by s table urn tape wires board (some r) e)) ∙ q)
+  answered (some r) size e q = never size r (sym (ap (λ (z : RunResult). z .answer) (ran-on-urn-by s table urn tape wires board (some r) e)) ∙ q)
 
   -- an accepted run on an urn has passed its tests
   passed : (size : Size) → ranOnUrn s table urn tape wires board .answer ≡ accepted size → UrnRunPassed s table urn tape wires board
@@ -60,28 +60,28 @@ module _ (s : Shape) (table urn tape wires board : List ℕ) where
 
   emptied : (o : Option Reason) (size : Size) → firstOf (urnRunReasons s table urn tape wires board) ≡ o → ranOnUrn s table urn tape wires board .answer ≡ accepted size
       → ranOnUrn s table urn tape wires board .wires ≡ replicate (length wires) 0
-  unfolding ranAfter
-  emptied none size e q = ap (λ (z : Ran). z .wires) (ran-on-urn-by s table urn tape wires board none e)
-  emptied (some r) size e q = never size r (sym (ap (λ (z : Ran). z .answer) (ran-on-urn-by s table urn tape wires board (some r) e)) ∙ q)
+  unfolding runResultAfter
+  emptied none size e q = ap (λ (z : RunResult). z .wires) (ran-on-urn-by s table urn tape wires board none e)
+  emptied (some r) size e q = never size r (sym (ap (λ (z : RunResult). z .answer) (ran-on-urn-by s table urn tape wires board (some r) e)) ∙ q)
 
   same-lengths : (o : Option Reason) → firstOf (urnRunReasons s table urn tape wires board) ≡ o
       → (length (ranOnUrn s table urn tape wires board .wires) ≡ length wires) × (length (ranOnUrn s table urn tape wires board .board) ≡ length board)
-  unfolding ranAfter
+  unfolding runResultAfter
   same-lengths (some r) e =
       let f = ran-on-urn-by s table urn tape wires board (some r) e in
-      (ap (λ (z : Ran). length (z .wires)) f, ap (λ (z : Ran). length (z .board)) f)
+      (ap (λ (z : RunResult). length (z .wires)) f, ap (λ (z : RunResult). length (z .board)) f)
   same-lengths none e =
       let p = urn-run-passed s table urn tape wires board e in
       let f = same-run s table urn tape wires board (p .graded) (p .isSound) in
       let l = three-demands .memory .run-length s table (chainBallots (s .candidates) (s .grades) urn) tape wires board in
-      (ap (λ (z : Ran). length (z .wires)) f ∙ l .0, ap (λ (z : Ran). length (z .board)) f ∙ l .1)
+      (ap (λ (z : RunResult). length (z .wires)) f ∙ l .0, ap (λ (z : RunResult). length (z .board)) f ∙ l .1)
 
 -- every reason of a run on an urn
 numbers : List ℕ
 numbers = 1 ∷ 13 ∷ 2 ∷ 3 ∷ 4 ∷ 7 ∷ 8 ∷ 9 ∷ 10 ∷ []
 
-lent-all : (i k : ℕ) (size : Size) (tape wires board : List ℕ) → All numbers (lentReasons i k size tape wires board)
-unfolding All lentReasons hasNumberIn reasonAt numbers
+lent-all : (i k : ℕ) (size : Size) (tape wires board : List ℕ) → All numbers (bufferReasons i k size tape wires board)
+unfolding All bufferReasons hasNumberIn reasonAt numbers
 lent-all i k size tape wires board =
     (unless-fine numbers _ 7 tt, (found-fine numbers 8 _ (λ i. tt), (unless-fine numbers _ 9 tt, (unless-fine numbers _ 10 tt, tt))))
 
@@ -90,8 +90,8 @@ unfolding All urnRunReasons hasNumberIn reasonAt numbers
 urn-run-all s table urn tape wires board =
     (unless-fine numbers _ 1 tt, (unless-fine numbers _ 13 tt, (list-fine numbers _ tt (λ g. tt), (unless-fine numbers _ 4 tt, lent-all (ballotBytes s) (s .candidates) (sizeOf (gatesOf table)) tape wires board))))
 
-ran-fine : (o : Option Reason) (s : Shape) (gs : List Gate) (ballots tape wires board : List ℕ) → Fine numbers o → FineSaid numbers (ranAfter o s gs ballots tape wires board .answer)
-unfolding Fine FineSaid ranAfter
+ran-fine : (o : Option Reason) (s : Shape) (gs : List Gate) (ballots tape wires board : List ℕ) → Fine numbers o → FineSaid numbers (runResultAfter o s gs ballots tape wires board .answer)
+unfolding Fine FineSaid runResultAfter
 ran-fine none s gs ballots tape wires board f = tt
 ran-fine (some r) s gs ballots tape wires board f = f
 
@@ -131,14 +131,14 @@ module _ (s : Shape) (table : List ℕ) (size : Size) (a : Accuracy s table size
   other-reason n r e two three = let q : r .number ≡ n = ap (λ (z : Reason). z .number) e in (λ h. two (sym q ∙ h), λ h. three (sym q ∙ h))
 
   same-reason : (r r′ : Reason) (urn tape wires board : List ℕ) → ranOnUrn s list urn tape wires board .answer ≡ refused r → ranOnUrn s list urn tape wires board .answer ≡ refused r′ → r ≡ r′
-  same-reason r r′ urn tape wires board e f = let q : _≡_ {A = Said Size} (refused r) (refused r′) = sym e ∙ f in cc
+  same-reason r r′ urn tape wires board e f = let q : _≡_ {A = Outcome Size} (refused r) (refused r′) = sym e ∙ f in cc
 
   not-2-or-3 : (urn tape wires board : List ℕ) (r : Reason) → ranOnUrn s list urn tape wires board .answer ≡ refused r → (r .number ≢ 2) × (r .number ≢ 3)
   unfolding list
   not-2-or-3 urn tape wires board r e = shape (gradedLimits s) refl
     where
       inside : gradedLimits s ≡ true → (b : Bool) → sound (s .candidates) (s .grades) urn ≡ b → (r .number ≢ 2) × (r .number ≢ 3)
-      inside g true f = a .never-2-or-3 (chainBallots (s .candidates) (s .grades) urn) tape wires board r (sym (ap (λ (z : Ran). z .answer) (same-run s list urn tape wires board g f)) ∙ e)
+      inside g true f = a .never-2-or-3 (chainBallots (s .candidates) (s .grades) urn) tape wires board r (sym (ap (λ (z : RunResult). z .answer) (same-run s list urn tape wires board g f)) ∙ e)
       inside g false f =
           other-reason 13 r (same-reason r (reasonAt 13 0) urn tape wires board e (refusal-is s list urn tape wires board (reasonAt 13 0) (by-13 s list urn tape wires board g f))) (λ h. omega arith) (λ h. omega arith)
 
@@ -151,15 +151,15 @@ module _ (s : Shape) (table : List ℕ) (size : Size) (a : Accuracy s table size
     xs : List ℕ
     xs = chainBallots (s .candidates) (s .grades) urn
 
-    is-run : ranOnUrn s list urn tape wires board ≡ ran s list xs tape wires board
+    is-run : ranOnUrn s list urn tape wires board ≡ runResult s list xs tape wires board
     unfolding xs
     is-run = let p = passed s list urn tape wires board answer e in same-run s list urn tape wires board (p .graded) (p .isSound)
 
-    run-answers : ran s list xs tape wires board .answer ≡ accepted answer
-    run-answers = sym (ap (λ (z : Ran). z .answer) is-run) ∙ e
+    run-answers : runResult s list xs tape wires board .answer ≡ accepted answer
+    run-answers = sym (ap (λ (z : RunResult). z .answer) is-run) ∙ e
 
-    same-closing : closingBytes s (ranOnUrn s list urn tape wires board .board) ≡ closingBytes s (ran s list xs tape wires board .board)
-    same-closing = ap (λ (z : Ran). closingBytes s (z .board)) is-run
+    same-closing : closingBytes s (ranOnUrn s list urn tape wires board .board) ≡ closingBytes s (runResult s list xs tape wires board .board)
+    same-closing = ap (λ (z : RunResult). closingBytes s (z .board)) is-run
 
   urn-accuracy : UrnAccuracy s table size
   unfolding list xs
@@ -167,7 +167,7 @@ module _ (s : Shape) (table : List ℕ) (size : Size) (a : Accuracy s table size
       record {
         never-2-or-3 = not-2-or-3;
         runs = λ urn tape wires board g e n m w b.
-            ap (λ (z : Ran). z .answer) (same-run s (listIn s size table) urn tape wires board g e)
+            ap (λ (z : RunResult). z .answer) (same-run s (listIn s size table) urn tape wires board g e)
             ∙ a .runs (chainBallots (s .candidates) (s .grades) urn) tape wires board (chain-accepted s g urn e n) m w b;
         plain = λ urn tape wires board answer e.
             same-closing urn tape wires board answer e ∙ a .plain (chainBallots (s .candidates) (s .grades) urn) tape wires board answer (run-answers urn tape wires board answer e);
@@ -183,21 +183,21 @@ module _ (s : Shape) (table : List ℕ) (size : Size) (a : Accuracy s table size
 
 -- demand 3, from that of the run
 module _ (s : Shape) (table one other vs ws bs ds : List ℕ)
-    (first-is : (t v b : List ℕ) → ranOnUrn s table one t v b ≡ ran s table (chainBallots (s .candidates) (s .grades) one) t v b)
-    (second-is : (t v b : List ℕ) → ranOnUrn s table other t v b ≡ ran s table (chainBallots (s .candidates) (s .grades) other) t v b)
+    (first-is : (t v b : List ℕ) → ranOnUrn s table one t v b ≡ runResult s table (chainBallots (s .candidates) (s .grades) one) t v b)
+    (second-is : (t v b : List ℕ) → ranOnUrn s table other t v b ≡ runResult s table (chainBallots (s .candidates) (s .grades) other) t v b)
     (h : Hidden s table (chainBallots (s .candidates) (s .grades) one) (chainBallots (s .candidates) (s .grades) other) vs ws bs ds) where
-  board-one : (t v b : List ℕ) → ranOnUrn s table one t v b .board ≡ ran s table (chainBallots (s .candidates) (s .grades) one) t v b .board
-  board-one t v b = ap (λ (z : Ran). z .board) (first-is t v b)
+  board-one : (t v b : List ℕ) → ranOnUrn s table one t v b .board ≡ runResult s table (chainBallots (s .candidates) (s .grades) one) t v b .board
+  board-one t v b = ap (λ (z : RunResult). z .board) (first-is t v b)
 
-  board-other : (t v b : List ℕ) → ranOnUrn s table other t v b .board ≡ ran s table (chainBallots (s .candidates) (s .grades) other) t v b .board
-  board-other t v b = ap (λ (z : Ran). z .board) (second-is t v b)
+  board-other : (t v b : List ℕ) → ranOnUrn s table other t v b .board ≡ runResult s table (chainBallots (s .candidates) (s .grades) other) t v b .board
+  board-other t v b = ap (λ (z : RunResult). z .board) (second-is t v b)
 
   urn-hidden : UrnHidden s table one other vs ws bs ds
   urn-hidden =
       record {
-        first-answer = λ t m. ap (λ (z : Ran). z .answer) (first-is t vs bs) ∙ h .first-answer t m;
+        first-answer = λ t m. ap (λ (z : RunResult). z .answer) (first-is t vs bs) ∙ h .first-answer t m;
         first-board = λ t m. subst (Finished (wiresOf (chainBallots (s .candidates) (s .grades) one) (gatesOf table)) (gatesOf table) (s .candidates) t) (sym (board-one t vs bs)) (h .first-board t m);
-        second-answer = λ t m. ap (λ (z : Ran). z .answer) (second-is t ws ds) ∙ h .second-answer t m;
+        second-answer = λ t m. ap (λ (z : RunResult). z .answer) (second-is t ws ds) ∙ h .second-answer t m;
         second-board = λ t m. subst (Finished (wiresOf (chainBallots (s .candidates) (s .grades) other) (gatesOf table)) (gatesOf table) (s .candidates) t) (sym (board-other t ws ds)) (h .second-board t m);
         same-board = λ (t : List ℕ) m.
             let o = h .same-board t m in (
@@ -215,12 +215,12 @@ tells-no-more : UrnTellsNoMore
 tells-no-more s table one other t u vs ws bs ds first second e f closing =
     let p = passed s table one t vs bs first e in
     let q = passed s table other u ws ds second f in
-    let first-is : (t v b : List ℕ) → ranOnUrn s table one t v b ≡ ran s table (chainBallots (s .candidates) (s .grades) one) t v b = λ t v b. same-run s table one t v b (p .graded) (p .isSound) in
-    let second-is : (t v b : List ℕ) → ranOnUrn s table other t v b ≡ ran s table (chainBallots (s .candidates) (s .grades) other) t v b = λ t v b. same-run s table other t v b (q .graded) (q .isSound) in
+    let first-is : (t v b : List ℕ) → ranOnUrn s table one t v b ≡ runResult s table (chainBallots (s .candidates) (s .grades) one) t v b = λ t v b. same-run s table one t v b (p .graded) (p .isSound) in
+    let second-is : (t v b : List ℕ) → ranOnUrn s table other t v b ≡ runResult s table (chainBallots (s .candidates) (s .grades) other) t v b = λ t v b. same-run s table other t v b (q .graded) (q .isSound) in
     let h = board-tells-no-more s table (chainBallots (s .candidates) (s .grades) one) (chainBallots (s .candidates) (s .grades) other) t u vs ws bs ds first second
-    (sym (ap (λ (z : Ran). z .answer) (first-is t vs bs)) ∙ e)
-    (sym (ap (λ (z : Ran). z .answer) (second-is u ws ds)) ∙ f)
-    (sym (ap (λ (z : Ran). closingBytes s (z .board)) (first-is t vs bs)) ∙ closing ∙ ap (λ (z : Ran). closingBytes s (z .board)) (second-is u ws ds)) in
+    (sym (ap (λ (z : RunResult). z .answer) (first-is t vs bs)) ∙ e)
+    (sym (ap (λ (z : RunResult). z .answer) (second-is u ws ds)) ∙ f)
+    (sym (ap (λ (z : RunResult). closingBytes s (z .board)) (first-is t vs bs)) ∙ closing ∙ ap (λ (z : RunResult). closingBytes s (z .board)) (second-is u ws ds)) in
     (h .0, h .1, urn-hidden s table one other vs ws bs ds first-is second-is (h .2))
 
 pub urn-run-holds : UrnRunHolds

@@ -10,7 +10,7 @@ use Rattle.jury.specs.declared.shape.Shape.{Shape}
 use Rattle.jury.specs.Shape.{gradedLimits, ballotBytes}
 use Rattle.jury.specs.Reason.{Reason, unless, listReason, firstOf}
 use Rattle.tally.specs.Answer.{sizeOf}
-use Rattle.tally.specs.Run.{lentReasons, Ran, ranAfter}
+use Rattle.tally.specs.Run.{bufferReasons, RunResult, runResultAfter}
 use Rattle.urn_chains.specs.Chains.{Entry, ballotChain}
 use Rattle.urn_chains.specs.Sound.{urnSlots, sound}
 
@@ -33,9 +33,9 @@ urnRunReasons s table urn tape wires board =
     ∷ unless (sound (s .candidates) (s .grades) urn) 13
     ∷ listReason (tested (ballotBytes s) (s .candidates) table)
     ∷ unless (eqb (ballotsIn (s .candidates) (s .grades) urn) (s .ballots)) 4
-    ∷ lentReasons (ballotBytes s) (s .candidates) (sizeOf (gatesOf table)) tape wires board
+    ∷ bufferReasons (ballotBytes s) (s .candidates) (sizeOf (gatesOf table)) tape wires board
 
 -- What a call leaves: a refusal what was lent, an accepted run what a run leaves on the ballots of the chain. The urn is lent for reading alone.
-unfoldable pub ranOnUrn : Shape → List ℕ → List ℕ → List ℕ → List ℕ → List ℕ → Ran
+unfoldable pub ranOnUrn : Shape → List ℕ → List ℕ → List ℕ → List ℕ → List ℕ → RunResult
 ranOnUrn s table urn tape wires board =
-    ranAfter (firstOf (urnRunReasons s table urn tape wires board)) s (gatesOf table) (chainBallots (s .candidates) (s .grades) urn) tape wires board
+    runResultAfter (firstOf (urnRunReasons s table urn tape wires board)) s (gatesOf table) (chainBallots (s .candidates) (s .grades) urn) tape wires board

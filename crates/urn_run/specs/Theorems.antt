@@ -16,9 +16,9 @@ use Rattle.jury.specs.Reason.{Reason, reasonAt}
 use Rattle.jury.specs.Accepted.{AcceptedBallots}
 use Rattle.tally.specs.Rule.{Wins}
 use Rattle.tally.specs.Answer.{refused, accepted, hasNumberIn, Size, sizeOf}
-use Rattle.tally.specs.Test.{testSaid}
-use Rattle.tally.specs.Write.{writeSaid}
-use Rattle.tally.specs.Run.{ran}
+use Rattle.tally.specs.Test.{testOutcome}
+use Rattle.tally.specs.Write.{writeOutcome}
+use Rattle.tally.specs.Run.{runResult}
 use Rattle.tally.specs.Count.{plainClosing}
 use Rattle.tally.specs.Hiding.{closingBytes}
 use Rattle.tally.specs.Demands.{listIn}
@@ -29,13 +29,13 @@ use Rattle.urn_run.specs.Run.{chainBallots, ballotsIn, ranOnUrn}
 pub record SameAsRun : Type 0 where
   -- of a shape that grades and a sound urn, whatever n is
   pub on-chain : (s : Shape) (table urn tape wires board : List ℕ) → gradedLimits s ≡ true → sound (s .candidates) (s .grades) urn ≡ true
-      → ranOnUrn s table urn tape wires board ≡ ran s table (chainBallots (s .candidates) (s .grades) urn) tape wires board
+      → ranOnUrn s table urn tape wires board ≡ runResult s table (chainBallots (s .candidates) (s .grades) urn) tape wires board
   -- where n is the number of ballots in the urn, these are ballots that the run accepts
   pub good-ballots : (s : Shape) (urn : List ℕ) → gradedLimits s ≡ true → sound (s .candidates) (s .grades) urn ≡ true → ballotsIn (s .candidates) (s .grades) urn ≡ s .ballots
       → AcceptedBallots s (chainBallots (s .candidates) (s .grades) urn)
   -- another n gives 4, after the reasons of the list
   pub other-number : (s : Shape) (table urn tape wires board : List ℕ) (size : Size) → gradedLimits s ≡ true → sound (s .candidates) (s .grades) urn ≡ true
-      → testSaid s table ≡ accepted size → ballotsIn (s .candidates) (s .grades) urn ≢ s .ballots
+      → testOutcome s table ≡ accepted size → ballotsIn (s .candidates) (s .grades) urn ≢ s .ballots
       → ranOnUrn s table urn tape wires board .answer ≡ refused (reasonAt 4 0)
   -- any other urn gives 13, before the reasons of the list
   pub unsound : (s : Shape) (table urn tape wires board : List ℕ) → gradedLimits s ≡ true → sound (s .candidates) (s .grades) urn ≡ false
@@ -103,5 +103,5 @@ UrnTellsNoMore =
 pub record UrnRunHolds : Type 0 where
   pub same-as-run : SameAsRun
   pub memory : UrnRunMemory
-  pub accuracy : (s : Shape) (table : List ℕ) (size : Size) → writeSaid s table ≡ accepted size → UrnAccuracy s table size
+  pub accuracy : (s : Shape) (table : List ℕ) (size : Size) → writeOutcome s table ≡ accepted size → UrnAccuracy s table size
   pub hiding : UrnTellsNoMore

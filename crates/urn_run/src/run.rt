@@ -8,7 +8,7 @@ use urn_chains::sound::Soundness;
 ghost use mathlib.Core.Path.{_≡_};
 ghost use Rattle.gates.specs.Gate.{gatesOf};
 ghost use Rattle.jury.specs.Reason.{firstOf};
-ghost use Rattle.tally.specs.Answer.{saidBy, said, sizeOf};
+ghost use Rattle.tally.specs.Answer.{outcomeOf, outcome, sizeOf};
 ghost use Rattle.urn_run.specs.Run.{urnRunReasons, ranOnUrn};
 
 // Reasons 1, 13, 2, 3, 4, 7, 8, 9 and 10, in this order.
@@ -20,7 +20,7 @@ fn test_run(
     wires: &[u8],
     board: &[u8],
 ) -> Answer
-    ensures { λ r. ⌜ saidBy r ≡ said (firstOf (urnRunReasons shape (now (table .entry)) (now (urn .entry)) (now (tape .entry)) (now (wires .entry)) (now (board .entry)))) (sizeOf (gatesOf (now (table .entry)))) ⌝ }
+    ensures { λ r. ⌜ outcomeOf r ≡ outcome (firstOf (urnRunReasons shape (now (table .entry)) (now (urn .entry)) (now (tape .entry)) (now (wires .entry)) (now (board .entry)))) (sizeOf (gatesOf (now (table .entry)))) ⌝ }
 {
     if !shape.is_within_graded_limits() {
         return Answer::Refused(Refusal::Shape);
@@ -37,7 +37,7 @@ fn test_run(
         return Answer::Refused(Refusal::BallotsLength);
     }
     let inputs = shape.ballot_bytes();
-    match tally::run::test_lent(
+    match tally::run::test_buffers(
         inputs,
         shape.candidates,
         gates,
@@ -61,7 +61,7 @@ pub fn run_on_urn(
     wires: &mut [u8],
     board: &mut [u8],
 ) -> Answer
-    ensures { λ r. ⌜ saidBy r ≡ (ranOnUrn shape (now (table .entry)) (now (urn .entry)) (now (tape .entry)) (now (wires .entry)) (now (board .entry))) .answer ⌝ }
+    ensures { λ r. ⌜ outcomeOf r ≡ (ranOnUrn shape (now (table .entry)) (now (urn .entry)) (now (tape .entry)) (now (wires .entry)) (now (board .entry))) .answer ⌝ }
     ensures { λ _. ⌜ now (wires .exit) ≡ (ranOnUrn shape (now (table .entry)) (now (urn .entry)) (now (tape .entry)) (now (wires .entry)) (now (board .entry))) .wires ⌝ }
     ensures { λ _. ⌜ now (board .exit) ≡ (ranOnUrn shape (now (table .entry)) (now (urn .entry)) (now (tape .entry)) (now (wires .entry)) (now (board .entry))) .board ⌝ }
 {

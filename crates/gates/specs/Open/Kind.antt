@@ -4,8 +4,8 @@ use mathlib.Core.List.{List, [], _∷_}
 use Prim.Native.Nat.{ℕ, _-_, min, max}
 use lib.Dec.{ltb, eqb}
 use lib.ListN.{getD}
-use Rattle.gates.specs.declared.kind.Applied.{Applied}
-use Rattle.gates.specs.declared.kind.Applied.the-variants.{Value, NoSuchKind}
+use Rattle.gates.specs.declared.kind.GateValue.{GateValue}
+use Rattle.gates.specs.declared.kind.GateValue.the-variants.{Value, NoSuchKind}
 
 -- The columns of operand counts and of conditional marks, as the program's constant arrays have them.
 abbrev pub operandCounts : List ℕ
@@ -36,5 +36,5 @@ valueOf kind a b c =
     getD (0 ∷ 1 ∷ a ∷ (1 - a) ∷ min a b ∷ max a b ∷ differ a b ∷ choose a b c ∷ []) kind 0
 
 -- The value where there is such a kind, and else its refusal.
-unfoldable pub applied : ℕ → ℕ → ℕ → ℕ → Applied
+unfoldable pub applied : ℕ → ℕ → ℕ → ℕ → GateValue
 applied kind a b c = cond (ltb kind 8) (Value (valueOf kind a b c)) NoSuchKind

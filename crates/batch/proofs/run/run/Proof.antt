@@ -10,9 +10,9 @@ use Rattle.gates.specs.Gate.{gatesOf}
 use Rattle.gates.specs.Wires.{wiresOf}
 use Rattle.gates.specs.Board.{boardOf}
 use Rattle.jury.specs.Reason.{Reason, reasonOf, firstOf}
-use Rattle.tally.specs.Answer.{said, saidBy, sizeOf}
-use Rattle.tally.specs.Run.{Ran}
-use Rattle.tally.proofs.RunReasons.{said-refused, said-accepted}
+use Rattle.tally.specs.Answer.{outcome, outcomeOf, sizeOf}
+use Rattle.tally.specs.Run.{RunResult}
+use Rattle.tally.proofs.RunReasons.{outcome-refused, outcome-accepted}
 use Rattle.batch_lanes.specs.Lane.{laneOf, wordsOf}
 use Rattle.batch_lanes.proofs.ListLaws.{words-are}
 use Rattle.batch.specs.Run.{batchReasons, batchAfter}
@@ -29,11 +29,11 @@ enum-told c = search needs
 -- where the tests pass, no reason applies
 no-reason : (c : tie.After-enum-told) → let a = c .before .before .before .before .before .before .before .before .before .before .args in
     firstOf (batchReasons (a .shape) (a .table .now) (a .ballots .now) (a .tape .now) (a .wires .now) (a .board .now)) ≡ none
-unfolding saidBy
+unfolding outcomeOf
 no-reason c =
     let a = c .before .before .before .before .before .before .before .before .before .before .args in
     let o = firstOf (batchReasons (a .shape) (a .table .now) (a .ballots .now) (a .tape .now) (a .wires .now) (a .board .now)) in
-    said-accepted o (sizeOf (gatesOf (a .table .now))) _ (sym (c .before .before .test-run .ensures) ∙ ap saidBy (c .enum-told .given .1))
+    outcome-accepted o (sizeOf (gatesOf (a .table .now))) _ (sym (c .before .before .test-run .ensures) ∙ ap outcomeOf (c .enum-told .given .1))
 
 run-requires : tie.Need-run-requires
 run-requires c κs =
@@ -55,7 +55,7 @@ same-length-2 : tie.Need-same-length-2
 same-length-2 c = search needs
 
 returns : tie.Need-returns
-unfolding said batchAfter
+unfolding outcome batchAfter
 returns c =
     let emptied = c .before .before in
     let done = emptied .before .before .before .before .before .before in
@@ -66,10 +66,10 @@ returns c =
     let e = batch-by (a .shape) (a .table .now) (a .ballots .now) (a .tape .now) (a .wires .now) (a .board .now) none (no-reason told) in
     let boards : ℕ → List ℕ = λ j. boardOf (wiresOf (laneOf j (a .ballots .now)) gs) gs (a .shape .candidates) (laneOf j (a .tape .now)) in
     let same = done .run .kept .1 .1 .1 .1 .0 in (
-      told .before .before .test-run .ensures ∙ ap (λ (o : Option Reason). said o (sizeOf gs)) (no-reason told) ∙ sym (ap (λ (r : Ran). r .answer) e),
+      told .before .before .test-run .ensures ∙ ap (λ (o : Option Reason). outcome o (sizeOf gs)) (no-reason told) ∙ sym (ap (λ (r : RunResult). r .answer) e),
       (
-        emptied .empty .ensures ∙ ap (λ (n : ℕ). replicate n 0) same ∙ sym (ap (λ (r : Ran). r .wires) e),
-        words-are _ boards (λ i. c .before .before .before .before .slice-known4 .given i .fits) (done .run .ensures .1) ∙ ap (λ (n : ℕ). wordsOf n boards) (done .run .kept .1 .1 .1 .1 .1 .0 ∙ p .boardLength) ∙ sym (ap (λ (r : Ran). r .board) e),
+        emptied .empty .ensures ∙ ap (λ (n : ℕ). replicate n 0) same ∙ sym (ap (λ (r : RunResult). r .wires) e),
+        words-are _ boards (λ i. c .before .before .before .before .slice-known4 .given i .fits) (done .run .ensures .1) ∙ ap (λ (n : ℕ). wordsOf n boards) (done .run .kept .1 .1 .1 .1 .1 .0 ∙ p .boardLength) ∙ sym (ap (λ (r : RunResult). r .board) e),
       ),
     )
 
@@ -80,15 +80,15 @@ same-length-4 : tie.Need-same-length-4
 same-length-4 c = search needs
 
 returns-2 : tie.Need-returns-2
-unfolding saidBy batchAfter
+unfolding outcomeOf batchAfter
 returns-2 c =
     let a = c .before .before .before .before .before .before .before .before .before .before .args in
     let o = firstOf (batchReasons (a .shape) (a .table .now) (a .ballots .now) (a .tape .now) (a .wires .now) (a .board .now)) in
     let r = reasonOf (c .enum-told2 .given .0 .0) in
-    let told = ap saidBy (c .enum-told2 .given .1) in
-    let e = batch-by (a .shape) (a .table .now) (a .ballots .now) (a .tape .now) (a .wires .now) (a .board .now) (some r) (said-refused o (sizeOf (gatesOf (a .table .now))) r (sym (c .before .before .test-run .ensures) ∙ told)) in (
-      told ∙ sym (ap (λ (q : Ran). q .answer) e),
-      (sym (ap (λ (q : Ran). q .wires) e), sym (ap (λ (q : Ran). q .board) e)),
+    let told = ap outcomeOf (c .enum-told2 .given .1) in
+    let e = batch-by (a .shape) (a .table .now) (a .ballots .now) (a .tape .now) (a .wires .now) (a .board .now) (some r) (outcome-refused o (sizeOf (gatesOf (a .table .now))) r (sym (c .before .before .test-run .ensures) ∙ told)) in (
+      told ∙ sym (ap (λ (q : RunResult). q .answer) e),
+      (sym (ap (λ (q : RunResult). q .wires) e), sym (ap (λ (q : RunResult). q .board) e)),
     )
 
 pub run-spec : {M : Type 1} → statement M

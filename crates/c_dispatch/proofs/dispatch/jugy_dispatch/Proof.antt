@@ -10,7 +10,7 @@ use Rattle.jury.specs.Reason.{Reason}
 use Rattle.dispatch_rounds.specs.declared.statement.Statement.{Statement}
 use Rattle.dispatch_rounds.specs.Tables.{Tables, lent}
 use Rattle.dispatch.specs.Dispatch.{Dispatch, dispatched}
-use Rattle.c_answers.specs.Numbers.{countNumbers, statusOf}
+use Rattle.c_answers.specs.Numbers.{answerNumbers, statusOf}
 use Rattle.c_dispatch.specs.Dispatch.{statementsIn}
 use Rattle.c_answers.proofs.Answering.{short-status, short-answered, short-altered, room-status, room-answered, room-altered}
 use Rattle.c_dispatch.proofs.dispatch.jugy_dispatch.Statement.{statement}
@@ -23,8 +23,8 @@ abbrev whole : tie.Start → Dispatch
 whole s = dispatched (s .args .count) (statementsIn (s .args .statements .now)) (s .args .share) (tables s)
 
 -- the numbers of an answer follow its two parts
-counted : (o q : Option Reason) (xs ys : List ℕ) → o ≡ q → xs ≡ ys → countNumbers o xs ≡ countNumbers q ys
-counted o q xs ys e f = ap (λ (r : Option Reason). countNumbers r xs) e ∙ ap (countNumbers q) f
+counted : (o q : Option Reason) (xs ys : List ℕ) → o ≡ q → xs ≡ ys → answerNumbers o xs ≡ answerNumbers q ys
+counted o q xs ys e f = ap (λ (r : Option Reason). answerNumbers r xs) e ∙ ap (answerNumbers q) f
 
 returns : tie.Need-returns
 returns c =
@@ -32,7 +32,7 @@ returns c =
     let a = s .args in
     let d = whole s in
     let short = c .if1 .taken in
-    (sym (short-status 10 (a .answer .now) short (countNumbers (d .reason) (d .rounds))), (sym (short-answered 10 (a .answer .now) short (countNumbers (d .reason) (d .rounds))), (sym (short-altered 10 (a .answer .now) short (d .wires) (a .wires .now)), sym (short-altered 10 (a .answer .now) short (d .boards) (a .boards .now)))))
+    (sym (short-status 10 (a .answer .now) short (answerNumbers (d .reason) (d .rounds))), (sym (short-answered 10 (a .answer .now) short (answerNumbers (d .reason) (d .rounds))), (sym (short-altered 10 (a .answer .now) short (d .wires) (a .wires .now)), sym (short-altered 10 (a .answer .now) short (d .boards) (a .boards .now)))))
 
 statements-in-requires : tie.Need-statements-in-requires
 statements-in-requires c κs = search needs
@@ -54,15 +54,15 @@ same-length-3 c = search needs
 
 returns-2 : tie.Need-returns-2
 returns-2 c =
-    let said = c .before .before .before .before .before .before .before .before in
+    let outcome = c .before .before .before .before .before .before .before .before in
     let long = c .before .before .before .before .before .before .before .before .before .before .before .before in
     let s = c .before .before .before .before .before .before .before .before .before .before .before .before .before .before .before .before .before .before .before .before in
     let a = s .args in
     let d = whole s in
-    let r = said .dispatch in
+    let r = outcome .dispatch in
     let put = c .before .before .put-rounds in
     let same = ap (λ (z : List Statement). dispatched (a .count) z (a .share) (tables s)) (c .before .before .before .before .before .before .before .before .before .before .before .statements-in .ensures) in
-    let numbers = countNumbers (d .reason) (d .rounds) in
+    let numbers = answerNumbers (d .reason) (d .rounds) in
     let e = counted _ _ _ _ (r .ensures .0 ∙ ap (λ (x : Dispatch). x .reason) same) (r .ensures .1 .0 ∙ ap (λ (x : Dispatch). x .rounds) same) in (
       put .ensures .0 ∙ ap statusOf e ∙ sym (room-status 10 (a .answer .now) (long .if1 .left) numbers),
       (

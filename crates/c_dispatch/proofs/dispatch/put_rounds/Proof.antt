@@ -7,9 +7,9 @@ use native.Mathlib.Omega.{arith}
 use lib.ListN.{length, drop}
 use borrow.Author.Needs.{needs}
 use Rattle.jury.specs.Reason.{reasonAt}
-use Rattle.dispatch.specs.declared.outcome.Outcome.{Outcome}
-use Rattle.dispatch.specs.Reasons.{outcomeReason}
-use Rattle.c_answers.specs.Numbers.{countNumbers, statusOf}
+use Rattle.dispatch.specs.declared.verdict.JuriesVerdict.{JuriesVerdict}
+use Rattle.dispatch.specs.Reasons.{verdictReason}
+use Rattle.c_answers.specs.Numbers.{answerNumbers, statusOf}
 use Rattle.c_dispatch.proofs.dispatch.put_rounds.Statement.{statement}
 use Rattle.c_dispatch.proofs.dispatch.put_rounds.Tie as tie
 
@@ -25,8 +25,8 @@ slice-aggregate-put c = search needs
 put-requires : tie.Need-put-requires
 put-requires c κs = search needs
 
-enum-known-outcome : tie.Need-enum-known-outcome
-enum-known-outcome c = search needs
+enum-known-verdict : tie.Need-enum-known-verdict
+enum-known-verdict c = search needs
 
 number-requires : tie.Need-number-requires
 number-requires c κs = search needs
@@ -44,33 +44,33 @@ same-length : tie.Need-same-length
 same-length c = search needs
 
 returns : tie.Need-returns
-unfolding statusOf countNumbers outcomeReason
+unfolding statusOf answerNumbers verdictReason
 returns c =
     let start = c .before .before .before .before .before .before .before .before .before .before in
     let a = start .args in
-    let xs = a .said .rounds in
-    let e = ap (λ (v : Outcome). countNumbers (outcomeReason v) xs) (c .before .before .before .before .before .before .enum-told .given .1) in
+    let xs = a .outcome .rounds in
+    let e = ap (λ (v : JuriesVerdict). answerNumbers (verdictReason v) xs) (c .before .before .before .before .before .before .enum-told .given .1) in
     let ten = c .before .before .before .before .before .ten in
     let f = ten .ensures ∙ sym e in
     let n : length (ten .result) ≡ 10 = omega (arith, ap length (ten .ensures), start .good) in
-    (sym (ap statusOf e), c .before .before .put .ensures ∙ ap (λ (r : List ℕ). r ++ drop (length (ten .result)) (a .answer .now)) f ∙ ap (λ (k : ℕ). countNumbers (outcomeReason (a .said .outcome)) xs ++ drop k (a .answer .now)) n)
+    (sym (ap statusOf e), c .before .before .put .ensures ∙ ap (λ (r : List ℕ). r ++ drop (length (ten .result)) (a .answer .now)) f ∙ ap (λ (k : ℕ). answerNumbers (verdictReason (a .outcome .verdict)) xs ++ drop k (a .answer .now)) n)
 
 same-length-2 : tie.Need-same-length-2
 same-length-2 c = search needs
 
 returns-2 : tie.Need-returns-2
-unfolding statusOf countNumbers outcomeReason reasonAt
+unfolding statusOf answerNumbers verdictReason reasonAt
 returns-2 c =
     let start = c .before .before .before .before .before .before .before .before .before .before .before .before in
     let a = start .args in
-    let xs = a .said .rounds in
-    let known = c .before .before .before .before .before .before .before .before .outcome .given in
+    let xs = a .outcome .rounds in
+    let known = c .before .before .before .before .before .before .before .before .verdict .given in
     let number = c .before .before .before .before .before .before .number in
-    let e = ap (λ (v : Outcome). countNumbers (outcomeReason v) xs) (known .1) in
+    let e = ap (λ (v : JuriesVerdict). answerNumbers (verdictReason v) xs) (known .1) in
     let ten = c .before .before .before .before .before .ten2 in
     let f = ten .ensures ∙ ap (λ (m : ℕ). m ∷ known .0 .1 .0 ∷ xs) (number .ensures) ∙ sym e in
     let n : length (ten .result) ≡ 10 = omega (arith, ap length (ten .ensures), start .good) in
-    (number .ensures ∙ sym (ap statusOf e), c .before .before .put2 .ensures ∙ ap (λ (r : List ℕ). r ++ drop (length (ten .result)) (a .answer .now)) f ∙ ap (λ (k : ℕ). countNumbers (outcomeReason (a .said .outcome)) xs ++ drop k (a .answer .now)) n)
+    (number .ensures ∙ sym (ap statusOf e), c .before .before .put2 .ensures ∙ ap (λ (r : List ℕ). r ++ drop (length (ten .result)) (a .answer .now)) f ∙ ap (λ (k : ℕ). answerNumbers (verdictReason (a .outcome .verdict)) xs ++ drop k (a .answer .now)) n)
 
 pub put-rounds-spec : {M : Type 1} → statement M
 put-rounds-spec =
@@ -80,7 +80,7 @@ put-rounds-spec =
     ten-requires
     slice-aggregate-put
     put-requires
-    enum-known-outcome
+    enum-known-verdict
     number-requires
     ten-requires-2
     slice-aggregate-put-2

@@ -8,7 +8,7 @@ use lib.ListN.{length, drop}
 use borrow.Author.Needs.{needs}
 use Rattle.jury.specs.declared.reason.Verdict.{Verdict}
 use Rattle.jury.specs.Reason.{reasonOf, refusedFor}
-use Rattle.c_answers.specs.Numbers.{countNumbers, statusOf}
+use Rattle.c_answers.specs.Numbers.{answerNumbers, statusOf}
 use Rattle.c_answers.proofs.Answering.{two}
 use Rattle.c_tally.proofs.answer.put_count.Statement.{statement}
 use Rattle.c_tally.proofs.answer.put_count.Tie as tie
@@ -47,21 +47,21 @@ same-length : tie.Need-same-length
 same-length c = search needs
 
 returns : tie.Need-returns
-unfolding statusOf countNumbers refusedFor
+unfolding statusOf answerNumbers refusedFor
 returns c =
     let start = c .before .before .before .before .before .before .before .before .before .before in
     let a = start .args in
     let xs = a .counted .closing in
-    let e = ap (λ (v : Verdict). countNumbers (refusedFor v) xs) (c .before .before .before .before .before .before .enum-told .given .1) in
+    let e = ap (λ (v : Verdict). answerNumbers (refusedFor v) xs) (c .before .before .before .before .before .before .enum-told .given .1) in
     let f = c .before .before .before .before .before .ten .ensures ∙ sym e in
     let n : length (c .before .before .before .before .before .ten .result) ≡ 10 = omega (arith, ap length (c .before .before .before .before .before .ten .ensures), start .good) in
-    (sym (ap statusOf e), c .before .before .put .ensures ∙ ap (λ (r : List ℕ). r ++ drop (length (c .before .before .before .before .before .ten .result)) (a .answer .now)) f ∙ ap (λ (k : ℕ). countNumbers (refusedFor (a .counted .verdict)) xs ++ drop k (a .answer .now)) n)
+    (sym (ap statusOf e), c .before .before .put .ensures ∙ ap (λ (r : List ℕ). r ++ drop (length (c .before .before .before .before .before .ten .result)) (a .answer .now)) f ∙ ap (λ (k : ℕ). answerNumbers (refusedFor (a .counted .verdict)) xs ++ drop k (a .answer .now)) n)
 
 same-length-2 : tie.Need-same-length-2
 same-length-2 c = search needs
 
 returns-2 : tie.Need-returns-2
-unfolding statusOf countNumbers refusedFor
+unfolding statusOf answerNumbers refusedFor
 returns-2 c =
     let start = c .before .before .before .before .before .before .before .before .before .before .before .before .before in
     let a = start .args in
@@ -69,11 +69,11 @@ returns-2 c =
     let why = reasonOf (c .before .before .before .before .before .before .before .before .before .verdict .given .0 .0) in
     let number = c .before .before .before .before .before .before .before .number in
     let place = c .before .before .before .before .before .before .place in
-    let e = ap (λ (v : Verdict). countNumbers (refusedFor v) xs) (c .before .before .before .before .before .before .before .before .before .verdict .given .1) in
+    let e = ap (λ (v : Verdict). answerNumbers (refusedFor v) xs) (c .before .before .before .before .before .before .before .before .before .verdict .given .1) in
     let ten = c .before .before .before .before .before .ten2 in
     let f = ten .ensures ∙ two (number .result) (place .result) (why .number) (why .place) xs (number .ensures) (place .ensures) ∙ sym e in
     let n : length (ten .result) ≡ 10 = omega (arith, ap length (ten .ensures), start .good) in
-    (number .ensures ∙ sym (ap statusOf e), c .before .before .put2 .ensures ∙ ap (λ (r : List ℕ). r ++ drop (length (ten .result)) (a .answer .now)) f ∙ ap (λ (k : ℕ). countNumbers (refusedFor (a .counted .verdict)) xs ++ drop k (a .answer .now)) n)
+    (number .ensures ∙ sym (ap statusOf e), c .before .before .put2 .ensures ∙ ap (λ (r : List ℕ). r ++ drop (length (ten .result)) (a .answer .now)) f ∙ ap (λ (k : ℕ). answerNumbers (refusedFor (a .counted .verdict)) xs ++ drop k (a .answer .now)) n)
 
 pub put-count-spec : {M : Type 1} → statement M
 put-count-spec =

@@ -14,20 +14,20 @@ use Rattle.jury.proofs.Constructed.{shape-is, outside-is}
 use Rattle.tally.specs.Count.{countReason, plainClosing}
 use Rattle.tally.proofs.CountReason.{outside-reason}
 use Rattle.tally.proofs.Outside.{outside-closing}
-use Rattle.c_answers.specs.Numbers.{shapeOf, statusOf, countNumbers}
+use Rattle.c_answers.specs.Numbers.{shapeOf, statusOf, answerNumbers}
 use Rattle.c_answers.proofs.Answering.{short-status, short-answered, room-status, room-answered}
 use Rattle.c_tally.proofs.count.jugy_count.Statement.{statement}
 use Rattle.c_tally.proofs.count.jugy_count.Tie as tie
 
 -- the numbers of an answer follow its two parts
-counted : (o q : Option Reason) (bytes closing : List ℕ) → o ≡ q → bytes ≡ closing → countNumbers o bytes ≡ countNumbers q closing
-counted o q bytes closing e f = ap (λ (r : Option Reason). countNumbers r bytes) e ∙ ap (countNumbers q) f
+counted : (o q : Option Reason) (bytes closing : List ℕ) → o ≡ q → bytes ≡ closing → answerNumbers o bytes ≡ answerNumbers q closing
+counted o q bytes closing e f = ap (λ (r : Option Reason). answerNumbers r bytes) e ∙ ap (answerNumbers q) f
 
 returns : tie.Need-returns
 unfolding shapeOf
 returns c =
     let a = c .before .before .before .args in
-    let numbers = countNumbers (countReason (shapeOf (a .candidates) (a .grades) (a .ballots)) (a .bytes .now)) (plainClosing (shapeOf (a .candidates) (a .grades) (a .ballots)) (a .bytes .now)) in
+    let numbers = answerNumbers (countReason (shapeOf (a .candidates) (a .grades) (a .ballots)) (a .bytes .now)) (plainClosing (shapeOf (a .candidates) (a .grades) (a .ballots)) (a .bytes .now)) in
     (sym (short-status 10 (a .answer .now) (c .if1 .taken) numbers), sym (short-answered 10 (a .answer .now) (c .if1 .taken) numbers))
 
 new-requires : tie.Need-new-requires
@@ -55,7 +55,7 @@ returns-2 c =
     let s = shapeOf (a .candidates) (a .grades) (a .ballots) in
     let put = c .before .before .put-count in
     let outside = outside-is (withinLimits s) s (sym (made .new .ensures .0) ∙ told .enum-told .given .1) in
-    let numbers = countNumbers (countReason s (a .bytes .now)) (plainClosing s (a .bytes .now)) in
+    let numbers = answerNumbers (countReason s (a .bytes .now)) (plainClosing s (a .bytes .now)) in
     let e = counted _ _ _ _ (sym (outside-reason s (a .bytes .now) outside)) (sym (outside-closing s outside (a .bytes .now))) in
     (put .ensures .0 ∙ ap statusOf e ∙ sym (room-status 10 (a .answer .now) (long .if1 .left) numbers), put .ensures .1 ∙ ap (λ (r : List ℕ). r ++ drop 10 (a .answer .now)) e ∙ sym (room-answered 10 (a .answer .now) (long .if1 .left) numbers))
 
@@ -71,17 +71,17 @@ same-length-2 c = search needs
 returns-3 : tie.Need-returns-3
 unfolding shapeOf
 returns-3 c =
-    let said = c .before .before .before .before in
-    let known = said .before .before in
+    let outcome = c .before .before .before .before in
+    let known = outcome .before .before in
     let made = known .before .before in
     let long = made .before in
     let a = long .before .before .before .args in
     let s = shapeOf (a .candidates) (a .grades) (a .ballots) in
     let put = c .before .before .put-count2 in
     let same = shape-is (withinLimits s) s (known .shape .given .0 .0) (sym (made .new .ensures .0) ∙ known .shape .given .1) in
-    let numbers = countNumbers (countReason s (a .bytes .now)) (plainClosing s (a .bytes .now)) in
-    let e = counted _ _ _ _ (said .count .ensures .0 ∙ ap (λ (z : Shape). countReason z (a .bytes .now)) same)
-    (said .count .ensures .1 ∙ ap (λ (z : Shape). plainClosing z (a .bytes .now)) same) in
+    let numbers = answerNumbers (countReason s (a .bytes .now)) (plainClosing s (a .bytes .now)) in
+    let e = counted _ _ _ _ (outcome .count .ensures .0 ∙ ap (λ (z : Shape). countReason z (a .bytes .now)) same)
+    (outcome .count .ensures .1 ∙ ap (λ (z : Shape). plainClosing z (a .bytes .now)) same) in
     (put .ensures .0 ∙ ap statusOf e ∙ sym (room-status 10 (a .answer .now) (long .if1 .left) numbers), put .ensures .1 ∙ ap (λ (r : List ℕ). r ++ drop 10 (a .answer .now)) e ∙ sym (room-answered 10 (a .answer .now) (long .if1 .left) numbers))
 
 pub jugy-count-spec : {M : Type 1} → statement M

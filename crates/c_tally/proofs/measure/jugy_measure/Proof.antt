@@ -8,8 +8,8 @@ use borrow.Author.Needs.{needs}
 use Rattle.jury.specs.Shape.{withinLimits}
 use Rattle.jury.specs.Reason.{reasonOf}
 use Rattle.jury.proofs.Constructed.{shape-is, outside-is}
-use Rattle.tally.specs.Answer.{Said}
-use Rattle.tally.specs.Measure.{Measures, measuredBy, measureSaid}
+use Rattle.tally.specs.Answer.{Outcome}
+use Rattle.tally.specs.Measure.{Measures, measuredBy, measureOutcome}
 use Rattle.tally.proofs.Outside.{outside-measure}
 use Rattle.c_answers.specs.Numbers.{shapeOf, statusOf, measureNumbers}
 use Rattle.c_answers.proofs.Answering.{short-status, short-answered, room-status, room-answered}
@@ -20,7 +20,7 @@ returns : tie.Need-returns
 unfolding shapeOf
 returns c =
     let a = c .before .before .args in
-    let numbers = measureNumbers (measureSaid (shapeOf (a .candidates) (a .grades) (a .ballots))) in
+    let numbers = measureNumbers (measureOutcome (shapeOf (a .candidates) (a .grades) (a .ballots))) in
     (sym (short-status 5 (a .answer .now) (c .if1 .taken) numbers), sym (short-answered 5 (a .answer .now) (c .if1 .taken) numbers))
 
 new-requires : tie.Need-new-requires
@@ -48,8 +48,8 @@ returns-2 c =
     let s = shapeOf (a .candidates) (a .grades) (a .ballots) in
     let put = c .before .before .put-measures in
     let outside = outside-is (withinLimits s) s (sym (made .new .ensures .0) ∙ told .enum-told .given .1) in
-    let numbers = measureNumbers (measureSaid s) in
-    let e = ap (λ (s : Said Measures). measureNumbers s) (sym (outside-measure s outside)) in
+    let numbers = measureNumbers (measureOutcome s) in
+    let e = ap (λ (s : Outcome Measures). measureNumbers s) (sym (outside-measure s outside)) in
     (put .ensures .0 ∙ ap statusOf e ∙ sym (room-status 5 (a .answer .now) (long .if1 .left) numbers), put .ensures .1 ∙ ap (λ (r : List ℕ). r ++ drop 5 (a .answer .now)) e ∙ sym (room-answered 5 (a .answer .now) (long .if1 .left) numbers))
 
 measure-requires : tie.Need-measure-requires
@@ -64,16 +64,16 @@ same-length-2 c = search needs
 returns-3 : tie.Need-returns-3
 unfolding shapeOf
 returns-3 c =
-    let said = c .before .before .before .before in
-    let known = said .before .before in
+    let outcome = c .before .before .before .before in
+    let known = outcome .before .before in
     let made = known .before .before in
     let long = made .before in
     let a = long .before .before .args in
     let s = shapeOf (a .candidates) (a .grades) (a .ballots) in
     let put = c .before .before .put-measures2 in
     let same = shape-is (withinLimits s) s (known .shape .given .0 .0) (sym (made .new .ensures .0) ∙ known .shape .given .1) in
-    let numbers = measureNumbers (measureSaid s) in
-    let e = ap (λ (s : Said Measures). measureNumbers s) (said .measure .ensures ∙ ap measureSaid same) in
+    let numbers = measureNumbers (measureOutcome s) in
+    let e = ap (λ (s : Outcome Measures). measureNumbers s) (outcome .measure .ensures ∙ ap measureOutcome same) in
     (put .ensures .0 ∙ ap statusOf e ∙ sym (room-status 5 (a .answer .now) (long .if1 .left) numbers), put .ensures .1 ∙ ap (λ (r : List ℕ). r ++ drop 5 (a .answer .now)) e ∙ sym (room-answered 5 (a .answer .now) (long .if1 .left) numbers))
 
 pub jugy-measure-spec : {M : Type 1} → statement M

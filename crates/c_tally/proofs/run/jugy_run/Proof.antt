@@ -9,8 +9,8 @@ use Rattle.jury.specs.declared.shape.Shape.{Shape}
 use Rattle.jury.specs.Shape.{withinLimits}
 use Rattle.jury.specs.Reason.{reasonOf}
 use Rattle.jury.proofs.Constructed.{shape-is, outside-is}
-use Rattle.tally.specs.Answer.{Said, saidBy, Size}
-use Rattle.tally.specs.Run.{Ran, ran}
+use Rattle.tally.specs.Answer.{Outcome, outcomeOf, Size}
+use Rattle.tally.specs.Run.{RunResult, runResult}
 use Rattle.tally.proofs.Outside.{outside-run}
 use Rattle.c_answers.specs.Numbers.{shapeOf, statusOf, sizeNumbers}
 use Rattle.c_answers.proofs.Answering.{short-status, short-answered, short-altered, room-status, room-answered, room-altered}
@@ -21,8 +21,8 @@ returns : tie.Need-returns
 unfolding shapeOf
 returns c =
     let a = c .before .before .before .before .before .before .before .args in
-    let numbers = sizeNumbers ((ran (shapeOf (a .candidates) (a .grades) (a .ballots)) (a .table .now) (a .bytes .now) (a .tape .now) (a .wires .now) (a .board .now)) .answer) in
-    (sym (short-status 4 (a .answer .now) (c .if1 .taken) numbers), (sym (short-answered 4 (a .answer .now) (c .if1 .taken) numbers), (sym (short-altered 4 (a .answer .now) (c .if1 .taken) ((ran (shapeOf (a .candidates) (a .grades) (a .ballots)) (a .table .now) (a .bytes .now) (a .tape .now) (a .wires .now) (a .board .now)) .wires) (a .wires .now)), sym (short-altered 4 (a .answer .now) (c .if1 .taken) ((ran (shapeOf (a .candidates) (a .grades) (a .ballots)) (a .table .now) (a .bytes .now) (a .tape .now) (a .wires .now) (a .board .now)) .board) (a .board .now)))))
+    let numbers = sizeNumbers ((runResult (shapeOf (a .candidates) (a .grades) (a .ballots)) (a .table .now) (a .bytes .now) (a .tape .now) (a .wires .now) (a .board .now)) .answer) in
+    (sym (short-status 4 (a .answer .now) (c .if1 .taken) numbers), (sym (short-answered 4 (a .answer .now) (c .if1 .taken) numbers), (sym (short-altered 4 (a .answer .now) (c .if1 .taken) ((runResult (shapeOf (a .candidates) (a .grades) (a .ballots)) (a .table .now) (a .bytes .now) (a .tape .now) (a .wires .now) (a .board .now)) .wires) (a .wires .now)), sym (short-altered 4 (a .answer .now) (c .if1 .taken) ((runResult (shapeOf (a .candidates) (a .grades) (a .ballots)) (a .table .now) (a .bytes .now) (a .tape .now) (a .wires .now) (a .board .now)) .board) (a .board .now)))))
 
 new-requires : tie.Need-new-requires
 new-requires c κs = search needs
@@ -40,7 +40,7 @@ same-length : tie.Need-same-length
 same-length c = search needs
 
 returns-2 : tie.Need-returns-2
-unfolding shapeOf saidBy reasonOf
+unfolding shapeOf outcomeOf reasonOf
 returns-2 c =
     let told = c .before .before .before .before in
     let made = told .before .before in
@@ -49,10 +49,10 @@ returns-2 c =
     let s = shapeOf (a .candidates) (a .grades) (a .ballots) in
     let put = c .before .before .put-size in
     let outside = outside-is (withinLimits s) s (sym (made .new .ensures .0) ∙ told .enum-told .given .1) in
-    let numbers = sizeNumbers ((ran s (a .table .now) (a .bytes .now) (a .tape .now) (a .wires .now) (a .board .now)) .answer) in
+    let numbers = sizeNumbers ((runResult s (a .table .now) (a .bytes .now) (a .tape .now) (a .wires .now) (a .board .now)) .answer) in
     let left = outside-run s outside (a .table .now) (a .bytes .now) (a .tape .now) (a .wires .now) (a .board .now) in
-    let e = ap (λ (z : Ran). sizeNumbers (z .answer)) (sym left) in
-    (put .ensures .0 ∙ ap statusOf e ∙ sym (room-status 4 (a .answer .now) (long .if1 .left) numbers), (put .ensures .1 ∙ ap (λ (r : List ℕ). r ++ drop 4 (a .answer .now)) e ∙ sym (room-answered 4 (a .answer .now) (long .if1 .left) numbers), (sym (room-altered 4 (a .answer .now) (long .if1 .left) ((ran s (a .table .now) (a .bytes .now) (a .tape .now) (a .wires .now) (a .board .now)) .wires) (a .wires .now) ∙ ap (λ (z : Ran). z .wires) left), sym (room-altered 4 (a .answer .now) (long .if1 .left) ((ran s (a .table .now) (a .bytes .now) (a .tape .now) (a .wires .now) (a .board .now)) .board) (a .board .now) ∙ ap (λ (z : Ran). z .board) left))))
+    let e = ap (λ (z : RunResult). sizeNumbers (z .answer)) (sym left) in
+    (put .ensures .0 ∙ ap statusOf e ∙ sym (room-status 4 (a .answer .now) (long .if1 .left) numbers), (put .ensures .1 ∙ ap (λ (r : List ℕ). r ++ drop 4 (a .answer .now)) e ∙ sym (room-answered 4 (a .answer .now) (long .if1 .left) numbers), (sym (room-altered 4 (a .answer .now) (long .if1 .left) ((runResult s (a .table .now) (a .bytes .now) (a .tape .now) (a .wires .now) (a .board .now)) .wires) (a .wires .now) ∙ ap (λ (z : RunResult). z .wires) left), sym (room-altered 4 (a .answer .now) (long .if1 .left) ((runResult s (a .table .now) (a .bytes .now) (a .tape .now) (a .wires .now) (a .board .now)) .board) (a .board .now) ∙ ap (λ (z : RunResult). z .board) left))))
 
 run-requires : tie.Need-run-requires
 run-requires c κs = search needs
@@ -72,17 +72,17 @@ same-length-4 c = search needs
 returns-3 : tie.Need-returns-3
 unfolding shapeOf
 returns-3 c =
-    let said = c .before .before .before .before .before .before .before .before in
-    let known = said .before .before .before .before in
+    let outcome = c .before .before .before .before .before .before .before .before in
+    let known = outcome .before .before .before .before in
     let made = known .before .before in
     let long = made .before in
     let a = long .before .before .before .before .before .before .before .args in
     let s = shapeOf (a .candidates) (a .grades) (a .ballots) in
     let put = c .before .before .put-size2 in
     let same = shape-is (withinLimits s) s (known .shape .given .0 .0) (sym (made .new .ensures .0) ∙ known .shape .given .1) in
-    let numbers = sizeNumbers ((ran s (a .table .now) (a .bytes .now) (a .tape .now) (a .wires .now) (a .board .now)) .answer) in
-    let e = ap (λ (s : Said Size). sizeNumbers s) (said .run .ensures .0 ∙ ap (λ (z : Shape). (ran z (a .table .now) (a .bytes .now) (a .tape .now) (a .wires .now) (a .board .now)) .answer) same) in
-    (put .ensures .0 ∙ ap statusOf e ∙ sym (room-status 4 (a .answer .now) (long .if1 .left) numbers), (put .ensures .1 ∙ ap (λ (r : List ℕ). r ++ drop 4 (a .answer .now)) e ∙ sym (room-answered 4 (a .answer .now) (long .if1 .left) numbers), (said .run .ensures .1 .0 ∙ ap (λ (z : Shape). (ran z (a .table .now) (a .bytes .now) (a .tape .now) (a .wires .now) (a .board .now)) .wires) same ∙ sym (room-altered 4 (a .answer .now) (long .if1 .left) ((ran s (a .table .now) (a .bytes .now) (a .tape .now) (a .wires .now) (a .board .now)) .wires) (a .wires .now)), said .run .ensures .1 .1 ∙ ap (λ (z : Shape). (ran z (a .table .now) (a .bytes .now) (a .tape .now) (a .wires .now) (a .board .now)) .board) same ∙ sym (room-altered 4 (a .answer .now) (long .if1 .left) ((ran s (a .table .now) (a .bytes .now) (a .tape .now) (a .wires .now) (a .board .now)) .board) (a .board .now)))))
+    let numbers = sizeNumbers ((runResult s (a .table .now) (a .bytes .now) (a .tape .now) (a .wires .now) (a .board .now)) .answer) in
+    let e = ap (λ (s : Outcome Size). sizeNumbers s) (outcome .run .ensures .0 ∙ ap (λ (z : Shape). (runResult z (a .table .now) (a .bytes .now) (a .tape .now) (a .wires .now) (a .board .now)) .answer) same) in
+    (put .ensures .0 ∙ ap statusOf e ∙ sym (room-status 4 (a .answer .now) (long .if1 .left) numbers), (put .ensures .1 ∙ ap (λ (r : List ℕ). r ++ drop 4 (a .answer .now)) e ∙ sym (room-answered 4 (a .answer .now) (long .if1 .left) numbers), (outcome .run .ensures .1 .0 ∙ ap (λ (z : Shape). (runResult z (a .table .now) (a .bytes .now) (a .tape .now) (a .wires .now) (a .board .now)) .wires) same ∙ sym (room-altered 4 (a .answer .now) (long .if1 .left) ((runResult s (a .table .now) (a .bytes .now) (a .tape .now) (a .wires .now) (a .board .now)) .wires) (a .wires .now)), outcome .run .ensures .1 .1 ∙ ap (λ (z : Shape). (runResult z (a .table .now) (a .bytes .now) (a .tape .now) (a .wires .now) (a .board .now)) .board) same ∙ sym (room-altered 4 (a .answer .now) (long .if1 .left) ((runResult s (a .table .now) (a .bytes .now) (a .tape .now) (a .wires .now) (a .board .now)) .board) (a .board .now)))))
 
 pub jugy-run-spec : {M : Type 1} → statement M
 jugy-run-spec =

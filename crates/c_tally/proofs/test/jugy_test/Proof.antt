@@ -9,8 +9,8 @@ use Rattle.jury.specs.declared.shape.Shape.{Shape}
 use Rattle.jury.specs.Shape.{withinLimits}
 use Rattle.jury.specs.Reason.{reasonOf}
 use Rattle.jury.proofs.Constructed.{shape-is, outside-is}
-use Rattle.tally.specs.Answer.{Said, saidBy, Size}
-use Rattle.tally.specs.Test.{testSaid}
+use Rattle.tally.specs.Answer.{Outcome, outcomeOf, Size}
+use Rattle.tally.specs.Test.{testOutcome}
 use Rattle.tally.proofs.TestReasons.{outside-list}
 use Rattle.c_answers.specs.Numbers.{shapeOf, statusOf, sizeNumbers}
 use Rattle.c_answers.proofs.Answering.{short-status, short-answered, room-status, room-answered}
@@ -21,7 +21,7 @@ returns : tie.Need-returns
 unfolding shapeOf
 returns c =
     let a = c .before .before .before .args in
-    let numbers = sizeNumbers (testSaid (shapeOf (a .candidates) (a .grades) (a .ballots)) (a .table .now)) in
+    let numbers = sizeNumbers (testOutcome (shapeOf (a .candidates) (a .grades) (a .ballots)) (a .table .now)) in
     (sym (short-status 4 (a .answer .now) (c .if1 .taken) numbers), sym (short-answered 4 (a .answer .now) (c .if1 .taken) numbers))
 
 new-requires : tie.Need-new-requires
@@ -40,7 +40,7 @@ same-length : tie.Need-same-length
 same-length c = search needs
 
 returns-2 : tie.Need-returns-2
-unfolding shapeOf saidBy reasonOf
+unfolding shapeOf outcomeOf reasonOf
 returns-2 c =
     let told = c .before .before .before .before in
     let made = told .before .before in
@@ -49,8 +49,8 @@ returns-2 c =
     let s = shapeOf (a .candidates) (a .grades) (a .ballots) in
     let put = c .before .before .put-size in
     let outside = outside-is (withinLimits s) s (sym (made .new .ensures .0) ∙ told .enum-told .given .1) in
-    let numbers = sizeNumbers (testSaid s (a .table .now)) in
-    let e = ap (λ (s : Said Size). sizeNumbers s) (sym (outside-list s (a .table .now) outside)) in
+    let numbers = sizeNumbers (testOutcome s (a .table .now)) in
+    let e = ap (λ (s : Outcome Size). sizeNumbers s) (sym (outside-list s (a .table .now) outside)) in
     (put .ensures .0 ∙ ap statusOf e ∙ sym (room-status 4 (a .answer .now) (long .if1 .left) numbers), put .ensures .1 ∙ ap (λ (r : List ℕ). r ++ drop 4 (a .answer .now)) e ∙ sym (room-answered 4 (a .answer .now) (long .if1 .left) numbers))
 
 test-requires : tie.Need-test-requires
@@ -65,16 +65,16 @@ same-length-2 c = search needs
 returns-3 : tie.Need-returns-3
 unfolding shapeOf
 returns-3 c =
-    let said = c .before .before .before .before in
-    let known = said .before .before in
+    let outcome = c .before .before .before .before in
+    let known = outcome .before .before in
     let made = known .before .before in
     let long = made .before in
     let a = long .before .before .before .args in
     let s = shapeOf (a .candidates) (a .grades) (a .ballots) in
     let put = c .before .before .put-size2 in
     let same = shape-is (withinLimits s) s (known .shape .given .0 .0) (sym (made .new .ensures .0) ∙ known .shape .given .1) in
-    let numbers = sizeNumbers (testSaid s (a .table .now)) in
-    let e = ap (λ (s : Said Size). sizeNumbers s) (said .test .ensures ∙ ap (λ (z : Shape). testSaid z (a .table .now)) same) in
+    let numbers = sizeNumbers (testOutcome s (a .table .now)) in
+    let e = ap (λ (s : Outcome Size). sizeNumbers s) (outcome .test .ensures ∙ ap (λ (z : Shape). testOutcome z (a .table .now)) same) in
     (put .ensures .0 ∙ ap statusOf e ∙ sym (room-status 4 (a .answer .now) (long .if1 .left) numbers), put .ensures .1 ∙ ap (λ (r : List ℕ). r ++ drop 4 (a .answer .now)) e ∙ sym (room-answered 4 (a .answer .now) (long .if1 .left) numbers))
 
 pub jugy-test-spec : {M : Type 1} → statement M

@@ -10,8 +10,8 @@ use Rattle.jury.specs.Shape.{withinLimits}
 use Rattle.jury.specs.Reason.{reasonOf, reasonAt}
 use Rattle.jury.proofs.Flags.{T-true}
 use Rattle.jury.proofs.Constructed.{shape-is, outside-is}
-use Rattle.tally.specs.Answer.{Said, saidBy, Size}
-use Rattle.tally.specs.Write.{writeSaid, written}
+use Rattle.tally.specs.Answer.{Outcome, outcomeOf, Size}
+use Rattle.tally.specs.Write.{writeOutcome, written}
 use Rattle.tally.proofs.OwnList.{own-list-holds}
 use Rattle.tally.proofs.Writing.{write-refused, outside as outside-write}
 use Rattle.c_answers.specs.Numbers.{shapeOf, statusOf, sizeNumbers}
@@ -23,7 +23,7 @@ returns : tie.Need-returns
 unfolding shapeOf
 returns c =
     let a = c .before .before .before .args in
-    let numbers = sizeNumbers (writeSaid (shapeOf (a .candidates) (a .grades) (a .ballots)) (a .table .now)) in
+    let numbers = sizeNumbers (writeOutcome (shapeOf (a .candidates) (a .grades) (a .ballots)) (a .table .now)) in
     (sym (short-status 4 (a .answer .now) (c .if1 .taken) numbers), (sym (short-answered 4 (a .answer .now) (c .if1 .taken) numbers), (sym (short-altered 4 (a .answer .now) (c .if1 .taken) (written (shapeOf (a .candidates) (a .grades) (a .ballots)) (a .table .now)) (a .table .now)), λ t. own-list-holds (shapeOf (a .candidates) (a .grades) (a .ballots)) (T-true (withinLimits (shapeOf (a .candidates) (a .grades) (a .ballots))) t))))
 
 new-requires : tie.Need-new-requires
@@ -42,7 +42,7 @@ same-length : tie.Need-same-length
 same-length c = search needs
 
 returns-2 : tie.Need-returns-2
-unfolding shapeOf saidBy reasonOf
+unfolding shapeOf outcomeOf reasonOf
 returns-2 c =
     let told = c .before .before .before .before in
     let made = told .before .before in
@@ -51,9 +51,9 @@ returns-2 c =
     let s = shapeOf (a .candidates) (a .grades) (a .ballots) in
     let put = c .before .before .put-size in
     let outside = outside-is (withinLimits s) s (sym (made .new .ensures .0) ∙ told .enum-told .given .1) in
-    let numbers = sizeNumbers (writeSaid s (a .table .now)) in
+    let numbers = sizeNumbers (writeOutcome s (a .table .now)) in
     let refusal = write-refused s (a .table .now) (reasonAt 1 0) (outside-write s (a .table .now) outside) in
-    let e = ap (λ (s : Said Size). sizeNumbers s) (sym (refusal .0)) in
+    let e = ap (λ (s : Outcome Size). sizeNumbers s) (sym (refusal .0)) in
     (put .ensures .0 ∙ ap statusOf e ∙ sym (room-status 4 (a .answer .now) (long .if1 .left) numbers), (put .ensures .1 ∙ ap (λ (r : List ℕ). r ++ drop 4 (a .answer .now)) e ∙ sym (room-answered 4 (a .answer .now) (long .if1 .left) numbers), (sym (room-altered 4 (a .answer .now) (long .if1 .left) (written s (a .table .now)) (a .table .now) ∙ refusal .1), λ t. own-list-holds s (T-true (withinLimits s) t))))
 
 write-requires : tie.Need-write-requires
@@ -71,17 +71,17 @@ same-length-3 c = search needs
 returns-3 : tie.Need-returns-3
 unfolding shapeOf
 returns-3 c =
-    let said = c .before .before .before .before .before .before in
-    let known = said .before .before .before in
+    let outcome = c .before .before .before .before .before .before in
+    let known = outcome .before .before .before in
     let made = known .before .before in
     let long = made .before in
     let a = long .before .before .before .args in
     let s = shapeOf (a .candidates) (a .grades) (a .ballots) in
     let put = c .before .before .put-size2 in
     let same = shape-is (withinLimits s) s (known .shape .given .0 .0) (sym (made .new .ensures .0) ∙ known .shape .given .1) in
-    let numbers = sizeNumbers (writeSaid s (a .table .now)) in
-    let e = ap (λ (s : Said Size). sizeNumbers s) (said .write .ensures .0 ∙ ap (λ (z : Shape). writeSaid z (a .table .now)) same) in
-    (put .ensures .0 ∙ ap statusOf e ∙ sym (room-status 4 (a .answer .now) (long .if1 .left) numbers), (put .ensures .1 ∙ ap (λ (r : List ℕ). r ++ drop 4 (a .answer .now)) e ∙ sym (room-answered 4 (a .answer .now) (long .if1 .left) numbers), (said .write .ensures .1 .0 ∙ ap (λ (z : Shape). written z (a .table .now)) same ∙ sym (room-altered 4 (a .answer .now) (long .if1 .left) (written s (a .table .now)) (a .table .now)), λ t. own-list-holds s (T-true (withinLimits s) t))))
+    let numbers = sizeNumbers (writeOutcome s (a .table .now)) in
+    let e = ap (λ (s : Outcome Size). sizeNumbers s) (outcome .write .ensures .0 ∙ ap (λ (z : Shape). writeOutcome z (a .table .now)) same) in
+    (put .ensures .0 ∙ ap statusOf e ∙ sym (room-status 4 (a .answer .now) (long .if1 .left) numbers), (put .ensures .1 ∙ ap (λ (r : List ℕ). r ++ drop 4 (a .answer .now)) e ∙ sym (room-answered 4 (a .answer .now) (long .if1 .left) numbers), (outcome .write .ensures .1 .0 ∙ ap (λ (z : Shape). written z (a .table .now)) same ∙ sym (room-altered 4 (a .answer .now) (long .if1 .left) (written s (a .table .now)) (a .table .now)), λ t. own-list-holds s (T-true (withinLimits s) t))))
 
 pub jugy-write-spec : {M : Type 1} → statement M
 jugy-write-spec =

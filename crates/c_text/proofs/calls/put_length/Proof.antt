@@ -5,7 +5,7 @@ use mathlib.Core.List.{List, [], _∷_, _++_}
 use Prim.Native.Nat.{ℕ}
 use lib.ListN.{drop, set, length-set}
 use Rattle.text.specs.declared.answer.Answer.{Answer}
-use Rattle.text.specs.Answer.{textReasonOf, lengthSaid}
+use Rattle.text.specs.Answer.{textReasonOf, lengthOutcome}
 use Rattle.c_answers.specs.Numbers.{statusOf, oneNumber}
 use Rattle.c_answers.proofs.Lengths.{three-stored, three-same}
 use native.Mathlib.Omega.{arith}
@@ -13,8 +13,8 @@ use borrow.Author.Needs.{needs}
 use Rattle.c_text.proofs.calls.put_length.Statement.{statement}
 use Rattle.c_text.proofs.calls.put_length.Tie as tie
 
-enum-known-said : tie.Need-enum-known-said
-enum-known-said c = search needs
+enum-known-outcome : tie.Need-enum-known-outcome
+enum-known-outcome c = search needs
 
 slice-write-answer : tie.Need-slice-write-answer
 slice-write-answer c = search needs
@@ -25,8 +25,8 @@ slice-write-answer-2 c = omega (arith, length-set (c .before .before .before .be
 slice-write-answer-3 : tie.Need-slice-write-answer-3
 slice-write-answer-3 c = search needs
 
-enum-known-said-2 : tie.Need-enum-known-said-2
-enum-known-said-2 c = search needs
+enum-known-outcome-2 : tie.Need-enum-known-outcome-2
+enum-known-outcome-2 c = search needs
 
 number-requires : tie.Need-number-requires
 number-requires c κs = search needs
@@ -47,24 +47,24 @@ same-length : tie.Need-same-length
 same-length c = search needs
 
 returns : tie.Need-returns
-unfolding statusOf oneNumber lengthSaid
+unfolding statusOf oneNumber lengthOutcome
 returns c =
     let start = c .before .before .before .before in
-    let e = ap (λ (s : Answer). oneNumber (lengthSaid s)) (c .before .said .given .1) in
-    (sym (ap statusOf e), three-stored (start .args .answer .now) 0 0 (c .before .said .given .0 .0) (start .pre) ∙ sym (ap (λ (r : List ℕ). r ++ drop 3 (start .args .answer .now)) e))
+    let e = ap (λ (s : Answer). oneNumber (lengthOutcome s)) (c .before .outcome .given .1) in
+    (sym (ap statusOf e), three-stored (start .args .answer .now) 0 0 (c .before .outcome .given .0 .0) (start .pre) ∙ sym (ap (λ (r : List ℕ). r ++ drop 3 (start .args .answer .now)) e))
 
 same-length-2 : tie.Need-same-length-2
 same-length-2 c = search needs
 
 returns-2 : tie.Need-returns-2
-unfolding statusOf oneNumber lengthSaid
+unfolding statusOf oneNumber lengthOutcome
 returns-2 c =
     let start = c .before .before .before .before .before .before in
     let g = c .before .before .before .said2 .given in
     let why = textReasonOf (g .0 .0) in
     let number = c .before .number in
     let place = c .place in
-    let e = ap (λ (s : Answer). oneNumber (lengthSaid s)) (g .1) in
+    let e = ap (λ (s : Answer). oneNumber (lengthOutcome s)) (g .1) in
     let rest = drop 3 (start .args .answer .now) in (
       number .ensures ∙ sym (ap statusOf e),
       three-stored (start .args .answer .now) (number .result) (place .result) 0 (start .pre)
@@ -76,11 +76,11 @@ pub put-length-spec : {M : Type 1} → statement M
 put-length-spec =
     tie.close
     (tie.spec
-    enum-known-said
+    enum-known-outcome
     slice-write-answer
     slice-write-answer-2
     slice-write-answer-3
-    enum-known-said-2
+    enum-known-outcome-2
     number-requires
     place-requires
     slice-write-answer-4

@@ -41,13 +41,13 @@ returns-2 : tie.Need-returns-2
 unfolding shapeOf
 returns-2 c =
     let put = c .before .before in
-    let said = put .before .before .before .before .before .before in
-    let long = said .before .before .before in
+    let outcome = put .before .before .before .before .before .before in
+    let long = outcome .before .before .before in
     let a = long .before .before .before .before .before .before .before .before .args in
     let r : Shared = (shared (shapeOf (a .candidates) (a .grades) (a .ballots)) (a .table .now) (a .bytes .now) (a .trustees) (record { ballotParts = a .parts .now; dealerParts = a .dealt .now }) (a .wires .now) (a .published .now)) in
     let numbers = tallyNumbers (r .answer) (r .closing) in
-    let e = tallied _ _ _ _ (said .run .ensures .0) (said .run .ensures .1 .0) in
-    (put .put-tally .ensures .0 ∙ ap statusOf e ∙ sym (room-status tallyAnswer (a .answer .now) (long .if1 .left) numbers), (put .put-tally .ensures .1 ∙ ap (λ (l : List ℕ). l ++ drop tallyAnswer (a .answer .now)) e ∙ sym (room-answered tallyAnswer (a .answer .now) (long .if1 .left) numbers), (said .run .ensures .1 .1 .0 ∙ sym (room-altered tallyAnswer (a .answer .now) (long .if1 .left) (r .wireParts) (a .wires .now)), said .run .ensures .1 .1 .1 ∙ sym (room-altered tallyAnswer (a .answer .now) (long .if1 .left) (r .published) (a .published .now)))))
+    let e = tallied _ _ _ _ (outcome .run .ensures .0) (outcome .run .ensures .1 .0) in
+    (put .put-tally .ensures .0 ∙ ap statusOf e ∙ sym (room-status tallyAnswer (a .answer .now) (long .if1 .left) numbers), (put .put-tally .ensures .1 ∙ ap (λ (l : List ℕ). l ++ drop tallyAnswer (a .answer .now)) e ∙ sym (room-answered tallyAnswer (a .answer .now) (long .if1 .left) numbers), (outcome .run .ensures .1 .1 .0 ∙ sym (room-altered tallyAnswer (a .answer .now) (long .if1 .left) (r .wireParts) (a .wires .now)), outcome .run .ensures .1 .1 .1 ∙ sym (room-altered tallyAnswer (a .answer .now) (long .if1 .left) (r .published) (a .published .now)))))
 
 pub jugy-trustees-spec : {M : Type 1} → statement M
 jugy-trustees-spec =

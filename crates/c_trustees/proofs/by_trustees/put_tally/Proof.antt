@@ -2,7 +2,7 @@
 -- Assumes nothing.
 use borrow.Author.Needs.{needs}
 use mathlib.Core.Path.{_∙_}
-use Rattle.tally.specs.Answer.{saidBy}
+use Rattle.tally.specs.Answer.{outcomeOf}
 use Rattle.c_trustees.proofs.Tallying.{all-put, tally-status}
 use Rattle.c_trustees.proofs.by_trustees.put_tally.Statement.{statement}
 use Rattle.c_trustees.proofs.by_trustees.put_tally.Tie as tie
@@ -22,8 +22,8 @@ returns c =
     let four = bytes .before .before .before .before in
     let s = four .before .before .before .before in
     let a = s .args in (
-      four .put-size .ensures .0 ∙ tally-status (saidBy (a .said .answer)) (a .said .closing),
-      all-put (saidBy (a .said .answer)) (a .said .closing) (a .answer .now) _ _ (bytes .put-closing .ensures .1) (s .pre) (four .put-size .ensures .1) (bytes .put-closing .ensures .0),
+      four .put-size .ensures .0 ∙ tally-status (outcomeOf (a .outcome .answer)) (a .outcome .closing),
+      all-put (outcomeOf (a .outcome .answer)) (a .outcome .closing) (a .answer .now) _ _ (bytes .put-closing .ensures .1) (s .pre) (four .put-size .ensures .1) (bytes .put-closing .ensures .0),
     )
 
 pub put-tally-spec : {M : Type 1} → statement M

@@ -14,10 +14,10 @@ use borrow.Author.Tests.{leb-true, not-true, not-false}
 use Rattle.jury.specs.Reason.{Reason, reasonAt, reasonOf, firstOf}
 use Rattle.jury.proofs.Flags.{and-first, and-second}
 use Rattle.dispatch_rounds.specs.declared.statement.Statement.{Statement}
-use Rattle.dispatch.specs.declared.outcome.Outcome.{Outcome}
+use Rattle.dispatch.specs.declared.verdict.JuriesVerdict.{JuriesVerdict}
 use Rattle.dispatch_rounds.specs.Tables.{Tables, lent}
 use Rattle.dispatch_rounds.specs.Reasons.{juryReasons}
-use Rattle.dispatch.specs.Reasons.{outcomeReason}
+use Rattle.dispatch.specs.Reasons.{verdictReason}
 use Rattle.dispatch.specs.Dispatch.{Dispatch, dispatchedAfter, dispatched}
 use Rattle.dispatch.specs.Inner.{Ready, Finished, wireBytes}
 use Rattle.dispatch.proofs.Whole.{bad-count, bad-share, by-juries, dispatched-by, few-gates, wires-room, boards-end, emptied}
@@ -44,7 +44,7 @@ few : (c : tie.Else1) → c .before .before .before .before .before .before .bef
 few c = let n = c .before .before .before .before .before .before .before .args .count in leb-true n 8 (and-second (leb 1 n) (leb n 8) (count-good c))
 
 -- the reason of the tests is that of the call
-tested : (c : tie.After-test-juries) (o : Option Reason) → outcomeReason (c .test-juries .result .outcome) ≡ o → let s = c .before .before .before .before .before .before .before .before .before .before .before .before in whole s ≡ dispatchedAfter o (juries s) (s .args .share) (all s)
+tested : (c : tie.After-test-juries) (o : Option Reason) → verdictReason (c .test-juries .result .verdict) ≡ o → let s = c .before .before .before .before .before .before .before .before .before .before .before .before in whole s ≡ dispatchedAfter o (juries s) (s .args .share) (all s)
 tested c o e =
     let s = c .before .before .before .before .before .before .before .before .before .before .before .before in
     let two = c .before .before .before in
@@ -56,7 +56,7 @@ is-between-requires : tie.Need-is-between-requires
 is-between-requires c κs = search needs
 
 returns : tie.Need-returns
-unfolding outcomeReason reasonOf reasonAt dispatchedAfter
+unfolding verdictReason reasonOf reasonAt dispatchedAfter
 returns c =
     let s = c .before .before .before .before .before .before .before in
     let a = s .args in
@@ -69,7 +69,7 @@ is-between-requires-2 : tie.Need-is-between-requires-2
 is-between-requires-2 c κs = search needs
 
 returns-2 : tie.Need-returns-2
-unfolding outcomeReason reasonOf reasonAt dispatchedAfter
+unfolding verdictReason reasonOf reasonAt dispatchedAfter
 returns-2 c =
     let s = c .before .before .before .before .before .before .before .before .before in
     let a = s .args in
@@ -94,18 +94,18 @@ same-length-2 : tie.Need-same-length-2
 same-length-2 c = search needs
 
 returns-3 : tie.Need-returns-3
-unfolding outcomeReason dispatchedAfter
+unfolding verdictReason dispatchedAfter
 returns-3 c =
     let t = c .before .before in
-    let told = ap outcomeReason (c .enum-told2 .given .1) in
+    let told = ap verdictReason (c .enum-told2 .given .1) in
     let r = reasonAt (reasonOf (c .enum-told2 .given .0 .0) .number) (c .enum-told2 .given .0 .1 .0) in
     let e = tested t (some r) told in
     (told ∙ sym (ap (λ (d : Dispatch). d .reason) e), (sym (ap (λ (d : Dispatch). d .rounds) e), (sym (ap (λ (d : Dispatch). d .wires) e), sym (ap (λ (d : Dispatch). d .boards) e))))
 
 -- past the tests
-passes : (c : tie.After-enum-told) → outcomeReason (c .before .before .test-juries .result .outcome) ≡ none
-unfolding outcomeReason
-passes c = ap outcomeReason (c .enum-told .given .1)
+passes : (c : tie.After-enum-told) → verdictReason (c .before .before .test-juries .result .verdict) ≡ none
+unfolding verdictReason
+passes c = ap verdictReason (c .enum-told .given .1)
 
 no-reason : (c : tie.After-enum-told) → let s = c .before .before .before .before .before .before .before .before .before .before .before .before .before .before in firstOf (juryReasons 0 (juries s) (all s)) ≡ none
 no-reason c = sym (c .before .before .test-juries .ensures .reason) ∙ passes c

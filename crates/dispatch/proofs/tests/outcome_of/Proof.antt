@@ -5,7 +5,7 @@ use borrow.Author.Needs.{needs}
 use Rattle.jury.specs.Reason.{reasonAt}
 use Rattle.tally.specs.declared.answer.Answer.{Answer}
 use Rattle.dispatch_rounds.specs.Reasons.{atJury}
-use Rattle.dispatch.specs.Reasons.{outcomeReason}
+use Rattle.dispatch.specs.Reasons.{verdictReason}
 use Rattle.dispatch.specs.Inner.{refusalIn}
 use Rattle.dispatch.proofs.tests.outcome_of.Statement.{statement}
 use Rattle.dispatch.proofs.tests.outcome_of.Tie as tie
@@ -17,12 +17,12 @@ enum-told : tie.Need-enum-told
 enum-told c = search needs
 
 returns : tie.Need-returns
-unfolding outcomeReason atJury refusalIn
+unfolding verdictReason atJury refusalIn
 returns c = ap (λ (x : Answer). atJury (c .before .before .before .args .jury) (refusalIn x)) (sym (c .before .answer .given .1))
 
 returns-2 : tie.Need-returns-2
-unfolding outcomeReason atJury refusalIn
+unfolding verdictReason atJury refusalIn
 returns-2 c = ap (λ (x : Answer). atJury (c .before .before .args .jury) (refusalIn x)) (sym (c .enum-told .given .1))
 
-pub outcome-of-spec : {M : Type 1} → statement M
-outcome-of-spec = tie.close (tie.spec enum-known-answer enum-told returns returns-2)
+pub verdict-of-spec : {M : Type 1} → statement M
+verdict-of-spec = tie.close (tie.spec enum-known-answer enum-told returns returns-2)

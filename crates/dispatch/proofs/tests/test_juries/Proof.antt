@@ -11,13 +11,13 @@ use lib.Seq.{length-take-le}
 use borrow.Author.Needs.{needs}
 use Rattle.gates.specs.Gate.{gatesOf}
 use Rattle.jury.specs.Reason.{Reason, reasonOf, firstOf}
-use Rattle.tally.specs.Answer.{said, saidBy, sizeOf}
+use Rattle.tally.specs.Answer.{outcome, outcomeOf, sizeOf}
 use Rattle.tally.specs.declared.answer.Answer.{Answer}
 use Rattle.dispatch_rounds.specs.declared.statement.Statement.{Statement}
 use Rattle.dispatch_rounds.specs.declared.statement.Places.{Places}
 use Rattle.dispatch_rounds.specs.Tables.{Tables, lent, listOf, conditionalIn}
 use Rattle.dispatch_rounds.specs.Reasons.{reasonsOf, atJury}
-use Rattle.dispatch.specs.Reasons.{outcomeReason}
+use Rattle.dispatch.specs.Reasons.{verdictReason}
 use Rattle.dispatch_rounds.specs.Inner.{placesAfter}
 use Rattle.dispatch.specs.Inner.{refusalIn}
 use Rattle.dispatch_rounds.proofs.Passed.{Passed, jury-passed}
@@ -61,13 +61,13 @@ ahead c =
 
 -- what its tests answer
 found : (c : tie.After-test-jury Inv-loop μ-loop) → let i = c .before .before .before .before .before .before .before in
-    saidBy (c .test-jury .result) ≡ said (firstOf (reasonsOf (jury i) (here i))) (sizeOf (gatesOf (listOf (jury i) (here i))))
+    outcomeOf (c .test-jury .result) ≡ outcome (firstOf (reasonsOf (jury i) (here i))) (sizeOf (gatesOf (listOf (jury i) (here i))))
 found c =
     let i = c .before .before .before .before .before .before .before in
     let s = i .before .before .before .before .before .before .before in
     let at = i .before .loop .at in
     c .test-jury .ensures
-    ∙ ap (λ (x : Tables). said (firstOf (reasonsOf (jury i) x)) (sizeOf (gatesOf (listOf (jury i) x))))
+    ∙ ap (λ (x : Tables). outcome (firstOf (reasonsOf (jury i) x)) (sizeOf (gatesOf (listOf (jury i) x))))
     (lent-same _ _ _ _ _ _ _ _ _ _ (rest-is (at .lists) (s .args .lists .now)) (rest-is (at .ballots) (s .args .ballots .now)) (rest-is (at .tapes) (s .args .tapes .now))
     (rest-is (at .wires) (s .args .wires .now)) (rest-is (at .boards) (s .args .boards .now)))
 
@@ -149,8 +149,8 @@ enum-known-answer c = search needs
 enum-told : tie.Need-enum-told Inv-loop μ-loop
 enum-told c = search needs
 
-outcome-of-requires : tie.Need-outcome-of-requires Inv-loop μ-loop
-outcome-of-requires c κs = search needs
+verdict-of-requires : tie.Need-verdict-of-requires Inv-loop μ-loop
+verdict-of-requires c κs = search needs
 
 returns : tie.Need-returns Inv-loop μ-loop
 unfolding refusalIn
@@ -164,11 +164,11 @@ returns c =
     let r = reasonOf (told .enum-told .given .0 .0) in
     let is : refusalIn (t .test-jury .result) ≡ o = refusal-is (t .test-jury .result) o (sizeOf (gatesOf (listOf (jury i) (here i)))) (found t) in
     let bad : o ≡ some r = sym is ∙ ap refusalIn (told .enum-told .given .1) in
-    let said-so = c .outcome-of .ensures ∙ ap (atJury (l .j)) is ∙ ap (atJury (l .j)) bad in
+    let outcome-so = c .verdict-of .ensures ∙ ap (atJury (l .j)) is ∙ ap (atJury (l .j)) bad in
     record {
-      reason = said-so ∙ sym (bad-jury (jury i) (here i) (l .j) (drop (suc (l .j)) (take (s .args .count) (s .args .t2))) r bad) ∙ ahead i .reasons;
-      conditional = λ e. at-jury-some (l .j) r (sym said-so ∙ e);
-      wires = λ e. at-jury-some (l .j) r (sym said-so ∙ e);
+      reason = outcome-so ∙ sym (bad-jury (jury i) (here i) (l .j) (drop (suc (l .j)) (take (s .args .count) (s .args .t2))) r bad) ∙ ahead i .reasons;
+      conditional = λ e. at-jury-some (l .j) r (sym outcome-so ∙ e);
+      wires = λ e. at-jury-some (l .j) r (sym outcome-so ∙ e);
     }
 
 mul-conditional : tie.Need-mul-conditional Inv-loop μ-loop
@@ -217,7 +217,7 @@ loop-again c =
     )
 
 returns-2 : tie.Need-returns-2 Inv-loop μ-loop
-unfolding outcomeReason
+unfolding verdictReason
 returns-2 c =
     let s = c .before .before .before .before .before .before .before in
     let l = c .before .loop in
@@ -254,7 +254,7 @@ test-juries-spec =
     test-jury-requires
     enum-known-answer
     enum-told
-    outcome-of-requires
+    verdict-of-requires
     returns
     mul-conditional
     array-write-conditional

@@ -13,9 +13,9 @@ use Rattle.jury.specs.Shape.{withinLimits, ballotBytes}
 use Rattle.jury.specs.Reason.{Reason, reasonOf, refusedFor, firstOf}
 use Rattle.jury.specs.Ballots.{ballotReasons}
 use Rattle.jury.proofs.Flags.{true-T}
-use Rattle.tally.specs.Answer.{Size, refused, said, saidBy, sizeOf}
-use Rattle.tally.specs.Test.{testReasons, testSaid}
-use Rattle.tally.specs.Run.{lentReasons}
+use Rattle.tally.specs.Answer.{Size, refused, outcome, outcomeOf, sizeOf}
+use Rattle.tally.specs.Test.{testReasons, testOutcome}
+use Rattle.tally.specs.Run.{bufferReasons}
 use Rattle.tally.proofs.TestReasons.{TestPassed, test-passed}
 use Rattle.tally.proofs.RunReasons.{by-test, by-ballots, by-lent}
 use Rattle.dispatch_rounds.specs.declared.statement.Statement.{Statement}
@@ -34,29 +34,29 @@ pieces s = piecesOf (s .args .statement) (all s)
 
 -- the first reason decides of the answer
 refuses : (s : tie.Start) (r : Reason) → firstOf (reasonsOf (s .args .statement) (all s)) ≡ some r
-    → refused r ≡ said (firstOf (reasonsOf (s .args .statement) (all s))) (sizeOf (gatesOf (listOf (s .args .statement) (all s))))
-unfolding said
-refuses s r e = sym (ap (λ (o : Option Reason). said o (sizeOf (gatesOf (listOf (s .args .statement) (all s))))) e)
+    → refused r ≡ outcome (firstOf (reasonsOf (s .args .statement) (all s))) (sizeOf (gatesOf (listOf (s .args .statement) (all s))))
+unfolding outcome
+refuses s r e = sym (ap (λ (o : Option Reason). outcome o (sizeOf (gatesOf (listOf (s .args .statement) (all s))))) e)
 
 -- the test of the list, on its piece
-list-said : (c : tie.After-test) → let s = c .before .before .before .before .before .before .before .before in saidBy (c .test .result) ≡ testSaid (shapeOf (s .args .statement)) (pieces s .lists)
-list-said c =
+list-outcome : (c : tie.After-test) → let s = c .before .before .before .before .before .before .before .before in outcomeOf (c .test .result) ≡ testOutcome (shapeOf (s .args .statement)) (pieces s .lists)
+list-outcome c =
     let s = c .before .before .before .before .before .before .before .before in
     let n = c .before .before .numbers-fitting in
-    c .test .ensures ∙ ap (testSaid (shapeOf (s .args .statement))) (list-piece (s .args .statement) (all s) (n .result) (n .ensures))
+    c .test .ensures ∙ ap (testOutcome (shapeOf (s .args .statement))) (list-piece (s .args .statement) (all s) (n .result) (n .ensures))
 
 size : tie.After-known-told → Size
 size c = let g = c .before .answer .given in record { gates = g .0 .0; conditional = g .0 .1 .0 }
 
 passed : (c : tie.After-known-told) → let s = c .before .before .before .before .before .before .before .before .before .before .before in TestPassed (shapeOf (s .args .statement)) (pieces s .lists) (size c)
-unfolding saidBy size
+unfolding outcomeOf size
 passed c =
     let s = c .before .before .before .before .before .before .before .before .before .before .before in
-    test-passed (shapeOf (s .args .statement)) (pieces s .lists) (size c) (sym (list-said (c .before .before .before)) ∙ ap saidBy (c .before .answer .given .1))
+    test-passed (shapeOf (s .args .statement)) (pieces s .lists) (size c) (sym (list-outcome (c .before .before .before)) ∙ ap outcomeOf (c .before .answer .given .1))
 
 -- the test of the ballots, on theirs
-ballots-said : (c : tie.After-test2) → let s = c .before .before .before .before .before .before .before .before .before .before .before .before .before .before .before in refusedFor (c .test2 .result) ≡ firstOf (ballotReasons (shapeOf (s .args .statement)) (pieces s .ballots))
-ballots-said c =
+ballots-outcome : (c : tie.After-test2) → let s = c .before .before .before .before .before .before .before .before .before .before .before .before .before .before .before in refusedFor (c .test2 .result) ≡ firstOf (ballotReasons (shapeOf (s .args .statement)) (pieces s .ballots))
+ballots-outcome c =
     let s = c .before .before .before .before .before .before .before .before .before .before .before .before .before .before .before in
     let n = c .before .before .bytes-fitting in
     let i = c .before .before .before .ballot-bytes in
@@ -65,7 +65,7 @@ ballots-said c =
 
 no-reason : (c : tie.After-enum-told2) → let s = c .before .before .before .before .before .before .before .before .before .before .before .before .before .before .before .before .before in firstOf (ballotReasons (shapeOf (s .args .statement)) (pieces s .ballots)) ≡ none
 unfolding refusedFor
-no-reason c = sym (ballots-said (c .before .before)) ∙ ap refusedFor (c .enum-told2 .given .1)
+no-reason c = sym (ballots-outcome (c .before .before)) ∙ ap refusedFor (c .enum-told2 .given .1)
 
 numbers-fitting-requires : tie.Need-numbers-fitting-requires
 numbers-fitting-requires c κs = search needs
@@ -86,13 +86,13 @@ enum-told : tie.Need-enum-told
 enum-told c = search needs
 
 returns : tie.Need-returns
-unfolding saidBy reasonsOf
+unfolding outcomeOf reasonsOf
 returns c =
     let s = c .before .before .before .before .before .before .before .before .before .before in
     let p = pieces s in
     let r = reasonOf (c .enum-told .given .0 .0) in
-    let e = ap saidBy (c .enum-told .given .1) in
-    e ∙ refuses s r (by-test (shapeOf (s .args .statement)) (p .lists) (p .ballots) (p .tapes) (p .wires) (p .boards) r (sym (list-said (c .before .before)) ∙ e))
+    let e = ap outcomeOf (c .enum-told .given .1) in
+    e ∙ refuses s r (by-test (shapeOf (s .args .statement)) (p .lists) (p .ballots) (p .tapes) (p .wires) (p .boards) r (sym (list-outcome (c .before .before)) ∙ e))
 
 ballot-bytes-requires : tie.Need-ballot-bytes-requires
 ballot-bytes-requires c κs = true-T (withinLimits (shapeOf (c .before .before .before .before .before .before .before .before .before .before .before .args .statement))) (passed c .within)
@@ -114,13 +114,13 @@ enum-known-reason : tie.Need-enum-known-reason
 enum-known-reason c = search needs
 
 returns-2 : tie.Need-returns-2
-unfolding saidBy refusedFor reasonsOf
+unfolding outcomeOf refusedFor reasonsOf
 returns-2 c =
     let t = c .before .before .before in
     let s = t .before .before .before .before .before .before .before .before .before .before .before .before .before .before .before in
     let p = pieces s in
     let r = reasonOf (c .before .reason .given .0 .0) in
-    refuses s r (by-ballots (shapeOf (s .args .statement)) (p .lists) (p .ballots) (p .tapes) (p .wires) (p .boards) (passed (t .before .before .before .before) .reasons) r (sym (ballots-said t) ∙ ap refusedFor (c .before .reason .given .1)))
+    refuses s r (by-ballots (shapeOf (s .args .statement)) (p .lists) (p .ballots) (p .tapes) (p .wires) (p .boards) (passed (t .before .before .before .before) .reasons) r (sym (ballots-outcome t) ∙ ap refusedFor (c .before .reason .given .1)))
 
 enum-told-2 : tie.Need-enum-told-2
 enum-told-2 c = search needs
@@ -134,29 +134,29 @@ bytes-fitting-requires-3 c κs = search needs
 bytes-fitting-requires-4 : tie.Need-bytes-fitting-requires-4
 bytes-fitting-requires-4 c κs = search needs
 
-slice-aggregate-test-lent : tie.Need-slice-aggregate-test-lent
+slice-aggregate-test-buffers : tie.Need-slice-aggregate-test-buffers
 unfolding size
-slice-aggregate-test-lent c =
+slice-aggregate-test-buffers c =
     let s = c .before .before .before .before .before .before .before .before .before .before .before .before .before .before .before .before .before .before .before .before .before in
     let n = c .before .before .before .bytes-fitting2 in
     sym (length-take-le (n .result) (s .args .tapes .now) (omega (arith, n .ensures, fitting-most (size (c .before .before .before .before .before .before .before .before .before .before) .conditional + 0) (length (s .args .tapes .now)))))
 
-slice-aggregate-test-lent-2 : tie.Need-slice-aggregate-test-lent-2
+slice-aggregate-test-buffers-2 : tie.Need-slice-aggregate-test-buffers-2
 unfolding size
-slice-aggregate-test-lent-2 c =
+slice-aggregate-test-buffers-2 c =
     let s = c .before .before .before .before .before .before .before .before .before .before .before .before .before .before .before .before .before .before .before .before .before .before in
     let n = c .before .before .before .bytes-fitting3 in
     sym (length-take-le (n .result) (s .args .wires .now) (omega (arith, n .ensures, fitting-most (c .before .before .before .before .before .before .before .before .before .before .ballot-bytes .result + size (c .before .before .before .before .before .before .before .before .before .before .before) .gates) (length (s .args .wires .now)))))
 
-slice-aggregate-test-lent-3 : tie.Need-slice-aggregate-test-lent-3
+slice-aggregate-test-buffers-3 : tie.Need-slice-aggregate-test-buffers-3
 unfolding size
-slice-aggregate-test-lent-3 c =
+slice-aggregate-test-buffers-3 c =
     let s = c .before .before .before .before .before .before .before .before .before .before .before .before .before .before .before .before .before .before .before .before .before .before .before in
     let n = c .before .before .before .bytes-fitting4 in
     sym (length-take-le (n .result) (s .args .boards .now) (omega (arith, n .ensures, fitting-most (size (c .before .before .before .before .before .before .before .before .before .before .before .before) .conditional + s .args .statement .candidates) (length (s .args .boards .now)))))
 
-test-lent-requires : tie.Need-test-lent-requires
-test-lent-requires c κs = search needs
+test-buffers-requires : tie.Need-test-buffers-requires
+test-buffers-requires c κs = search needs
 
 enum-known-reason-2 : tie.Need-enum-known-reason-2
 enum-known-reason-2 c = search needs
@@ -165,10 +165,10 @@ enum-told-3 : tie.Need-enum-told-3
 enum-told-3 c = search needs
 
 -- the tests of what else is lent, on their pieces
-lent-said : (c : tie.After-test-lent) → let s = c .before .before .before .before .before .before .before .before .before .before .before .before .before .before .before .before .before .before .before .before .before .before .before .before in let p = pieces s in
-    refusedFor (c .test-lent .result) ≡ firstOf (lentReasons (ballotBytes (shapeOf (s .args .statement))) (s .args .statement .candidates) (size (c .before .before .before .before .before .before .before .before .before .before .before .before .before)) (p .tapes) (p .wires) (p .boards))
+lent-outcome : (c : tie.After-test-buffers) → let s = c .before .before .before .before .before .before .before .before .before .before .before .before .before .before .before .before .before .before .before .before .before .before .before .before in let p = pieces s in
+    refusedFor (c .test-buffers .result) ≡ firstOf (bufferReasons (ballotBytes (shapeOf (s .args .statement))) (s .args .statement .candidates) (size (c .before .before .before .before .before .before .before .before .before .before .before .before .before)) (p .tapes) (p .wires) (p .boards))
 unfolding size
-lent-said c =
+lent-outcome c =
     let told = c .before .before .before .before .before .before .before .before .before .before .before .before .before in
     let s = c .before .before .before .before .before .before .before .before .before .before .before .before .before .before .before .before .before .before .before .before .before .before .before .before in
     let st = s .args .statement in
@@ -180,37 +180,37 @@ lent-said c =
     let v = c .before .before .before .before .before .bytes-fitting3 in
     let o = c .before .before .before .before .bytes-fitting4 in
     let facts = stated-size st (all s) z (passed told) in
-    c .test-lent .ensures
-    ∙ ap (λ (x : ℕ). firstOf (lentReasons x k z (take (n .result) (s .args .tapes .now)) (take (v .result) (s .args .wires .now)) (take (o .result) (s .args .boards .now)))) (i .ensures)
-    ∙ ap (λ (x : List ℕ). firstOf (lentReasons (ballotBytes (shapeOf st)) k z x (take (v .result) (s .args .wires .now)) (take (o .result) (s .args .boards .now)))) (tape-piece st (all s) (z .conditional) (n .result) (facts .1) (n .ensures))
-    ∙ ap (λ (x : List ℕ). firstOf (lentReasons (ballotBytes (shapeOf st)) k z (p .tapes) x (take (o .result) (s .args .boards .now)))) (wires-piece st (all s) (i .result) (z .gates) (v .result) (i .ensures) (facts .0) (v .ensures))
-    ∙ ap (λ (x : List ℕ). firstOf (lentReasons (ballotBytes (shapeOf st)) k z (p .tapes) (p .wires) x)) (board-piece st (all s) (z .conditional) (o .result) (facts .1) (o .ensures))
+    c .test-buffers .ensures
+    ∙ ap (λ (x : ℕ). firstOf (bufferReasons x k z (take (n .result) (s .args .tapes .now)) (take (v .result) (s .args .wires .now)) (take (o .result) (s .args .boards .now)))) (i .ensures)
+    ∙ ap (λ (x : List ℕ). firstOf (bufferReasons (ballotBytes (shapeOf st)) k z x (take (v .result) (s .args .wires .now)) (take (o .result) (s .args .boards .now)))) (tape-piece st (all s) (z .conditional) (n .result) (facts .1) (n .ensures))
+    ∙ ap (λ (x : List ℕ). firstOf (bufferReasons (ballotBytes (shapeOf st)) k z (p .tapes) x (take (o .result) (s .args .boards .now)))) (wires-piece st (all s) (i .result) (z .gates) (v .result) (i .ensures) (facts .0) (v .ensures))
+    ∙ ap (λ (x : List ℕ). firstOf (bufferReasons (ballotBytes (shapeOf st)) k z (p .tapes) (p .wires) x)) (board-piece st (all s) (z .conditional) (o .result) (facts .1) (o .ensures))
 
 -- what they answer is what the whole answers
-whole-said : (c : tie.After-test-lent) → let s = c .before .before .before .before .before .before .before .before .before .before .before .before .before .before .before .before .before .before .before .before .before .before .before .before in firstOf (reasonsOf (s .args .statement) (all s)) ≡ refusedFor (c .test-lent .result)
+whole-outcome : (c : tie.After-test-buffers) → let s = c .before .before .before .before .before .before .before .before .before .before .before .before .before .before .before .before .before .before .before .before .before .before .before .before in firstOf (reasonsOf (s .args .statement) (all s)) ≡ refusedFor (c .test-buffers .result)
 unfolding reasonsOf
-whole-said c =
+whole-outcome c =
     let told = c .before .before .before .before .before .before .before .before .before .before .before .before .before in
     let s = c .before .before .before .before .before .before .before .before .before .before .before .before .before .before .before .before .before .before .before .before .before .before .before .before in
     let p = pieces s in
-    by-lent (shapeOf (s .args .statement)) (p .lists) (p .ballots) (p .tapes) (p .wires) (p .boards) (passed told .reasons) (size told) (refusedFor (c .test-lent .result)) (passed told .size) (no-reason (c .before .before .before .before .before .before .before)) (sym (lent-said c))
+    by-lent (shapeOf (s .args .statement)) (p .lists) (p .ballots) (p .tapes) (p .wires) (p .boards) (passed told .reasons) (size told) (refusedFor (c .test-buffers .result)) (passed told .size) (no-reason (c .before .before .before .before .before .before .before)) (sym (lent-outcome c))
 
 returns-3 : tie.Need-returns-3
-unfolding saidBy refusedFor
+unfolding outcomeOf refusedFor
 returns-3 c =
     let t = c .before .before .before in
     let r = reasonOf (c .before .reason2 .given .0 .0) in
-    refuses (t .before .before .before .before .before .before .before .before .before .before .before .before .before .before .before .before .before .before .before .before .before .before .before .before) r (whole-said t ∙ ap refusedFor (c .before .reason2 .given .1))
+    refuses (t .before .before .before .before .before .before .before .before .before .before .before .before .before .before .before .before .before .before .before .before .before .before .before .before) r (whole-outcome t ∙ ap refusedFor (c .before .reason2 .given .1))
 
 returns-4 : tie.Need-returns-4
-unfolding testSaid refusedFor piecesOf
+unfolding testOutcome refusedFor piecesOf
 returns-4 c =
     let t = c .before .before in
     let told = t .before .before .before .before .before .before .before .before .before .before .before .before .before in
     let s = t .before .before .before .before .before .before .before .before .before .before .before .before .before .before .before .before .before .before .before .before .before .before .before .before in
-    let none-applies = whole-said t ∙ ap refusedFor (c .enum-told3 .given .1) in
-    sym (ap saidBy (told .before .answer .given .1)) ∙ list-said (told .before .before .before)
-    ∙ ap (λ (o : Option Reason). said o (sizeOf (gatesOf (listOf (s .args .statement) (all s))))) (passed told .reasons ∙ sym none-applies)
+    let none-applies = whole-outcome t ∙ ap refusedFor (c .enum-told3 .given .1) in
+    sym (ap outcomeOf (told .before .answer .given .1)) ∙ list-outcome (told .before .before .before)
+    ∙ ap (λ (o : Option Reason). outcome o (sizeOf (gatesOf (listOf (s .args .statement) (all s))))) (passed told .reasons ∙ sym none-applies)
 
 pub test-jury-spec : {M : Type 1} → statement M
 test-jury-spec =
@@ -232,10 +232,10 @@ test-jury-spec =
     bytes-fitting-requires-2
     bytes-fitting-requires-3
     bytes-fitting-requires-4
-    slice-aggregate-test-lent
-    slice-aggregate-test-lent-2
-    slice-aggregate-test-lent-3
-    test-lent-requires
+    slice-aggregate-test-buffers
+    slice-aggregate-test-buffers-2
+    slice-aggregate-test-buffers-3
+    test-buffers-requires
     enum-known-reason-2
     enum-told-3
     returns-3

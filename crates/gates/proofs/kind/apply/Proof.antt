@@ -6,7 +6,7 @@ use Prim.Native.Nat.{ℕ, _≤_}
 use native.Mathlib.Omega.{arith}
 use borrow.Author.Tests.{eq-eqb, ne-eqb, le-ltb}
 use Rattle.gates.specs.Open.Kind.{applied, valueOf, differ, choose}
-use Rattle.gates.specs.declared.kind.Applied.the-variants.{Value}
+use Rattle.gates.specs.declared.kind.GateValue.the-variants.{Value}
 use Rattle.gates.proofs.kind.apply.Statement.{statement}
 use Rattle.gates.proofs.kind.apply.Tie as tie
 

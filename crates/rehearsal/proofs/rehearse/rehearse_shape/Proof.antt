@@ -6,10 +6,10 @@ use Prim.Native.Nat.{ℕ, _+_, _*_, _-_, _≤_}
 use native.Mathlib.Omega.{arith}
 use lib.ListN.{length, take, drop}
 use borrow.Author.Needs.{needs}
-use Rattle.tally.specs.Answer.{Said, saidBy}
+use Rattle.tally.specs.Answer.{Outcome, outcomeOf}
 use Rattle.tally.specs.declared.answer.Answer.the-variants as answer
-use Rattle.tally.specs.Write.{writeSaid, written}
-use Rattle.rehearsal.specs.Rehearsal.{Cut, shapeIn, ballotsIn, rehearsalSaid, runSaid, saidOn, endOn}
+use Rattle.tally.specs.Write.{writeOutcome, written}
+use Rattle.rehearsal.specs.Rehearsal.{Cut, shapeIn, ballotsIn, rehearsalOutcome, runOutcome, saidOn, endOn}
 use Rattle.rehearsal.proofs.Rehearsing.{cut-long, gates-few, list-fits, write-cut, by-the-run, by-the-write, no-ballots, some-ballots}
 use Rattle.rehearsal.proofs.rehearse.rehearse_shape.Statement.{statement}
 use Rattle.rehearsal.proofs.rehearse.rehearse_shape.Tie as tie
@@ -21,28 +21,28 @@ gates-of c = c .before .gates .given .0 .0
 conditional-of : tie.After-known-told2 → ℕ
 conditional-of c = c .before .gates .given .0 .1 .0
 
-said-accepted : (c : tie.After-known-told2) →
+outcome-accepted : (c : tie.After-known-told2) →
     let w = c .before .before .before .before .before in
     let start = w .before .before .before .before .before .before .before in
-    saidBy (answer.Accepted (gates-of c) (conditional-of c)) ≡ writeSaid (start .args .shape) (start .args .table .now)
+    outcomeOf (answer.Accepted (gates-of c) (conditional-of c)) ≡ writeOutcome (start .args .shape) (start .args .table .now)
 unfolding gates-of conditional-of
-said-accepted c =
+outcome-accepted c =
     let w = c .before .before .before .before .before in
-    sym (ap saidBy (c .before .gates .given .1)) ∙ w .write .ensures .0
+    sym (ap outcomeOf (c .before .gates .given .1)) ∙ w .write .ensures .0
 
 few : (c : tie.After-known-told2) → gates-of c ≤ 4000
 few c =
     let w = c .before .before .before .before .before in
     let start = w .before .before .before .before .before .before .before in
     let a = start .args in
-    gates-few (start .args .shape) (a .table .now) (a .tape .now) (a .wires .now) (a .board .now) (start .pre .1) (gates-of c) (conditional-of c) (said-accepted c)
+    gates-few (start .args .shape) (a .table .now) (a .tape .now) (a .wires .now) (a .board .now) (start .pre .1) (gates-of c) (conditional-of c) (outcome-accepted c)
 
 fits : (c : tie.After-known-told2) → 4 * gates-of c ≤ length (c .before .before .before .before .before .write .last .1 .0)
 fits c =
     let w = c .before .before .before .before .before in
     let start = w .before .before .before .before .before .before .before in
     let a = start .args in
-    omega (arith, ap length (w .write .ensures .1 .0), list-fits (start .args .shape) (a .table .now) (a .tape .now) (a .wires .now) (a .board .now) (start .pre .1) (gates-of c) (conditional-of c) (said-accepted c))
+    omega (arith, ap length (w .write .ensures .1 .0), list-fits (start .args .shape) (a .table .now) (a .tape .now) (a .wires .now) (a .board .now) (start .pre .1) (gates-of c) (conditional-of c) (outcome-accepted c))
 
 write-requires : tie.Need-write-requires
 write-requires c κs = search needs
@@ -78,7 +78,7 @@ cut c =
     let w = c .before .before .before .before .before in
     let start = w .before .before .before .before .before .before .before in
     let a = start .args in
-    write-cut (start .args .shape) (a .table .now) (a .tape .now) (a .wires .now) (a .board .now) (start .pre .1) (gates-of c) (conditional-of c) (said-accepted c) _
+    write-cut (start .args .shape) (a .table .now) (a .tape .now) (a .wires .now) (a .board .now) (start .pre .1) (gates-of c) (conditional-of c) (outcome-accepted c) _
     (ap (take (4 * gates-of c)) (w .write .ensures .1 .0))
 
 run-list-requires : tie.Need-run-list-requires
@@ -107,20 +107,20 @@ returns c =
     let w = c .before .before .before .before .before in
     let start = w .before .before .before .before .before .before .before in
     let a = start .args in
-    (by-the-write (a .input .now) (a .table .now) (start .args .shape) (c .before .reason .given .0 .0) (start .pre .0) (sym (ap saidBy (c .before .reason .given .1)) ∙ w .write .ensures .0), omega arith)
+    (by-the-write (a .input .now) (a .table .now) (start .args .shape) (c .before .reason .given .0 .0) (start .pre .0) (sym (ap outcomeOf (c .before .reason .given .1)) ∙ w .write .ensures .0), omega arith)
 
 -- the run's answer is the rehearsal's
 same-answer : (c : tie.After-known-told2) (ballots : List ℕ) →
     let w = c .before .before .before .before .before in
     let start = w .before .before .before .before .before .before .before in
     let a = start .args in
-    ballots ≡ ballotsIn (a .input .now) → runSaid (start .args .shape) ballots ≡ rehearsalSaid (a .input .now) (a .table .now)
+    ballots ≡ ballotsIn (a .input .now) → runOutcome (start .args .shape) ballots ≡ rehearsalOutcome (a .input .now) (a .table .now)
 same-answer c ballots e =
     let w = c .before .before .before .before .before in
     let start = w .before .before .before .before .before .before .before in
     let a = start .args in
-    ap (runSaid (start .args .shape)) e
-    ∙ by-the-run (start .args .shape) (a .table .now) (a .tape .now) (a .wires .now) (a .board .now) (start .pre .1) (gates-of c) (conditional-of c) (said-accepted c) (a .input .now) (start .pre .0)
+    ap (runOutcome (start .args .shape)) e
+    ∙ by-the-run (start .args .shape) (a .table .now) (a .tape .now) (a .wires .now) (a .board .now) (start .pre .1) (gates-of c) (conditional-of c) (outcome-accepted c) (a .input .now) (start .pre .0)
 
 same-length-2 : tie.Need-same-length-2
 same-length-2 c = search needs

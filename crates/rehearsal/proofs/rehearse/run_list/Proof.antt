@@ -6,9 +6,9 @@ use native.Mathlib.Omega.{arith}
 use lib.ListN.{length, take}
 use borrow.Author.Needs.{needs}
 use Rattle.jury.specs.Shape.{withinLimits}
-use Rattle.tally.specs.Answer.{saidBy}
+use Rattle.tally.specs.Answer.{outcomeOf}
 use Rattle.rehearsal.specs.Rehearsal.{saidOn, endOn}
-use Rattle.rehearsal.proofs.Rehearsing.{cut-long, inputs-most, tape-fits, wires-fit, board-fits, board-most, refusal-said, winners-said, winners-end}
+use Rattle.rehearsal.proofs.Rehearsing.{cut-long, inputs-most, tape-fits, wires-fit, board-fits, board-most, refusal-outcome, winners-outcome, winners-end}
 use Rattle.rehearsal.proofs.rehearse.run_list.Statement.{statement}
 use Rattle.rehearsal.proofs.rehearse.run_list.Tie as tie
 
@@ -84,8 +84,8 @@ returns c =
     let sized = done .before .before .before .before in
     let start = sized .before .before .before .before .before .before .before in
     let a = start .args in (
-      refusal-said (a .shape) (a .list .now) (a .gates) (a .conditional) (a .tape .now) (a .wires .now) (a .board .now) (start .pre) (a .ballots .now) (sized .ballot-bytes .result) (sized .ballot-bytes .ensures)
-          (c .before .answer .given .0 .0) (sym (ap saidBy (c .before .answer .given .1)) ∙ done .run .ensures .0),
+      refusal-outcome (a .shape) (a .list .now) (a .gates) (a .conditional) (a .tape .now) (a .wires .now) (a .board .now) (start .pre) (a .ballots .now) (sized .ballot-bytes .result) (sized .ballot-bytes .ensures)
+          (c .before .answer .given .0 .0) (sym (ap outcomeOf (c .before .answer .given .1)) ∙ done .run .ensures .0),
       omega arith,
     )
 
@@ -103,10 +103,10 @@ returns-2 c =
     let start = sized .before .before .before .before .before .before .before in
     let a = start .args in
     let g = c .before .answer2 .given in (
-      winners-said (a .shape) (a .list .now) (a .gates) (a .conditional) (a .tape .now) (a .wires .now) (a .board .now) (start .pre) (a .ballots .now) (sized .ballot-bytes .result) (sized .ballot-bytes .ensures)
-          (g .0 .0) (g .0 .1 .0) _ _ (sym (ap saidBy (g .1)) ∙ done .run .ensures .0) (done .run .ensures .1 .1),
+      winners-outcome (a .shape) (a .list .now) (a .gates) (a .conditional) (a .tape .now) (a .wires .now) (a .board .now) (start .pre) (a .ballots .now) (sized .ballot-bytes .result) (sized .ballot-bytes .ensures)
+          (g .0 .0) (g .0 .1 .0) _ _ (sym (ap outcomeOf (g .1)) ∙ done .run .ensures .0) (done .run .ensures .1 .1),
       winners-end (a .shape) (a .list .now) (a .gates) (a .conditional) (a .tape .now) (a .wires .now) (a .board .now) (start .pre) (a .ballots .now) (sized .ballot-bytes .result) (sized .ballot-bytes .ensures)
-          (g .0 .0) (g .0 .1 .0) _ _ (sym (ap saidBy (g .1)) ∙ done .run .ensures .0) (done .run .ensures .1 .1),
+          (g .0 .0) (g .0 .1 .0) _ _ (sym (ap outcomeOf (g .1)) ∙ done .run .ensures .0) (done .run .ensures .1 .1),
     )
 
 pub run-list-spec : {M : Type 1} → statement M

@@ -5,7 +5,7 @@ use mathlib.Core.Bool.{cond}
 use Prim.Native.Nat.{ℕ}
 use borrow.Author.Needs.{needs}
 use Rattle.jury.specs.declared.shape.Shape.{Shape}
-use Rattle.jury.specs.declared.shape.Shaped.the-variants.{Within, Outside}
+use Rattle.jury.specs.declared.shape.ShapeResult.the-variants.{Within, Outside}
 use Rattle.jury.specs.Shape.{withinLimits}
 use Rattle.rehearsal.specs.Rehearsal.{shapeIn}
 use Rattle.rehearsal.proofs.rehearse.shape.Statement.{statement}

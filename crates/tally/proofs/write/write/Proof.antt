@@ -14,7 +14,7 @@ use Rattle.jury.specs.Shape.{withinLimits}
 use Rattle.jury.specs.Reason.{reasonOf, reasonAt}
 use Rattle.jury.proofs.Flags.{true-T, T-true}
 use Rattle.tally.specs.OwnList.{ownList}
-use Rattle.tally.specs.Answer.{accepted, saidBy, sizeOf}
+use Rattle.tally.specs.Answer.{accepted, outcomeOf, sizeOf}
 use Rattle.tally.specs.Write.{OwnListHolds}
 use Rattle.tally.proofs.OwnList.{own-list-holds}
 use Rattle.tally.proofs.Writing.{write-refused, outside, too-short, fits, write-accepted, stored}
@@ -37,7 +37,7 @@ is-within-limits-requires : tie.Need-is-within-limits-requires
 is-within-limits-requires c κs = search needs
 
 returns : tie.Need-returns
-unfolding saidBy reasonOf
+unfolding outcomeOf reasonOf
 returns c =
     let a = c .before .before .before .args in
     let r = write-refused (a .shape) (a .table .now) (reasonAt 1 0)
@@ -52,7 +52,7 @@ gates-requires : tie.Need-gates-requires
 gates-requires c κs = true-T (withinLimits (c .before .before .before .args .shape)) (limits c)
 
 returns-2 : tie.Need-returns-2
-unfolding saidBy reasonOf
+unfolding outcomeOf reasonOf
 returns-2 c =
     let measured = c .before in
     let within = measured .before in
@@ -77,7 +77,7 @@ same-length : tie.Need-same-length
 same-length c = search needs
 
 returns-3 : tie.Need-returns-3
-unfolding saidBy
+unfolding outcomeOf
 returns-3 c =
     let done = c .before .before in
     let test = done .before .before in

@@ -20,8 +20,8 @@ use Rattle.jury.specs.Reason.{reasonOf, reasonAt}
 use Rattle.jury.proofs.Flags.{true-T}
 use Rattle.jury.proofs.Limits.{within, ranked, bounds, kinds, bytes-are, ranked-bytes, inputs-bound}
 use Rattle.tally.specs.Answer.{accepted}
-use Rattle.text.specs.Text.{linesOf, firstOther, gatesIn}
-use Rattle.text.specs.Answer.{textReasonOf, lengthSaid}
+use Rattle.text.specs.Text.{linesOf, firstMalformed, gatesIn}
+use Rattle.text.specs.Answer.{textReasonOf, lengthOutcome}
 use Rattle.text.proofs.Storing.{sets-front}
 use Rattle.text.proofs.Whole.{gates-many}
 use Rattle.text.proofs.Reasons.{shape-outside, too-few, too-many, other-line, bad-gate, numbers-short, numbers-good, read-refused, read-accepted}
@@ -34,7 +34,7 @@ is-within-limits-requires : tie.Need-is-within-limits-requires
 is-within-limits-requires c κs = search needs
 
 returns : tie.Need-returns
-unfolding lengthSaid textReasonOf reasonOf
+unfolding lengthOutcome textReasonOf reasonOf
 returns c =
     let a = c .before .before .before .before .args in
     let w = c .before .is-within-limits in
@@ -50,7 +50,7 @@ enough c = omega (arith, c .before .before .line-count .ensures, c .if2 .left)
 few : (c : tie.Else3) → length (linesOf (c .before .before .before .before .before .before .before .before .args .text .now)) ≤ 1048576
 few c = omega (arith, c .before .before .before .line-count .ensures, c .if3 .left)
 
-gates-all : (c : tie.After-enum-told) → firstOther 0 (linesOf (c .before .before .before .before .before .before .before .before .before .before .before .args .text .now)) ≡ Nowhere
+gates-all : (c : tie.After-enum-told) → firstMalformed 0 (linesOf (c .before .before .before .before .before .before .before .before .before .before .before .args .text .now)) ≡ Nowhere
 gates-all c = sym (c .before .before .first-other .ensures) ∙ c .enum-told .given .1
 
 inputs-few : (c : tie.After-ballot-bytes) → c .ballot-bytes .result < 4294967296
@@ -89,14 +89,14 @@ line-count-requires : tie.Need-line-count-requires
 line-count-requires c κs = search needs
 
 returns-2 : tie.Need-returns-2
-unfolding lengthSaid textReasonOf reasonOf
+unfolding lengthOutcome textReasonOf reasonOf
 returns-2 c =
     let a = c .before .before .before .before .before .before .before .args in
     read-refused (a .shape) (a .text .now) (a .output .now) (reasonAt 2 0)
     (too-few (a .shape) (a .text .now) (a .output .now) (limits (c .before .before .before)) (omega (arith, c .before .before .line-count .ensures, c .if2 .taken)))
 
 returns-3 : tie.Need-returns-3
-unfolding lengthSaid textReasonOf reasonOf
+unfolding lengthOutcome textReasonOf reasonOf
 returns-3 c =
     let a = c .before .before .before .before .before .before .before .before .args in
     read-refused (a .shape) (a .text .now) (a .output .now) (reasonAt 2 0)
@@ -109,7 +109,7 @@ enum-known-i : tie.Need-enum-known-i
 enum-known-i c = search needs
 
 returns-4 : tie.Need-returns-4
-unfolding lengthSaid textReasonOf
+unfolding lengthOutcome textReasonOf
 returns-4 c =
     let a = c .before .before .before .before .before .before .before .before .before .before .before .before .args in
     let g = c .before .i .given in
@@ -129,7 +129,7 @@ enum-known-g : tie.Need-enum-known-g
 enum-known-g c = search needs
 
 returns-5 : tie.Need-returns-5
-unfolding lengthSaid textReasonOf reasonOf
+unfolding lengthOutcome textReasonOf reasonOf
 returns-5 c =
     let a = c .before .before .before .before .before .before .before .before .before .before .before .before .before .before .before .before .args in
     let g = c .before .g .given in
@@ -143,7 +143,7 @@ mul-if4 : tie.Need-mul-if4
 mul-if4 c = omega (arith, c .before .before .before .before .before .before .before .before .before .before .line-count .ensures, few (c .before .before .before .before .before .before .before))
 
 returns-6 : tie.Need-returns-6
-unfolding lengthSaid textReasonOf
+unfolding lengthOutcome textReasonOf
 returns-6 c =
     let a = c .before .before .before .before .before .before .before .before .before .before .before .before .before .before .before .before .args in
     read-refused (a .shape) (a .text .now) (a .output .now) (reasonAt 24 0)
@@ -163,7 +163,7 @@ same-length : tie.Need-same-length
 same-length c = ap length (c .before .before .put-gates .ensures) ∙ length-sets (c .before .before .before .before .before .before .before .before .before .before .before .before .before .before .before .before .before .before .before .before .args .output .now) 0 (numbersOf (gatesIn (linesOf (c .before .before .before .before .before .before .before .before .before .before .before .before .before .before .before .before .before .before .before .before .args .text .now))))
 
 returns-7 : tie.Need-returns-7
-unfolding lengthSaid
+unfolding lengthOutcome
 returns-7 c =
     let a = c .before .before .before .before .before .before .before .before .before .before .before .before .before .before .before .before .before .before .before .before .args in
     let text = a .text .now in

@@ -4,7 +4,7 @@ use mathlib.Core.Path.{_≡_, _∙_, refl, sym, ap}
 use Prim.Native.Nat.{ℕ, _-_, _≤_}
 use native.Mathlib.Numerals.{add-one}
 use lib.ListN.{length, drop}
-use Rattle.text.specs.Text.{linesOf, firstOther}
+use Rattle.text.specs.Text.{linesOf, firstMalformed}
 use Rattle.text.proofs.Scanning.{next-within, next-later, later-other, here-other, other-end}
 use native.Mathlib.Omega.{arith}
 use borrow.Author.Needs.{needs}
@@ -12,7 +12,7 @@ use Rattle.text.proofs.scan.first_other.Statement.{statement}
 use Rattle.text.proofs.scan.first_other.Tie as tie
 
 abbrev Inv-loop : tie.InvT-loop
-Inv-loop text at₀ i₀ at i = (at ≤ length text) × (i ≤ at) × (firstOther i (linesOf (drop at text)) ≡ firstOther 0 (linesOf text))
+Inv-loop text at₀ i₀ at i = (at ≤ length text) × (i ≤ at) × (firstMalformed i (linesOf (drop at text)) ≡ firstMalformed 0 (linesOf text))
 
 abbrev μ-loop : tie.MeasureT-loop
 μ-loop text at₀ i₀ at i = length text - at
@@ -54,7 +54,7 @@ loop-again c =
     let later = next-later text (l .at) (r .result) (r .ensures .0) (r .ensures .1) _ _ _ _ next (g .1) in (
       next-within text (l .at) (r .result) (r .ensures .0) (r .ensures .1) _ _ _ _ next (g .1),
       omega arith,
-      ap (λ (n : ℕ). firstOther n (linesOf (drop next text))) (add-one (l .i))
+      ap (λ (n : ℕ). firstMalformed n (linesOf (drop next text))) (add-one (l .i))
           ∙ sym (later-other text (l .at) (r .result) (r .ensures .0) (r .ensures .1) _ _ _ _ next (g .1) (l .i)) ∙ l .inv .2,
     )
 

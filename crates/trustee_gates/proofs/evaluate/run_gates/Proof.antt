@@ -64,14 +64,14 @@ loop-less c = omega (arith, c .before .before .before .before .before .before .b
 
 loop-again : tie.Need-loop-again Inv-loop μ-loop
 loop-again c =
-    let ran = c .before .before .before .before in
-    let turn = ran .before .before .before .before in
+    let runResult = c .before .before .before .before in
+    let turn = runResult .before .before .before .before in
     let l = turn .before .before .loop in
     let s = turn .before .before .before .before .before .before .before in
     let a = s .args in
     let r = s .pre in
     turn-by (a .t) (a .inputs) (a .pieces) (a .table .now) (a .dealt .now) _ _ (r .wires-size) (r .few) (r .dealt-size) (r .published-size) (r .some-input) (r .dealt-length) (l .wires) (l .published) (l .i) (l .g) (l .inv)
-    (omega (arith, length-gates (a .table .now), turn .before .loop-test .taken)) (turn .numbers-at .result) (turn .numbers-at .ensures) _ _ _ _ (ran .run-gate .ensures .0) (ran .run-gate .ensures .1 .0) (ran .run-gate .ensures .1 .1) (add-one (l .g))
+    (omega (arith, length-gates (a .table .now), turn .before .loop-test .taken)) (turn .numbers-at .result) (turn .numbers-at .ensures) _ _ _ _ (runResult .run-gate .ensures .0) (runResult .run-gate .ensures .1 .0) (runResult .run-gate .ensures .1 .1) (add-one (l .g))
 
 same-length : tie.Need-same-length Inv-loop μ-loop
 same-length c =

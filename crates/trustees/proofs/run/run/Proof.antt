@@ -9,8 +9,8 @@ use lib.ListN.{replicate}
 use Rattle.gates.specs.Gate.{gatesOf}
 use Rattle.jury.specs.Reason.{Reason, reasonOf, firstOf}
 use Rattle.jury.specs.ClosingBytes.{eightBytes}
-use Rattle.tally.specs.Answer.{Size, accepted, said, saidBy, sizeOf}
-use Rattle.tally.proofs.RunReasons.{said-refused, said-accepted}
+use Rattle.tally.specs.Answer.{Size, accepted, outcome, outcomeOf, sizeOf}
+use Rattle.tally.proofs.RunReasons.{outcome-refused, outcome-accepted}
 use Rattle.trustee_shares.specs.Views.{Dealing}
 use Rattle.trustees.specs.Shared.{Shared, sharedReasons, sharedAfter}
 use Rattle.trustees.proofs.Reasons.{call-passed, shared-by}
@@ -26,20 +26,20 @@ size c = let g = c .before .answer .given in record { gates = g .0 .0; condition
 
 -- where the tests pass, no reason applies
 no-reason : (c : tie.After-known-told) → let start = c .before .before .before .before .before .before .before .before .before .before .before .before in let a = start .args in firstOf (sharedReasons (a .shape) (a .table .now) (a .ballots .now) (a .t) (dealing start) (a .wires .now) (a .published .now)) ≡ none
-unfolding saidBy
+unfolding outcomeOf
 no-reason c =
     let start = c .before .before .before .before .before .before .before .before .before .before .before .before in
     let a = start .args in
-    said-accepted (firstOf (sharedReasons (a .shape) (a .table .now) (a .ballots .now) (a .t) (dealing start) (a .wires .now) (a .published .now))) (sizeOf (gatesOf (a .table .now))) (size c) (sym (c .before .before .before .test .ensures) ∙ ap saidBy (c .before .answer .given .1))
+    outcome-accepted (firstOf (sharedReasons (a .shape) (a .table .now) (a .ballots .now) (a .t) (dealing start) (a .wires .now) (a .published .now))) (sizeOf (gatesOf (a .table .now))) (size c) (sym (c .before .before .before .test .ensures) ∙ ap outcomeOf (c .before .answer .given .1))
 
 -- and the answer is the list's own size
 is-size : (c : tie.After-known-told) → let start = c .before .before .before .before .before .before .before .before .before .before .before .before in size c ≡ sizeOf (gatesOf (start .args .table .now))
-unfolding saidBy said
+unfolding outcomeOf outcome
 is-size c =
     let start = c .before .before .before .before .before .before .before .before .before .before .before .before in
     let a = start .args in
     let e : accepted (size c) ≡ accepted (sizeOf (gatesOf (a .table .now))) =
-    sym (ap saidBy (c .before .answer .given .1)) ∙ c .before .before .before .test .ensures ∙ ap (λ (o : Option Reason). said o (sizeOf (gatesOf (a .table .now)))) (no-reason c) in
+    sym (ap outcomeOf (c .before .answer .given .1)) ∙ c .before .before .before .test .ensures ∙ ap (λ (o : Option Reason). outcome o (sizeOf (gatesOf (a .table .now)))) (no-reason c) in
     cc
 
 ready : (c : tie.After-known-told) → let start = c .before .before .before .before .before .before .before .before .before .before .before .before in let a = start .args in Ready (a .shape) (a .table .now) (a .ballots .now) (a .t) (dealing start) (a .wires .now) (a .published .now) (size c)
@@ -64,14 +64,14 @@ same-length-2 : tie.Need-same-length-2
 same-length-2 c = search needs
 
 returns : tie.Need-returns
-unfolding saidBy sharedAfter eightBytes
+unfolding outcomeOf sharedAfter eightBytes
 returns c =
     let start = c .before .before .before .before .before .before .before .before .before .before .before in
     let a = start .args in
     let o = firstOf (sharedReasons (a .shape) (a .table .now) (a .ballots .now) (a .t) (dealing start) (a .wires .now) (a .published .now)) in
     let r = reasonOf (c .enum-told .given .0 .0) in
-    let told = ap saidBy (c .enum-told .given .1) in
-    let e = shared-by (a .shape) (a .table .now) (a .ballots .now) (a .t) (dealing start) (a .wires .now) (a .published .now) (some r) (said-refused o (sizeOf (gatesOf (a .table .now))) r (sym (c .before .before .test .ensures) ∙ told)) in (
+    let told = ap outcomeOf (c .enum-told .given .1) in
+    let e = shared-by (a .shape) (a .table .now) (a .ballots .now) (a .t) (dealing start) (a .wires .now) (a .published .now) (some r) (outcome-refused o (sizeOf (gatesOf (a .table .now))) r (sym (c .before .before .test .ensures) ∙ told)) in (
       told ∙ sym (ap (λ (q : Shared). q .answer) e),
       (sym (ap (λ (q : Shared). q .closing) e), (sym (ap (λ (q : Shared). q .wireParts) e), sym (ap (λ (q : Shared). q .published) e))),
     )
@@ -103,7 +103,7 @@ same-length-4 : tie.Need-same-length-4
 same-length-4 c = search needs
 
 returns-2 : tie.Need-returns-2
-unfolding said sharedAfter
+unfolding outcome sharedAfter
 returns-2 c =
     let emptied = c .before .before in
     let opened = emptied .before .before in
@@ -113,7 +113,7 @@ returns-2 c =
     let a = start .args in
     let e = shared-by (a .shape) (a .table .now) (a .ballots .now) (a .t) (dealing start) (a .wires .now) (a .published .now) none (no-reason told) in
     let same = done .evaluate .kept .1 .1 .1 .1 .1 .1 .1 .0 in (
-      sym (ap saidBy (told .before .answer .given .1)) ∙ told .before .before .before .test .ensures ∙ ap (λ (o : Option Reason). said o (sizeOf (gatesOf (a .table .now)))) (no-reason told) ∙ sym (ap (λ (q : Shared). q .answer) e),
+      sym (ap outcomeOf (told .before .answer .given .1)) ∙ told .before .before .before .test .ensures ∙ ap (λ (o : Option Reason). outcome o (sizeOf (gatesOf (a .table .now)))) (no-reason told) ∙ sym (ap (λ (q : Shared). q .answer) e),
       (
         opened .open-closing .ensures ∙ opened-closing (a .shape) (a .table .now) (a .ballots .now) (a .t) (dealing start) (a .wires .now) (a .published .now) (size told) (ready told) _ (done .evaluate .ensures .1) ∙ sym (ap (λ (q : Shared). q .closing) e),
         (emptied .empty .ensures ∙ ap (λ (n : ℕ). replicate n 0) same ∙ sym (ap (λ (q : Shared). q .wireParts) e), done .evaluate .ensures .1 ∙ sym (ap (λ (q : Shared). q .published) e)),

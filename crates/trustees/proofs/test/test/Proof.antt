@@ -9,8 +9,8 @@ use Rattle.jury.specs.Reason.{Reason, reasonOf, refusedFor, firstOf}
 use Rattle.jury.specs.Ballots.{ballotReasons}
 use Rattle.jury.proofs.Flags.{true-T}
 use Rattle.jury.proofs.AcceptedLaws as ballots-laws
-use Rattle.tally.specs.Answer.{Size, refused, said, saidBy, sizeOf}
-use Rattle.tally.specs.Test.{testSaid}
+use Rattle.tally.specs.Answer.{Size, refused, outcome, outcomeOf, sizeOf}
+use Rattle.tally.specs.Test.{testOutcome}
 use Rattle.tally.proofs.TestReasons.{TestPassed, test-passed}
 use Rattle.trustee_shares.specs.Views.{Dealing}
 use Rattle.trustees.specs.Shared.{sharedReasons}
@@ -23,19 +23,19 @@ dealing s = record { ballotParts = s .args .parts .now; dealerParts = s .args .d
 
 -- the first reason decides of the answer
 refuses : (start : tie.Start) (r : Reason) → let a = start .args in firstOf (sharedReasons (a .shape) (a .table .now) (a .ballots .now) (a .t) (dealing start) (a .wires .now) (a .published .now)) ≡ some r
-    → refused r ≡ said (firstOf (sharedReasons (a .shape) (a .table .now) (a .ballots .now) (a .t) (dealing start) (a .wires .now) (a .published .now))) (sizeOf (gatesOf (a .table .now)))
-unfolding said
-refuses start r e = sym (ap (λ (o : Option Reason). said o (sizeOf (gatesOf (start .args .table .now)))) e)
+    → refused r ≡ outcome (firstOf (sharedReasons (a .shape) (a .table .now) (a .ballots .now) (a .t) (dealing start) (a .wires .now) (a .published .now))) (sizeOf (gatesOf (a .table .now)))
+unfolding outcome
+refuses start r e = sym (ap (λ (o : Option Reason). outcome o (sizeOf (gatesOf (start .args .table .now)))) e)
 
 -- past the test of the list
 size : tie.After-known-told → Size
 size c = let g = c .before .answer .given in record { gates = g .0 .0; conditional = g .0 .1 .0 }
 
 passed : (c : tie.After-known-told) → let a = c .before .before .before .before .before .before .before .before .before .before .args in TestPassed (a .shape) (a .table .now) (size c)
-unfolding saidBy size
+unfolding outcomeOf size
 passed c =
     let a = c .before .before .before .before .before .before .before .before .before .before .args in
-    test-passed (a .shape) (a .table .now) (size c) (sym (c .before .before .before .test .ensures) ∙ ap saidBy (c .before .answer .given .1))
+    test-passed (a .shape) (a .table .now) (size c) (sym (c .before .before .before .test .ensures) ∙ ap outcomeOf (c .before .answer .given .1))
 
 -- past the test of the ballots
 no-reason : (c : tie.After-enum-told2) → let a = c .before .before .before .before .before .before .before .before .before .before .before .before .before .args in firstOf (ballotReasons (a .shape) (a .ballots .now)) ≡ none
@@ -62,12 +62,12 @@ enum-told : tie.Need-enum-told
 enum-told c = search needs
 
 returns : tie.Need-returns
-unfolding saidBy
+unfolding outcomeOf
 returns c =
     let start = c .before .before .before .before .before .before .before .before .before in
     let a = start .args in
     let r = reasonOf (c .enum-told .given .0 .0) in
-    let e = ap saidBy (c .enum-told .given .1) in
+    let e = ap outcomeOf (c .enum-told .given .1) in
     e ∙ refuses start r (by-test (a .shape) (a .table .now) (a .ballots .now) (a .t) (dealing start) (a .wires .now) (a .published .now) r (sym (c .before .before .test .ensures) ∙ e))
 
 test-requires-2 : tie.Need-test-requires-2
@@ -77,7 +77,7 @@ enum-known-reason : tie.Need-enum-known-reason
 enum-known-reason c = search needs
 
 returns-2 : tie.Need-returns-2
-unfolding saidBy refusedFor
+unfolding outcomeOf refusedFor
 returns-2 c =
     let told = c .before .before .before .before in
     let start = told .before .before .before .before .before .before .before .before .before .before in
@@ -104,7 +104,7 @@ enum-told-3 : tie.Need-enum-told-3
 enum-told-3 c = search needs
 
 returns-3 : tie.Need-returns-3
-unfolding saidBy refusedFor
+unfolding outcomeOf refusedFor
 returns-3 c =
     let parts = c .before .before .before in
     let start = parts .before .before .before .before .before .before .before .before .before .before .before .before .before .before in
@@ -112,14 +112,14 @@ returns-3 c =
     refuses start r (parts-answer parts ∙ ap refusedFor (c .before .reason2 .given .1))
 
 returns-4 : tie.Need-returns-4
-unfolding testSaid refusedFor
+unfolding testOutcome refusedFor
 returns-4 c =
     let parts = c .before .before in
     let told = parts .before .before .before .before in
     let a = told .before .before .before .before .before .before .before .before .before .before .args in
     let none-applies = parts-answer parts ∙ ap refusedFor (c .enum-told3 .given .1) in
-    sym (ap saidBy (told .before .answer .given .1)) ∙ told .before .before .before .test .ensures
-    ∙ ap (λ (o : Option Reason). said o (sizeOf (gatesOf (a .table .now)))) (passed told .reasons ∙ sym none-applies)
+    sym (ap outcomeOf (told .before .answer .given .1)) ∙ told .before .before .before .test .ensures
+    ∙ ap (λ (o : Option Reason). outcome o (sizeOf (gatesOf (a .table .now)))) (passed told .reasons ∙ sym none-applies)
 
 pub test-spec : {M : Type 1} → statement M
 test-spec =

@@ -7,8 +7,8 @@ use Rattle.jury.specs.Reason.{reasonOf}
 use Rattle.jury.proofs.Flags.{true-T}
 use Rattle.urn.specs.declared.facts.Facts.{Facts}
 use Rattle.urn.specs.Facts.{gradedShape, factsOf, countedBy}
-use Rattle.urn.specs.Admit.{admitSaid}
-use Rattle.urn.proofs.Deciding.{admit-first, admit-1, said-refused, graded-within}
+use Rattle.urn.specs.Admit.{admitOutcome}
+use Rattle.urn.proofs.Deciding.{admit-first, admit-1, outcome-refused, graded-within}
 use native.Mathlib.Omega.{arith}
 use borrow.Author.Needs.{needs}
 use Rattle.urn.proofs.admit.preview.Statement.{statement}
@@ -19,10 +19,10 @@ is-graded-requires c κs =
     tt
 
 returns : tie.Need-returns
-unfolding admitSaid countedBy reasonOf
+unfolding admitOutcome countedBy reasonOf
 returns c =
     let a = c .before .before .before .before .args in
-    said-refused _ _ _ (admit-first (a .k) (a .d) (factsOf (a .k) (a .d) (a .urn .now) (a .juror)) (a .juror) (a .ballot .now) ∙ admit-1 _ _ _ _ _ (sym (c .before .is-graded .ensures) ∙ not-true _ (c .if1 .taken)))
+    outcome-refused _ _ _ (admit-first (a .k) (a .d) (factsOf (a .k) (a .d) (a .urn .now) (a .juror)) (a .juror) (a .ballot .now) ∙ admit-1 _ _ _ _ _ (sym (c .before .is-graded .ensures) ∙ not-true _ (c .if1 .taken)))
 
 look-requires : tie.Need-look-requires
 look-requires c κs =
@@ -38,7 +38,7 @@ returns-2 : tie.Need-returns-2
 returns-2 c =
     let f = c .before in
     let a = f .before .before .before .before .before .args in
-    c .decide .ensures ∙ ap (λ (x : Facts). admitSaid (a .k) (a .d) x (a .juror) (a .ballot .now)) (f .look .ensures .0)
+    c .decide .ensures ∙ ap (λ (x : Facts). admitOutcome (a .k) (a .d) x (a .juror) (a .ballot .now)) (f .look .ensures .0)
 
 pub preview-spec : {M : Type 1} → statement M
 preview-spec =

@@ -14,8 +14,8 @@ use Rattle.urn_chains.specs.Sound.{juryOfOne, slotCount, urnLength}
 use Rattle.urn_chains.proofs.BytesLaws.{count-least}
 use Rattle.urn_chains.proofs.Judging.{counted-false, counted-true, counted-is, few-bytes, table}
 use Rattle.urn.specs.Facts.{gradedShape, countedBy}
-use Rattle.urn.specs.Empty.{emptySaid, allFree, emptied}
-use Rattle.urn.proofs.Deciding.{said-refused, said-accepted, none-new, some-old, graded-within}
+use Rattle.urn.specs.Empty.{emptyOutcome, allFree, emptied}
+use Rattle.urn.proofs.Deciding.{outcome-refused, outcome-accepted, none-new, some-old, graded-within}
 use Rattle.urn.proofs.Emptying.{empty-1, empty-13, empty-none}
 use native.Mathlib.Omega.{arith}
 use borrow.Author.Needs.{needs}
@@ -33,11 +33,11 @@ is-graded-requires : tie.Need-is-graded-requires
 is-graded-requires c κs = tt
 
 returns : tie.Need-returns
-unfolding emptySaid emptied countedBy reasonOf
+unfolding emptyOutcome emptied countedBy reasonOf
 returns c =
     let a = c .before .before .before .args in
     let e = empty-1 (a .k) (a .d) (a .urn .now) (sym (c .before .is-graded .ensures) ∙ not-true _ (c .if1 .taken)) in
-    (said-refused _ _ _ e, some-old _ _ _ _ e)
+    (outcome-refused _ _ _ e, some-old _ _ _ _ e)
 
 mul-bytes : tie.Need-mul-bytes
 mul-bytes c =
@@ -50,14 +50,14 @@ slots-in-requires c κs =
     few-bytes (a .k) (a .d) (within c)
 
 returns-2 : tie.Need-returns-2
-unfolding emptySaid emptied countedBy reasonOf
+unfolding emptyOutcome emptied countedBy reasonOf
 returns-2 c =
     let g = c .before .before in
     let a = g .before .before .before .args in
     let b = a .k * a .d in
     let m = length (a .urn .now) in
     let e = empty-13 (a .k) (a .d) (a .urn .now) (graded g) (counted-false (urnLength b m) (slotCount b m) _ (c .before .slots-in .ensures) (c .if2 .taken) (count-least b m)) in
-    (said-refused _ _ _ e, some-old _ _ _ _ e)
+    (outcome-refused _ _ _ e, some-old _ _ _ _ e)
 
 free-all-requires : tie.Need-free-all-requires
 free-all-requires c κs =
@@ -72,7 +72,7 @@ same-length : tie.Need-same-length
 same-length c = search needs
 
 returns-3 : tie.Need-returns-3
-unfolding emptySaid emptied countedBy
+unfolding emptyOutcome emptied countedBy
 returns-3 c =
     let q = c .before .before .before .before in
     let g = q .before .before in
@@ -80,7 +80,7 @@ returns-3 c =
     let b = a .k * a .d in
     let m = length (a .urn .now) in
     let e = empty-none (a .k) (a .d) (a .urn .now) (graded g) (counted-true (urnLength b m) (slotCount b m) _ (q .before .slots-in .ensures) (q .if2 .left)) in (
-      said-accepted _ _ e,
+      outcome-accepted _ _ e,
       c .before .before .free-all .ensures
           ∙ ap (λ (n : ℕ). bytesOf (allFree n b)) (counted-is (urnLength b m) (slotCount b m) _ (q .before .slots-in .ensures) (q .if2 .left))
           ∙ sym (none-new _ _ _ e),

@@ -7,8 +7,8 @@ use Rattle.jury.specs.Reason.{reasonOf}
 use Rattle.jury.proofs.Flags.{true-T}
 use Rattle.urn.specs.declared.facts.Facts.{Facts}
 use Rattle.urn.specs.Facts.{gradedShape, factsOf, countedBy}
-use Rattle.urn.specs.Withdraw.{withdrawSaid}
-use Rattle.urn.proofs.Deciding.{withdraw-first, withdraw-1, said-refused, graded-within}
+use Rattle.urn.specs.Withdraw.{withdrawOutcome}
+use Rattle.urn.proofs.Deciding.{withdraw-first, withdraw-1, outcome-refused, graded-within}
 use native.Mathlib.Omega.{arith}
 use borrow.Author.Needs.{needs}
 use Rattle.urn.proofs.withdraw.preview.Statement.{statement}
@@ -19,10 +19,10 @@ is-graded-requires c κs =
     tt
 
 returns : tie.Need-returns
-unfolding withdrawSaid countedBy reasonOf
+unfolding withdrawOutcome countedBy reasonOf
 returns c =
     let a = c .before .before .before .args in
-    said-refused _ _ _ (withdraw-first (a .k) (a .d) (factsOf (a .k) (a .d) (a .urn .now) (a .juror)) (a .juror) ∙ withdraw-1 _ _ _ (sym (c .before .is-graded .ensures) ∙ not-true _ (c .if1 .taken)))
+    outcome-refused _ _ _ (withdraw-first (a .k) (a .d) (factsOf (a .k) (a .d) (a .urn .now) (a .juror)) (a .juror) ∙ withdraw-1 _ _ _ (sym (c .before .is-graded .ensures) ∙ not-true _ (c .if1 .taken)))
 
 look-requires : tie.Need-look-requires
 look-requires c κs =
@@ -38,7 +38,7 @@ returns-2 : tie.Need-returns-2
 returns-2 c =
     let f = c .before in
     let a = f .before .before .before .before .args in
-    c .decide .ensures ∙ ap (λ (x : Facts). withdrawSaid (a .k) (a .d) x (a .juror)) (f .look .ensures .0)
+    c .decide .ensures ∙ ap (λ (x : Facts). withdrawOutcome (a .k) (a .d) x (a .juror)) (f .look .ensures .0)
 
 pub preview-spec : {M : Type 1} → statement M
 preview-spec =

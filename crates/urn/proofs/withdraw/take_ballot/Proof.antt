@@ -12,7 +12,7 @@ use Rattle.urn_chains.specs.Slots.{slotsOf, slotAt}
 use Rattle.urn_chains.specs.Chains.{chain}
 use Rattle.urn_chains.specs.Sound.{juryOfOne, slotCount, urnSlots}
 use Rattle.urn.specs.Inner.{linkIn}
-use Rattle.urn_chains.specs.declared.find.Link.the-variants.{Found}
+use Rattle.urn_chains.specs.declared.find.ChainPosition.the-variants.{Found}
 use Rattle.urn_chains.specs.Inner.{linkOf}
 use Rattle.urn_chains.proofs.SlotLaws.{size-least}
 use Rattle.urn_chains.proofs.Judging.{few-bytes}

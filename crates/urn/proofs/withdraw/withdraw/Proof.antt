@@ -14,14 +14,14 @@ use Rattle.jury.proofs.Flags.{and-second, true-T}
 use Rattle.urn_chains.specs.Slots.{bytesOf, slotAt}
 use Rattle.urn_chains.specs.Chains.{chain, ballotChain}
 use Rattle.urn_chains.specs.Sound.{member, juryOfOne, goodJuror, slotCount, urnSlots, sound}
-use Rattle.urn_chains.specs.declared.find.Link.the-variants.{Found}
+use Rattle.urn_chains.specs.declared.find.ChainPosition.the-variants.{Found}
 use Rattle.urn_chains.proofs.Judging.{clash}
 use Rattle.urn.specs.declared.facts.Facts.{Facts}
 use Rattle.urn.specs.Inner.{linkIn}
 use Rattle.urn.specs.Facts.{gradedShape, jurorsOf, factsOf, countedBy, afterwards}
-use Rattle.urn.specs.Withdraw.{withdrawReasons, withdrawSaid, withoutBallot, withdrawn}
+use Rattle.urn.specs.Withdraw.{withdrawReasons, withdrawOutcome, withoutBallot, withdrawn}
 use Rattle.urn.proofs.FactLaws.{link-juror, link-absent, jurors-are, facts-sound, facts-present}
-use Rattle.urn.proofs.Deciding.{Withdrawable, withdrawable, accepted-none, refused-kept, none-new, some-old, withdraw-first, withdraw-1, said-refused, graded-within}
+use Rattle.urn.proofs.Deciding.{Withdrawable, withdrawable, accepted-none, refused-kept, none-new, some-old, withdraw-first, withdraw-1, outcome-refused, graded-within}
 use native.Mathlib.Omega.{arith}
 use borrow.Author.Needs.{needs}
 use Rattle.urn.proofs.withdraw.withdraw.Statement.{statement}
@@ -34,16 +34,16 @@ graded c = true-T _ (sym (c .before .is-graded .ensures) ∙ not-false _ (c .if1
 -- the answer is that of the definition
 answered : (D : tie.After-decide) →
     let a = D .before .before .before .before .before .before .args in
-    countedBy (D .decide .result) ≡ withdrawSaid (a .k) (a .d) (factsOf (a .k) (a .d) (a .urn .now) (a .juror)) (a .juror)
+    countedBy (D .decide .result) ≡ withdrawOutcome (a .k) (a .d) (factsOf (a .k) (a .d) (a .urn .now) (a .juror)) (a .juror)
 answered D =
     let a = D .before .before .before .before .before .before .args in
-    D .decide .ensures ∙ ap (λ (x : Facts). withdrawSaid (a .k) (a .d) x (a .juror)) (D .before .look .ensures .0)
+    D .decide .ensures ∙ ap (λ (x : Facts). withdrawOutcome (a .k) (a .d) x (a .juror)) (D .before .look .ensures .0)
 
 -- an accepted answer has no reason against it
 no-reason : (e : tie.After-enum-told) →
     let a = e .before .before .before .before .before .before .before .before .args in
     firstOf (withdrawReasons (a .k) (a .d) (factsOf (a .k) (a .d) (a .urn .now) (a .juror)) (a .juror)) ≡ none
-unfolding withdrawSaid countedBy
+unfolding withdrawOutcome countedBy
 no-reason e = accepted-none _ _ _ (sym (answered (e .before .before)) ∙ ap countedBy (e .enum-told .given .1))
 
 passed : (e : tie.After-enum-told) →
@@ -92,11 +92,11 @@ is-graded-requires : tie.Need-is-graded-requires
 is-graded-requires c κs = tt
 
 returns : tie.Need-returns
-unfolding withdrawSaid withdrawn countedBy reasonOf
+unfolding withdrawOutcome withdrawn countedBy reasonOf
 returns c =
     let a = c .before .before .before .args in
     let e = withdraw-first (a .k) (a .d) (factsOf (a .k) (a .d) (a .urn .now) (a .juror)) (a .juror) ∙ withdraw-1 _ _ _ (sym (c .before .is-graded .ensures) ∙ not-true _ (c .if1 .taken)) in
-    (said-refused _ _ _ e, some-old _ _ _ _ e)
+    (outcome-refused _ _ _ e, some-old _ _ _ _ e)
 
 look-requires : tie.Need-look-requires
 look-requires c κs =
@@ -156,7 +156,7 @@ same-length-3 : tie.Need-same-length-3
 same-length-3 c = search needs
 
 returns-4 : tie.Need-returns-4
-unfolding withdrawn withdrawSaid countedBy
+unfolding withdrawn withdrawOutcome countedBy
 returns-4 c =
     (answered (c .before .before), sym (refused-kept _ _ _ _ _ (sym (answered (c .before .before)) ∙ ap countedBy (c .enum-told3 .given .1))))
 

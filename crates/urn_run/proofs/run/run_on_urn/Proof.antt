@@ -13,9 +13,9 @@ use Rattle.gates.specs.Step.{FinishReady}
 use Rattle.jury.specs.Shape.{withinLimits}
 use Rattle.jury.specs.Reason.{Reason, reasonOf, firstOf}
 use Rattle.jury.proofs.Flags.{true-T}
-use Rattle.tally.specs.Answer.{Size, said, saidBy, sizeOf}
-use Rattle.tally.specs.Run.{Ran, ranAfter}
-use Rattle.tally.proofs.RunReasons.{said-refused, said-accepted}
+use Rattle.tally.specs.Answer.{Size, outcome, outcomeOf, sizeOf}
+use Rattle.tally.specs.Run.{RunResult, runResultAfter}
+use Rattle.tally.proofs.RunReasons.{outcome-refused, outcome-accepted}
 use Rattle.urn_run.specs.Run.{urnRunReasons}
 use Rattle.urn_run.proofs.Reasons.{one-T, whole-within, UrnRunPassed, urn-run-passed, ran-on-urn-by, chain-room, finish-ready, loaded-front, loaded-length}
 use Rattle.urn_run.proofs.run.run_on_urn.Statement.{statement}
@@ -30,11 +30,11 @@ enum-told c = search needs
 -- where the tests pass, no reason applies
 no-reason : (c : tie.After-enum-told) → let a = c .before .before .before .before .before .before .before .before .before .before .args in
     firstOf (urnRunReasons (a .shape) (a .table .now) (a .urn .now) (a .tape .now) (a .wires .now) (a .board .now)) ≡ none
-unfolding saidBy
+unfolding outcomeOf
 no-reason c =
     let a = c .before .before .before .before .before .before .before .before .before .before .args in
     let o = firstOf (urnRunReasons (a .shape) (a .table .now) (a .urn .now) (a .tape .now) (a .wires .now) (a .board .now)) in
-    said-accepted o (sizeOf (gatesOf (a .table .now))) _ (sym (c .before .before .test-run .ensures) ∙ ap saidBy (c .enum-told .given .1))
+    outcome-accepted o (sizeOf (gatesOf (a .table .now))) _ (sym (c .before .before .test-run .ensures) ∙ ap outcomeOf (c .enum-told .given .1))
 
 passed : (c : tie.After-enum-told) → let a = c .before .before .before .before .before .before .before .before .before .before .args in UrnRunPassed (a .shape) (a .table .now) (a .urn .now) (a .tape .now) (a .wires .now) (a .board .now)
 passed c = let a = c .before .before .before .before .before .before .before .before .before .before .args in urn-run-passed (a .shape) (a .table .now) (a .urn .now) (a .tape .now) (a .wires .now) (a .board .now) (no-reason c)
@@ -72,7 +72,7 @@ same-length-2 : tie.Need-same-length-2
 same-length-2 c = search needs
 
 returns : tie.Need-returns
-unfolding said ranAfter
+unfolding outcome runResultAfter
 returns c =
     let done = c .before .before .before .before .before .before .before .before .finish in
     let l = c .before .before .before .before .before .before .before .before .before .before .before .before .before .before .load in
@@ -83,10 +83,10 @@ returns c =
     let e = ran-on-urn-by (a .shape) (a .table .now) (a .urn .now) (a .tape .now) (a .wires .now) (a .board .now) none (no-reason told) in
     let same = done .kept .1 .1 .1 .1 .0 ∙ loaded-length (a .shape) (a .table .now) (a .urn .now) (a .tape .now) (a .wires .now) (a .board .now) p (l .last .1 .1 .1 .0) (l .ensures) in
     let front = ap (λ (i : ℕ). take i (l .last .1 .1 .1 .0)) (c .before .before .before .before .before .before .before .before .before .before .before .ballot-bytes .ensures) ∙ loaded-front (a .shape) (a .table .now) (a .urn .now) (a .tape .now) (a .wires .now) (a .board .now) p (l .last .1 .1 .1 .0) (l .ensures) in (
-      told .before .before .test-run .ensures ∙ ap (λ (o : Option Reason). said o (sizeOf gs)) (no-reason told) ∙ sym (ap (λ (r : Ran). r .answer) e),
+      told .before .before .test-run .ensures ∙ ap (λ (o : Option Reason). outcome o (sizeOf gs)) (no-reason told) ∙ sym (ap (λ (r : RunResult). r .answer) e),
       (
-        c .before .before .empty .ensures ∙ ap (λ (n : ℕ). replicate n 0) same ∙ sym (ap (λ (r : Ran). r .wires) e),
-        done .ensures .1 ∙ ap (λ (xs : List ℕ). boardOf (wiresOf xs gs) gs (a .shape .candidates) (a .tape .now)) front ∙ sym (ap (λ (r : Ran). r .board) e),
+        c .before .before .empty .ensures ∙ ap (λ (n : ℕ). replicate n 0) same ∙ sym (ap (λ (r : RunResult). r .wires) e),
+        done .ensures .1 ∙ ap (λ (xs : List ℕ). boardOf (wiresOf xs gs) gs (a .shape .candidates) (a .tape .now)) front ∙ sym (ap (λ (r : RunResult). r .board) e),
       ),
     )
 
@@ -97,15 +97,15 @@ same-length-4 : tie.Need-same-length-4
 same-length-4 c = search needs
 
 returns-2 : tie.Need-returns-2
-unfolding saidBy ranAfter
+unfolding outcomeOf runResultAfter
 returns-2 c =
     let a = c .before .before .before .before .before .before .before .before .before .before .args in
     let o = firstOf (urnRunReasons (a .shape) (a .table .now) (a .urn .now) (a .tape .now) (a .wires .now) (a .board .now)) in
     let r = reasonOf (c .enum-told2 .given .0 .0) in
-    let told = ap saidBy (c .enum-told2 .given .1) in
-    let e = ran-on-urn-by (a .shape) (a .table .now) (a .urn .now) (a .tape .now) (a .wires .now) (a .board .now) (some r) (said-refused o (sizeOf (gatesOf (a .table .now))) r (sym (c .before .before .test-run .ensures) ∙ told)) in (
-      told ∙ sym (ap (λ (q : Ran). q .answer) e),
-      (sym (ap (λ (q : Ran). q .wires) e), sym (ap (λ (q : Ran). q .board) e)),
+    let told = ap outcomeOf (c .enum-told2 .given .1) in
+    let e = ran-on-urn-by (a .shape) (a .table .now) (a .urn .now) (a .tape .now) (a .wires .now) (a .board .now) (some r) (outcome-refused o (sizeOf (gatesOf (a .table .now))) r (sym (c .before .before .test-run .ensures) ∙ told)) in (
+      told ∙ sym (ap (λ (q : RunResult). q .answer) e),
+      (sym (ap (λ (q : RunResult). q .wires) e), sym (ap (λ (q : RunResult). q .board) e)),
     )
 
 pub run-on-urn-spec : {M : Type 1} → statement M
