@@ -11,7 +11,7 @@ use lib.ListN.{length}
 use borrow.Author.Tests.{eqb-true, eq-eqb}
 use Rattle.gates.specs.Gate.{gatesOf}
 use Rattle.gates.specs.Board.{conditionalCount}
-use Rattle.gates.specs.Step.{RunReady}
+use Rattle.gates.specs.inner.Step.{RunReady}
 use Rattle.gates.specs.Test.{firstBad}
 use Rattle.gates.specs.declared.place.Place.{Place}
 use Rattle.gates.specs.declared.place.Place.the-variants.{At, Nowhere}

@@ -27,7 +27,7 @@ use Rattle.jury.specs.Ballots.{ballotReasons}
 use Rattle.jury.proofs.BallotLaws.{kindReason, judged-by, judged-kind}
 use Rattle.jury.proofs.AcceptedLaws.{accepted-back}
 use Rattle.jury.proofs.AcceptedLaws as ballots-laws
-use Rattle.jury.proofs.Cases.{below-or-not}
+use Rattle.basics.proofs.Cases.{below-or-not}
 use Rattle.tally.specs.Answer.{refused, accepted, hasNumberIn, Size, sizeOf}
 use Rattle.tally.specs.Test.{testReasons}
 use Rattle.tally.specs.Run.{RunResult}

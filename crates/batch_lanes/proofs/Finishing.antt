@@ -10,7 +10,7 @@ use Rattle.gates.specs.Gate.{gatesOf}
 use Rattle.gates.specs.Wires.{wiresOf, outputsOf}
 use Rattle.gates.specs.Board.{conditionalCount, boardOf}
 use Rattle.gates.specs.Test.{firstBad}
-use Rattle.gates.specs.Step.{StepReady, RunReady, rangeOf, stepWires, stepBoard}
+use Rattle.gates.specs.inner.Step.{StepReady, RunReady, rangeOf, stepWires, stepBoard}
 use Rattle.gates.proofs.Table.{length-gates}
 use Rattle.gates.proofs.Finishing.{whole-range}
 use Rattle.gates.proofs.Whole.{outputs-are, whole-wires, whole-board}

@@ -12,7 +12,7 @@ use Rattle.gates.specs.Gate.{Gate}
 use Rattle.gates.specs.Wires.{value}
 use Rattle.gates.specs.Board.{conditionalCount, shownBit}
 use Rattle.gates.specs.Test.{goodGate}
-use Rattle.gates.specs.Step.{gateAt}
+use Rattle.gates.specs.inner.Step.{gateAt}
 use Rattle.gates.proofs.Counting.{count-one}
 use Rattle.gates.proofs.Goodness.{GoodGate, good-gate}
 use Rattle.gates.proofs.Reading.{gate-numbers}

@@ -9,7 +9,7 @@ use lib.ListN.{length, getD, set}
 use Rattle.gates.specs.Kind.{conditionalOf}
 use Rattle.gates.specs.Wires.{value}
 use Rattle.gates.specs.Board.{conditionalCount, shownBit}
-use Rattle.gates.specs.Step.{StepReady, GateReady, rangeOf, stepWires, stepBoard, gateAt}
+use Rattle.gates.specs.inner.Step.{StepReady, GateReady, rangeOf, stepWires, stepBoard, gateAt}
 use Rattle.gates.proofs.Stepping.{Left, next-ready, left-turn, left-as, left-end}
 use Rattle.gates.proofs.Whole.{left-start}
 use Rattle.batch_lanes.specs.Lane.{laneCount, laneOf}

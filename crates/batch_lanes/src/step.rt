@@ -11,7 +11,7 @@ ghost use Rattle.gates.specs.Kind.{conditionalMarks, conditionalOf};
 ghost use Rattle.gates.specs.Gate.{gatesOf};
 ghost use Rattle.gates.specs.Wires.{value, wiresOf};
 ghost use Rattle.gates.specs.Board.{conditionalCount, shownBit, boardOf};
-ghost use Rattle.gates.specs.Step.{StepReady, GateReady, RunReady, rangeOf, stepWires, stepBoard, gateAt};
+ghost use Rattle.gates.specs.inner.Step.{StepReady, GateReady, RunReady, rangeOf, stepWires, stepBoard, gateAt};
 ghost use Rattle.batch_lanes.specs.Lane.{laneCount, laneOf};
 
 // Gate g of the table in all lanes: its value goes to wire own and, where it is conditional, wire a under the tape's

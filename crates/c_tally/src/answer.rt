@@ -1,6 +1,6 @@
 // The answers of measuring and of counting, as numbers in a lent array.
+use basics::byte::wide;
 use c_answers::array::put;
-use jury::byte::wide;
 use jury::reason::Verdict;
 use tally::count::Counted;
 use tally::measure::Measured;

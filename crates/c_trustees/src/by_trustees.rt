@@ -1,8 +1,8 @@
 // The tally by trustees, as a C program calls it.
+use basics::byte::wide;
 use c_answers::array::SHORT_ANSWER;
 use c_answers::size::SIZE_ANSWER;
 use c_answers::size::put_size;
-use jury::byte::wide;
 use jury::shape::Shape;
 use trustees::run::Tallied;
 use trustees::run::run;

@@ -166,7 +166,7 @@ pub fn dispatch(
         wires,
         boards,
     );
-    tally::empty::empty(&mut wires[..end]);
+    basics::table::empty(&mut wires[..end]);
     Dispatched {
         verdict,
         rounds: rounds_of(count, statements, share),

@@ -10,13 +10,13 @@ use lib.ListN.{length, take}
 use lib.Seq.{length-take-le}
 use Rattle.gates.specs.Gate.{gatesOf}
 use Rattle.gates.specs.Board.{conditionalCount}
-use Rattle.gates.specs.Step.{RunReady}
+use Rattle.gates.specs.inner.Step.{RunReady}
 use Rattle.gates.proofs.Table.{length-gates}
 use Rattle.gates.proofs.Evaluating.{accepted-list}
 use Rattle.jury.specs.Shape.{withinLimits, ballotBytes}
 use Rattle.jury.specs.Reason.{Reason, firstOf}
 use Rattle.jury.proofs.Limits.{bounds}
-use Rattle.jury.proofs.Flags.{true-T}
+use Rattle.basics.proofs.Flags.{true-T}
 use Rattle.tally.specs.Answer.{sizeOf}
 use Rattle.tally.specs.Run.{runReasons}
 use Rattle.tally.proofs.RunReasons.{RunPassed, run-passed, run-ready}

@@ -13,7 +13,7 @@ use borrow.Author.Tests.{lt-ltb, le-ltb, ne-eqb}
 use Rattle.gates.specs.Gate.{Gate, gatesOf}
 use Rattle.gates.specs.Wires.{wiresOf, outputsOf}
 use Rattle.gates.specs.Board.{conditionalCount, shownBits, boardOf}
-use Rattle.gates.specs.Step.{RunReady}
+use Rattle.gates.specs.inner.Step.{RunReady}
 use Rattle.gates.proofs.WireLaws.{length-wires}
 use Rattle.gates.proofs.Prefix.{Stands, stands-first, closed-board}
 use Rattle.dispatch_rounds.specs.declared.statement.Statement.{Statement}

@@ -6,7 +6,7 @@ ghost use mathlib.Core.Bool.{_&&_};
 ghost use Prim.Native.Nat.{ℕ, _+_, _<_};
 ghost use lib.Dec.{ltb, eqb};
 ghost use Rattle.gates.specs.Kind.{operandCounts};
-ghost use Rattle.gates.specs.Gate.{Gate, gatesOf};
+ghost use Rattle.gates.specs.Gate.{gatesOf};
 ghost use lib.ListN.{length};
 ghost use Rattle.gates.specs.Board.{conditionalCount};
 ghost use Rattle.gates.specs.Limits.{operandLimit, tableGateLimit};
@@ -91,7 +91,10 @@ fn gate_is_good(
 
 // Tests the gates of a table one after the other, and counts the conditional ones.
 fn test_gates(inputs: usize, table: &[u32]) -> ListCheck
-    ensures { λ r. ⌜ r ≡ judged (firstBad inputs 0 (gatesOf (now (table .entry)))) (length (gatesOf (now (table .entry)))) (conditionalCount (gatesOf (now (table .entry)))) ⌝ }
+    ensures { λ r. ⌜
+        r ≡ judged (firstBad inputs 0 (gatesOf (now (table .entry)))) (length (gatesOf (now (table .entry))))
+        (conditionalCount (gatesOf (now (table .entry))))
+        ⌝ }
 {
     let gates = table.len() / 4;
     let counts = kind::OPERANDS;

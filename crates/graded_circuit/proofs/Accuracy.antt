@@ -16,14 +16,15 @@ use Rattle.gates.proofs.Laws.{AllGood, Holds, wires-hold, wires-bits, wire-bit,
 use Rattle.gates.proofs.WireLaws.{length-wires}
 use Rattle.jury.specs.declared.shape.Shape.{Shape}
 use Rattle.jury.specs.Shape.{gradedLimits, ballotBytes}
-use Rattle.jury.specs.Counts.{sum, countsOf, countOf}
-use Rattle.jury.specs.Gauge.{medianOf}
+use Rattle.basics.specs.Lists.{sum}
+use Rattle.jury.specs.Counts.{countsOf, countOf}
+use Rattle.rule_judgment.specs.Median.{medianOf}
 use Rattle.jury.specs.Accepted.{GradedBallots}
-use Rattle.jury.proofs.Cases.{below-or-not}
+use Rattle.basics.proofs.Cases.{below-or-not}
 use Rattle.jury.proofs.Limits.{within}
-use Rattle.jury.proofs.Tabulate.{length-tabulate}
+use Rattle.basics.proofs.Tabulate.{length-tabulate}
 use Rattle.jury.proofs.CountFacts.{counts-length, counts-row, counts-at, counts-sum}
-use Rattle.jury.proofs.RunningSums.{running-start, running-next}
+use Rattle.rule_judgment.proofs.RunningSums.{running-start, running-next}
 use Rattle.rule_judgment.specs.Judgment.{sequenceOf, precedes, judgmentOf}
 use Rattle.rule_judgment.proofs.Statements.{running, Precedes}
 use Rattle.rule_judgment.proofs.Order.{precedes-self, precedes-one-way}

@@ -8,7 +8,7 @@ use native.Mathlib.Nat.{pow-succ', suc-mul, zero-mul, add-mul, mul-comm, mul-ass
 use native.Mathlib.Omega.{arith}
 use lib.ListN.{length}
 use lib.Pow.{pow-mono}
-use Rattle.jury.proofs.Cases.{below-or-not}
+use Rattle.basics.proofs.Cases.{below-or-not}
 use Rattle.gate_words.specs.Counter.{countSize, addSize}
 use Rattle.gate_words.proofs.CounterSteps.{count-size-most, add-size-most}
 use Rattle.graded_circuit.specs.declared.plan.Plan.{Plan}

@@ -10,10 +10,11 @@ use Rattle.gates.specs.Wires.{wire, wiresOf}
 use Rattle.gates.specs.Gate.{Gate}
 use Rattle.gates.proofs.Laws.{wires-start}
 use Rattle.jury.specs.declared.shape.Shape.{Shape}
-use Rattle.jury.specs.Counts.{sum, countOf, tabulate}
+use Rattle.basics.specs.Lists.{sum, tabulate}
+use Rattle.jury.specs.Counts.{countOf}
 use Rattle.jury.specs.Accepted.{GradedBallots}
-use Rattle.jury.proofs.Sums.{sum-none, sum-first}
-use Rattle.jury.proofs.Tabulate.{tabulate-cong}
+use Rattle.basics.proofs.Sums.{sum-none, sum-first}
+use Rattle.basics.proofs.Tabulate.{tabulate-cong}
 use Rattle.jury.proofs.CountFacts.{column-bytes, byte-within}
 use Rattle.gate_words.specs.Word.{ones}
 use Rattle.gate_words.proofs.Numbers.{ones-none, ones-more}

@@ -8,7 +8,7 @@ use native.Mathlib.Nat.{pow-succ', suc-mul, zero-mul, add-zero}
 use native.Mathlib.Omega.{arith}
 use lib.ListN.{length}
 use Rattle.gates.proofs.Laws.{Holds, mux-zero, mux-one}
-use Rattle.jury.proofs.Cases.{below-or-not}
+use Rattle.basics.proofs.Cases.{below-or-not}
 use Rattle.gate_words.specs.Gates.{constant, orOf, muxOf}
 use Rattle.gate_words.specs.Word.{number}
 use Rattle.gate_words.proofs.Numbers.{Binary, bit-cases}

@@ -13,7 +13,7 @@ use lib.ListN.{length}
 use borrow.Author.Tests.{le-leb, lt-leb}
 use Rattle.gates.specs.Gate.{Gate}
 use Rattle.gates.proofs.Laws.{Holds}
-use Rattle.jury.proofs.Cases.{below-or-not}
+use Rattle.basics.proofs.Cases.{below-or-not}
 use Rattle.gate_words.proofs.Numbers.{Binary}
 use Rattle.graded_circuit.specs.declared.plan.Plan.{Plan}
 use Rattle.graded_circuit.specs.Plan.{Planned}

@@ -8,7 +8,7 @@ use native.Mathlib.Nat.{suc-mul, add-zero, mul-le-mul-right}
 use native.Mathlib.Omega.{arith}
 use lib.ListN.{length}
 use Rattle.gates.proofs.Laws.{Holds, mux-zero, mux-one}
-use Rattle.jury.proofs.Cases.{below-or-not}
+use Rattle.basics.proofs.Cases.{below-or-not}
 use Rattle.gate_words.specs.Gates.{copyOf, notOf, andOf, xorOf, muxOf}
 use Rattle.gate_words.specs.Word.{number}
 use Rattle.gate_words.specs.Choice.{choose}

@@ -4,7 +4,7 @@ use mathlib.Core.Path.{_≡_, _∙_, refl, sym, ap, subst}
 use mathlib.Core.Logic.{_⊎_, ⊎-elim, _≢_}
 use Prim.Native.Nat.{ℕ, zero, suc, _+_, _-_, _*_, _≤_, _<_}
 use native.Mathlib.Omega.{arith}
-use Rattle.jury.proofs.Cases.{below-or-not, same-or-not}
+use Rattle.basics.proofs.Cases.{below-or-not, same-or-not}
 use Rattle.graded_circuit.proofs.SumLaws.{Sums}
 
 -- Of t + 2 grades, `down` is the last one below the median at which the sums differ, or the best grade; `up` the first one from the median on, or the last grade.

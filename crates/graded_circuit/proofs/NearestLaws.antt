@@ -8,7 +8,7 @@ use native.Mathlib.Nat.{suc-mul, zero-mul}
 use native.Mathlib.Omega.{arith}
 use lib.ListN.{length}
 use Rattle.gates.proofs.Laws.{Holds}
-use Rattle.jury.proofs.Cases.{below-or-not, same-or-not}
+use Rattle.basics.proofs.Cases.{below-or-not, same-or-not}
 use Rattle.gate_words.specs.Gates.{andOf, xorOf}
 use Rattle.gate_words.specs.Word.{number}
 use Rattle.gate_words.specs.Choice.{choose}

@@ -8,7 +8,7 @@ use native.Mathlib.Nat.{pow-succ', suc-mul, zero-mul, mul-assoc, mul-zero, mul-o
 use native.Mathlib.Omega.{arith}
 use lib.ListN.{length}
 use Rattle.gates.proofs.Laws.{Holds, holds-append, mux-zero, mux-one}
-use Rattle.jury.proofs.Cases.{below-or-not, same-or-not}
+use Rattle.basics.proofs.Cases.{below-or-not, same-or-not}
 use Rattle.gate_words.specs.Gates.{notOf, andOf, xorOf, muxOf}
 use Rattle.gate_words.specs.Word.{number}
 use Rattle.gate_words.specs.Adder.{halfAdder, addWords, addWithBit, topCarry}

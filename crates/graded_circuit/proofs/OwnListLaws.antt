@@ -16,7 +16,7 @@ use Rattle.gate_words.specs.Gates.{constant}
 use Rattle.jury.specs.declared.shape.Shape.{Shape}
 use Rattle.jury.specs.Shape.{gradedLimits}
 use Rattle.jury.specs.Width.{widthOf}
-use Rattle.jury.proofs.Cases.{below-or-not}
+use Rattle.basics.proofs.Cases.{below-or-not}
 use Rattle.jury.proofs.Limits.{within}
 use Rattle.graded_circuit.specs.Plan.{planOf}
 use Rattle.graded_circuit.specs.OwnList.{circuit, ownList}

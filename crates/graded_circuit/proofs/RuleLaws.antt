@@ -8,11 +8,11 @@ use Prim.Native.Nat.{ℕ, zero, suc, _+_, _-_, _*_, _≤_, _<_}
 use native.Mathlib.Omega.{arith}
 use lib.ListN.{length, getD, take}
 use lib.Seq.{ext-getD}
-use Rattle.jury.specs.Counts.{sum}
-use Rattle.jury.specs.Gauge.{medianOf}
-use Rattle.jury.proofs.Cases.{below-or-not}
-use Rattle.jury.proofs.MedianFacts.{median-passed, median-reached}
-use Rattle.jury.proofs.RunningSums.{running-start, running-next, running-most, running-grows, running-whole, from-median}
+use Rattle.basics.specs.Lists.{sum}
+use Rattle.rule_judgment.specs.Median.{medianOf}
+use Rattle.basics.proofs.Cases.{below-or-not}
+use Rattle.rule_judgment.proofs.MedianFacts.{median-passed, median-reached}
+use Rattle.rule_judgment.proofs.RunningSums.{running-start, running-next, running-most, running-grows, running-whole, from-median}
 use Rattle.rule_judgment.specs.Judgment.{sequenceOf, precedes}
 use Rattle.rule_judgment.proofs.Statements.{running, Precedes, Alike}
 use Rattle.rule_judgment.proofs.Order.{precedes-trans}

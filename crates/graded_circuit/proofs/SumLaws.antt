@@ -24,7 +24,7 @@ use Rattle.graded_circuit.specs.Plan.{Planned, bitsAt, apart}
 use Rattle.graded_circuit.specs.RunningSums.{wordSpan, firstSum, firstGrade, middleSpan, middleGrade, middleGrades, lastSpan, lastGrade, laterGrades, laterSpan}
 use Rattle.graded_circuit.specs.Key.{keyWord, keyWords, candidate, keyOf, lowAt, worseAt}
 use Rattle.graded_circuit.proofs.PlanFacts.{first-countable, worst-countable}
-use Rattle.jury.proofs.Cases.{below-or-not}
+use Rattle.basics.proofs.Cases.{below-or-not}
 use Rattle.graded_circuit.proofs.Cutting.{cut2, cut4}
 use Rattle.graded_circuit.proofs.CandidateBlocks.{middle-span, last-span, first-block, middle-block, middles-block, later-block, key-word-block, key-words-block, earlier-words}
 

@@ -8,7 +8,7 @@ use native.Mathlib.Numerals.{add-one}
 use native.Mathlib.Omega.{arith}
 use lib.ListN.{length, length-append}
 use Rattle.gates.proofs.Laws.{Holds}
-use Rattle.jury.proofs.Cases.{below-or-not}
+use Rattle.basics.proofs.Cases.{below-or-not}
 use Rattle.gate_words.specs.Gates.{xorOf}
 use Rattle.gate_words.specs.Word.{ones, number, Below}
 use Rattle.gate_words.specs.Choice.{anyOf, chainEnd}

@@ -19,7 +19,7 @@ use Rattle.graded_circuit.specs.OwnList.{levelsSpan}
 use Rattle.graded_circuit.proofs.LevelsLaws.{span-one, span-more}
 use Rattle.graded_circuit.proofs.BoundLaws.{merge-few, candidate-small, middle-small}
 use Rattle.graded_circuit.proofs.CandidateBlocks.{candidate-span}
-use Rattle.jury.proofs.Cases.{below-or-not}
+use Rattle.basics.proofs.Cases.{below-or-not}
 
 -- the carries of a level are half of its bits, with the public bit
 pub carries : (m e : ℕ) → 0 < m → (m + e) / 2 ≡ adders (m - 1) e

@@ -18,7 +18,7 @@ use Rattle.gate_words.specs.declared.writer.Writer.{Writer}
 use Rattle.gate_words.specs.Writing.{Room}
 use Rattle.jury.specs.declared.shape.Shape.{Shape}
 use Rattle.jury.specs.Shape.{gradedLimits, ballotBytes}
-use Rattle.jury.proofs.Cases.{below-or-not}
+use Rattle.basics.proofs.Cases.{below-or-not}
 use Rattle.jury.proofs.Limits.{within, within-T, within-back, bytes-are, bytes-bound}
 use Rattle.graded_circuit.specs.declared.plan.Plan.{Plan}
 use Rattle.graded_circuit.specs.Plan.{planOf, Planned}

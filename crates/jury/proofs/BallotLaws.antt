@@ -19,7 +19,7 @@ use Rattle.jury.specs.declared.shape.Shape.{Shape}
 use Rattle.jury.specs.Shape.{isRanking, ballotBytes}
 use Rattle.jury.specs.Reason.{Reason, unless, foundAt, firstOf}
 use Rattle.jury.specs.Ballots.{ones, rowsOf, firstBadRow, gradedReasons, rankedReasons, ballotReasons}
-use Rattle.jury.proofs.Cases.{below-or-not}
+use Rattle.basics.proofs.Cases.{below-or-not}
 
 -- the ones from place i on: byte i first
 ones-step : (xs : List ℕ) (i : ℕ) → i < length xs → ones (drop i xs) ≡ cond (eqb (getD xs i 0) 1) (suc (ones (drop (suc i) xs))) (ones (drop (suc i) xs))

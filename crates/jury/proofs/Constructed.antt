@@ -19,11 +19,6 @@ unfolding held
 shape-is true s x e = sym (ap (held s) e)
 shape-is false s x e = let z : _≡_ {A = ℕ} 0 1 = cc in absurd (omega arith)
 
--- an accepted shape is within the limits, a refused one is not
-pub within-is : (b : Bool) (s x : Shape) → cond b (Within s) Outside ≡ Within x → b ≡ true
-within-is true s x e = refl
-within-is false s x e = let z : _≡_ {A = ℕ} 0 1 = cc in absurd (omega arith)
-
 pub outside-is : (b : Bool) (s : Shape) → cond b (Within s) Outside ≡ Outside → b ≡ false
 outside-is true s e = let z : _≡_ {A = ℕ} 0 1 = cc in absurd (omega arith)
 outside-is false s e = refl

@@ -10,7 +10,7 @@ use Rattle.gates.specs.declared.place.Place.{Place}
 use Rattle.gates.specs.declared.place.Place.the-variants.{At, Nowhere}
 use Rattle.jury.specs.Rankings.{before, notAsymmetricAt, notAsymmetricInRow, notAsymmetricInBallot, firstNotAsymmetric, neitherAfterNorBefore, notWeakOrderAfter, notWeakOrder, firstNotWeakOrder}
 use Rattle.jury.specs.WeakOrder.{StrictWeakOrder}
-use Rattle.jury.proofs.Flags.{and-both, and-first-fails, and-second-fails}
+use Rattle.basics.proofs.Flags.{and-both, and-first-fails, and-second-fails}
 use Rattle.jury.proofs.Searches.{first-none, none-first, some-here, some-none, none-some, clash-here, clash-not-forth, clash-not-back}
 
 -- a test holds or fails

@@ -1,11 +1,12 @@
 -- Ranked ballots, and the two tests of what they say (request 2.2).
-use mathlib.Core.Bool.{Bool, false, cond, not, _&&_, _||_}
+use mathlib.Core.Bool.{Bool, cond, not, _&&_}
 use mathlib.Core.List.{List}
 use Prim.Native.Nat.{ℕ, zero, suc, _+_, _*_}
 use lib.Dec.{eqb}
 use lib.ListN.{getD}
 use Rattle.gates.specs.declared.place.Place.{Place}
 use Rattle.gates.specs.declared.place.Place.the-variants.{At, Nowhere}
+use Rattle.basics.specs.Below.{someBelow}
 
 -- A ranked ballot is k rows of k bytes, and one ballot follows the other: the place of row i and column j of ballot b.
 unfoldable pub rankPlace : ℕ → ℕ → ℕ → ℕ → ℕ
@@ -25,12 +26,8 @@ unfoldable pub firstOver : ℕ → (ℕ → Place) → Place
 firstOver zero found = Nowhere
 firstOver (suc m) found = orElse (firstOver m found) (found m)
 
--- Whether the test holds of some number below m.
-unfoldable pub someBelow : ℕ → (ℕ → Bool) → Bool
-someBelow zero test = false
-someBelow (suc m) test = someBelow m test || test m
-
--- Two candidates are each put before the other, or one before itself: the byte is 1, and so is its opposite, which on the diagonal is the byte itself.
+-- Two candidates are each put before the other, or one before itself: the byte is 1, and so is its opposite, which
+-- on the diagonal is the byte itself.
 unfoldable pub notAsymmetricAt : ℕ → List ℕ → ℕ → ℕ → ℕ → Place
 notAsymmetricAt k xs b i j = cond (before k xs b i j && before k xs b j i) (At (rankPlace k b i j)) Nowhere
 
@@ -48,7 +45,8 @@ firstNotAsymmetric k n xs = firstOver n (notAsymmetricInBallot k xs)
 unfoldable pub neitherAfterNorBefore : ℕ → List ℕ → ℕ → ℕ → ℕ → Bool
 neitherAfterNorBefore k xs b i j = someBelow k (λ l. not (before k xs b i l) && not (before k xs b l j))
 
--- Some i is put before some j while some l is put neither behind i nor before j. (Where no byte clashes, l is neither of the two.)
+-- Some i is put before some j while some l is put neither behind i nor before j. (Where no byte clashes, l is
+-- neither of the two.)
 unfoldable pub notWeakOrderAfter : ℕ → List ℕ → ℕ → ℕ → Bool
 notWeakOrderAfter k xs b i = someBelow k (λ j. before k xs b i j && neitherAfterNorBefore k xs b i j)
 

@@ -66,7 +66,8 @@ unfoldable pub foundAt : ℕ → Place → Option Reason
 foundAt number Nowhere = none
 foundAt number (At place) = some (reasonAt number place)
 
--- The number and place [order] of each answer of the gate layer's test of a list: 2 where the numbers make no whole gates or the gates are fewer or more than there may be, 3 at the first bad gate.
+-- The number and place [order] of each answer of the gate layer's test of a list: 2 where the numbers make no whole
+-- gates or the gates are fewer or more than there may be, 3 at the first bad gate.
 unfoldable pub listReason : ListCheck → Option Reason
 listReason (tested.Accepted gates conditional) = none
 listReason tested.PartOfAGate = some (reasonAt 2 0)

@@ -1,8 +1,8 @@
 // The tests of ballots.
-use crate::byte::wide;
 use crate::reason::Refusal;
 use crate::reason::Verdict;
 use crate::shape::Shape;
+use basics::byte::wide;
 use gates::place::Place;
 ghost use mathlib.Core.Path.{_≡_};
 ghost use Prim.Native.Nat.{ℕ, _*_, _≤_, _<_};
@@ -33,7 +33,9 @@ pub fn test(shape: Shape, ballots: &[u8]) -> Verdict
 
 // Reason 6.
 fn test_grades(shape: Shape, ballots: &[u8]) -> Verdict
-    requires { ⌜ T (gradedLimits shape) × (length (now ballots) ≡ shape .ballots * shape .candidates * shape .grades) ⌝ }
+    requires { ⌜
+        T (gradedLimits shape) × (length (now ballots) ≡ shape .ballots * shape .candidates * shape .grades)
+        ⌝ }
     requires { ⌜ Bits (now ballots) ⌝ }
     ensures { λ r. ⌜ refusedFor r ≡ firstOf (gradedReasons shape (now (ballots .entry))) ⌝ }
 {

@@ -52,7 +52,8 @@ fn not_asymmetric_in_row(ballots: &[u8], k: usize, b: usize, i: usize) -> Place
     Place::Nowhere
 }
 
-// The first ballot in which some candidate is before another while a third is neither after the one nor before the other.
+// The first ballot in which some candidate is before another while a third is neither after the one nor before the
+// other.
 pub fn first_not_weak_order(ballots: &[u8], k: usize, n: usize) -> Place
     requires { ⌜ length (now ballots) ≡ n * k * k ⌝ }
     ensures { λ r. ⌜ r ≡ spec.firstNotWeakOrder k n (now (ballots .entry)) ⌝ }

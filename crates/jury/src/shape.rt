@@ -1,5 +1,5 @@
-// The shape of a jury: its numbers of candidates, grades and ballots, and the limits that belong to it. Where there are no
-// grades the candidates are ranked.
+// The shape of a jury: its numbers of candidates, grades and ballots, and the limits that belong to it. Where there
+// are no grades the candidates are ranked.
 ghost use mathlib.Core.Path.{_≡_};
 ghost use mathlib.Core.Bool.{cond};
 ghost use lib.Dec.{T};
@@ -35,8 +35,15 @@ impl Shape {
 
     // A shape within the limits, or its refusal.
     pub fn new(candidates: usize, grades: usize, ballots: usize) -> ShapeResult
-        ensures { λ r. ⌜ r ≡ cond (withinLimits (record { candidates = candidates; grades = grades; ballots = ballots })) (ShapeResult.Within (record { candidates = candidates; grades = grades; ballots = ballots })) ShapeResult.Outside ⌝ }
-        ensures { λ r. ⌜ shapedFor r ≡ unless (withinLimits (record { candidates = candidates; grades = grades; ballots = ballots })) 1 ⌝ }
+        ensures { λ r. ⌜
+            r ≡ cond (withinLimits (record { candidates = candidates; grades = grades; ballots = ballots }))
+            (ShapeResult.Within (record { candidates = candidates; grades = grades; ballots = ballots }))
+            ShapeResult.Outside
+            ⌝ }
+        ensures { λ r. ⌜
+            shapedFor r
+            ≡ unless (withinLimits (record { candidates = candidates; grades = grades; ballots = ballots })) 1
+            ⌝ }
     {
         let shape = Shape {
             candidates,

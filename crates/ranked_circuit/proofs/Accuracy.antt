@@ -14,8 +14,8 @@ use Rattle.gate_words.specs.Word.{ones, number}
 use Rattle.gate_words.specs.Counter.{Countable}
 use Rattle.gate_words.proofs.Laws.{Binary, bit-cases}
 use Rattle.gate_words.proofs.GateValues.{not-is}
-use Rattle.jury.proofs.Cases.{below-or-not}
-use Rattle.jury.proofs.Flags.{never-true}
+use Rattle.basics.proofs.Cases.{below-or-not}
+use Rattle.basics.proofs.Flags.{never-true}
 use Rattle.rule_schulze.specs.Schulze.{link, strongest, wins}
 use Rattle.rule_schulze.proofs.Winning.{wins-unbeaten, unbeaten-wins}
 use Rattle.ranked_circuit.specs.Table.{blocks, table, place}

@@ -21,7 +21,7 @@ use Rattle.gate_words.specs.Comparison.{upEnd, downEnd}
 use Rattle.gate_words.proofs.Laws.{length-constants, constants-good, copies-good, masked-good, counter-good}
 use Rattle.gate_words.proofs.Ends.{up-below, down-below}
 use Rattle.jury.proofs.BallotLaws.{row-within}
-use Rattle.jury.proofs.Cases.{same-or-not}
+use Rattle.basics.proofs.Cases.{same-or-not}
 use Rattle.ranked_circuit.specs.Blocks.{compare, smaller, larger, largerIf}
 use Rattle.ranked_circuit.specs.Table.{blocks, table, place}
 use Rattle.ranked_circuit.specs.Stages.{votesBlock, linksBlock, linkWire, detourPad, detourBlock, firstPad, firstBlock}

@@ -14,7 +14,7 @@ use Rattle.gates.proofs.Laws.{Holds}
 use Rattle.gate_words.specs.Gates.{copyOf, orOf}
 use Rattle.gate_words.proofs.Laws.{Binary}
 use Rattle.gate_words.proofs.GateValues.{valueOn, copy-is, or-is}
-use Rattle.jury.proofs.Cases.{below-or-not}
+use Rattle.basics.proofs.Cases.{below-or-not}
 use Rattle.ranked_circuit.specs.Table.{blocks}
 use Rattle.ranked_circuit.specs.RankedList.{other, lostGate, lostRow}
 use Rattle.ranked_circuit.proofs.TableLaws.{block-holds}

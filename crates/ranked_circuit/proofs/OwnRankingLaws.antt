@@ -21,7 +21,7 @@ use Rattle.gate_words.proofs.Laws.{Binary, countable}
 use Rattle.gate_words.proofs.PointsBack.{good-constant}
 use Rattle.gate_words.proofs.GateValues.{constant-is, holds-first}
 use Rattle.jury.specs.Width.{widthOf}
-use Rattle.jury.proofs.Tabulate.{length-tabulate, getD-tabulate}
+use Rattle.basics.proofs.Tabulate.{length-tabulate, getD-tabulate}
 use Rattle.jury.proofs.WidthLaws.{width-half, below-width, least-width, width-most}
 use Rattle.rule_schulze.specs.Schulze.{wins, closingBytes}
 use Rattle.rule_schulze.specs.Votes.{votes}

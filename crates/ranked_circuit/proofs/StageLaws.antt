@@ -10,8 +10,8 @@ use native.Mathlib.Omega.{arith}
 use lib.Dec.{eqb, ltb}
 use lib.ListN.{length}
 use borrow.Author.Tests.{eqb-false, eq-eqb, ne-eqb, lt-ltb, le-ltb}
-use Rattle.jury.proofs.Cases.{same-or-not, below-or-not}
-use Rattle.jury.proofs.Flags.{or-first, or-second}
+use Rattle.basics.proofs.Cases.{same-or-not, below-or-not}
+use Rattle.basics.proofs.Flags.{or-first, or-second}
 use Rattle.gates.specs.Gate.{Gate}
 use Rattle.gates.proofs.Laws.{Holds, holds-append}
 use Rattle.gate_words.specs.Word.{ones, number}

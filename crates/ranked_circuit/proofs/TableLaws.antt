@@ -10,7 +10,7 @@ use lib.ListN.{length, length-append}
 use Rattle.gates.specs.Gate.{Gate}
 use Rattle.gates.proofs.Laws.{AllGood, Holds, holds-append}
 use Rattle.jury.proofs.BallotLaws.{row-within}
-use Rattle.jury.proofs.Cases.{below-or-not}
+use Rattle.basics.proofs.Cases.{below-or-not}
 use Rattle.ranked_circuit.specs.Table.{blocks, table, place}
 use Rattle.ranked_circuit.proofs.BlockLaws.{good-behind}
 

@@ -18,7 +18,7 @@ use Rattle.jury.specs.Reason.{Reason, reasonOf, reasonAt, firstOf}
 use Rattle.jury.specs.Ballots.{ballotReasons}
 use Rattle.jury.specs.declared.reason.Refusal.{Refusal}
 use Rattle.jury.specs.declared.reason.Refusal.the-variants as refusal
-use Rattle.jury.proofs.Flags.{T-true, true-T}
+use Rattle.basics.proofs.Flags.{T-true, true-T}
 use Rattle.jury.proofs.Limits.{bounds-T, inputs-bound}
 use Rattle.tally.specs.Rule.{closingFor}
 use Rattle.tally.specs.OwnList.{ownList}

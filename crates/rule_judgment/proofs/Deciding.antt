@@ -8,11 +8,11 @@ use Prim.Native.Nat.{ℕ, _+_, _*_, _≤_, _<_}
 use native.Mathlib.Omega.{arith}
 use lib.Dec.{leb, ltb}
 use borrow.Author.Tests.{lt-ltb, le-ltb, le-leb, lt-leb}
-use Rattle.jury.proofs.Cases.{below-or-not}
-use Rattle.jury.proofs.Flags.{never-true}
+use Rattle.basics.proofs.Cases.{below-or-not}
+use Rattle.basics.proofs.Flags.{never-true}
 use Rattle.rule_judgment.specs.declared.rule.Sums.{Sums}
 use Rattle.rule_judgment.specs.Judgment.{sequenceOf, precedes}
-use Rattle.rule_judgment.specs.Inner.{halfReached, decidedBy}
+use Rattle.rule_judgment.specs.inner.Decision.{halfReached, decidedBy}
 use Rattle.rule_judgment.proofs.Statements.{running, Precedes, Alike, Bracket, TwoDecide}
 use Rattle.rule_judgment.proofs.SumRule.{alike-back}
 use Rattle.rule_judgment.proofs.Thresholds.{bracket-back, bracket-decides}

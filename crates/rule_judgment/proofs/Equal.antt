@@ -7,9 +7,9 @@ use Prim.Native.Nat.{ℕ, zero, suc, _≤_, _<_}
 use native.Mathlib.Omega.{arith}
 use lib.ListN.{length}
 use lib.Seq.{ext-getD}
-use Rattle.jury.specs.Counts.{sum}
-use Rattle.jury.proofs.Cases.{below-or-not}
-use Rattle.jury.proofs.RunningSums.{running-next, running-most}
+use Rattle.basics.specs.Lists.{sum}
+use Rattle.basics.proofs.Cases.{below-or-not}
+use Rattle.rule_judgment.proofs.RunningSums.{running-next, running-most}
 use Rattle.rule_judgment.specs.Judgment.{sequenceOf}
 use Rattle.rule_judgment.specs.Theorems.{EqualSequences}
 use Rattle.rule_judgment.proofs.Statements.{running}

@@ -1,28 +1,28 @@
 -- A candidate that beats another by the gauge has the earlier sequence, so the gauge's winner wins, alone.
 -- Assumes nothing.
-use mathlib.Core.Path.{_≡_, _∙_, sym}
+use mathlib.Core.Path.{_≡_, _∙_}
 use mathlib.Core.Bool.{true, false}
 use mathlib.Core.Logic.{⊎-elim, _≢_}
 use mathlib.Core.List.{List, []}
 use Prim.Native.Nat.{ℕ, suc, _+_, _*_, _≤_, _<_}
 use native.Mathlib.Omega.{arith}
 use lib.ListN.{length, getD, List·getD-eq-default}
-use lib.Seq.{ext-getD}
-use Rattle.jury.specs.Counts.{sum}
-use Rattle.jury.specs.Gauge.{medianOf, pOf, qOf, beats, closingOf}
-use Rattle.jury.proofs.Cases.{below-or-not, same-or-not}
-use Rattle.jury.proofs.Flags.{never-true}
-use Rattle.jury.proofs.RunningSums.{running-grows, p-is, q-is}
-use Rattle.jury.proofs.Conditions.{Beats, beats-iff}
-use Rattle.jury.proofs.Conditions.Beats.{better-median, stronger-median, larger-p, smaller-q}
-use Rattle.jury.proofs.Closing.{closing-length, closing-one, closing-zero, one-winner}
+use Rattle.basics.specs.Lists.{sum}
+use Rattle.rule_judgment.specs.Median.{medianOf}
+use Rattle.rule_judgment.specs.Gauge.{pOf, qOf, beats, closingOf}
+use Rattle.basics.proofs.Cases.{below-or-not, same-or-not}
+use Rattle.basics.proofs.Flags.{never-true}
+use Rattle.rule_judgment.proofs.RunningSums.{running-grows, p-is, q-is}
+use Rattle.rule_judgment.proofs.GaugeConditions.{Beats, beats-iff}
+use Rattle.rule_judgment.proofs.GaugeConditions.Beats.{better-median, stronger-median, larger-p, smaller-q}
+use Rattle.rule_judgment.proofs.GaugeClosing.{closing-length, closing-one}
 use Rattle.rule_judgment.specs.Judgment.{sequenceOf, precedes, judgmentOf}
 use Rattle.rule_judgment.specs.Theorems.{EachGets}
 use Rattle.rule_judgment.proofs.Statements.{running, Precedes, Alike}
 use Rattle.rule_judgment.proofs.Positions.{median-at}
 use Rattle.rule_judgment.proofs.SumRule.{sum-rule, half-rule}
 use Rattle.rule_judgment.proofs.Order.{precedes-one-way, precedes-self}
-use Rattle.rule_judgment.proofs.Winners.{judgment-length, byte-one, byte-zero}
+use Rattle.rule_judgment.proofs.Winners.{byte-one, byte-zero}
 
 module _ (n : ℕ) (a b : List ℕ) (al : Alike n a b) (some : 0 < n) where
   -- p and q of a row, by its running sums at its median m
@@ -100,14 +100,3 @@ module _ (n : ℕ) (rows : List (List ℕ)) (some : 1 ≤ n) (each : EachGets n 
 
   pub other-loses : (j : ℕ) → j < length rows → j ≢ i → getD (judgmentOf rows) j 0 ≡ 0
   other-loses j l ne = byte-zero rows j l i row-at (winner-first j l ne)
-
-  other-beaten : (j : ℕ) → j < length rows → j ≢ i → getD (closingOf rows) j 0 ≡ 0
-  other-beaten j l ne = closing-zero rows j l .1 (λ beaten. ne (one-winner rows j i (closing-one rows j l .1 beaten) wins))
-
-  byte-kept : (j : ℕ) → j < length rows → getD (judgmentOf rows) j 0 ≡ getD (closingOf rows) j 0
-  byte-kept j l = ⊎-elim (λ e. rw e (winner-wins ∙ sym wins)) (λ ne. other-loses j l ne ∙ sym (other-beaten j l ne)) (same-or-not j i)
-
-  pub gauge-kept : judgmentOf rows ≡ closingOf rows
-  gauge-kept =
-      ext-getD 0 (judgmentOf rows) (closingOf rows) (judgment-length rows ∙ sym (closing-length rows))
-      (λ j l. byte-kept j (omega (arith, judgment-length rows)))

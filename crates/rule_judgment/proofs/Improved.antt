@@ -7,9 +7,9 @@ use mathlib.Core.List.{List, []}
 use Prim.Native.Nat.{ℕ, suc, _≤_, _<_}
 use native.Mathlib.Omega.{arith}
 use lib.ListN.{length, getD}
-use Rattle.jury.specs.Counts.{sum}
-use Rattle.jury.proofs.Cases.{same-or-not}
-use Rattle.jury.proofs.Flags.{never-true}
+use Rattle.basics.specs.Lists.{sum}
+use Rattle.basics.proofs.Cases.{same-or-not}
+use Rattle.basics.proofs.Flags.{never-true}
 use Rattle.rule_judgment.specs.Judgment.{sequenceOf, precedes, judgmentOf}
 use Rattle.rule_judgment.proofs.Statements.{running}
 use Rattle.rule_judgment.proofs.Positions.{gradeAt, grade-at, grade-below}

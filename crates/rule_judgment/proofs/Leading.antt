@@ -10,14 +10,14 @@ use lib.ListN.{length, getD, List·getD-eq-default}
 use lib.Seq.{ext-getD}
 use borrow.Author.Count.{below-more}
 use Rattle.jury.specs.ClosingBytes.{eightBytes}
-use Rattle.jury.specs.Counts.{tabulate}
-use Rattle.jury.proofs.Cases.{below-or-not}
-use Rattle.jury.proofs.Flags.{never-true}
-use Rattle.jury.proofs.Tabulate.{upTo, upTo-new, upTo-old, length-tabulate, getD-tabulate}
+use Rattle.basics.specs.Lists.{tabulate}
+use Rattle.basics.proofs.Cases.{below-or-not}
+use Rattle.basics.proofs.Flags.{never-true}
+use Rattle.basics.proofs.Tabulate.{upTo, upTo-new, upTo-old, length-tabulate, getD-tabulate}
 use Rattle.jury.proofs.Rows.{eight-at, eight-length}
 use Rattle.rule_judgment.specs.Judgment.{sequenceOf, precedes, judgmentOf}
 use Rattle.rule_judgment.specs.Theorems.{EachGets}
-use Rattle.rule_judgment.specs.Inner.{sameCounts}
+use Rattle.rule_judgment.specs.inner.Decision.{sameCounts}
 use Rattle.rule_judgment.proofs.Order.{Compared, compared, precedes-self, precedes-trans}
 use Rattle.rule_judgment.proofs.Order.Compared.{first, equal, second}
 use Rattle.rule_judgment.proofs.Equal.{equal-sequences}

@@ -1,3 +1,9 @@
+-- The median and running sums.
+pub mod MedianFacts
+pub mod RunningSums
+-- The majority gauge.
+pub mod GaugeConditions
+pub mod GaugeClosing
 -- What a circuit for the rule rests on, as statements.
 pub mod Statements
 -- Sequences and their order, by positions.
@@ -7,7 +13,6 @@ pub mod Order
 -- Which of two sequences comes first, by running sums.
 pub mod SumRule
 pub mod Thresholds
-pub mod NearestFound
 -- Facts for readers: the statements of specs/Theorems.antt and specs/Raised.antt.
 pub mod Winners
 pub mod GaugeAgrees

@@ -8,8 +8,8 @@ use Prim.Native.Nat.{ℕ, zero, suc, _≤_, _<_}
 use native.Mathlib.Omega.{arith}
 use lib.Dec.{ltb, eqb}
 use borrow.Author.Tests.{ltb-true, lt-ltb, eqb-true, eq-eqb}
-use Rattle.jury.proofs.Cases.{below-or-not, same-or-not}
-use Rattle.jury.proofs.Flags.{and-first, and-second, and-both, or-either, or-first, or-second, never-true}
+use Rattle.basics.proofs.Cases.{below-or-not, same-or-not}
+use Rattle.basics.proofs.Flags.{and-first, and-second, and-both, or-either, or-first, or-second, never-true}
 use Rattle.rule_judgment.specs.Judgment.{precedes}
 use Rattle.rule_judgment.proofs.Outward.{down}
 
@@ -127,21 +127,3 @@ pub record FirstBetter (f g : ℕ → ℕ) (n : ℕ) : Type 0 where
   pub within : at ≤ n
   pub better : f at < g at
   pub same : (m : ℕ) → at < m → m ≤ n → f m ≡ g m
-
--- where f comes first there is one
-pub better-first : (n : ℕ) (f g : ℕ → ℕ) → precedes (down n f) (down n g) ≡ true → FirstBetter f g n
-unfolding down precedes
-better-first zero f g h = absurd-flag h
-better-first (suc n) f g h = ⊎-elim here (λ r. later (r .0) (better-first n f g (r .1))) (precedes-cases (f (suc n)) (g (suc n)) (down n f) (down n g) h)
-  where
-    here : f (suc n) < g (suc n) → FirstBetter f g (suc n)
-    here l = record { at = suc n; some = omega arith; within = omega arith; better = l; same = λ m k j. absurd (omega arith) }
-
-    later : f (suc n) ≡ g (suc n) → FirstBetter f g n → FirstBetter f g (suc n)
-    later e b = record {
-      at = b .at;
-      some = b .some;
-      within = omega (arith, b .within);
-      better = b .better;
-      same = λ m k j. ⊎-elim (λ i. b .same m k (omega arith)) (λ i. subst (λ (x : ℕ). f x ≡ g x) {x = suc n} {y = m} (omega arith) e) (below-or-not m (suc n));
-    }

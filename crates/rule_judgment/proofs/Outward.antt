@@ -10,10 +10,10 @@ use lib.Dec.{eqb, leb}
 use lib.ListN.{length, getD, length-set}
 use lib.Seq.{take-set-le}
 use borrow.Author.Tests.{eqb-true, eqb-false, leb-true, leb-false}
-use Rattle.jury.specs.Counts.{sum}
-use Rattle.jury.specs.Gauge.{medianOf}
-use Rattle.jury.proofs.Cases.{below-or-not}
-use Rattle.jury.proofs.RunningSums.{running-next, running-whole, running-grows}
+use Rattle.basics.specs.Lists.{sum}
+use Rattle.rule_judgment.specs.Median.{medianOf}
+use Rattle.basics.proofs.Cases.{below-or-not}
+use Rattle.rule_judgment.proofs.RunningSums.{running-next, running-whole, running-grows}
 use Rattle.rule_judgment.specs.Judgment.{strike, strikes, sequenceOf}
 use Rattle.rule_judgment.proofs.Statements.{running}
 use Rattle.rule_judgment.proofs.Positions.{gradeAt, Grade, grade-at, grade-one, Median, median-at}

@@ -9,11 +9,11 @@ use native.Mathlib.Omega.{arith}
 use lib.Dec.{leb}
 use lib.ListN.{length}
 use borrow.Author.Tests.{leb-true, leb-false}
-use Rattle.jury.specs.Counts.{sum}
-use Rattle.jury.specs.Gauge.{medianOf}
-use Rattle.jury.proofs.Cases.{below-or-not}
-use Rattle.jury.proofs.MedianFacts.{median-passed, median-reached}
-use Rattle.jury.proofs.RunningSums.{running-grows}
+use Rattle.basics.specs.Lists.{sum}
+use Rattle.rule_judgment.specs.Median.{medianOf}
+use Rattle.basics.proofs.Cases.{below-or-not}
+use Rattle.rule_judgment.proofs.MedianFacts.{median-passed, median-reached}
+use Rattle.rule_judgment.proofs.RunningSums.{running-grows}
 use Rattle.rule_judgment.proofs.Statements.{running}
 
 -- the grade at position p

@@ -8,15 +8,17 @@ use native.Mathlib.Omega.{arith}
 use lib.ListN.{length, getD, drop}
 use lib.Seq.{getD-drop}
 use Rattle.jury.specs.declared.shape.Shape.{Shape}
-use Rattle.jury.specs.Counts.{sum, byteOf, countUpTo, countOf, countsOf, tabulate}
+use Rattle.basics.specs.Lists.{sum, tabulate}
+use Rattle.jury.specs.Counts.{byteOf, countUpTo, countOf, countsOf}
 use Rattle.jury.specs.Accepted.{GradedBallots}
-use Rattle.jury.proofs.Cases.{below-or-not, same-or-not}
+use Rattle.basics.proofs.Cases.{below-or-not, same-or-not}
 use Rattle.jury.proofs.BallotLaws.{row-within}
-use Rattle.jury.proofs.Tabulate.{tabulate-cong, take-tabulate, length-tabulate}
-use Rattle.jury.proofs.Sums.{addend, sum-last, sum-add, sum-ones}
+use Rattle.basics.proofs.Tabulate.{tabulate-cong, take-tabulate, length-tabulate}
+use Rattle.jury.proofs.Sums.{addend, sum-ones}
+use Rattle.basics.proofs.Sums.{sum-last, sum-add}
 use Rattle.jury.proofs.CountLaws.{bit-added, count-step}
 use Rattle.jury.proofs.CountFacts.{counts-length, counts-row, counts-sum}
-use Rattle.jury.proofs.RunningSums.{running-whole, running-most}
+use Rattle.rule_judgment.proofs.RunningSums.{running-whole, running-most}
 use Rattle.rule_judgment.specs.Raised.{Raised, NothingLost, byteFor, LikedMore, StillAlone}
 use Rattle.rule_judgment.specs.Raised.RaisedOften.{unchanged, once-more}
 use Rattle.rule_judgment.proofs.Statements.{running}

@@ -10,8 +10,8 @@ use lib.Dec.{eqb}
 use lib.ListN.{length, getD, take, drop, length-take, drop-of-length-le}
 use lib.Seq.{drop-cons, getD-take}
 use borrow.Author.Tests.{eqb-true, eq-eqb, ne-eqb}
-use Rattle.jury.proofs.Flags.{and-first, and-second, and-both}
-use Rattle.rule_judgment.specs.Inner.{sameCounts}
+use Rattle.basics.proofs.Flags.{and-first, and-second, and-both}
+use Rattle.rule_judgment.specs.inner.Decision.{sameCounts}
 
 -- the counts from place g on of the first d: that of g first
 rest-step : (row : List ℕ) (g d : ℕ) → d ≤ length row → g < d → drop g (take d row) ≡ getD row g 0 ∷ drop (suc g) (take d row)

@@ -6,7 +6,7 @@ use mathlib.Core.Logic.{_⊎_, _≢_}
 use mathlib.Core.List.{List}
 use Prim.Native.Nat.{ℕ, _+_, _*_, _≤_, _<_}
 use lib.ListN.{take}
-use Rattle.jury.specs.Counts.{sum}
+use Rattle.basics.specs.Lists.{sum}
 use Rattle.rule_judgment.specs.Judgment.{sequenceOf, precedes}
 
 -- the number of a row's grades that are the t best ones
@@ -32,29 +32,9 @@ pub record Decides (n : ℕ) (a b : List ℕ) (i : ℕ) : Type 0 where
 abbrev pub SumRule : Type 0
 SumRule = (n : ℕ) (a b : List ℕ) → Alike n a b → (i : ℕ) → Decides n a b i → Precedes a b
 
--- and where a comes first, some threshold does
-pub record SomeDecides (n : ℕ) (a b : List ℕ) : Type 0 where
-  pub threshold : ℕ
-  pub decides : Decides n a b threshold
-
-abbrev pub SumRuleBack : Type 0
-SumRuleBack = (n : ℕ) (a b : List ℕ) → Alike n a b → Precedes a b → SomeDecides n a b
-
 -- one row has half of its grades among the t best, the other has not
 abbrev pub HalfRule : Type 0
 HalfRule = (n : ℕ) (a b : List ℕ) → Alike n a b → (t : ℕ) → n ≤ 2 * running a t → 2 * running b t < n → Precedes a b
-
--- the same medians: twice a running sum reaches n in both rows or in neither
-abbrev pub SameHalves : ℕ → List ℕ → List ℕ → Type 0
-SameHalves n a b = (t : ℕ) → ((2 * running a t < n) × (2 * running b t < n)) ⊎ ((n ≤ 2 * running a t) × (n ≤ 2 * running b t))
-
--- two thresholds, lower and upper, that hold all there is to know of where two rows differ:
--- none differs between them; where one below the lower differs, the lower is below half; where one above the upper differs, the upper is not
-pub record Nearest (n : ℕ) (a b : List ℕ) (lower upper : ℕ) : Type 0 where
-  pub apart : lower < upper
-  pub between : (t : ℕ) → lower < t → t < upper → running a t ≡ running b t
-  pub lower-half : (t : ℕ) → t < lower → running a t ≢ running b t → (2 * running a lower < n) × (2 * running b lower < n) × (running a lower ≢ running b lower)
-  pub upper-half : (t : ℕ) → upper < t → running a t ≢ running b t → (n ≤ 2 * running a upper) × (n ≤ 2 * running b upper) × (running a upper ≢ running b upper)
 
 -- the same with less asked of the two: it is enough that the smaller row is below half at the lower one, and that the larger one is not at the upper one
 pub record Bracket (n : ℕ) (a b : List ℕ) (lower upper : ℕ) : Type 0 where
@@ -72,6 +52,3 @@ pub record TwoDecide (n : ℕ) (a b : List ℕ) (lower upper : ℕ) : Type 0 whe
   -- opposite directions, the larger row at the lower threshold being a: the sum of its two running sums decides
   pub lower-wins : running b lower < running a lower → running a upper < running b upper → n ≤ running a lower + running a upper → Precedes a b
   pub upper-wins : running b lower < running a lower → running a upper < running b upper → running a lower + running a upper < n → Precedes b a
-
-abbrev pub TwoThresholds : Type 0
-TwoThresholds = (n : ℕ) (a b : List ℕ) → Alike n a b → (lower upper : ℕ) → Nearest n a b lower upper → TwoDecide n a b lower upper

@@ -4,16 +4,16 @@ use mathlib.Core.Path.{_≡_, _∙_, sym, subst, subst₂}
 use mathlib.Core.Bool.{true}
 use mathlib.Core.Logic.{⊎-elim}
 use mathlib.Core.List.{List}
-use Prim.Native.Nat.{ℕ, suc, _+_, _≤_, _<_}
+use Prim.Native.Nat.{ℕ, suc, _≤_, _<_}
 use native.Mathlib.Omega.{arith}
-use Rattle.jury.specs.Counts.{sum}
-use Rattle.jury.proofs.Cases.{below-or-not}
-use Rattle.jury.proofs.RunningSums.{running-grows, running-most}
+use Rattle.basics.specs.Lists.{sum}
+use Rattle.basics.proofs.Cases.{below-or-not}
+use Rattle.rule_judgment.proofs.RunningSums.{running-grows, running-most}
 use Rattle.rule_judgment.specs.Judgment.{sequenceOf, precedes}
-use Rattle.rule_judgment.proofs.Statements.{running, Precedes, Alike, Decides, SumRule, SomeDecides, SumRuleBack, HalfRule}
+use Rattle.rule_judgment.proofs.Statements.{running, Precedes, Alike, Decides, SumRule, HalfRule}
 use Rattle.rule_judgment.proofs.Positions.{gradeAt, grade-at, grade-one, grade-below, grade-not-below, grade-reached, grade-passed}
 use Rattle.rule_judgment.proofs.Outward.{down, position, turn, outward, position-within, turn-position, turn-within, position-turn, lower-first, higher-first}
-use Rattle.rule_judgment.proofs.Order.{Ahead, first-better, FirstBetter, better-first, down-same}
+use Rattle.rule_judgment.proofs.Order.{Ahead, first-better, FirstBetter, down-same}
 
 -- the grade struck when so many of n are left
 abbrev pub struckGrade : ℕ → List ℕ → ℕ → ℕ
@@ -101,45 +101,6 @@ module _ (n : ℕ) (a b : List ℕ) (al : Alike n a b) (d : FirstBetter (struckG
 
   abbrev i : ℕ
   i = suc (gradeAt a p)
-
-  p-within : (0 < p) × (p ≤ n)
-  p-within = position-within n (d .at) (d .some) (d .within)
-
-  reached-a : p ≤ running a i
-  reached-a = grade-reached a p (p-within .0) (omega (arith, p-within .1, al .sum-a)) i (omega arith)
-
-  passed-b : running b i < p
-  passed-b = grade-passed b p (p-within .0) (omega (arith, p-within .1, al .sum-b)) i (d .better)
-
-  -- no position at which b has the better grade is struck earlier
-  not-earlier : (j q : ℕ) → running a j < q → q ≤ running b j → turn n p < turn n q → ⊥
-  not-earlier j q l h t =
-      let inside : q ≤ n = omega (arith, running-most b j, al .sum-b) in
-      let same = d .same (turn n q) (omega (arith, turn-position n (d .at) (d .some) (d .within))) (turn-within n q (omega arith) inside .1) in
-      let equal : gradeAt a q ≡ gradeAt b q = subst (λ (x : ℕ). gradeAt a x ≡ gradeAt b x) (position-turn n q (omega arith) inside) same in
-      omega (arith, better-at n b a (alike-back n a b al) j q l h)
-
-  first-decides : Decides n a b i
-  first-decides = record {
-    larger = omega (arith, reached-a, passed-b);
-    above = λ j l differs. ⊎-elim (λ s. absurd (above-not j l differs s)) (λ s. s) (below-or-not (running a i + running a j) n);
-    below = λ j l differs. ⊎-elim (λ s. s) (λ s. absurd (below-not j l differs s)) (below-or-not (running b j + running b i) n);
-  }
-    where
-      above-not : (j : ℕ) → i < j → running a j < running b j → running a i + running a j < n → ⊥
-      above-not j l differs s =
-          not-earlier j (suc (running a j)) (omega arith) differs
-          (higher-first n p (suc (running a j)) (p-within .0) (omega (arith, reached-a, running-grows a i j (omega arith))) (omega (arith, running-most b j, al .sum-b)) (omega (arith, reached-a)))
-
-      below-not : (j : ℕ) → j < i → running a j < running b j → n ≤ running b j + running b i → ⊥
-      below-not j l differs s =
-          not-earlier j (running b j) differs (omega arith)
-          (lower-first n (running b j) p (omega (arith, passed-b, running-grows b j i (omega arith))) (p-within .1) (omega (arith, passed-b)))
-
-pub sum-rule-back : SumRuleBack
-sum-rule-back n a b al h =
-    let d = better-first n (struckGrade n a) (struckGrade n b) (subst₂ (λ (x y : List ℕ). precedes x y ≡ true) (outward-of n a (al .sum-a)) (outward-of n b (al .sum-b)) h) in
-    record { threshold = i n a b al d; decides = first-decides n a b al d }
 
 pub half-rule : HalfRule
 half-rule n a b al t h l = sum-rule n a b al t (record {

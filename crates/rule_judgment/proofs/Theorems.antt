@@ -5,7 +5,7 @@ use Prim.Native.Nat.{ℕ}
 use native.Mathlib.Omega.{arith}
 use Rattle.jury.specs.declared.shape.Shape.{Shape}
 use Rattle.jury.specs.Counts.{countsOf, countArray}
-use Rattle.jury.specs.Inner.{rowsIn}
+use Rattle.jury.specs.inner.Counts.{rowsIn}
 use Rattle.jury.specs.Accepted.{GradedBallots}
 use Rattle.jury.proofs.Limits.{within}
 use Rattle.jury.proofs.Matrix.{array-rows}

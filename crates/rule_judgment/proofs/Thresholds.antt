@@ -5,9 +5,9 @@ use mathlib.Core.Logic.{inl, inr, ⊎-elim, _≢_}
 use mathlib.Core.List.{List}
 use Prim.Native.Nat.{ℕ, _+_, _≤_, _<_}
 use native.Mathlib.Omega.{arith}
-use Rattle.jury.proofs.Cases.{below-or-not, same-or-not}
-use Rattle.jury.proofs.RunningSums.{running-grows}
-use Rattle.rule_judgment.proofs.Statements.{running, Precedes, Alike, Nearest, Bracket, TwoDecide, TwoThresholds}
+use Rattle.basics.proofs.Cases.{below-or-not, same-or-not}
+use Rattle.rule_judgment.proofs.RunningSums.{running-grows}
+use Rattle.rule_judgment.proofs.Statements.{running, Precedes, Alike, Bracket, TwoDecide}
 use Rattle.rule_judgment.proofs.SumRule.{alike-back, sum-rule, same-sequence}
 
 -- the thresholds may be read from either row
@@ -16,13 +16,6 @@ bracket-back n a b lower upper near = record {
   between = λ t l h. sym (near .between t l h);
   lower-half = λ t l ne. let h = near .lower-half t l (λ e. ne (sym e)) in (⊎-elim (λ x. inr x) (λ x. inl x) (h .0), λ e. h .1 (sym e));
   upper-half = λ t l ne. let h = near .upper-half t l (λ e. ne (sym e)) in (⊎-elim (λ x. inr x) (λ x. inl x) (h .0), λ e. h .1 (sym e));
-}
-
-nearest-bracket : (n : ℕ) (a b : List ℕ) (lower upper : ℕ) → Nearest n a b lower upper → Bracket n a b lower upper
-nearest-bracket n a b lower upper near = record {
-  between = near .between;
-  lower-half = λ t l ne. let h = near .lower-half t l ne in (inl (h .0), h .2);
-  upper-half = λ t l ne. let h = near .upper-half t l ne in (inl (h .0), h .2);
 }
 
 module _ (n : ℕ) (a b : List ℕ) (al : Alike n a b) (lower upper : ℕ) (near : Bracket n a b lower upper) where
@@ -86,6 +79,3 @@ bracket-decides n a b al lower upper near = record {
   lower-wins = λ l u s. lower-decides n a b al lower upper near l (λ t m differs. omega (arith, running-grows a upper t m));
   upper-wins = λ l u s. upper-decides n b a (alike-back n a b al) lower upper (bracket-back n a b lower upper near) u (λ t m differs. omega (arith, running-grows a t lower m));
 }
-
-pub two-thresholds : TwoThresholds
-two-thresholds n a b al lower upper near = bracket-decides n a b al lower upper (nearest-bracket n a b lower upper near)

@@ -10,13 +10,13 @@ use lib.Dec.{leb, ltb}
 use lib.ListN.{length, getD, take}
 use lib.Seq.{getD-take}
 use borrow.Author.Tests.{leb-true, leb-false, lt-ltb, le-ltb, le-leb}
-use Rattle.jury.specs.Counts.{sum}
-use Rattle.jury.proofs.Cases.{below-or-not}
-use Rattle.jury.proofs.Flags.{or-either, or-first, or-second, never-true}
-use Rattle.jury.proofs.RunningSums.{running-start, running-next, running-whole, running-most}
+use Rattle.basics.specs.Lists.{sum}
+use Rattle.basics.proofs.Cases.{below-or-not}
+use Rattle.basics.proofs.Flags.{or-either, or-first, or-second, never-true}
+use Rattle.rule_judgment.proofs.RunningSums.{running-start, running-next, running-whole, running-most}
 use Rattle.rule_judgment.specs.declared.rule.Sums.{Sums}
 use Rattle.rule_judgment.specs.Judgment.{sequenceOf, precedes}
-use Rattle.rule_judgment.specs.Inner.{halfReached, decidedBy}
+use Rattle.rule_judgment.specs.inner.Decision.{halfReached, decidedBy}
 use Rattle.rule_judgment.proofs.Statements.{running, Alike, Bracket}
 use Rattle.rule_judgment.proofs.Deciding.{At, decided-right, neither-larger, first-not-smaller, second-not-smaller}
 
@@ -30,11 +30,6 @@ pub record Walk (n : ℕ) (a b : List ℕ) (lower sums : Sums) (g : ℕ) : Type 
   pub below-b : 2 * running b low < n
   pub differs : 0 < low → running a low ≢ running b low
   pub since : (t : ℕ) → low < t → t ≤ g → running a t ≡ running b t
-
--- no difference before the first grade
-equal-at-start : (a b : List ℕ) (t : ℕ) → running a t ≢ running b t → 0 < t
-equal-at-start a b t ne =
-    ⊎-elim (λ l. l) (λ l. absurd (ne (subst (λ (x : ℕ). running a x ≡ running b x) {x = 0} {y = t} (omega arith) (running-start a ∙ sym (running-start b))))) (below-or-not 0 t)
 
 module _ (n : ℕ) (a b : List ℕ) (al : Alike n a b) where
   pub walk-start : 0 < n → (lower sums : Sums) → lower .a ≡ 0 → lower .b ≡ 0 → sums .a ≡ 0 → sums .b ≡ 0 → Walk n a b lower sums 0

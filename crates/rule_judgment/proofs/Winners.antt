@@ -7,9 +7,9 @@ use mathlib.Core.List.{List, [], _∷_, map}
 use Prim.Native.Nat.{ℕ, zero, suc, _<_}
 use native.Mathlib.Omega.{arith}
 use lib.ListN.{length, getD, length-map}
-use Rattle.jury.specs.Counts.{sum}
-use Rattle.jury.specs.Gauge.{medianOf}
-use Rattle.jury.proofs.Flags.{and-both, never-true}
+use Rattle.basics.specs.Lists.{sum}
+use Rattle.rule_judgment.specs.Median.{medianOf}
+use Rattle.basics.proofs.Flags.{and-both, never-true}
 use Rattle.rule_judgment.specs.Judgment.{strike, strikes, sequenceOf, precedes, nonePrecedes, judgmentOf}
 use Rattle.rule_judgment.specs.Winner.{Before, Wins}
 use Rattle.rule_judgment.specs.Theorems.{EachGets, ByteSays, SomeWinner}

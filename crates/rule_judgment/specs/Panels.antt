@@ -1,10 +1,11 @@
--- The panels P1 to P11, whose counts stand with the gauge, and their closing bytes by full majority judgment. P3, P9 and P11 have no winner by the gauge; the others keep theirs.
+-- The panels P1 to P11, whose counts stand with the gauge, and their closing bytes by full majority judgment. P3,
+-- P9 and P11 have no winner by the gauge; the others keep theirs.
 use mathlib.Core.Path.{_≡_, refl}
 use mathlib.Core.List.{List, [], _∷_, map}
 use Prim.Native.Nat.{ℕ}
-use Rattle.jury.specs.Counts.{sum}
-use Rattle.jury.specs.Gauge.{medianOf, medianFrom}
-use Rattle.jury.specs.Panels.{panelCounts}
+use Rattle.basics.specs.Lists.{sum}
+use Rattle.rule_judgment.specs.Median.{medianOf, medianFrom}
+use Rattle.rule_judgment.specs.GaugePanels.{panelCounts}
 use Rattle.rule_judgment.specs.Judgment.{judgmentOf, nonePrecedes, precedes, sequenceOf, strikes, strike}
 
 -- The closing bytes of each panel.

@@ -9,7 +9,8 @@ use Rattle.jury.specs.Counts.{byteOf, countsOf}
 use Rattle.jury.specs.Accepted.{GradedBallots}
 use Rattle.rule_judgment.specs.Judgment.{judgmentOf}
 
--- Two accepted sets of ballots that agree in every row but one, where the second gives the candidate a grade that is better by one or more.
+-- Two accepted sets of ballots that agree in every row but one, where the second gives the candidate a grade that
+-- is better by one or more.
 pub record Raised (s : Shape) (candidate : ℕ) (old new : List ℕ) : Type 0 where
   pub old-accepted : GradedBallots s old
   pub new-accepted : GradedBallots s new
@@ -22,12 +23,14 @@ pub record Raised (s : Shape) (candidate : ℕ) (old new : List ℕ) : Type 0 wh
   pub a-grade : from < s .grades
   pub old-grade : byteOf s old ballot candidate from ≡ 1
   pub new-grade : byteOf s new ballot candidate to ≡ 1
-  pub others : (b c g : ℕ) → b < s .ballots → c < s .candidates → g < s .grades → (b ≢ ballot) ⊎ (c ≢ candidate) → byteOf s new b c g ≡ byteOf s old b c g
+  pub others : (b c g : ℕ) → b < s .ballots → c < s .candidates → g < s .grades → (b ≢ ballot) ⊎ (c ≢ candidate)
+      → byteOf s new b c g ≡ byteOf s old b c g
 
 -- Several grades of one candidate raised, by one juror or by several, one after another; none at all is among them.
 pub data RaisedOften (s : Shape) (candidate : ℕ) : List ℕ → List ℕ → Type 0 where
   unchanged : {xs : List ℕ} → RaisedOften s candidate xs xs
-  once-more : {xs ys zs : List ℕ} → RaisedOften s candidate xs ys → Raised s candidate ys zs → RaisedOften s candidate xs zs
+  once-more : {xs ys zs : List ℕ} → RaisedOften s candidate xs ys → Raised s candidate ys zs
+      → RaisedOften s candidate xs zs
 
 -- The closing byte of a candidate, counted from these ballots.
 abbrev pub byteFor : Shape → List ℕ → ℕ → ℕ
@@ -44,7 +47,11 @@ pub record WinsAlone (s : Shape) (candidate : ℕ) (xs : List ℕ) : Type 0 wher
   pub alone : (c : ℕ) → c < s .candidates → c ≢ candidate → byteFor s xs c ≡ 0
 
 abbrev pub LikedMore : Type 0
-LikedMore = (s : Shape) (candidate : ℕ) (old new : List ℕ) → RaisedOften s candidate old new → byteFor s old candidate ≡ 1 → NothingLost s candidate old new
+LikedMore =
+    (s : Shape) (candidate : ℕ) (old new : List ℕ) → RaisedOften s candidate old new → byteFor s old candidate ≡ 1
+    → NothingLost s candidate old new
 
 abbrev pub StillAlone : Type 0
-StillAlone = (s : Shape) (candidate : ℕ) (old new : List ℕ) → RaisedOften s candidate old new → WinsAlone s candidate old → WinsAlone s candidate new
+StillAlone =
+    (s : Shape) (candidate : ℕ) (old new : List ℕ) → RaisedOften s candidate old new → WinsAlone s candidate old
+    → WinsAlone s candidate new

@@ -4,8 +4,8 @@ use mathlib.Core.Logic.{_↔_, _≢_}
 use mathlib.Core.List.{List, []}
 use Prim.Native.Nat.{ℕ, _≤_, _<_}
 use lib.ListN.{length, getD}
-use Rattle.jury.specs.Counts.{sum}
-use Rattle.jury.specs.Gauge.{closingOf}
+use Rattle.basics.specs.Lists.{sum}
+use Rattle.rule_judgment.specs.Gauge.{closingOf}
 use Rattle.rule_judgment.specs.Judgment.{sequenceOf, judgmentOf}
 use Rattle.rule_judgment.specs.Winner.{Wins}
 
@@ -36,8 +36,11 @@ pub record NamedAlone (rows : List (List ℕ)) (i : ℕ) : Type 0 where
   pub alone : (j : ℕ) → j < length rows → j ≢ i → getD (judgmentOf rows) j 0 ≡ 0
 
 abbrev pub GaugeKept : Type 0
-GaugeKept = (n : ℕ) (rows : List (List ℕ)) → 1 ≤ n → EachGets n rows → (i : ℕ) → getD (closingOf rows) i 0 ≡ 1 → NamedAlone rows i
+GaugeKept =
+    (n : ℕ) (rows : List (List ℕ)) → 1 ≤ n → EachGets n rows → (i : ℕ) → getD (closingOf rows) i 0 ≡ 1
+    → NamedAlone rows i
 
--- Two candidates have equal sequences, and so win together if one of them does, exactly where all their counts are equal.
+-- Two candidates have equal sequences, and so win together if one of them does, exactly where all their counts are
+-- equal.
 abbrev pub EqualSequences : Type 0
 EqualSequences = (a b : List ℕ) → length a ≡ length b → sum a ≡ sum b → (sequenceOf a ≡ sequenceOf b) ↔ (a ≡ b)

@@ -5,7 +5,8 @@ use Prim.Native.Nat.{ℕ, _<_}
 use lib.ListN.{length, getD}
 use Rattle.rule_judgment.specs.Judgment.{sequenceOf}
 
--- One sequence comes before another where it has the better grade at some place, and both have the same grades at all places before it.
+-- One sequence comes before another where it has the better grade at some place, and both have the same grades at
+-- all places before it.
 pub record Before (xs ys : List ℕ) : Type 0 where
   pub place : ℕ
   pub inside : place < length xs

@@ -1,4 +1,5 @@
-// Full majority judgment on the matrix of grade counts, without striking grade after grade: of two candidates, the running sums at two grades tell whose sequence comes first, and equal sequences are of equal counts.
+// Full majority judgment on the matrix of grade counts, without striking grade after grade: of two candidates, the
+// running sums at two grades tell whose sequence comes first, and equal sequences are of equal counts.
 use jury::shape::Shape;
 ghost use mathlib.Core.Path.{_≡_};
 ghost use Prim.Native.Nat.{ℕ, _≤_, _<_};
@@ -6,12 +7,12 @@ ghost use mathlib.Core.List.{[]};
 ghost use lib.Dec.{T};
 ghost use lib.ListN.{length, take, getD};
 ghost use Rattle.jury.specs.Shape.{gradedLimits};
-ghost use Rattle.jury.specs.Counts.{sum};
+ghost use Rattle.basics.specs.Lists.{sum};
 ghost use Rattle.jury.specs.ClosingBytes.{eightBytes};
-ghost use Rattle.jury.specs.Inner.{rowsIn};
+ghost use Rattle.jury.specs.inner.Counts.{rowsIn};
 ghost use Rattle.rule_judgment.specs.Judgment.{sequenceOf, precedes, judgmentOf};
 ghost use Rattle.rule_judgment.specs.Theorems.{EachGets};
-ghost use Rattle.rule_judgment.specs.Inner.{sameCounts, halfReached, decidedBy};
+ghost use Rattle.rule_judgment.specs.inner.Decision.{sameCounts, halfReached, decidedBy};
 
 // How many grades of two candidates are among the best, up to one grade.
 pub struct Sums {
@@ -62,7 +63,11 @@ fn first_winner(counts: [[u16; 7]; 8], k: usize, d: usize, n: usize) -> usize
 fn same_counts(counts: &[[u16; 7]; 8], a: usize, b: usize, d: usize) -> bool
     requires { ⌜ (a < 8) × (b < 8) × (d ≤ 7) ⌝ }
     requires { ⌜ (length (getD (now counts) a []) ≡ 7) × (length (getD (now counts) b []) ≡ 7) ⌝ }
-    ensures { λ r. ⌜ (r ≡ sameCounts (take d (getD (now (counts .entry)) a [])) (take d (getD (now (counts .entry)) b []))) × (length (take d (getD (now (counts .entry)) a [])) ≡ d) × (length (take d (getD (now (counts .entry)) b [])) ≡ d) ⌝ }
+    ensures { λ r. ⌜
+        (r ≡ sameCounts (take d (getD (now (counts .entry)) a [])) (take d (getD (now (counts .entry)) b [])))
+        × (length (take d (getD (now (counts .entry)) a [])) ≡ d)
+        × (length (take d (getD (now (counts .entry)) b [])) ≡ d)
+        ⌝ }
 {
     let mut g = 0;
     while g < d {
@@ -78,7 +83,10 @@ fn same_counts(counts: &[[u16; 7]; 8], a: usize, b: usize, d: usize) -> bool
 fn comes_before(counts: &[[u16; 7]; 8], a: usize, b: usize, d: usize, n: usize) -> bool
     requires { ⌜ (a < 8) × (b < 8) × (d ≤ 7) × (0 < n) × (n ≤ 255) ⌝ }
     requires { ⌜ (sum (take d (getD (now counts) a [])) ≡ n) × (sum (take d (getD (now counts) b [])) ≡ n) ⌝ }
-    ensures { λ r. ⌜ r ≡ precedes (sequenceOf (take d (getD (now (counts .entry)) a []))) (sequenceOf (take d (getD (now (counts .entry)) b []))) ⌝ }
+    ensures { λ r. ⌜
+        r ≡ precedes (sequenceOf (take d (getD (now (counts .entry)) a [])))
+        (sequenceOf (take d (getD (now (counts .entry)) b [])))
+        ⌝ }
 {
     let mut lower = Sums { a: 0, b: 0 };
     let mut sums = Sums { a: 0, b: 0 };

@@ -10,11 +10,11 @@ use lib.Dec.{leb, eqb}
 use lib.ListN.{getD, List·getD-eq-default}
 use lib.Seq.{ext-getD}
 use borrow.Author.Tests.{eq-eqb}
-use Rattle.jury.specs.Counts.{tabulate}
+use Rattle.basics.specs.Lists.{tabulate}
 use Rattle.jury.specs.ClosingBytes.{eightBytes}
-use Rattle.jury.proofs.Cases.{same-or-not, below-or-not}
+use Rattle.basics.proofs.Cases.{same-or-not, below-or-not}
 use Rattle.jury.proofs.Rows.{eight-at, eight-length}
-use Rattle.jury.proofs.Tabulate.{upTo, upTo-new, upTo-old, length-tabulate, getD-tabulate, tabulate-cong}
+use Rattle.basics.proofs.Tabulate.{upTo, upTo-new, upTo-old, length-tabulate, getD-tabulate, tabulate-cong}
 use Rattle.rule_schulze.specs.Schulze.{link, strongest, candidates, every, wins, closingBytes}
 use Rattle.rule_schulze.specs.Closure.{closure}
 use Rattle.rule_schulze.specs.Winner.{On}

@@ -10,8 +10,8 @@ use native.Mathlib.Omega.{arith}
 use lib.Dec.{eqb}
 use lib.ListN.{length}
 use borrow.Author.Tests.{eqb-true, eqb-false}
-use Rattle.jury.specs.Counts.{tabulate}
-use Rattle.jury.proofs.Cases.{same-or-not, below-or-not}
+use Rattle.basics.specs.Lists.{tabulate}
+use Rattle.basics.proofs.Cases.{same-or-not, below-or-not}
 use Rattle.rule_schulze.specs.Schulze.{candidates, without, selections, maximum}
 use Rattle.rule_schulze.specs.Winner.{On, Distinct}
 

@@ -9,8 +9,8 @@ use native.Mathlib.Omega.{arith}
 use lib.Dec.{eqb}
 use lib.ListN.{length}
 use borrow.Author.Tests.{eqb-false, ne-eqb}
-use Rattle.jury.proofs.Cases.{same-or-not, below-or-not}
-use Rattle.jury.proofs.Tabulate.{length-tabulate}
+use Rattle.basics.proofs.Cases.{same-or-not, below-or-not}
+use Rattle.basics.proofs.Tabulate.{length-tabulate}
 use Rattle.rule_schulze.specs.Schulze.{weakest, candidates, without, simplePaths, strongest}
 use Rattle.rule_schulze.specs.Closure.{detour, closure}
 use Rattle.rule_schulze.specs.Winner.{On, Distinct, SimplePath, Strongest}

@@ -13,8 +13,8 @@ use lib.ListN.{getD}
 use borrow.Author.Tests.{eq-eqb, ne-eqb, lt-leb}
 use Rattle.jury.specs.Rankings.{rankPlace, before}
 use Rattle.jury.proofs.BallotLaws.{row-within}
-use Rattle.jury.proofs.Cases.{same-or-not}
-use Rattle.jury.proofs.Flags.{never-true, or-first, or-second}
+use Rattle.basics.proofs.Cases.{same-or-not}
+use Rattle.basics.proofs.Flags.{never-true, or-first, or-second}
 use Rattle.rule_schulze.specs.Schulze.{candidates}
 use Rattle.rule_schulze.specs.Closure.{detour, closure}
 use Rattle.rule_schulze.specs.Votes.{votes}

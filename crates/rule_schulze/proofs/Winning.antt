@@ -9,9 +9,9 @@ use native.Mathlib.Omega.{arith}
 use lib.Dec.{leb, eqb}
 use lib.ListN.{getD}
 use borrow.Author.Tests.{leb-true, le-leb, eqb-true, eq-eqb, lt-ltb, le-ltb}
-use Rattle.jury.proofs.Cases.{same-or-not, below-or-not}
-use Rattle.jury.proofs.Flags.{and-first, and-second, and-both, or-either, or-first, or-second, never-true}
-use Rattle.jury.proofs.Tabulate.{getD-tabulate}
+use Rattle.basics.proofs.Cases.{same-or-not, below-or-not}
+use Rattle.basics.proofs.Flags.{and-first, and-second, and-both, or-either, or-first, or-second, never-true}
+use Rattle.basics.proofs.Tabulate.{getD-tabulate}
 use Rattle.rule_schulze.specs.Schulze.{link, weakest, candidates, every, wins, strongest, closingBytes}
 use Rattle.rule_schulze.specs.Winner.{On, Strongest, Winner}
 use Rattle.rule_schulze.proofs.Members.{in-candidates, of-candidates}

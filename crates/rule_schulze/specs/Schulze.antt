@@ -3,7 +3,7 @@ use mathlib.Core.Bool.{Bool, true, cond, _&&_, _||_}
 use mathlib.Core.List.{List, [], _∷_, map, flatMap}
 use Prim.Native.Nat.{ℕ, zero, suc, min, max}
 use lib.Dec.{leb, ltb, eqb}
-use Rattle.jury.specs.Counts.{tabulate}
+use Rattle.basics.specs.Lists.{tabulate}
 
 -- How strong the link of i to j is [schulze]: v i j where that is above v j i, else 0.
 unfoldable pub link : (ℕ → ℕ → ℕ) → ℕ → ℕ → ℕ

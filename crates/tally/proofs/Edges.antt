@@ -16,9 +16,11 @@ use Rattle.jury.specs.declared.shape.Shape.{Shape}
 use Rattle.jury.specs.Shape.{isRanking, gradedLimits, rankedLimits, withinLimits, columns, ballotBytes}
 use Rattle.jury.specs.Reason.{Reason, reasonAt, unless, foundAt, listReason, firstOf}
 use Rattle.jury.specs.Ballots.{ones, rowsOf, firstBadRow, gradedReasons, rankedReasons, ballotReasons}
-use Rattle.jury.specs.Rankings.{rankPlace, before, orElse, firstOver, someBelow, notAsymmetricAt, notAsymmetricInRow, notAsymmetricInBallot, firstNotAsymmetric, neitherAfterNorBefore, notWeakOrderAfter, notWeakOrder, firstNotWeakOrder}
-use Rattle.jury.specs.Counts.{sum, byteOf, countUpTo, countOf, tabulate, countsOf}
-use Rattle.jury.specs.Gauge.{medianFrom, medianOf}
+use Rattle.jury.specs.Rankings.{rankPlace, before, orElse, firstOver, notAsymmetricAt, notAsymmetricInRow, notAsymmetricInBallot, firstNotAsymmetric, neitherAfterNorBefore, notWeakOrderAfter, notWeakOrder, firstNotWeakOrder}
+use Rattle.basics.specs.Below.{someBelow}
+use Rattle.basics.specs.Lists.{sum, tabulate}
+use Rattle.jury.specs.Counts.{byteOf, countUpTo, countOf, countsOf}
+use Rattle.rule_judgment.specs.Median.{medianFrom, medianOf}
 use Rattle.jury.specs.ClosingBytes.{eightBytes}
 use Rattle.rule_judgment.specs.Judgment.{strike, strikes, sequenceOf, precedes, nonePrecedes, judgmentOf}
 use Rattle.jury.proofs.Limits.{bounds}

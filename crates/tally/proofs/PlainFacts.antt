@@ -14,7 +14,7 @@ use Rattle.jury.specs.ClosingBytes.{eightBytes}
 use Rattle.tally.specs.Rule.{closingFor}
 use Rattle.tally.specs.Count.{countReason, closingAfter, plainClosing}
 use Rattle.jury.specs.Accepted.{AcceptedBallots}
-use Rattle.jury.proofs.Cases.{below-or-not}
+use Rattle.basics.proofs.Cases.{below-or-not}
 use Rattle.jury.proofs.Limits.{bounds}
 use Rattle.tally.proofs.CountReason.{count-accepts}
 use Rattle.tally.proofs.Rules.{closing-length}

@@ -14,7 +14,7 @@ use Rattle.jury.specs.Counts.{countsOf}
 use Rattle.jury.proofs.AcceptedLaws as ballots-laws
 use Rattle.jury.proofs.CountFacts.{counts-length}
 use Rattle.jury.proofs.Limits.{graded-kind}
-use Rattle.jury.proofs.Tabulate.{length-tabulate}
+use Rattle.basics.proofs.Tabulate.{length-tabulate}
 use Rattle.rule_judgment.specs.Judgment.{judgmentOf}
 use Rattle.rule_judgment.proofs.Winners.{judgment-length}
 use Rattle.rule_judgment.proofs.Theorems.{bytes-say, each-gets}

@@ -21,7 +21,7 @@ use Rattle.jury.specs.Reason.{Reason, unless, foundAt, firstOf}
 use Rattle.jury.specs.Ballots.{ballotReasons}
 use Rattle.jury.specs.Accepted.{AcceptedBallots}
 use Rattle.jury.proofs.AcceptedLaws as ballots-laws
-use Rattle.gates.specs.Step.{RunReady}
+use Rattle.gates.specs.inner.Step.{RunReady}
 use Rattle.gates.specs.Test.{firstBad}
 use Rattle.gates.proofs.Evaluating.{accepted-list}
 use Rattle.tally.specs.Answer.{refused, accepted, outcome, Size, sizeOf}

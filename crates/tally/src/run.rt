@@ -90,7 +90,7 @@ pub fn run(
         conditional: _,
     } = answer {
         gates::step::run(ballots, table, shape.candidates, tape, wires, board);
-        crate::empty::empty(wires);
+        basics::table::empty(wires);
     }
     answer
 }

@@ -13,7 +13,7 @@ use borrow.Author.Tests.{ltb-true}
 use Rattle.gates.specs.Kind.{operandsOf, conditionalOf}
 use Rattle.gates.specs.Gate.{Gate, gatesOf}
 use Rattle.gates.specs.Board.{conditionalCount}
-use Rattle.gates.specs.Step.{gateAt}
+use Rattle.gates.specs.inner.Step.{gateAt}
 use Rattle.gates.specs.Test.{goodGate, firstBad}
 use Rattle.gates.specs.declared.place.Place.the-variants.{Nowhere}
 use Rattle.gates.proofs.Table.{gates-from}

@@ -6,7 +6,7 @@ use Prim.Native.Nat.{ℕ, zero, suc, _<_}
 use native.Mathlib.Omega.{arith}
 use lib.Dec.{eqb}
 use borrow.Author.Tests.{eqb-true, eqb-false}
-use Rattle.trustee_gates.specs.Dealing.{allBelow}
+use Rattle.basics.specs.Below.{allBelow}
 
 module _ (f : ℕ → Bool) where
   pub all-none : true ≡ allBelow 0 f

@@ -6,11 +6,7 @@ use lib.Dec.{eqb, leb}
 use lib.ListN.{length, getD}
 use Rattle.trustee_shares.specs.Shares.{opened, part, uOf, vOf, productOf, Held}
 use Rattle.trustee_shares.specs.Views.{piece, Dealing}
-
--- Whether all numbers below n pass.
-unfoldable pub allBelow : ℕ → (ℕ → Bool) → Bool
-allBelow zero passes = true
-allBelow (suc n) passes = allBelow n passes && passes n
+use Rattle.basics.specs.Below.{allBelow}
 
 -- All parts are 0 or 1.
 unfoldable pub onlyBits : List ℕ → Bool

@@ -10,7 +10,7 @@ ghost use Prim.Native.Nat.{_+_, _*_, _<_};
 ghost use lib.ListN.{length, take};
 ghost use lib.Seq.{sets};
 ghost use Rattle.gates.specs.Gate.{gatesOf};
-ghost use Rattle.gates.specs.Step.{gateAt};
+ghost use Rattle.gates.specs.inner.Step.{gateAt};
 ghost use Rattle.trustee_shares.specs.Shares.{partsOf};
 ghost use Rattle.trustee_shares.specs.Views.{piece, joined, maskedFactors, wirePartsOf, publishedOf};
 ghost use Rattle.trustee_gates.specs.Gate.{gateOf};

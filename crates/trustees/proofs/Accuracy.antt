@@ -18,7 +18,7 @@ use Rattle.jury.specs.Reason.{Reason, firstOf}
 use Rattle.jury.specs.ClosingBytes.{eightBytes}
 use Rattle.jury.proofs.Limits.{bounds}
 use Rattle.jury.proofs.Rows.{eight-at}
-use Rattle.jury.proofs.Tabulate.{tabulate-cong, tabulate-getD}
+use Rattle.basics.proofs.Tabulate.{tabulate-cong, tabulate-getD}
 use Rattle.tally.specs.Answer.{accepted, Size, sizeOf}
 use Rattle.tally.specs.Rule.{closingFor}
 use Rattle.tally.specs.Count.{plainClosing}

@@ -18,7 +18,7 @@ use Rattle.jury.specs.Reason.{Reason, unless, firstOf}
 use Rattle.jury.specs.Ballots.{ballotReasons}
 use Rattle.jury.specs.Accepted.{AcceptedBallots}
 use Rattle.jury.proofs.AcceptedLaws as ballots-laws
-use Rattle.jury.proofs.Flags.{and-first, and-second}
+use Rattle.basics.proofs.Flags.{and-first, and-second}
 use Rattle.jury.proofs.Limits.{bounds, inputs-bound}
 use Rattle.tally.specs.Answer.{refused, accepted, outcome, Size, sizeOf}
 use Rattle.tally.specs.Test.{testReasons, testOutcome}

@@ -16,12 +16,12 @@ use Rattle.gates.proofs.Counting.{count-most}
 use Rattle.gates.proofs.Evaluating.{accepted-list}
 use Rattle.jury.specs.declared.shape.Shape.{Shape}
 use Rattle.jury.specs.Shape.{gradedLimits, rankedLimits, withinLimits, ballotBytes}
-use Rattle.jury.specs.Counts.{tabulate}
+use Rattle.basics.specs.Lists.{tabulate}
 use Rattle.jury.specs.ClosingBytes.{eightBytes}
-use Rattle.jury.proofs.Cases.{below-or-not}
+use Rattle.basics.proofs.Cases.{below-or-not}
 use Rattle.jury.proofs.Limits.{within, bytes-are, ranked, ranked-bytes, kinds, bounds, inputs-bound}
 use Rattle.jury.proofs.Rows.{eight-at, eight-length}
-use Rattle.jury.proofs.Tabulate.{length-tabulate, getD-tabulate, tabulate-cong, upTo, upTo-new, upTo-old}
+use Rattle.basics.proofs.Tabulate.{length-tabulate, getD-tabulate, tabulate-cong, upTo, upTo-new, upTo-old}
 use Rattle.tally.specs.Answer.{Size, sizeOf}
 use Rattle.trustee_shares.specs.Shares.{opened, part, Held}
 use Rattle.trustee_shares.specs.Views.{piece, joined, Dealing, ballotsOf, dealtOf, wirePartsOf, maskedFactors, closingParts, publishedOf}

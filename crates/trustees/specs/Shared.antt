@@ -9,7 +9,7 @@ use Rattle.gates.specs.Gate.{Gate, gatesOf}
 use Rattle.jury.specs.declared.shape.Shape.{Shape}
 use Rattle.jury.specs.Reason.{Reason, unless, firstOf}
 use Rattle.jury.specs.Ballots.{ballotReasons}
-use Rattle.jury.specs.Counts.{tabulate}
+use Rattle.basics.specs.Lists.{tabulate}
 use Rattle.jury.specs.ClosingBytes.{eightBytes}
 use Rattle.tally.specs.Answer.{Outcome, refused, accepted, Size, sizeOf}
 use Rattle.tally.specs.Test.{testReasons}

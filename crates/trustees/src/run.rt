@@ -4,7 +4,7 @@ use tally::answer::Answer;
 ghost use mathlib.Core.Path.{_≡_};
 ghost use Prim.Native.Nat.{_+_, _*_, _≤_};
 ghost use lib.ListN.{length};
-ghost use Rattle.jury.specs.Counts.{tabulate};
+ghost use Rattle.basics.specs.Lists.{tabulate};
 ghost use Rattle.jury.specs.ClosingBytes.{eightBytes};
 ghost use Rattle.tally.specs.Answer.{outcomeOf};
 ghost use Rattle.trustee_shares.specs.Shares.{opened, part};
@@ -74,6 +74,6 @@ pub fn run(
         published,
     );
     let closing = open_closing(t, factors + k, factors, k, published);
-    tally::empty::empty(wires);
+    basics::table::empty(wires);
     Tallied { answer, closing }
 }

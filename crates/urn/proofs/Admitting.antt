@@ -11,10 +11,11 @@ use lib.Dec.{T}
 use lib.ListN.{length, getD, set, take, drop, length-set, length-append, length-take, length-drop}
 use lib.Seq.{set-set}
 use Rattle.jury.specs.Shape.{gradedLimits}
-use Rattle.jury.proofs.Flags.{and-second}
+use Rattle.basics.proofs.Flags.{and-second}
 use Rattle.urn_chains.specs.Slots.{Slot, slotBytes, slotOf, slotsOf, bytesOf, slotAt}
 use Rattle.urn_chains.specs.Chains.{Entry, ballotSlots, ballotChain, freeChain, firstEntry, firstFree, headSlot, layout}
-use Rattle.urn_chains.specs.Sound.{all, juryOfOne, inUrn, slotCount, urnSlots, soundSlots, sound}
+use Rattle.basics.specs.Lists.{all}
+use Rattle.urn_chains.specs.Sound.{juryOfOne, inUrn, slotCount, urnSlots, soundSlots, sound}
 use Rattle.urn.specs.Facts.{isEmpty}
 use Rattle.urn.specs.Admit.{withBallot}
 use Rattle.urn_chains.specs.Inner.{SlotTable}

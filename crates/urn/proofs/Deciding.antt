@@ -8,7 +8,7 @@ use Prim.Native.Nat.{ℕ, _+_, _-_, _*_}
 use native.Mathlib.Omega.{arith}
 use lib.Dec.{T, leb}
 use Rattle.jury.specs.Shape.{gradedLimits}
-use Rattle.jury.proofs.Flags.{and-second, T-true, true-T}
+use Rattle.basics.proofs.Flags.{and-second, T-true, true-T}
 use Rattle.jury.specs.Reason.{Reason, reasonAt, unless, firstOf}
 use Rattle.jury.specs.Ballots.{ballotReasons}
 use Rattle.tally.specs.Answer.{Outcome, refused, accepted, outcome}

@@ -11,14 +11,15 @@ use lib.Dec.{T, eqb}
 use lib.ListN.{length, drop, length-append}
 use borrow.Author.Tests.{eq-eqb, eqb-true, not-true}
 use Rattle.jury.specs.Shape.{gradedLimits}
-use Rattle.jury.specs.Counts.{tabulate}
+use Rattle.basics.specs.Lists.{tabulate}
 use Rattle.jury.specs.Reason.{Reason, firstOf}
-use Rattle.jury.proofs.Flags.{and-first, and-second, and-both, true-T, or-first, or-second}
+use Rattle.basics.proofs.Flags.{and-first, and-second, and-both, true-T, or-first, or-second}
 use Rattle.tally.specs.Answer.{accepted, outcome}
 use Rattle.urn.specs.declared.facts.Facts.{Facts}
 use Rattle.urn_chains.specs.Slots.{Slot, slotBytes, slotsOf, bytesOf}
 use Rattle.urn_chains.specs.Chains.{Entry, ballotChain, freeChain, firstFree, layout}
-use Rattle.urn_chains.specs.Sound.{all, member, distinct, juryOfOne, goodJuror, goodBallot, eachOnce, goodChains, slotCount, urnLength, urnSlots, soundSlots, sound}
+use Rattle.basics.specs.Lists.{all, member, distinct}
+use Rattle.urn_chains.specs.Sound.{juryOfOne, goodJuror, goodBallot, eachOnce, goodChains, slotCount, urnLength, urnSlots, soundSlots, sound}
 use Rattle.urn.specs.Facts.{gradedShape, isEmpty, jurorsOf, factsOf, afterwards}
 use Rattle.urn.specs.Admit.{admitReasons, admitOutcome, withBallot, admitted}
 use Rattle.urn.specs.Withdraw.{withdrawReasons, withdrawOutcome, without, slotOfJuror, withoutBallot, withdrawn}

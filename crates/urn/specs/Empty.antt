@@ -3,7 +3,7 @@ use mathlib.Core.Option.{Option}
 use mathlib.Core.List.{List, [], _∷_}
 use Prim.Native.Nat.{ℕ, suc, _-_, _*_}
 use lib.ListN.{length}
-use Rattle.jury.specs.Counts.{tabulate}
+use Rattle.basics.specs.Lists.{tabulate}
 use Rattle.jury.specs.Reason.{Reason, unless, firstOf}
 use Rattle.tally.specs.Answer.{Outcome, outcome}
 use Rattle.urn_chains.specs.Slots.{Slot, bytesOf}

@@ -11,7 +11,8 @@ use Rattle.urn.specs.declared.answer.Answer.{Answer}
 use Rattle.urn.specs.declared.answer.Answer.the-variants.{Accepted, Refused}
 use Rattle.urn.specs.declared.facts.Facts.{Facts}
 use Rattle.urn_chains.specs.Chains.{Entry, ballotChain, freeChain}
-use Rattle.urn_chains.specs.Sound.{member, juryOfOne, urnSlots, sound}
+use Rattle.basics.specs.Lists.{member}
+use Rattle.urn_chains.specs.Sound.{juryOfOne, urnSlots, sound}
 
 -- The numbers of candidates and grades are those of a jury that grades: a ranking shape, with no grades, is none.
 unfoldable pub gradedShape : ℕ → ℕ → Bool

@@ -4,7 +4,7 @@ use mathlib.Core.Bool.{true, false}
 use mathlib.Core.List.{List, [], _∷_}
 use Prim.Native.Nat.{ℕ, suc, _-_, _*_}
 use lib.ListN.{length, drop}
-use Rattle.jury.specs.Counts.{tabulate}
+use Rattle.basics.specs.Lists.{tabulate}
 use Rattle.tally.specs.Answer.{accepted}
 use Rattle.urn.specs.declared.facts.Facts.{Facts}
 use Rattle.urn_chains.specs.Chains.{Entry, ballotChain, freeChain, firstFree}

@@ -3,7 +3,7 @@ use crate::answer::Answer;
 use crate::facts;
 use crate::facts::Facts;
 use crate::put;
-use jury::byte::wide;
+use basics::byte::wide;
 use jury::reason::Refusal;
 use jury::reason::Verdict;
 use jury::shape::Shape;

@@ -15,7 +15,7 @@ fn free_all(urn: &mut [u8], bytes: usize, slots: usize)
     requires { ⌜ SlotTable bytes slots (now urn) ⌝ }
     ensures { λ _. ⌜ now (urn .exit) ≡ bytesOf (allFree slots bytes) ⌝ }
 {
-    tally::empty::empty(urn);
+    basics::table::empty(urn);
     let size = 2 + bytes;
     // The slot number `left` starts at byte `at`. Both are counted down, without a product in the loop.
     let mut left = slots - 1;

@@ -14,10 +14,11 @@ use borrow.Author.Tests.{eqb-true, leb-true, eq-eqb, le-leb, eqb-false}
 use Rattle.jury.specs.Shape.{gradedLimits, ballotBytes}
 use Rattle.jury.specs.Reason.{Reason, unless, firstOf}
 use Rattle.jury.specs.Ballots.{ballotReasons}
-use Rattle.jury.proofs.Flags.{and-first, and-second, and-both, never-true}
+use Rattle.basics.proofs.Flags.{and-first, and-second, and-both, never-true}
 use Rattle.urn_chains.specs.Slots.{Slot, slotBytes, slotOf, slotsOf, bytesOfSlot, bytesOf, slotAt, freeSlot}
 use Rattle.urn_chains.specs.Chains.{Entry, entrySlot, firstFree, headSlot, withBallots, withFree, layout}
-use Rattle.urn_chains.specs.Sound.{all, juryOfOne, noReason, goodBallot, slotCount, urnLength, urnSlots, soundSlots, sound}
+use Rattle.basics.specs.Lists.{all}
+use Rattle.urn_chains.specs.Sound.{juryOfOne, noReason, goodBallot, slotCount, urnLength, urnSlots, soundSlots, sound}
 use Rattle.urn_chains.specs.Inner.{SlotTable}
 use Rattle.urn_chains.proofs.SlotLaws.{size-is, slots-length, slot-within}
 use Rattle.urn_chains.proofs.Lists.{all-first, all-rest}

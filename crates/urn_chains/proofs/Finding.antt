@@ -11,7 +11,8 @@ use lib.Dec.{eqb}
 use borrow.Author.Tests.{eq-eqb, ne-eqb}
 use Rattle.urn_chains.specs.Slots.{Slot, slotAt}
 use Rattle.urn_chains.specs.Chains.{chain}
-use Rattle.urn_chains.specs.Sound.{all, inUrn}
+use Rattle.basics.specs.Lists.{all}
+use Rattle.urn_chains.specs.Sound.{inUrn}
 use Rattle.urn_chains.specs.declared.find.ChainPosition.{ChainPosition}
 use Rattle.urn_chains.specs.declared.find.ChainPosition.the-variants.{Found, Absent}
 use Rattle.urn_chains.specs.Inner.{linkOf}

@@ -8,11 +8,12 @@ use native.Mathlib.Omega.{arith}
 use lib.Dec.{eqb}
 use lib.ListN.{length, replicate}
 use borrow.Author.Tests.{eqb-true}
-use Rattle.jury.specs.Counts.{tabulate}
-use Rattle.jury.proofs.Flags.{and-first, and-second}
+use Rattle.basics.specs.Lists.{tabulate}
+use Rattle.basics.proofs.Flags.{and-first, and-second}
 use Rattle.urn_chains.specs.Slots.{Slot, slotAt, freeSlot}
 use Rattle.urn_chains.specs.Chains.{ballotSlots, ballotChain, freeChain, firstEntry, firstFree, headSlot, layout}
-use Rattle.urn_chains.specs.Sound.{all, member, distinct, inUrn, allZero, emptySlot}
+use Rattle.basics.specs.Lists.{all, member, distinct}
+use Rattle.urn_chains.specs.Sound.{inUrn, allZero, emptySlot}
 use Rattle.urn_chains.proofs.Zeros.{zero-zeros}
 use Rattle.urn_chains.proofs.Lists.{all-member, all-append}
 use Rattle.urn_chains.proofs.SoundLaws.{Parts, slots-of-entries}

@@ -10,12 +10,13 @@ use lib.Dec.{eqb, ltb}
 use lib.ListN.{length, getD, set, replicate, length-set, length-replicate}
 use lib.Seq.{getD-set-same, getD-set-other, ext-getD}
 use borrow.Author.Tests.{eqb-true, eqb-false, eq-eqb, ltb-true, leb-true}
-use Rattle.jury.specs.Counts.{tabulate}
-use Rattle.jury.proofs.Cases.{same-or-not, below-or-not}
-use Rattle.jury.proofs.Flags.{and-first, and-second, or-either, or-first, or-second, never-true}
+use Rattle.basics.specs.Lists.{tabulate}
+use Rattle.basics.proofs.Cases.{same-or-not, below-or-not}
+use Rattle.basics.proofs.Flags.{and-first, and-second, or-either, or-first, or-second, never-true}
 use Rattle.urn_chains.specs.Slots.{Slot, slotAt, freeSlot}
 use Rattle.urn_chains.specs.Chains.{Entry, chain, ends, entryAt, ballotSlots, ballotChain, freeChain, firstEntry, firstFree, entrySlot, withBallots, withFree, headSlot, layout}
-use Rattle.urn_chains.specs.Sound.{all, member, distinct, inUrn}
+use Rattle.basics.specs.Lists.{all, member, distinct}
+use Rattle.urn_chains.specs.Sound.{inUrn}
 use Rattle.urn_chains.proofs.Lists.{all-first, all-rest, all-append, all-member, member-append, distinct-first, distinct-rest, distinct-left, distinct-right, distinct-apart, tabulate-all}
 use Rattle.urn_chains.proofs.Walking.{chain-step, ends-step, chain-end, ends-end}
 

@@ -8,11 +8,12 @@ use native.Mathlib.Omega.{arith}
 use lib.Dec.{ltb}
 use lib.ListN.{length, length-append}
 use borrow.Author.Tests.{ltb-true, lt-ltb}
-use Rattle.jury.specs.Counts.{tabulate}
-use Rattle.jury.proofs.Flags.{and-first, and-second, and-both}
+use Rattle.basics.specs.Lists.{tabulate}
+use Rattle.basics.proofs.Flags.{and-first, and-second, and-both}
 use Rattle.urn_chains.specs.Slots.{Slot, slotAt}
 use Rattle.urn_chains.specs.Chains.{Entry, chain, ends, entryAt, ballotSlots, ballotChain, freeChain}
-use Rattle.urn_chains.specs.Sound.{all, member, distinct, goodJuror, goodBallot, inUrn, eachOnce, goodChains, allZero, emptySlot, soundSlots}
+use Rattle.basics.specs.Lists.{all, member, distinct}
+use Rattle.urn_chains.specs.Sound.{goodJuror, goodBallot, inUrn, eachOnce, goodChains, allZero, emptySlot, soundSlots}
 use Rattle.urn_chains.specs.Inner.{noMarks, markAll, fresh, jurorsAt, ballotAt, freeAt, ballotsFrom, freeFrom}
 use Rattle.urn_chains.proofs.Holding.{juror-most}
 use Rattle.urn_chains.proofs.Lists.{all-append, all-map, all-weaken, all-both}

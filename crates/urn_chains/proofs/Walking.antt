@@ -11,10 +11,10 @@ use lib.ListN.{length, getD, set, length-set, length-replicate}
 use borrow.Author.Tests.{ne-eqb}
 use Rattle.urn_chains.specs.Slots.{Slot, slotAt}
 use Rattle.urn_chains.specs.Chains.{chain, ends}
-use Rattle.urn_chains.specs.Sound.{all}
+use Rattle.basics.specs.Lists.{all}
 use Rattle.urn_chains.specs.declared.walk.SlotCheck.the-variants.{Sound, Wrong}
 use Rattle.urn_chains.specs.Inner.{Walked, noMarks, markAll, fresh, jurorsAt, looked, ballotAt, freeAt, ballotsFrom, freeFrom}
-use Rattle.jury.proofs.Cases.{below-or-not}
+use Rattle.basics.proofs.Cases.{below-or-not}
 
 -- a slot that is met first
 pub chain-step : (most i : ℕ) (slots : List Slot) → 0 < most → 0 < i → chain most i slots ≡ i ∷ chain (most - 1) (slotAt slots i .next) slots

@@ -8,8 +8,9 @@ use lib.Dec.{eqb}
 use lib.ListN.{length, getD, drop, replicate}
 use lib.Seq.{drop-cons}
 use borrow.Author.Tests.{eq-eqb, ne-eqb, eqb-true}
-use Rattle.jury.proofs.Flags.{and-first, and-second}
-use Rattle.urn_chains.specs.Sound.{all, allZero}
+use Rattle.basics.proofs.Flags.{and-first, and-second}
+use Rattle.basics.specs.Lists.{all}
+use Rattle.urn_chains.specs.Sound.{allZero}
 
 zero-step : (xs : List ℕ) (i : ℕ) → i < length xs → allZero (drop i xs) ≡ (eqb (getD xs i 0) 0 && allZero (drop (suc i) xs))
 unfolding all allZero

@@ -14,7 +14,8 @@ use Rattle.urn_chains.specs.declared.find.ChainPosition.{ChainPosition}
 use Rattle.urn_chains.specs.declared.find.ChainPosition.the-variants.{Found, Absent}
 use Rattle.urn_chains.specs.declared.walk.SlotCheck.{SlotCheck}
 use Rattle.urn_chains.specs.declared.walk.SlotCheck.the-variants.{Sound, Wrong}
-use Rattle.urn_chains.specs.Sound.{all, juryOfOne, goodBallot, goodJuror, inUrn, emptySlot}
+use Rattle.basics.specs.Lists.{all}
+use Rattle.urn_chains.specs.Sound.{juryOfOne, goodBallot, goodJuror, inUrn, emptySlot}
 
 -- The bytes are n slots for ballots of b bytes.
 pub record SlotTable (b n : ℕ) (urn : List ℕ) : Type 0 where

@@ -9,22 +9,12 @@ use lib.ListN.{length}
 use Rattle.jury.specs.declared.shape.Shape.{Shape}
 use Rattle.jury.specs.Reason.{Reason, firstOf}
 use Rattle.jury.specs.Ballots.{ballotReasons}
-use Rattle.jury.specs.Counts.{tabulate}
+use Rattle.basics.specs.Lists.{tabulate}
 use Rattle.urn_chains.specs.Slots.{Slot, slotBytes, slotsOf, slotAt}
 use Rattle.urn_chains.specs.Chains.{Entry, ends, ballotChain, freeChain}
-
-unfoldable pub all : {A : Type 0} → (A → Bool) → List A → Bool
-all p [] = true
-all p (x ∷ xs) = p x && all p xs
-
-unfoldable pub member : ℕ → List ℕ → Bool
-member x [] = false
-member x (y ∷ ys) = eqb x y || member x ys
-
--- No number stands in the list twice.
-unfoldable pub distinct : List ℕ → Bool
-distinct [] = true
-distinct (x ∷ xs) = not (member x xs) && distinct xs
+use Rattle.basics.specs.Lists.{all}
+use Rattle.basics.specs.Lists.{member}
+use Rattle.basics.specs.Lists.{distinct}
 
 -- A jury of one with k candidates and d grades.
 unfoldable pub juryOfOne : ℕ → ℕ → Shape

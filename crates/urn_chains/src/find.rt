@@ -1,11 +1,12 @@
 // The search for a juror's ballot.
-use jury::byte::wide;
+use basics::byte::wide;
 ghost use mathlib.Core.Path.{_≡_};
 ghost use mathlib.Core.Bool.{true};
 ghost use lib.ListN.{getD};
 ghost use Rattle.urn_chains.specs.Slots.{slotsOf};
 ghost use Rattle.urn_chains.specs.Chains.{chain};
-ghost use Rattle.urn_chains.specs.Sound.{all, inUrn};
+ghost use Rattle.basics.specs.Lists.{all};
+ghost use Rattle.urn_chains.specs.Sound.{inUrn};
 ghost use Rattle.urn_chains.specs.Inner.{SlotTable, linkOf};
 
 // A ballot's slot, and the slot before it in the ballot chain: slot 0 where it is the first.

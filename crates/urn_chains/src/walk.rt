@@ -1,5 +1,5 @@
 // Walks along the two chains of an urn.
-use jury::byte::wide;
+use basics::byte::wide;
 use jury::reason::Verdict;
 use jury::shape::Shape;
 ghost use mathlib.Core.Path.{_≡_};

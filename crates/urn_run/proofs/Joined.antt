@@ -16,14 +16,15 @@ use Rattle.jury.specs.Shape.{gradedLimits, ballotBytes}
 use Rattle.jury.specs.Reason.{Reason, firstOf}
 use Rattle.jury.specs.Ballots.{ones, ballotReasons}
 use Rattle.jury.specs.Accepted.{AcceptedBallots}
-use Rattle.jury.proofs.Flags.{and-second}
+use Rattle.basics.proofs.Flags.{and-second}
 use Rattle.jury.proofs.Limits.{within, graded-within, graded-is, bytes-are}
 use Rattle.jury.proofs.AcceptedLaws as ballots-laws
 use Rattle.urn_chains.specs.Slots.{Slot, slotAt}
 use Rattle.urn_chains.specs.Chains.{Entry, entryAt}
-use Rattle.urn_chains.specs.Sound.{all, juryOfOne, noReason, goodBallot}
+use Rattle.basics.specs.Lists.{all}
+use Rattle.urn_chains.specs.Sound.{juryOfOne, noReason, goodBallot}
 use Rattle.urn_chains.proofs.Lists.{all-first, all-rest}
-use Rattle.jury.proofs.Cases.{below-or-not}
+use Rattle.basics.proofs.Cases.{below-or-not}
 use Rattle.urn_run.specs.Run.{joined}
 
 -- The bytes are m good ballots for k candidates and d grades.

@@ -14,13 +14,13 @@ use lib.Seq.{take-at}
 use borrow.Author.Tests.{eq-eqb, ne-eqb, eqb-true, eqb-false}
 use Rattle.gates.specs.Gate.{gatesOf}
 use Rattle.gates.specs.Test.{firstAboveOne, firstBad, tested}
-use Rattle.gates.specs.Step.{FinishReady}
+use Rattle.gates.specs.inner.Step.{FinishReady}
 use Rattle.jury.specs.declared.shape.Shape.{Shape}
 use Rattle.jury.specs.Shape.{gradedLimits, withinLimits, ballotBytes}
 use Rattle.jury.specs.Reason.{Reason, reasonAt, unless, foundAt, listReason, firstOf}
 use Rattle.jury.specs.Ballots.{ballotReasons}
 use Rattle.jury.specs.Accepted.{AcceptedBallots}
-use Rattle.jury.proofs.Flags.{true-T}
+use Rattle.basics.proofs.Flags.{true-T}
 use Rattle.jury.proofs.Limits.{Within, within, within-back, graded-within, bytes-are}
 use Rattle.jury.proofs.BallotLaws.{judged, judged-by, kindReason}
 use Rattle.jury.proofs.AcceptedLaws as ballots-laws

@@ -1,5 +1,5 @@
 // The way of the ballots from an urn into the wire table.
-use jury::byte::wide;
+use basics::byte::wide;
 ghost use mathlib.Core.Path.{_≡_};
 ghost use mathlib.Core.Bool.{true};
 ghost use mathlib.Core.List.{_++_};

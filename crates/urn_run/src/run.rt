@@ -79,7 +79,7 @@ pub fn run_on_urn(
             wires,
             board,
         );
-        tally::empty::empty(wires);
+        basics::table::empty(wires);
     }
     answer
 }

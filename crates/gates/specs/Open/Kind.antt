@@ -30,7 +30,8 @@ differ a b = cond (eqb a b) 0 1
 unfoldable pub choose : ℕ → ℕ → ℕ → ℕ
 choose a b c = cond (eqb a 0) c b
 
--- The value of a kind from the values of its operands. The conjunction of two bits is the smaller, their disjunction the larger. There is no value of a number that is no kind; where one must stand it is 0.
+-- The value of a kind from the values of its operands. The conjunction of two bits is the smaller, their
+-- disjunction the larger. There is no value of a number that is no kind; where one must stand it is 0.
 unfoldable pub valueOf : ℕ → ℕ → ℕ → ℕ → ℕ
 valueOf kind a b c =
     getD (0 ∷ 1 ∷ a ∷ (1 - a) ∷ min a b ∷ max a b ∷ differ a b ∷ choose a b c ∷ []) kind 0

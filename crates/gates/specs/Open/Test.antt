@@ -29,7 +29,8 @@ unfoldable pub firstBad : ℕ → ℕ → List Gate → Place
 firstBad inputs g [] = Nowhere
 firstBad inputs g (x ∷ xs) = cond (goodGate (inputs + g) x) (firstBad inputs (suc g) xs) (At g)
 
--- The answer for a list of the right length, by its first bad gate: that gate, or that the list is accepted with its G and C.
+-- The answer for a list of the right length, by its first bad gate: that gate, or that the list is accepted with
+-- its G and C.
 unfoldable pub judged : Place → ℕ → ℕ → ListCheck
 judged (At g) gates conditional = BadGate g
 judged Nowhere gates conditional = Accepted gates conditional

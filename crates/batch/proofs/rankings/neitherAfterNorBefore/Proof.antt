@@ -5,7 +5,8 @@ use mathlib.Core.Bool.{not, _&&_}
 use Prim.Native.Nat.{ℕ, _-_, _≤_, _<_}
 use native.Mathlib.Omega.{arith}
 use borrow.Author.Needs.{needs}
-use Rattle.jury.specs.Rankings.{before, someBelow, neitherAfterNorBefore}
+use Rattle.jury.specs.Rankings.{before, neitherAfterNorBefore}
+use Rattle.basics.specs.Below.{someBelow}
 use Rattle.batch_lanes.specs.Lane.{laneCount, lane, laneOf}
 use Rattle.batch.proofs.RankLaws.{bit, both-lane, not-lane, some-none, some-more}
 use Rattle.batch.proofs.rankings.neitherAfterNorBefore.Statement.{statement}

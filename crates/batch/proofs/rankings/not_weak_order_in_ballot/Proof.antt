@@ -4,7 +4,8 @@ use mathlib.Core.Path.{_≡_, _∙_, ap}
 use Prim.Native.Nat.{ℕ, _-_, _≤_, _<_}
 use native.Mathlib.Omega.{arith}
 use borrow.Author.Needs.{needs}
-use Rattle.jury.specs.Rankings.{before, someBelow, notWeakOrderAfter, notWeakOrder}
+use Rattle.jury.specs.Rankings.{before, notWeakOrderAfter, notWeakOrder}
+use Rattle.basics.specs.Below.{someBelow}
 use Rattle.batch_lanes.specs.Lane.{laneCount, lane, laneOf}
 use Rattle.batch.proofs.RankLaws.{bit, some-none, some-more}
 use Rattle.batch.proofs.rankings.not_weak_order_in_ballot.Statement.{statement}

@@ -8,7 +8,7 @@ use Rattle.gates.specs.Gate.{gatesOf}
 use Rattle.jury.specs.Shape.{withinLimits}
 use Rattle.jury.specs.Reason.{Reason, reasonOf, refusedFor, firstOf}
 use Rattle.batch.specs.Ballots.{wordBallotReasons}
-use Rattle.jury.proofs.Flags.{true-T}
+use Rattle.basics.proofs.Flags.{true-T}
 use Rattle.tally.specs.Answer.{Size, refused, outcome, outcomeOf, sizeOf}
 use Rattle.tally.specs.Test.{testOutcome}
 use Rattle.batch.specs.Run.{wordBufferReasons, batchReasons}

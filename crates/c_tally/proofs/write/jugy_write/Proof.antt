@@ -8,7 +8,7 @@ use borrow.Author.Needs.{needs}
 use Rattle.jury.specs.declared.shape.Shape.{Shape}
 use Rattle.jury.specs.Shape.{withinLimits}
 use Rattle.jury.specs.Reason.{reasonOf, reasonAt}
-use Rattle.jury.proofs.Flags.{T-true}
+use Rattle.basics.proofs.Flags.{T-true}
 use Rattle.jury.proofs.Constructed.{shape-is, outside-is}
 use Rattle.tally.specs.Answer.{Outcome, outcomeOf, Size}
 use Rattle.tally.specs.Write.{writeOutcome, written}

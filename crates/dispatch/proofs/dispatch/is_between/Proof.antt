@@ -2,7 +2,7 @@
 -- Assumes nothing.
 use mathlib.Core.Path.{refl}
 use borrow.Author.Tests.{le-leb, lt-leb}
-use Rattle.jury.proofs.Flags.{and-taken, and-left}
+use Rattle.basics.proofs.Flags.{and-taken, and-left}
 use Rattle.dispatch.proofs.dispatch.is_between.Statement.{statement}
 use Rattle.dispatch.proofs.dispatch.is_between.Tie as tie
 

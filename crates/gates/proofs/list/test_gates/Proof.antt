@@ -16,7 +16,6 @@ use Rattle.gates.proofs.Table.{length-gates}
 use Rattle.gates.proofs.Counting.{mark-at-most-one}
 use Rattle.gates.proofs.Judging.{Judges, judges-bad, judges-good, judges-all}
 use native.Mathlib.Omega.{arith}
-use borrow.Author.Needs.{needs}
 use Rattle.gates.proofs.list.test_gates.Statement.{statement}
 use Rattle.gates.proofs.list.test_gates.Tie as tie
 

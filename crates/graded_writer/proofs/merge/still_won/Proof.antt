@@ -5,7 +5,7 @@ use mathlib.Core.Logic.{⊎-elim}
 use Prim.Native.Nat.{ℕ, _+_, _≤_, _<_}
 use native.Mathlib.Omega.{arith}
 use borrow.Author.Needs.{needs}
-use Rattle.jury.proofs.Cases.{below-or-not}
+use Rattle.basics.proofs.Cases.{below-or-not}
 use Rattle.gate_words.proofs.Writing.{wrote-as, room-less}
 use Rattle.gate_words.proofs.Emitting.{copy-wrote}
 use Rattle.graded_writer.proofs.ListWriters.{won-single, won-many}

@@ -5,8 +5,8 @@ use mathlib.Core.Option.{Option}
 use mathlib.Core.List.{[], _∷_}
 use borrow.Author.Needs.{needs}
 use Rattle.gates.specs.declared.place.Place.{Place}
-use Rattle.gates.specs.declared.place.Place.the-variants.{At, Nowhere}
-use Rattle.jury.specs.Reason.{Reason, reasonOf, reasonAt, refusedFor, foundAt, firstOf}
+use Rattle.gates.specs.declared.place.Place.the-variants.{Nowhere}
+use Rattle.jury.specs.Reason.{Reason, reasonOf, refusedFor, foundAt, firstOf}
 use Rattle.jury.specs.Ballots.{rankedReasons}
 use Rattle.jury.specs.Rankings.{firstNotAsymmetric, firstNotWeakOrder}
 use Rattle.jury.proofs.ballots.test_rankings.Statement.{statement}

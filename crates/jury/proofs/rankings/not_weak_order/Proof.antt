@@ -5,7 +5,8 @@ use mathlib.Core.Bool.{false}
 use Prim.Native.Nat.{ℕ, _-_, _≤_}
 use native.Mathlib.Omega.{arith}
 use borrow.Author.Needs.{needs}
-use Rattle.jury.specs.Rankings.{before, someBelow, notWeakOrderAfter, notWeakOrder}
+use Rattle.jury.specs.Rankings.{before, notWeakOrderAfter, notWeakOrder}
+use Rattle.basics.specs.Below.{someBelow}
 use Rattle.jury.proofs.Searches.{some-later, some-here}
 use Rattle.jury.proofs.rankings.not_weak_order.Statement.{statement}
 use Rattle.jury.proofs.rankings.not_weak_order.Tie as tie

@@ -7,8 +7,9 @@ use mathlib.Core.List.{List}
 use Prim.Native.Nat.{ℕ, _-_, _≤_}
 use native.Mathlib.Omega.{arith}
 use borrow.Author.Needs.{needs}
-use Rattle.jury.proofs.Flags.{and-both, and-first-fails, and-second-fails}
-use Rattle.jury.specs.Rankings.{before, someBelow, neitherAfterNorBefore, notWeakOrderAfter}
+use Rattle.basics.proofs.Flags.{and-both, and-first-fails, and-second-fails}
+use Rattle.jury.specs.Rankings.{before, neitherAfterNorBefore, notWeakOrderAfter}
+use Rattle.basics.specs.Below.{someBelow}
 use Rattle.jury.proofs.Searches.{some-later, some-here}
 use Rattle.jury.proofs.rankings.not_weak_order_after.Statement.{statement}
 use Rattle.jury.proofs.rankings.not_weak_order_after.Tie as tie

@@ -2,7 +2,7 @@
 -- Assumes nothing.
 use mathlib.Core.Path.{_≡_, sym}
 use borrow.Author.Tests.{eq-eqb, ne-eqb}
-use Rattle.jury.proofs.Flags.{or-first, or-second}
+use Rattle.basics.proofs.Flags.{or-first, or-second}
 use lib.Dec.{eqb}
 use mathlib.Core.Bool.{_||_}
 use Rattle.ranked_blocks.proofs.places.stays.Statement.{statement}

@@ -7,7 +7,7 @@ use Prim.Native.Nat.{ℕ, suc, _+_, _-_, _≤_}
 use native.Mathlib.Numerals.{add-one}
 use native.Mathlib.Omega.{arith}
 use lib.ListN.{take, getD, length-take}
-use Rattle.jury.proofs.RunningSums.{running-most}
+use Rattle.rule_judgment.proofs.RunningSums.{running-most}
 use Rattle.rule_judgment.specs.declared.rule.Sums.{Sums}
 use Rattle.rule_judgment.proofs.Statements.{Alike}
 use Rattle.rule_judgment.proofs.Deciding.{At}

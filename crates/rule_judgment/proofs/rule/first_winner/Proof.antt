@@ -6,8 +6,8 @@ use mathlib.Core.List.{List, []}
 use Prim.Native.Nat.{ℕ, _+_, _-_, _≤_, _<_}
 use native.Mathlib.Omega.{arith}
 use lib.ListN.{length, getD, take}
-use Rattle.jury.specs.Counts.{sum}
-use Rattle.jury.specs.Inner.{rowsIn}
+use Rattle.basics.specs.Lists.{sum}
+use Rattle.jury.specs.inner.Counts.{rowsIn}
 use Rattle.jury.proofs.Rows.{rows-length, row-at}
 use Rattle.rule_judgment.specs.Judgment.{sequenceOf, precedes}
 use Rattle.rule_judgment.proofs.Leading.{Leads, leads-start, leads-next, leads-still}

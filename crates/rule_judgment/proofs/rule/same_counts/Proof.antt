@@ -8,7 +8,7 @@ use native.Mathlib.Numerals.{add-one}
 use native.Mathlib.Omega.{arith}
 use lib.ListN.{length, take, drop, getD}
 use lib.Seq.{length-take-le}
-use Rattle.rule_judgment.specs.Inner.{sameCounts}
+use Rattle.rule_judgment.specs.inner.Decision.{sameCounts}
 use Rattle.rule_judgment.proofs.SameCounts.{same-later, same-not, same-end}
 use Rattle.rule_judgment.proofs.rule.same_counts.Statement.{statement}
 use Rattle.rule_judgment.proofs.rule.same_counts.Tie as tie

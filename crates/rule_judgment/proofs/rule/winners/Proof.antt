@@ -8,13 +8,13 @@ use Prim.Native.Nat.{ℕ, suc, _-_, _≤_, _<_}
 use native.Mathlib.Numerals.{add-one}
 use native.Mathlib.Omega.{arith}
 use lib.ListN.{length, getD, set, take}
-use Rattle.jury.specs.Counts.{tabulate}
-use Rattle.jury.specs.Inner.{rowsIn}
+use Rattle.basics.specs.Lists.{tabulate}
+use Rattle.jury.specs.inner.Counts.{rowsIn}
 use Rattle.jury.proofs.Limits.{Within, within-T}
-use Rattle.jury.proofs.Tabulate.{upTo, fill-start, fill-step, fill-skip}
+use Rattle.basics.proofs.Tabulate.{upTo, fill-start, fill-step, fill-skip}
 use Rattle.jury.proofs.Rows.{rows-length, row-at}
 use Rattle.rule_judgment.specs.Judgment.{judgmentOf}
-use Rattle.rule_judgment.specs.Inner.{sameCounts}
+use Rattle.rule_judgment.specs.inner.Decision.{sameCounts}
 use Rattle.rule_judgment.proofs.Leading.{same-wins, other-loses, eight-judged}
 use Rattle.rule_judgment.proofs.rule.winners.Statement.{statement}
 use Rattle.rule_judgment.proofs.rule.winners.Tie as tie

@@ -9,9 +9,9 @@ use native.Mathlib.Omega.{arith}
 use native.Mathlib.Numerals.{add-one}
 use borrow.Author.Needs.{needs}
 use lib.ListN.{set}
-use Rattle.jury.specs.Counts.{tabulate}
+use Rattle.basics.specs.Lists.{tabulate}
 use Rattle.jury.specs.ClosingBytes.{eightBytes}
-use Rattle.jury.proofs.Tabulate.{upTo, fill-start, fill-step, fill-skip, tabulate-cong}
+use Rattle.basics.proofs.Tabulate.{upTo, fill-start, fill-step, fill-skip, tabulate-cong}
 use Rattle.rule_schulze.specs.Schulze as spec
 use Rattle.rule_schulze.specs.Inner.{entry, unbeatenIn}
 use Rattle.rule_schulze.proofs.Counting.{table-wins, eight-table}

@@ -7,7 +7,7 @@ use Prim.Native.Nat.{ℕ, _-_, _≤_, _<_}
 use native.Mathlib.Omega.{arith}
 use borrow.Author.Count.{below-more}
 use borrow.Author.Tests.{le-leb, ltb-true, ltb-false, eq-eqb}
-use Rattle.jury.proofs.Flags.{or-first, or-second}
+use Rattle.basics.proofs.Flags.{or-first, or-second}
 use lib.Dec.{leb, eqb}
 use Rattle.rule_schulze.specs.Inner.{entry}
 use Rattle.rule_schulze.proofs.Tables.{unbeaten-holds, unbeaten-fails}

@@ -9,9 +9,9 @@ use borrow.Author.Needs.{needs}
 use Rattle.jury.specs.Shape.{isRanking, gradedLimits}
 use Rattle.jury.specs.Accepted.{GradedBallots}
 use Rattle.jury.specs.ClosingBytes.{eightBytes}
-use Rattle.jury.specs.Inner.{rowsIn}
+use Rattle.jury.specs.inner.Counts.{rowsIn}
 use Rattle.jury.proofs.AcceptedLaws as ballots-laws
-use Rattle.jury.proofs.Flags.{true-T}
+use Rattle.basics.proofs.Flags.{true-T}
 use Rattle.jury.proofs.Limits.{within, bounds, ranked-bytes, graded-kind}
 use Rattle.jury.proofs.Matrix.{array-rows, array-columns}
 use Rattle.rule_judgment.specs.Judgment.{judgmentOf}

@@ -10,7 +10,7 @@ use Rattle.jury.specs.Ballots.{ballotReasons}
 use Rattle.jury.specs.ClosingBytes.{eightBytes}
 use Rattle.tally.specs.Rule.{closingFor}
 use Rattle.tally.specs.Count.{countReason, closingAfter, plainClosing}
-use Rattle.jury.proofs.Flags.{true-T}
+use Rattle.basics.proofs.Flags.{true-T}
 use Rattle.jury.proofs.AcceptedLaws.{accepted}
 use Rattle.tally.proofs.CountReason.{outside-reason, within-reason}
 use borrow.Author.Needs.{needs}

@@ -11,7 +11,7 @@ use Rattle.gates.specs.Board.{conditionalCount}
 use Rattle.jury.specs.declared.shape.Shape.{Shape}
 use Rattle.jury.specs.Shape.{withinLimits, ballotBytes}
 use Rattle.jury.specs.Reason.{reasonOf, reasonAt, unless, firstOf}
-use Rattle.jury.proofs.Flags.{true-T}
+use Rattle.basics.proofs.Flags.{true-T}
 use Rattle.tally.specs.OwnList.{ownList}
 use Rattle.tally.specs.Answer.{refused, accepted, outcome}
 use Rattle.tally.specs.Measure.{Measures, measuresOf, measureOutcome, measuredBy}

@@ -10,7 +10,7 @@ use Rattle.gates.specs.Gate.{Gate}
 use Rattle.gate_words.specs.Writing.{Wrote}
 use Rattle.gate_words.specs.declared.writer.Writer.{Writer}
 use Rattle.jury.specs.Shape.{isRanking, gradedLimits, withinLimits, ballotBytes}
-use Rattle.jury.proofs.Flags.{T-true, true-T}
+use Rattle.basics.proofs.Flags.{T-true, true-T}
 use Rattle.jury.proofs.Limits.{Ranked, ranked, ranked-bytes, graded-kind, ranked-kind}
 use Rattle.ranked_circuit.specs.OwnRanking.{ownRanking}
 use Rattle.tally.specs.OwnList.{ownList}

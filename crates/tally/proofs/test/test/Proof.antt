@@ -8,7 +8,7 @@ use borrow.Author.Tests.{not-true, not-false}
 use Rattle.gates.specs.Test.{tested}
 use Rattle.jury.specs.Shape.{withinLimits, ballotBytes}
 use Rattle.jury.specs.Reason.{reasonOf, reasonAt, listReason}
-use Rattle.jury.proofs.Flags.{true-T}
+use Rattle.basics.proofs.Flags.{true-T}
 use Rattle.tally.specs.Answer.{outcomeOf}
 use Rattle.tally.specs.Test.{}
 use Rattle.tally.proofs.TestReasons.{outside-list, list-refused, list-accepted}

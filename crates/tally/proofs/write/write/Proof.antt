@@ -12,7 +12,7 @@ use Rattle.gates.specs.Board.{conditionalCount}
 use Rattle.jury.specs.declared.shape.Shape.{Shape}
 use Rattle.jury.specs.Shape.{withinLimits}
 use Rattle.jury.specs.Reason.{reasonOf, reasonAt}
-use Rattle.jury.proofs.Flags.{true-T, T-true}
+use Rattle.basics.proofs.Flags.{true-T, T-true}
 use Rattle.tally.specs.OwnList.{ownList}
 use Rattle.tally.specs.Answer.{accepted, outcomeOf, sizeOf}
 use Rattle.tally.specs.Write.{OwnListHolds}

@@ -17,7 +17,7 @@ use Rattle.gates.proofs.Laws.{length-numbers}
 use Rattle.jury.specs.declared.shape.Shape.{Shape}
 use Rattle.jury.specs.Shape.{gradedLimits, rankedLimits, withinLimits, ballotBytes}
 use Rattle.jury.specs.Reason.{reasonOf, reasonAt}
-use Rattle.jury.proofs.Flags.{true-T}
+use Rattle.basics.proofs.Flags.{true-T}
 use Rattle.jury.proofs.Limits.{within, ranked, bounds, kinds, bytes-are, ranked-bytes, inputs-bound}
 use Rattle.tally.specs.Answer.{accepted}
 use Rattle.text.specs.Text.{linesOf, firstMalformed, gatesIn}

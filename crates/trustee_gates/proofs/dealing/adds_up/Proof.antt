@@ -11,7 +11,8 @@ use borrow.Author.Tests.{eq-eqb, ne-eqb}
 use mathlib.Core.List.{List}
 use Rattle.trustee_shares.specs.Shares.{opened, part}
 use Rattle.trustee_shares.specs.Views.{piece}
-use Rattle.trustee_gates.specs.Dealing.{allBelow, addsUp}
+use Rattle.basics.specs.Below.{allBelow}
+use Rattle.trustee_gates.specs.Dealing.{addsUp}
 use Rattle.trustee_gates.proofs.Tests.{all-none, all-more, not-all}
 use Rattle.trustee_gates.proofs.dealing.adds_up.Statement.{statement}
 use Rattle.trustee_gates.proofs.dealing.adds_up.Tie as tie

@@ -8,7 +8,8 @@ use native.Mathlib.Omega.{arith}
 use lib.Dec.{leb}
 use lib.ListN.{length, getD}
 use borrow.Author.Tests.{le-leb, lt-leb}
-use Rattle.trustee_gates.specs.Dealing.{allBelow, onlyBits}
+use Rattle.basics.specs.Below.{allBelow}
+use Rattle.trustee_gates.specs.Dealing.{onlyBits}
 use Rattle.trustee_gates.proofs.Tests.{all-none, all-more, not-all}
 use Rattle.trustee_gates.proofs.dealing.only_bits.Statement.{statement}
 use Rattle.trustee_gates.proofs.dealing.only_bits.Tie as tie

@@ -7,7 +7,8 @@ use native.Mathlib.Numerals.{add-one}
 use native.Mathlib.Omega.{arith}
 use borrow.Author.Tests.{not-true, not-false}
 use Rattle.trustee_shares.specs.Views.{piece}
-use Rattle.trustee_gates.specs.Dealing.{allBelow, productAddsUp, productsAddUp}
+use Rattle.basics.specs.Below.{allBelow}
+use Rattle.trustee_gates.specs.Dealing.{productAddsUp, productsAddUp}
 use Rattle.trustee_gates.proofs.Tests.{all-none, all-more, not-all}
 use Rattle.trustee_gates.proofs.dealing.products_add_up.Statement.{statement}
 use Rattle.trustee_gates.proofs.dealing.products_add_up.Tie as tie

@@ -6,8 +6,8 @@ use Prim.Native.Nat.{ℕ, _+_, _-_, _≤_}
 use native.Mathlib.Numerals.{add-one}
 use native.Mathlib.Omega.{arith}
 use lib.ListN.{set}
-use Rattle.jury.specs.Counts.{tabulate}
-use Rattle.jury.proofs.Tabulate.{upTo, fill-start, fill-step}
+use Rattle.basics.specs.Lists.{tabulate}
+use Rattle.basics.proofs.Tabulate.{upTo, fill-start, fill-step}
 use Rattle.trustee_shares.specs.Shares.{opened, part}
 use Rattle.trustee_shares.specs.Views.{piece}
 use Rattle.trustees.proofs.Sums.{eight-tabulated}

@@ -5,7 +5,7 @@ use mathlib.Core.Bool.{Bool, true, false, not}
 use mathlib.Core.Option.{none}
 use mathlib.Core.List.{List}
 use Rattle.jury.specs.Reason.{reasonOf, firstOf}
-use Rattle.jury.proofs.Flags.{and-first, true-T}
+use Rattle.basics.proofs.Flags.{and-first, true-T}
 use Rattle.urn_chains.specs.Sound.{goodJuror}
 use Rattle.urn.specs.Facts.{factsOf, countedBy, afterwards}
 use Rattle.urn.specs.Admit.{admitReasons, admitOutcome, admitted}

@@ -7,7 +7,7 @@ use Prim.Native.Nat.{ℕ, _+_}
 use borrow.Author.Tests.{not-true, not-false}
 use Rattle.jury.specs.Reason.{reasonOf, refusedFor, firstOf}
 use Rattle.jury.specs.Ballots.{ballotReasons}
-use Rattle.jury.proofs.Flags.{T-true}
+use Rattle.basics.proofs.Flags.{T-true}
 use Rattle.jury.proofs.Limits.{graded-T}
 use Rattle.urn_chains.specs.Sound.{juryOfOne, goodJuror}
 use Rattle.urn.specs.Facts.{gradedShape, countedBy}

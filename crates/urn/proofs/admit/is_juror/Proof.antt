@@ -3,7 +3,7 @@
 use mathlib.Core.Path.{_≡_, refl}
 use lib.Dec.{leb}
 use borrow.Author.Tests.{le-leb, lt-leb}
-use Rattle.jury.proofs.Flags.{and-taken, and-left}
+use Rattle.basics.proofs.Flags.{and-taken, and-left}
 use Rattle.urn_chains.specs.Sound.{goodJuror}
 use native.Mathlib.Omega.{arith}
 use borrow.Author.Needs.{needs}

@@ -8,7 +8,7 @@ use lib.ListN.{length}
 use borrow.Author.Tests.{not-true, not-false}
 use Rattle.jury.specs.Shape.{gradedLimits}
 use Rattle.jury.specs.Reason.{reasonOf}
-use Rattle.jury.proofs.Flags.{true-T}
+use Rattle.basics.proofs.Flags.{true-T}
 use Rattle.urn_chains.specs.Slots.{bytesOf}
 use Rattle.urn_chains.specs.Sound.{juryOfOne, slotCount, urnLength}
 use Rattle.urn_chains.proofs.BytesLaws.{count-least}

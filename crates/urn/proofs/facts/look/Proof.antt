@@ -7,7 +7,8 @@ use Prim.Native.Nat.{ℕ, _+_, _*_, _≤_, _<_}
 use lib.ListN.{length}
 use Rattle.urn_chains.specs.Slots.{slotBytes}
 use Rattle.urn_chains.specs.Chains.{ballotChain}
-use Rattle.urn_chains.specs.Sound.{member, slotCount, urnSlots, sound}
+use Rattle.basics.specs.Lists.{member}
+use Rattle.urn_chains.specs.Sound.{slotCount, urnSlots, sound}
 use Rattle.urn.specs.Inner.{linkIn}
 use Rattle.urn.specs.Facts.{jurorsOf}
 use Rattle.urn_chains.proofs.SlotLaws.{size-least}

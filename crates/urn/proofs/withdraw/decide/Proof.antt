@@ -5,7 +5,7 @@ use mathlib.Core.Bool.{Bool, true, false, not, _&&_}
 use Prim.Native.Nat.{ℕ, _-_}
 use borrow.Author.Tests.{not-true, not-false}
 use Rattle.jury.specs.Reason.{reasonOf}
-use Rattle.jury.proofs.Flags.{T-true, and-both}
+use Rattle.basics.proofs.Flags.{T-true, and-both}
 use Rattle.tally.specs.Answer.{Outcome, accepted}
 use Rattle.urn_chains.specs.Sound.{goodJuror}
 use Rattle.urn.specs.Facts.{gradedShape, countedBy}

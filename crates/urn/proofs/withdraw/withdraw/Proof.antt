@@ -10,10 +10,11 @@ use lib.ListN.{length, getD}
 use borrow.Author.Tests.{not-true, not-false}
 use Rattle.jury.specs.Shape.{gradedLimits}
 use Rattle.jury.specs.Reason.{reasonOf, firstOf}
-use Rattle.jury.proofs.Flags.{and-second, true-T}
+use Rattle.basics.proofs.Flags.{and-second, true-T}
 use Rattle.urn_chains.specs.Slots.{bytesOf, slotAt}
 use Rattle.urn_chains.specs.Chains.{chain, ballotChain}
-use Rattle.urn_chains.specs.Sound.{member, juryOfOne, goodJuror, slotCount, urnSlots, sound}
+use Rattle.basics.specs.Lists.{member}
+use Rattle.urn_chains.specs.Sound.{juryOfOne, goodJuror, slotCount, urnSlots, sound}
 use Rattle.urn_chains.specs.declared.find.ChainPosition.the-variants.{Found}
 use Rattle.urn_chains.proofs.Judging.{clash}
 use Rattle.urn.specs.declared.facts.Facts.{Facts}

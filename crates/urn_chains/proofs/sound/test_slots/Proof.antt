@@ -6,7 +6,7 @@ use mathlib.Core.List.{List}
 use Prim.Native.Nat.{ℕ, _+_, _*_, _-_, _≤_}
 use lib.ListN.{length, getD, take, drop}
 use borrow.Author.Tests.{not-true, not-false}
-use Rattle.jury.proofs.Flags.{never-true}
+use Rattle.basics.proofs.Flags.{never-true}
 use Rattle.urn_chains.specs.Slots.{slotBytes, slotsOf}
 use Rattle.urn_chains.specs.Chains.{chain}
 use Rattle.urn_chains.specs.Sound.{allZero, soundSlots}

@@ -6,7 +6,8 @@ use mathlib.Core.Bool.{Bool, true, false, _&&_}
 use Prim.Native.Nat.{ℕ, _+_, _-_, _≤_}
 use native.Mathlib.Numerals.{add-one}
 use lib.ListN.{length, drop, drop-of-length-le}
-use Rattle.urn_chains.specs.Sound.{all, allZero}
+use Rattle.basics.specs.Lists.{all}
+use Rattle.urn_chains.specs.Sound.{allZero}
 use Rattle.urn_chains.proofs.Zeros.{zero-here, zero-later}
 use native.Mathlib.Omega.{arith}
 use borrow.Author.Needs.{needs}

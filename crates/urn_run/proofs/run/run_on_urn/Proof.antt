@@ -9,10 +9,10 @@ use borrow.Author.Needs.{needs}
 use Rattle.gates.specs.Gate.{gatesOf}
 use Rattle.gates.specs.Wires.{wiresOf}
 use Rattle.gates.specs.Board.{boardOf}
-use Rattle.gates.specs.Step.{FinishReady}
+use Rattle.gates.specs.inner.Step.{FinishReady}
 use Rattle.jury.specs.Shape.{withinLimits}
 use Rattle.jury.specs.Reason.{Reason, reasonOf, firstOf}
-use Rattle.jury.proofs.Flags.{true-T}
+use Rattle.basics.proofs.Flags.{true-T}
 use Rattle.tally.specs.Answer.{Size, outcome, outcomeOf, sizeOf}
 use Rattle.tally.specs.Run.{RunResult, runResultAfter}
 use Rattle.tally.proofs.RunReasons.{outcome-refused, outcome-accepted}

@@ -9,7 +9,7 @@ use borrow.Author.Tests.{not-true, not-false}
 use Rattle.gates.specs.Gate.{gatesOf}
 use Rattle.jury.specs.Shape.{gradedLimits, withinLimits}
 use Rattle.jury.specs.Reason.{Reason, reasonAt, reasonOf, refusedFor, firstOf}
-use Rattle.jury.proofs.Flags.{true-T}
+use Rattle.basics.proofs.Flags.{true-T}
 use Rattle.tally.specs.Answer.{Size, refused, outcome, outcomeOf, sizeOf}
 use Rattle.tally.specs.Test.{testReasons, testOutcome}
 use Rattle.tally.specs.Run.{bufferReasons}

@@ -9,12 +9,15 @@ use native.Mathlib.Nat.{add-zero}
 use native.Mathlib.Omega.{arith}
 use lib.ListN.{length, getD, take, drop, length-append, length-take, length-drop, List·getD-append, List·getD-eq-default}
 use lib.Seq.{getD-take, getD-drop, getD-append-add, getD-append-seam, take-append-seam, drop-append-add, append-snoc}
-use Rattle.jury.specs.Gauge.{beats, beatsAll, closingFrom, closingOf}
-use Rattle.jury.specs.Winner.{BeatsOthers}
-use Rattle.jury.specs.Inner.{winsIn}
-use Rattle.jury.proofs.Cases.{same-or-not, below-or-not}
-use Rattle.jury.proofs.Flags.{and-both, never-true}
-use Rattle.jury.proofs.Conditions.{beats-one-way}
+use Rattle.rule_judgment.specs.Gauge.{beats, beatsAll, closingFrom, closingOf}
+use Rattle.rule_judgment.specs.GaugeWinner.{BeatsOthers}
+use Rattle.basics.proofs.Cases.{same-or-not, below-or-not}
+use Rattle.basics.proofs.Flags.{and-both}
+use Rattle.rule_judgment.proofs.GaugeConditions.{beats-one-way}
+
+-- Whether row i beats each other of these rows.
+unfoldable pub winsIn : List (List ℕ) → ℕ → Bool
+winsIn rows i = beatsAll (getD rows i []) (take i rows ++ drop (suc i) rows)
 
 -- a beats all of these rows where it beats each
 all-beaten : (a : List ℕ) (rows : List (List ℕ)) → ((m : ℕ) → m < length rows → beats a (getD rows m []) ≡ true) → beatsAll a rows ≡ true
@@ -129,13 +132,6 @@ module _ (rows : List (List ℕ)) (i : ℕ) (h : i < length rows) where
   pub closing-one : (getD (closingOf rows) i 0 ≡ 1) ↔ BeatsOthers rows i
   closing-one =
       (λ e. winner-beats (one-wins e), λ beaten. closing-at rows i h ∙ ap (λ (t : Bool). cond {A = ℕ} t 1 0) (wins rows i h beaten))
-
-  -- and 0 exactly where it does not
-  pub closing-zero : (getD (closingOf rows) i 0 ≡ 0) ↔ (¬ BeatsOthers rows i)
-  closing-zero = (
-    λ e beaten. let one : getD (closingOf rows) i 0 ≡ 1 = closing-one .1 beaten in omega arith,
-    λ unbeaten. closing-at rows i h ∙ ap (λ (t : Bool). cond {A = ℕ} t 1 0) (never-true (winsIn rows i) (λ e. unbeaten (winner-beats e))),
-  )
 
 -- a byte that is 1 stands at a row
 one-at-row : (rows : List (List ℕ)) (i : ℕ) → getD (closingOf rows) i 0 ≡ 1 → i < length rows

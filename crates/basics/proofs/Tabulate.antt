@@ -10,8 +10,8 @@ use lib.Dec.{ltb}
 use lib.ListN.{length, getD, set, take, length-set}
 use lib.Seq.{ext-getD, getD-set-same, getD-set-other}
 use borrow.Author.Tests.{lt-ltb, le-ltb}
-use Rattle.jury.specs.Counts.{tabulate}
-use Rattle.jury.proofs.Cases.{same-or-not, below-or-not}
+use Rattle.basics.specs.Lists.{tabulate}
+use Rattle.basics.proofs.Cases.{same-or-not, below-or-not}
 
 module _ {A : Type 0} where
   pub length-tabulate : (n : ℕ) (f : ℕ → A) → length (tabulate n f) ≡ n

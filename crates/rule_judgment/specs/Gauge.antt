@@ -1,19 +1,12 @@
--- The majority gauge [gauge], over grade counts of any size.
+-- The majority gauge [gauge], over grade counts of any size. Full majority judgment has replaced it (request 2.1);
+-- it is kept for the theorem that its winner, where there is one, wins alone.
 use mathlib.Core.Bool.{Bool, true, cond, _&&_, _||_}
 use mathlib.Core.List.{List, [], _∷_, _++_}
-use Prim.Native.Nat.{ℕ, suc, _+_, _*_}
-use lib.Dec.{leb, ltb, eqb}
+use Prim.Native.Nat.{ℕ, suc, _+_}
+use lib.Dec.{ltb, eqb}
 use lib.ListN.{take, drop}
-use Rattle.jury.specs.Counts.{sum}
-
--- The first place at which the counts up to here, this one and `before` with it, are at least half of n.
-unfoldable pub medianFrom : ℕ → ℕ → List ℕ → ℕ
-medianFrom n before [] = 0
-medianFrom n before (x ∷ xs) = cond (leb n (2 * (before + x))) 0 (suc (medianFrom n (before + x) xs))
-
--- The median grade of a row of counts, whose sum is n. Grade 0 is the best, so a better grade is a smaller number.
-unfoldable pub medianOf : List ℕ → ℕ
-medianOf row = medianFrom (sum row) 0 row
+use Rattle.basics.specs.Lists.{sum}
+use Rattle.rule_judgment.specs.Median.{medianOf}
 
 -- p and q: how many grades are better than the median, and how many are worse.
 unfoldable pub pOf : List ℕ → ℕ
@@ -50,7 +43,8 @@ unfoldable pub beatsAll : List ℕ → List (List ℕ) → Bool
 beatsAll a [] = true
 beatsAll a (b ∷ others) = beats a b && beatsAll a others
 
--- A closing byte is 1 for a candidate that beats all others, so for a candidate without others too, and else 0; `earlier` are the candidates before these.
+-- A closing byte is 1 for a candidate that beats all others, so for a candidate without others too, and else 0;
+-- `earlier` are the candidates before these.
 unfoldable pub closingFrom : List (List ℕ) → List (List ℕ) → List ℕ
 closingFrom earlier [] = []
 closingFrom earlier (a ∷ later) = cond (beatsAll a (earlier ++ later)) 1 0 ∷ closingFrom (earlier ++ (a ∷ [])) later

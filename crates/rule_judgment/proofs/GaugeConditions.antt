@@ -8,8 +8,9 @@ use Prim.Native.Nat.{ℕ, _<_}
 use native.Mathlib.Omega.{arith}
 use lib.Dec.{ltb}
 use borrow.Author.Tests.{ltb-true, lt-ltb, eqb-true, eq-eqb}
-use Rattle.jury.specs.Gauge.{medianOf, pOf, qOf, betterMedian, equalMedians, strongerMedian, largerP, smallerQ, beats}
-use Rattle.jury.proofs.Flags.{and-first, and-second, or-either, or-first, or-second, never-true}
+use Rattle.rule_judgment.specs.Median.{medianOf}
+use Rattle.rule_judgment.specs.Gauge.{pOf, qOf, betterMedian, equalMedians, strongerMedian, largerP, smallerQ, beats}
+use Rattle.basics.proofs.Flags.{and-first, and-second, or-either, or-first, or-second, never-true}
 
 -- to beat is to meet one of the four conditions
 pub data Beats (a b : List ℕ) : Type 0 where

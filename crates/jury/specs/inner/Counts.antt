@@ -1,12 +1,11 @@
 -- Definitions for inner functions and their proofs: no entry point's contract needs them.
 use mathlib.Core.Path.{_≡_}
-use mathlib.Core.Bool.{Bool, cond}
-use mathlib.Core.List.{List, [], _++_, map}
-use Prim.Native.Nat.{ℕ, suc, _+_, _*_, _<_}
+use mathlib.Core.Bool.{cond}
+use mathlib.Core.List.{List, [], map}
+use Prim.Native.Nat.{ℕ, _+_, _*_, _<_}
 use lib.Dec.{ltb}
 use lib.ListN.{length, getD, take, drop}
-use Rattle.jury.specs.Counts.{tabulate}
-use Rattle.jury.specs.Gauge.{beatsAll}
+use Rattle.basics.specs.Lists.{tabulate}
 
 -- The array of counts while it is filled: eight rows of seven counts, to each of which 1 can be added.
 pub record EightBySeven (counts : List (List ℕ)) : Type 0 where
@@ -20,12 +19,9 @@ plusRow counts bytes = tabulate 7 (λ g. getD counts g 0 + getD bytes g 0)
 
 -- The array of counts with one ballot, k rows of d bytes, added.
 unfoldable pub plusBallot : ℕ → ℕ → List (List ℕ) → List ℕ → List (List ℕ)
-plusBallot k d counts ballot = tabulate 8 (λ c. cond (ltb c k) (plusRow (getD counts c []) (take d (drop (c * d) ballot))) (getD counts c []))
+plusBallot k d counts ballot =
+    tabulate 8 (λ c. cond (ltb c k) (plusRow (getD counts c []) (take d (drop (c * d) ballot))) (getD counts c []))
 
 -- The first k rows of an array of counts, d counts of each.
 unfoldable pub rowsIn : ℕ → ℕ → List (List ℕ) → List (List ℕ)
 rowsIn k d counts = map (take d) (take k counts)
-
--- Whether row i beats each other of these rows.
-unfoldable pub winsIn : List (List ℕ) → ℕ → Bool
-winsIn rows i = beatsAll (getD rows i []) (take i rows ++ drop (suc i) rows)

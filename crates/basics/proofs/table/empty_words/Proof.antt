@@ -1,25 +1,28 @@
--- `tally::empty::empty` meets its contract: after i turns the first i bytes are 0 and the others as they came.
+-- `basics::table::empty_words` meets its contract: after i turns the first i words are 0 and the others as they came.
 -- Assumes nothing.
 use mathlib.Core.Path.{_≡_, _∙_, refl, ap}
 use mathlib.Core.List.{List, _++_, append-nil}
-use Prim.Native.Nat.{ℕ, _+_, _-_, _≤_}
+use Prim.Native.Nat.{ℕ, _-_, _≤_}
 use native.Mathlib.Omega.{arith}
 use lib.ListN.{length, set, drop, replicate, length-set, drop-of-length-le}
 use borrow.Author.Fill.{fill-more}
-use Rattle.tally.proofs.empty.empty.Statement.{statement}
-use Rattle.tally.proofs.empty.empty.Tie as tie
+use Rattle.basics.proofs.table.empty_words.Statement.{statement}
+use Rattle.basics.proofs.table.empty_words.Tie as tie
 
 abbrev Inv-loop : tie.InvT-loop
-Inv-loop bytes₀ i₀ bytes i = (i ≤ length bytes₀) × (length bytes ≡ length bytes₀) × (bytes ≡ replicate i 0 ++ drop i bytes₀)
+Inv-loop words₀ i₀ words i = (i ≤ length words₀) × (length words ≡ length words₀) × (words ≡ replicate i 0 ++ drop i words₀)
 
 abbrev μ-loop : tie.MeasureT-loop
-μ-loop bytes₀ i₀ bytes i = length bytes₀ - i
+μ-loop words₀ i₀ words i = length words₀ - i
 
 loop-holds : tie.Need-loop-holds Inv-loop μ-loop
 loop-holds c = (omega arith, refl, refl)
 
-slice-write-bytes : tie.Need-slice-write-bytes Inv-loop μ-loop
-slice-write-bytes c = omega arith
+mul-words : tie.Need-mul-words Inv-loop μ-loop
+mul-words c = omega arith
+
+slice-write-words : tie.Need-slice-write-words Inv-loop μ-loop
+slice-write-words c = omega arith
 
 add-i : tie.Need-add-i Inv-loop μ-loop
 add-i c = omega arith
@@ -29,10 +32,10 @@ loop-less c = omega arith
 
 loop-again : tie.Need-loop-again Inv-loop μ-loop
 loop-again c =
-    let xs = c .before .before .args .bytes .now in
+    let xs = c .before .before .args .words .now in
     let l = c .before .loop in (
       omega arith,
-      length-set (l .bytes) (l .i) 0 ∙ l .inv .1,
+      length-set (l .words) (l .i) 0 ∙ l .inv .1,
       ap (λ (r : List ℕ). set r (l .i) 0) (l .inv .2) ∙ fill-more (l .i) 0 xs (omega arith),
     )
 
@@ -49,5 +52,5 @@ all n xs e =
 returns : tie.Need-returns Inv-loop μ-loop
 returns c = let l = c .before .loop in l .inv .2 ∙ all (l .i) _ (omega arith)
 
-pub empty-spec : {M : Type 1} → statement M
-empty-spec = tie.close (tie.spec Inv-loop μ-loop loop-holds slice-write-bytes add-i loop-less loop-again same-length returns)
+pub empty-words-spec : {M : Type 1} → statement M
+empty-words-spec = tie.close (tie.spec Inv-loop μ-loop loop-holds mul-words slice-write-words add-i loop-less loop-again same-length returns)

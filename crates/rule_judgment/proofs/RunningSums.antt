@@ -1,13 +1,14 @@
 -- The running sums of a row of counts, and the median grade among them.
 -- Assumes nothing.
-use mathlib.Core.Path.{_≡_, _∙_, refl}
+use mathlib.Core.Path.{_≡_, refl}
 use mathlib.Core.List.{List, [], _∷_}
 use Prim.Native.Nat.{ℕ, zero, suc, _+_, _*_, _≤_, _<_}
 use native.Mathlib.Omega.{arith}
 use lib.ListN.{length, getD, take}
-use Rattle.jury.specs.Counts.{sum}
-use Rattle.jury.specs.Gauge.{medianOf, pOf, qOf}
-use Rattle.jury.proofs.MedianFacts.{median-reached, p-median-q}
+use Rattle.basics.specs.Lists.{sum}
+use Rattle.rule_judgment.specs.Median.{medianOf}
+use Rattle.rule_judgment.specs.Gauge.{pOf, qOf}
+use Rattle.rule_judgment.proofs.MedianFacts.{median-reached, p-median-q}
 
 pub running-start : (row : List ℕ) → sum (take 0 row) ≡ 0
 unfolding sum

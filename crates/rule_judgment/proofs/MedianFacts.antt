@@ -8,8 +8,9 @@ use native.Mathlib.Omega.{arith}
 use lib.Dec.{leb}
 use lib.ListN.{length, getD, take, drop}
 use borrow.Author.Tests.{leb-true, leb-false}
-use Rattle.jury.specs.Counts.{sum}
-use Rattle.jury.specs.Gauge.{medianFrom, medianOf, pOf, qOf}
+use Rattle.basics.specs.Lists.{sum}
+use Rattle.rule_judgment.specs.Median.{medianFrom, medianOf}
+use Rattle.rule_judgment.specs.Gauge.{pOf, qOf}
 
 -- before the median, twice the running sum is less than n
 passed-from : (row : List ℕ) (n before g : ℕ) → g < medianFrom n before row → 2 * (before + sum (take (suc g) row)) < n

@@ -2,8 +2,9 @@
 use mathlib.Core.Path.{_≡_, refl}
 use mathlib.Core.List.{List, [], _∷_, map}
 use Prim.Native.Nat.{ℕ}
-use Rattle.jury.specs.Counts.{sum}
-use Rattle.jury.specs.Gauge.{closingOf, closingFrom, beatsAll, beats, betterMedian, equalMedians, strongerMedian, largerP, smallerQ, medianOf, medianFrom, pOf, qOf}
+use Rattle.basics.specs.Lists.{sum}
+use Rattle.rule_judgment.specs.Gauge.{closingOf, closingFrom, beatsAll, beats, betterMedian, equalMedians, strongerMedian, largerP, smallerQ, pOf, qOf}
+use Rattle.rule_judgment.specs.Median.{medianOf, medianFrom}
 
 -- The matrix of each panel, one row a candidate.
 unfoldable pub panelCounts : List (List (List ℕ))
@@ -39,5 +40,6 @@ panelClosings =
 
 -- The gauge gives each panel its closing bytes.
 pub panels-hold : map closingOf panelCounts ≡ panelClosings
-unfolding panelCounts panelClosings closingOf closingFrom beatsAll beats betterMedian equalMedians strongerMedian largerP smallerQ medianOf medianFrom pOf qOf sum
+unfolding panelCounts panelClosings closingOf closingFrom beatsAll beats betterMedian equalMedians strongerMedian
+    largerP smallerQ medianOf medianFrom pOf qOf sum
 panels-hold = refl

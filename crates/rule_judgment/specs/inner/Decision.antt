@@ -16,9 +16,11 @@ sameCounts (x ∷ xs) (y ∷ ys) = eqb x y && sameCounts xs ys
 unfoldable pub halfReached : ℕ → Sums → Bool
 halfReached n sums = leb n (2 * sums .a) || leb n (2 * sums .b)
 
--- Whether a comes before b, by their running sums at the nearest differences below and above half: the one that is larger at both, or at one alone, comes first.
--- Where each is larger at one, the lower difference decides if there the larger candidate's two sums add up to n or more.
+-- Whether a comes before b, by their running sums at the nearest differences below and above half: the one that is
+-- larger at both, or at one alone, comes first. Where each is larger at one, the lower difference decides if there
+-- the larger candidate's two sums add up to n or more.
 unfoldable pub decidedBy : ℕ → Sums → Sums → Bool
 decidedBy n lower upper =
     cond (ltb (lower .b) (lower .a)) (leb (upper .b) (upper .a) || leb n (lower .a + upper .a))
-    (cond (ltb (lower .a) (lower .b)) (ltb (upper .b) (upper .a) && ltb (lower .b + upper .b) n) (ltb (upper .b) (upper .a)))
+    (cond (ltb (lower .a) (lower .b)) (ltb (upper .b) (upper .a)
+    && ltb (lower .b + upper .b) n) (ltb (upper .b) (upper .a)))
