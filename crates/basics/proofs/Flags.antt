@@ -1,8 +1,10 @@
 -- Tests that are joined by `&&` or `||` in the code: the flag where the two ways meet.
 -- Assumes nothing.
 use mathlib.Core.Path.{_≡_, _∙_, refl, sym, ap}
-use mathlib.Core.Bool.{Bool, true, false, _&&_, _||_}
+use mathlib.Core.Bool.{Bool, true, false, cond, _&&_, _||_}
 use mathlib.Core.Logic.{_⊎_, inl, inr}
+use Prim.Native.Nat.{ℕ, _≤_}
+use native.Mathlib.Omega.{arith}
 use lib.Dec.{T}
 
 -- the first test held, so the flag is the second test
@@ -67,3 +69,17 @@ and-first-fails t u e = ap (λ (x : Bool). x && u) e
 pub and-second-fails : (t u : Bool) → u ≡ false → (t && u) ≡ false
 and-second-fails true u e = e
 and-second-fails false u e = refl
+
+-- a test holds or fails
+pub either : (t : Bool) {A : Type 0} → (t ≡ true → A) → (t ≡ false → A) → A
+either true yes′ no′ = yes′ refl
+either false yes′ no′ = no′ refl
+
+-- the two truth values differ
+pub absurd-flag : {A : Type 0} → false ≡ true → A
+absurd-flag h = let z : _≡_ {A = ℕ} 0 1 = cc in absurd (omega arith)
+
+-- a test as a bit
+pub bit-most : (t : Bool) → cond {A = ℕ} t 1 0 ≤ 1
+bit-most true = omega arith
+bit-most false = omega arith
