@@ -15,11 +15,11 @@ use Rattle.jury.specs.inner.Counts.{rowsIn}
 use Rattle.jury.specs.Accepted.{GradedBallots}
 use Rattle.jury.proofs.Limits.{within, grades-columns}
 use Rattle.jury.proofs.Matrix.{array-rows}
-use Rattle.jury.proofs.BallotLaws.{row-within}
 use Rattle.basics.proofs.Tabulate.{length-tabulate, getD-tabulate, tabulate-cong}
 use Rattle.jury.proofs.Sums.{addend, sum-ones}
 use Rattle.basics.proofs.Sums.{sum-last, sum-add, sum-zero}
 use Rattle.jury.proofs.CountLaws.{bit-added}
+use Rattle.basics.proofs.Arithmetic.{row-within}
 
 -- the matrix has k rows of d counts, and each is the count of its candidate and grade
 pub counts-length : (s : Shape) (xs : List ℕ) → length (countsOf s xs) ≡ s .candidates

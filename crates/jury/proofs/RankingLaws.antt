@@ -12,11 +12,7 @@ use Rattle.jury.specs.Rankings.{before, notAsymmetricAt, notAsymmetricIn
 use Rattle.jury.specs.WeakOrder.{StrictWeakOrder}
 use Rattle.basics.proofs.Flags.{and-both, and-first-fails, and-second-fails}
 use Rattle.jury.proofs.Searches.{first-none, none-first, some-here, some-none, none-some, clash-here, clash-not-forth, clash-not-back}
-
--- a test holds or fails
-either : (t : Bool) {A : Type 0} → (t ≡ true → A) → (t ≡ false → A) → A
-either true yes′ no′ = yes′ refl
-either false yes′ no′ = no′ refl
+use Rattle.basics.proofs.Flags.{either}
 
 -- who is before another is before those who are after that one
 pub transitive : (k : ℕ) (r : ℕ → ℕ → Bool) → StrictWeakOrder k r → (i j l : ℕ) → i < k → j < k → l < k → r i j ≡ true → r j l ≡ true → r i l ≡ true

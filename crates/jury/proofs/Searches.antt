@@ -12,9 +12,9 @@ use Rattle.gates.specs.declared.place.Place.{Place}
 use Rattle.gates.specs.declared.place.Place.the-variants.{At, Nowhere}
 use Rattle.jury.specs.Rankings.{rankPlace, before, orElse, firstOver, notAsymmetricAt}
 use Rattle.basics.specs.Below.{someBelow}
-use Rattle.jury.proofs.BallotLaws.{row-within}
 use Rattle.basics.proofs.Cases.{below-or-not}
 use Rattle.basics.proofs.Flags.{or-first, or-second}
+use Rattle.basics.proofs.Arithmetic.{row-within}
 
 -- nothing was found so far, and nothing here
 pub first-later : (found : ℕ → Place) (i : ℕ) → firstOver i found ≡ Nowhere → found i ≡ Nowhere → firstOver (i + 1) found ≡ Nowhere

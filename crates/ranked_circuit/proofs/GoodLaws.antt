@@ -20,7 +20,6 @@ use Rattle.gate_words.specs.Counter.{counter, countSize, Countable}
 use Rattle.gate_words.specs.Comparison.{upEnd, downEnd}
 use Rattle.gate_words.proofs.Laws.{length-constants, constants-good, copies-good, masked-good, counter-good}
 use Rattle.gate_words.proofs.Ends.{up-below, down-below}
-use Rattle.jury.proofs.BallotLaws.{row-within}
 use Rattle.basics.proofs.Cases.{same-or-not}
 use Rattle.ranked_circuit.specs.Blocks.{compare, smaller, larger, largerIf}
 use Rattle.ranked_circuit.specs.Table.{blocks, table, place}
@@ -32,6 +31,7 @@ use Rattle.ranked_circuit.proofs.TableLaws.{blocks-good, table-good, pl
 use Rattle.ranked_circuit.proofs.PathLaws.{votes-sized, links-sized, first-sized, detour-sized, votesTable, linksTable, firstTable, detourTable, votes-length, links-length, tables-end}
 use Rattle.ranked_circuit.proofs.LostLaws.{other-low}
 use Rattle.ranked_circuit.proofs.Accuracy.{row-sized, paths, contests, lost, closings, contests-length, lost-length}
+use Rattle.basics.proofs.Arithmetic.{row-within}
 
 -- a choice between two well-formed lists
 either-good : (n : ℕ) (t : Bool) (gs hs : List Gate) → AllGood n gs → (t ≡ false → AllGood n hs) → AllGood n (cond t gs hs)

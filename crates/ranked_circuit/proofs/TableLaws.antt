@@ -9,10 +9,10 @@ use native.Mathlib.Omega.{arith}
 use lib.ListN.{length, length-append}
 use Rattle.gates.specs.Gate.{Gate}
 use Rattle.gates.proofs.Laws.{AllGood, Holds, holds-append}
-use Rattle.jury.proofs.BallotLaws.{row-within}
 use Rattle.basics.proofs.Cases.{below-or-not}
 use Rattle.ranked_circuit.specs.Table.{blocks, table, place}
 use Rattle.ranked_circuit.proofs.BlockLaws.{good-behind}
+use Rattle.basics.proofs.Arithmetic.{row-within}
 
 module _ (size : ℕ) (block : ℕ → ℕ → List Gate) (sized : (at e : ℕ) → length (block at e) ≡ size) where
   pub length-blocks : (n m : ℕ) → length (blocks n size block m) ≡ m * size

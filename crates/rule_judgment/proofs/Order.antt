@@ -12,6 +12,7 @@ use Rattle.basics.proofs.Cases.{below-or-not, same-or-not}
 use Rattle.basics.proofs.Flags.{and-first, and-second, and-both, or-either, or-first, or-second, never-true}
 use Rattle.rule_judgment.specs.Judgment.{precedes}
 use Rattle.rule_judgment.proofs.Outward.{down}
+use Rattle.basics.proofs.Flags.{absurd-flag}
 
 -- a better grade decides
 pub precedes-here : (x y : ℕ) (xs ys : List ℕ) → x < y → precedes (x ∷ xs) (y ∷ ys) ≡ true
@@ -29,9 +30,6 @@ unfolding precedes
 precedes-cases x y xs ys h =
     ⊎-elim (λ l. inl (ltb-true x y l)) (λ e. inr (eqb-true x y (and-first (eqb x y) (precedes xs ys) e), and-second (eqb x y) (precedes xs ys) e))
     (or-either (ltb x y) (eqb x y && precedes xs ys) h)
-
-absurd-flag : {A : Type 0} → false ≡ true → A
-absurd-flag h = let z : _≡_ {A = ℕ} 0 1 = cc in absurd (omega arith)
 
 -- no sequence precedes itself
 pub precedes-self : (xs : List ℕ) → precedes xs xs ≡ true → ⊥

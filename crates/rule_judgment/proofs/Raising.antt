@@ -12,7 +12,6 @@ use Rattle.basics.specs.Lists.{sum, tabulate}
 use Rattle.jury.specs.Counts.{byteOf, countUpTo, countOf, countsOf}
 use Rattle.jury.specs.Accepted.{GradedBallots}
 use Rattle.basics.proofs.Cases.{below-or-not, same-or-not}
-use Rattle.jury.proofs.BallotLaws.{row-within}
 use Rattle.basics.proofs.Tabulate.{tabulate-cong, take-tabulate, length-tabulate}
 use Rattle.jury.proofs.Sums.{addend, sum-ones}
 use Rattle.basics.proofs.Sums.{sum-last, sum-add}
@@ -23,6 +22,7 @@ use Rattle.rule_judgment.specs.Raised.{Raised, NothingLost, byteFor, Lik
 use Rattle.rule_judgment.specs.Raised.RaisedOften.{unchanged, once-more}
 use Rattle.rule_judgment.proofs.Statements.{running}
 use Rattle.rule_judgment.proofs.Improved.{Improved, OneImproved, still-wins, still-loses}
+use Rattle.basics.proofs.Arithmetic.{row-within}
 
 -- the first t of a table's entries add up to no more than the first u
 sum-grows : (t u : ℕ) (f : ℕ → ℕ) → t ≤ u → sum (tabulate t f) ≤ sum (tabulate u f)

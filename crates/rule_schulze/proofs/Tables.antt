@@ -12,7 +12,6 @@ use lib.Dec.{leb, eqb}
 use lib.ListN.{getD}
 use borrow.Author.Tests.{eq-eqb, ne-eqb, lt-leb}
 use Rattle.jury.specs.Rankings.{rankPlace, before}
-use Rattle.jury.proofs.BallotLaws.{row-within}
 use Rattle.basics.proofs.Cases.{same-or-not}
 use Rattle.basics.proofs.Flags.{never-true, or-first, or-second}
 use Rattle.rule_schulze.specs.Schulze.{candidates}
@@ -22,6 +21,7 @@ use Rattle.rule_schulze.specs.Inner.{entry, unbeatenIn, RankedSize}
 use Rattle.rule_schulze.proofs.Members.{in-candidates, of-candidates}
 use Rattle.rule_schulze.proofs.Paths.{detour-over}
 use Rattle.rule_schulze.proofs.Winning.{every-holds, holds-every}
+use Rattle.basics.proofs.Arithmetic.{row-within}
 
 -- the byte of ballot b, row i and column j is one of the ballots' bytes
 pub place-within : (k n b i j : ℕ) → b < n → i < k → j < k → (b * k + i) * k + j < n * k * k

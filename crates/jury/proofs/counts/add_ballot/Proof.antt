@@ -9,10 +9,10 @@ use native.Mathlib.Omega.{arith}
 use lib.ListN.{length, getD, set, take, drop, length-take}
 use Rattle.basics.specs.Lists.{tabulate}
 use Rattle.jury.specs.inner.Counts.{plusRow, plusBallot}
-use Rattle.jury.proofs.BallotLaws.{row-within}
 use Rattle.basics.proofs.Tabulate.{upTo, tabulate-getD, fill-start, fill-at, fill-step}
 use Rattle.jury.proofs.counts.add_ballot.Statement.{statement}
 use Rattle.jury.proofs.counts.add_ballot.Tie as tie
+use Rattle.basics.proofs.Arithmetic.{row-within}
 
 abbrev old : List (List ℕ) → ℕ → List ℕ
 old counts c = getD counts c []
