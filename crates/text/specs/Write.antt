@@ -15,7 +15,8 @@ use Rattle.text.specs.Text.{textOf}
 -- The reasons in checking order: 1, 2 and 3 as for the test of a list, then 24, an output that is too short for the
 -- text.
 unfoldable pub textReasons : Shape → List ℕ → List ℕ → List (Option Reason)
-textReasons s table output = testReasons s table ++ unless (leb (length (textOf (gatesOf table))) (length output)) 24 ∷ []
+textReasons s table output =
+    testReasons s table ++ unless (leb (length (textOf (gatesOf table))) (length output)) 24 ∷ []
 
 -- An accepted call answers how many characters it wrote.
 unfoldable pub textOutcome : Shape → List ℕ → List ℕ → Outcome ℕ
