@@ -1,10 +1,11 @@
 -- What each layer proved.
 -- Assumes nothing.
-use Rattle.rule_judgment.proofs.Theorems.{somebody, gauge-alone}
+use Rattle.rule_judgment.proofs.Theorems.{bytes-say, somebody, gauge-alone}
+use Rattle.rule_schulze.proofs.Theorems.{schulze-holds}
 use Rattle.tally.proofs.Demands.{three-demands}
 use Rattle.tally.proofs.Monotone.{monotone-on-gates}
 use Rattle.text.proofs.RoundTrip.{round-trip, text-memory}
-use Rattle.season.proofs.Reasons.{sheet-memory}
+use Rattle.season.proofs.Reasons.{sheet-memory, sheet-sums}
 use Rattle.urn.proofs.UrnMemory.{urn-memory}
 use Rattle.urn.proofs.UrnTheorems.{urn-holds, previews-tell}
 use Rattle.urn_run.proofs.Theorems.{urn-run-holds}
@@ -23,16 +24,18 @@ all-demands =
         text = text-memory;
         sheet = sheet-memory;
         urn = urn-memory;
-        urn-run = urn-run-holds .memory;
-        by-trustees = trustees.demands .memory;
-        dispatcher-refusals = dispatching .refusals;
-        dispatcher-lengths = dispatching .lengths;
         lanes = batch-memory;
       };
-      base = three-demands;
-      gauge-kept = gauge-alone;
-      somebody = somebody;
+      accuracy = record { own-list = three-demands .accuracy; plain-count = three-demands .counting };
+      hiding = three-demands .hiding;
+      rules = record {
+        judgment-bytes = bytes-say;
+        judgment-somebody = somebody;
+        gauge-kept = gauge-alone;
+        schulze = schulze-holds;
+      };
       text = round-trip;
+      sheet = sheet-sums;
       monotone = monotone-on-gates;
       urn = urn-holds;
       previews = previews-tell;

@@ -4,3 +4,4 @@ pub mod Winner
 pub mod Panels
 pub mod Votes
 pub mod Inner
+pub mod Theorems

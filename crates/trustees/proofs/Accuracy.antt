@@ -26,7 +26,7 @@ use Rattle.tally.specs.Demands.{listIn}
 use Rattle.tally.proofs.TestReasons.{never}
 use Rattle.tally.proofs.RunReasons.{run-passed}
 use Rattle.tally.proofs.Hiding.{ran-accepted, run-closing}
-use Rattle.tally.proofs.Rules.{byte-says}
+use Rattle.tally.proofs.Rules.{rule-says}
 use Rattle.tally.proofs.PlainFacts.{plain-accepted}
 use Rattle.tally.proofs.OwnList.{own-list-holds}
 use Rattle.tally.proofs.Writing as writing
@@ -149,11 +149,11 @@ module _ (s : Shape) (table : List ℕ) (size : Size) (w : writing.WritePassed s
         winners = λ ballots t d wireParts published answer e i h.
             let p = call-passed s (listIn s size table) ballots t d wireParts published (call-accepted s (listIn s size table) ballots t d wireParts published answer e .0) in
             let f = byte ballots t d wireParts published p i h in
-            let iff = byte-says s ballots (p .ballotsPassed) i h .one in
+            let iff = rule-says s ballots (p .ballotsPassed) .winner i h in
             (λ one. iff .0 (sym f ∙ one), λ wins. f ∙ iff .1 wins);
         losers = λ ballots t d wireParts published answer e i h.
             let p = call-passed s (listIn s size table) ballots t d wireParts published (call-accepted s (listIn s size table) ballots t d wireParts published answer e .0) in
             let f = byte ballots t d wireParts published p i h in
-            let iff = byte-says s ballots (p .ballotsPassed) i h .zero in
+            let iff = rule-says s ballots (p .ballotsPassed) .loser i h in
             (λ zero. iff .0 (sym f ∙ zero), λ loses. f ∙ iff .1 loses);
       }

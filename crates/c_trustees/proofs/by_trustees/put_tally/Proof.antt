@@ -22,8 +22,8 @@ returns c =
     let four = bytes .before .before .before .before in
     let s = four .before .before .before .before in
     let a = s .args in (
-      four .put-size .ensures .0 ∙ tally-status (outcomeOf (a .outcome .answer)) (a .outcome .closing),
-      all-put (outcomeOf (a .outcome .answer)) (a .outcome .closing) (a .answer .now) _ _ (bytes .put-closing .ensures .1) (s .pre) (four .put-size .ensures .1) (bytes .put-closing .ensures .0),
+      four .put-size .ensures .returns ∙ tally-status (outcomeOf (a .outcome .answer)) (a .outcome .closing),
+      all-put (outcomeOf (a .outcome .answer)) (a .outcome .closing) (a .answer .now) _ _ (bytes .put-closing .ensures .1) (s .pre) (four .put-size .ensures .writes) (bytes .put-closing .ensures .0),
     )
 
 pub put-tally-spec : {M : Type 1} → statement M
