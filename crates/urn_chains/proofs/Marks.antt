@@ -12,9 +12,9 @@ use lib.Seq.{getD-set-same, getD-set-other}
 use borrow.Author.Tests.{eqb-true, eq-eqb, ne-eqb, ltb-true, not-true}
 use Rattle.jury.specs.Counts.{tabulate}
 use Rattle.jury.proofs.Cases.{same-or-not, below-or-not}
-use Rattle.jury.proofs.Flags.{and-first, and-second, and-both, or-either, or-first, or-second, never-true}
+use Rattle.jury.proofs.Flags.{and-first, and-second, or-either, or-first, or-second, never-true}
 use Rattle.urn_chains.specs.Sound.{all, member, distinct, inUrn}
-use Rattle.urn_chains.specs.Inner.{noMarks, markAll, fresh}
+use Rattle.urn_chains.specs.inner.Walk.{noMarks, markAll, fresh}
 use Rattle.urn_chains.proofs.Lists.{all-first, all-rest, all-weaken, all-member, all-tabulate, tabulate-all}
 
 pub fresh-append : (xs ys : List ℕ) (m : List Bool) → fresh (xs ++ ys) m ≡ (fresh xs m && fresh ys (markAll xs m))
