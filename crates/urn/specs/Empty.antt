@@ -8,8 +8,8 @@ use Rattle.jury.specs.Reason.{Reason, unless, firstOf}
 use Rattle.tally.specs.Answer.{Outcome, outcome}
 use Rattle.urn_chains.specs.Slots.{Slot, bytesOf}
 use Rattle.urn_chains.specs.Chains.{layout}
-use Rattle.urn_chains.specs.Sound.{slotCount, urnLength}
-use Rattle.urn.specs.Facts.{gradedShape, afterwards}
+use Rattle.urn_chains.specs.Sound.{gradedShape, slotCount, urnLength}
+use Rattle.urn.specs.Facts.{UrnResult, afterwards}
 
 -- The tests in checking order: 1, then 13 where no urn has this length.
 unfoldable pub emptyReasons : ℕ → ℕ → List ℕ → List (Option Reason)
@@ -27,3 +27,7 @@ allFree n b = layout n b [] (tabulate (n - 1) suc)
 unfoldable pub emptied : ℕ → ℕ → List ℕ → List ℕ
 emptied k d table =
     afterwards (firstOf (emptyReasons k d table)) (bytesOf (allFree (slotCount (k * d) (length table)) (k * d))) table
+
+-- What the call leaves.
+abbrev pub emptying : ℕ → ℕ → List ℕ → UrnResult
+emptying k d table = record { answer = emptyOutcome k d table; urn = emptied k d table }

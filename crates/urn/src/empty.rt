@@ -5,9 +5,9 @@ use jury::reason::Refusal;
 use urn_chains::sound;
 ghost use mathlib.Core.Path.{_≡_};
 ghost use Rattle.urn_chains.specs.Slots.{bytesOf};
-ghost use Rattle.urn_chains.specs.Inner.{SlotTable};
+ghost use Rattle.urn_chains.specs.inner.Table.{SlotTable};
 ghost use Rattle.urn.specs.Facts.{countedBy};
-ghost use Rattle.urn.specs.Empty.{emptyOutcome, allFree, emptied};
+ghost use Rattle.urn.specs.Empty.{allFree, emptying};
 
 // Frees all slots from 1 on of a table of slots for ballots of `bytes` bytes. Each becomes the first free one, the last
 // slot before the others, so that they are free in order.
@@ -32,8 +32,7 @@ fn free_all(urn: &mut [u8], bytes: usize, slots: usize)
 
 // Makes a table of the length of an urn an empty one, whatever its bytes were.
 pub fn empty(k: usize, d: usize, urn: &mut [u8]) -> Answer
-    ensures { λ r. ⌜ countedBy r ≡ emptyOutcome k d (now (urn .entry)) ⌝ }
-    ensures { λ _. ⌜ now (urn .exit) ≡ emptied k d (now (urn .entry)) ⌝ }
+    ensures { λ r. ⌜ record { answer = countedBy r; urn = now (urn .exit) } ≡ emptying k d (now (urn .entry)) ⌝ }
 {
     if !is_graded(k, d) {
         return Answer::Refused(Refusal::Shape);

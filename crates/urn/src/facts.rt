@@ -3,14 +3,9 @@ use urn_chains::find;
 use urn_chains::find::ChainPosition;
 use urn_chains::sound;
 use urn_chains::sound::Soundness;
-ghost use mathlib.Core.Path.{_≡_};
-ghost use mathlib.Core.Bool.{true};
-ghost use Prim.Native.Nat.{_≤_};
 ghost use lib.Dec.{T};
-ghost use Rattle.jury.specs.Shape.{gradedLimits};
-ghost use Rattle.urn_chains.specs.Sound.{juryOfOne};
-ghost use Rattle.urn.specs.Inner.{linkIn};
-ghost use Rattle.urn.specs.Facts.{factsOf};
+ghost use Rattle.urn_chains.specs.Sound.{gradedShape};
+ghost use Rattle.urn.specs.inner.Ready.{Looked};
 
 // Of a sound urn the number of ballots, whether a juror's is among them, and whether no slot is free. Of any other
 // nothing but that.
@@ -24,14 +19,12 @@ pub struct Facts {
 // The facts, and where the juror's ballot lies in a sound urn.
 pub(crate) struct UrnCheck {
     pub(crate) facts: Facts,
-    pub(crate) link: ChainPosition,
+    pub(crate) position: ChainPosition,
 }
 
 pub(crate) fn look(k: usize, d: usize, urn: &[u8], juror: usize) -> UrnCheck
-    requires { ⌜ T (gradedLimits (juryOfOne k d)) ⌝ }
-    ensures { λ r. ⌜ r .facts ≡ factsOf k d (now (urn .entry)) juror ⌝ }
-    ensures { λ r. ⌜ r .facts .ballots ≤ 256 ⌝ }
-    ensures { λ r. ⌜ (r .facts .sound ≡ true → r .link ≡ linkIn k d (now (urn .entry)) juror) ⌝ }
+    requires { ⌜ T (gradedShape k d) ⌝ }
+    ensures { λ r. ⌜ Looked k d (now (urn .entry)) juror r ⌝ }
 {
     let Soundness::Sound { ballots } = sound::test(k, d, urn) else {
         return UrnCheck {
@@ -41,7 +34,7 @@ pub(crate) fn look(k: usize, d: usize, urn: &[u8], juror: usize) -> UrnCheck
                 present: false,
                 full: false,
             },
-            link: ChainPosition::Absent,
+            position: ChainPosition::Absent,
         };
     };
     let bytes = k * d;
@@ -55,7 +48,7 @@ pub(crate) fn look(k: usize, d: usize, urn: &[u8], juror: usize) -> UrnCheck
                 present: true,
                 full,
             },
-            link: ChainPosition::Found { before, slot },
+            position: ChainPosition::Found { before, slot },
         },
         ChainPosition::Absent => UrnCheck {
             facts: Facts {
@@ -64,7 +57,7 @@ pub(crate) fn look(k: usize, d: usize, urn: &[u8], juror: usize) -> UrnCheck
                 present: false,
                 full,
             },
-            link: ChainPosition::Absent,
+            position: ChainPosition::Absent,
         },
     }
 }

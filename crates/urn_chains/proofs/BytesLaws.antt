@@ -1,28 +1,23 @@
 -- An urn's bytes written as slots and read back.
 -- Assumes nothing.
 use mathlib.Core.Path.{_≡_, _∙_, refl, sym, ap}
-use mathlib.Core.Logic.{⊎-elim, _≢_}
-use mathlib.Core.Bool.{Bool, true, false, _&&_}
-use mathlib.Core.List.{List, [], _∷_, _++_, map, append-assoc}
+use mathlib.Core.Bool.{true, false, _&&_}
+use mathlib.Core.List.{List, [], _∷_, _++_}
 use Prim.Native.Nat.{ℕ, zero, suc, _+_, _*_, _-_, _/_, _%_, _≤_, _<_}
-use native.Mathlib.Nat.{zero-mul, suc-mul, one-mul, mul-div-cancel, div-add-mod'}
+use native.Mathlib.Nat.{zero-mul, suc-mul, mul-div-cancel, div-add-mod'}
 use native.Mathlib.Omega.{arith}
 use lib.Dec.{eqb, leb}
-use lib.ListN.{length, getD, set, take, drop, replicate, length-append, length-take, length-drop, length-set, length-replicate, take-append-drop}
-use lib.Seq.{take-at, drop-at, length-take-le, take-add, drop-drop, take-length}
-use borrow.Author.Tests.{eqb-true, leb-true, eq-eqb, le-leb, eqb-false}
-use Rattle.jury.specs.Shape.{gradedLimits, ballotBytes}
-use Rattle.jury.specs.Reason.{Reason, unless, firstOf}
+use lib.ListN.{length, set, take, drop, replicate, length-append, length-take, length-drop, length-replicate, take-append-drop}
+use lib.Seq.{take-at, drop-at}
+use borrow.Author.Tests.{eqb-true, leb-true, eq-eqb, le-leb}
+use Rattle.jury.specs.Reason.{firstOf}
 use Rattle.jury.specs.Ballots.{ballotReasons}
 use Rattle.basics.proofs.Flags.{and-first, and-second, and-both, never-true}
 use Rattle.urn_chains.specs.Slots.{Slot, slotBytes, slotOf, slotsOf, bytesOfSlot, bytesOf, slotAt, freeSlot}
 use Rattle.urn_chains.specs.Chains.{Entry, entrySlot, firstFree, headSlot, withBallots, withFree, layout}
-use Rattle.basics.specs.Lists.{all}
-use Rattle.urn_chains.specs.Sound.{juryOfOne, noReason, goodBallot, slotCount, urnLength, urnSlots, soundSlots, sound}
-use Rattle.urn_chains.specs.Inner.{SlotTable}
-use Rattle.urn_chains.proofs.SlotLaws.{size-is, slots-length, slot-within}
+use Rattle.urn_chains.specs.Sound.{all, juryOfOne, noReason, goodBallot, slotCount, urnLength}
+use Rattle.urn_chains.proofs.SlotLaws.{size-is}
 use Rattle.urn_chains.proofs.Lists.{all-first, all-rest}
-use Rattle.urn_chains.proofs.Layouts.{layout-length}
 
 -- Every slot has a ballot of b bytes.
 pub data Sized (b : ℕ) : List Slot → Type 0 where

@@ -1,25 +1,24 @@
 -- The slots that two chains are written in, and what is read from them.
 -- Assumes nothing.
 use mathlib.Core.Path.{_≡_, _∙_, refl, sym, ap}
-use mathlib.Core.Logic.{⊎-elim, _≢_}
-use mathlib.Core.Bool.{Bool, true, false, not, _&&_, _||_}
+use mathlib.Core.Logic.{⊎-elim}
+use mathlib.Core.Bool.{true, false, _&&_}
 use mathlib.Core.List.{List, [], _∷_, _++_, map}
 use Prim.Native.Nat.{ℕ, zero, suc, _+_, _-_, _≤_, _<_}
 use native.Mathlib.Omega.{arith}
-use lib.Dec.{eqb, ltb}
-use lib.ListN.{length, getD, set, replicate, length-set, length-replicate, length-append, length-map}
+use lib.Dec.{eqb}
+use lib.ListN.{length, replicate, length-set, length-replicate, length-append, length-map}
 use lib.Seq.{ext-getD}
-use borrow.Author.Tests.{eqb-true, eq-eqb}
-use Rattle.basics.specs.Lists.{tabulate}
-use Rattle.basics.proofs.Flags.{and-first, and-second, and-both, or-either, or-first, or-second, never-true}
+use borrow.Author.Tests.{eq-eqb}
+use Rattle.jury.specs.Counts.{tabulate}
+use Rattle.jury.proofs.Flags.{and-first, and-second, and-both, or-either, or-first, or-second, never-true}
 use Rattle.urn_chains.specs.Slots.{Slot, slotAt, freeSlot}
-use Rattle.urn_chains.specs.Chains.{Entry, chain, ends, entryAt, ballotSlots, ballotChain, freeChain, firstEntry, firstFree, entrySlot, withBallots, withFree, headSlot, layout}
-use Rattle.basics.specs.Lists.{all, member, distinct}
-use Rattle.urn_chains.specs.Sound.{goodJuror, goodBallot, inUrn, eachOnce, goodChains, allZero, emptySlot, soundSlots}
+use Rattle.urn_chains.specs.Chains.{Entry, chain, entryAt, ballotSlots, ballotChain, freeChain, firstFree, entrySlot, withBallots, withFree, headSlot, layout}
+use Rattle.urn_chains.specs.Sound.{all, member, distinct, goodJuror, goodBallot, inUrn, eachOnce, goodChains, emptySlot, soundSlots}
 use Rattle.urn_chains.proofs.Zeros.{zeros-zero}
-use Rattle.urn_chains.proofs.Lists.{all-first, all-rest, all-append, all-member, member-all, member-append, distinct-first, distinct-rest, distinct-left, distinct-right, distinct-apart, tabulate-all}
+use Rattle.urn_chains.proofs.Lists.{all-first, all-rest, all-append, all-member, member-append, distinct-first, distinct-rest, distinct-left, distinct-right, distinct-apart, tabulate-all}
 use Rattle.urn_chains.proofs.Marks.{once-most}
-use Rattle.urn_chains.proofs.Linked.{slotsIn, Linked, FreeLinked, none, more, at-set, at-other, linked-set, free-set, positive, below, linked-chain, linked-ends, free-chain, free-ends, linked-entries, linked-agree, free-agree}
+use Rattle.urn_chains.proofs.Linked.{slotsIn, Linked, FreeLinked, none, more, at-set, linked-set, free-set, positive, below, linked-chain, linked-ends, free-chain, free-ends, linked-entries, linked-agree, free-agree}
 
 pub ballots-length : (es : List Entry) (slots : List Slot) → length (withBallots es slots) ≡ length slots
 unfolding withBallots

@@ -2,23 +2,20 @@
 -- Assumes nothing.
 use mathlib.Core.Path.{_≡_, _∙_, refl, sym, ap}
 use mathlib.Core.Logic.{⊎-elim, _≢_}
-use mathlib.Core.Bool.{Bool, true, false, not, _&&_, _||_}
-use mathlib.Core.List.{List, [], _∷_, _++_, map}
-use Prim.Native.Nat.{ℕ, zero, suc, _+_, _-_, _≤_, _<_}
+use mathlib.Core.Bool.{true, false, not}
+use mathlib.Core.List.{List, [], _∷_, map}
+use Prim.Native.Nat.{ℕ, zero, suc, _-_, _≤_, _<_}
 use native.Mathlib.Omega.{arith}
 use lib.Dec.{eqb, ltb}
-use lib.ListN.{length, getD, set, replicate, length-set, length-replicate}
-use lib.Seq.{getD-set-same, getD-set-other, ext-getD}
-use borrow.Author.Tests.{eqb-true, eqb-false, eq-eqb, ltb-true, leb-true}
-use Rattle.basics.specs.Lists.{tabulate}
-use Rattle.basics.proofs.Cases.{same-or-not, below-or-not}
-use Rattle.basics.proofs.Flags.{and-first, and-second, or-either, or-first, or-second, never-true}
+use lib.ListN.{length, set}
+use lib.Seq.{getD-set-same, getD-set-other}
+use borrow.Author.Tests.{eqb-true, eq-eqb, ltb-true}
+use Rattle.jury.proofs.Flags.{and-first, and-second, or-either, or-first, or-second, never-true}
 use Rattle.urn_chains.specs.Slots.{Slot, slotAt, freeSlot}
-use Rattle.urn_chains.specs.Chains.{Entry, chain, ends, entryAt, ballotSlots, ballotChain, freeChain, firstEntry, firstFree, entrySlot, withBallots, withFree, headSlot, layout}
-use Rattle.basics.specs.Lists.{all, member, distinct}
-use Rattle.urn_chains.specs.Sound.{inUrn}
-use Rattle.urn_chains.proofs.Lists.{all-first, all-rest, all-append, all-member, member-append, distinct-first, distinct-rest, distinct-left, distinct-right, distinct-apart, tabulate-all}
-use Rattle.urn_chains.proofs.Walking.{chain-step, ends-step, chain-end, ends-end}
+use Rattle.urn_chains.specs.Chains.{Entry, chain, ends, entryAt, firstEntry, firstFree, entrySlot}
+use Rattle.urn_chains.specs.Sound.{all, member, inUrn}
+use Rattle.urn_chains.proofs.Lists.{all-first, all-rest}
+use Rattle.urn_chains.proofs.Walks.{chain-step, ends-step, chain-end, ends-end}
 
 abbrev pub slotsIn : List Entry → List ℕ
 slotsIn es = map (λ (e : Entry). e .slot) es

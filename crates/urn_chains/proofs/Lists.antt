@@ -1,17 +1,16 @@
 -- Tests of all elements of a list, of one among them, and of none twice.
 -- Assumes nothing.
 use mathlib.Core.Path.{_≡_, _∙_, refl, sym, ap}
-use mathlib.Core.Logic.{_⊎_, inl, inr, ⊎-elim}
+use mathlib.Core.Logic.{_⊎_, ⊎-elim}
 use mathlib.Core.Bool.{Bool, true, false, not, _&&_, _||_, and-assoc, or-assoc}
 use mathlib.Core.List.{List, [], _∷_, _++_, map}
 use Prim.Native.Nat.{ℕ, zero, suc, _<_}
 use native.Mathlib.Omega.{arith}
 use lib.Dec.{eqb}
-use lib.ListN.{length, getD}
-use borrow.Author.Tests.{eqb-true, eqb-false, eq-eqb, ne-eqb, not-true}
-use Rattle.basics.specs.Lists.{tabulate}
-use Rattle.basics.proofs.Flags.{and-first, and-second, and-both, or-either, or-first, or-second, never-true}
-use Rattle.basics.specs.Lists.{all, member, distinct}
+use borrow.Author.Tests.{eqb-true, eq-eqb, not-true}
+use Rattle.jury.specs.Counts.{tabulate}
+use Rattle.jury.proofs.Flags.{and-first, and-second, and-both, or-either, or-first, or-second, never-true}
+use Rattle.urn_chains.specs.Sound.{all, member, distinct}
 
 -- two tests that hold together are one
 pub same : (t u : Bool) → (t ≡ true → u ≡ true) → (u ≡ true → t ≡ true) → t ≡ u

@@ -1,14 +1,13 @@
 -- Slots and the bytes that hold them.
 -- Assumes nothing.
 use mathlib.Core.Path.{_≡_, _∙_, refl, sym, ap}
-use mathlib.Core.List.{List, [], _∷_, _++_}
+use mathlib.Core.List.{List}
 use Prim.Native.Nat.{ℕ, zero, suc, _+_, _*_, _-_, _≤_, _<_}
 use native.Mathlib.Nat.{zero-mul, suc-mul, mul-le-mul, mul-le-mul-right}
 use native.Mathlib.Omega.{arith}
 use lib.ListN.{length, getD, take, drop, length-take, length-drop}
 use lib.Seq.{drop-drop, getD-take, getD-drop, take-add, drop-at}
 use Rattle.urn_chains.specs.Slots.{Slot, slotBytes, slotOf, slotsOf, slotAt}
-use Rattle.urn_chains.specs.Inner.{SlotTable}
 
 pub slots-length : (b n : ℕ) (urn : List ℕ) → length (slotsOf b n urn) ≡ n
 unfolding slotsOf

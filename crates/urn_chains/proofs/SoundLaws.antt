@@ -1,7 +1,7 @@
 -- What the two walks find together is that the slots are sound.
 -- Assumes nothing.
 use mathlib.Core.Path.{_≡_, _∙_, refl, sym, ap}
-use mathlib.Core.Bool.{Bool, true, false, not, _&&_}
+use mathlib.Core.Bool.{Bool, true, _&&_}
 use mathlib.Core.List.{List, [], _∷_, _++_, map}
 use Prim.Native.Nat.{ℕ, suc, _+_, _-_, _≤_, _<_}
 use native.Mathlib.Omega.{arith}
@@ -12,10 +12,9 @@ use Rattle.basics.specs.Lists.{tabulate}
 use Rattle.basics.proofs.Flags.{and-first, and-second, and-both}
 use Rattle.urn_chains.specs.Slots.{Slot, slotAt}
 use Rattle.urn_chains.specs.Chains.{Entry, chain, ends, entryAt, ballotSlots, ballotChain, freeChain}
-use Rattle.basics.specs.Lists.{all, member, distinct}
-use Rattle.urn_chains.specs.Sound.{goodJuror, goodBallot, inUrn, eachOnce, goodChains, allZero, emptySlot, soundSlots}
-use Rattle.urn_chains.specs.Inner.{noMarks, markAll, fresh, jurorsAt, ballotAt, freeAt, ballotsFrom, freeFrom}
-use Rattle.urn_chains.proofs.Holding.{juror-most}
+use Rattle.urn_chains.specs.Sound.{all, member, distinct, goodJuror, goodBallot, inUrn, eachOnce, goodChains, allZero, emptySlot, soundSlots}
+use Rattle.urn_chains.specs.inner.Walk.{noMarks, markAll, fresh, jurorsAt, ballotAt, freeAt, ballotsFrom, freeFrom}
+use Rattle.urn_chains.proofs.GoodBallots.{juror-most}
 use Rattle.urn_chains.proofs.Lists.{all-append, all-map, all-weaken, all-both}
 use Rattle.urn_chains.proofs.Marks.{fresh-append, fresh-noMarks, once-all, all-once}
 

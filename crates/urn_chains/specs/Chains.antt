@@ -6,7 +6,8 @@ use lib.Dec.{eqb}
 use lib.ListN.{length, set, replicate}
 use Rattle.urn_chains.specs.Slots.{Slot, slotAt, freeSlot}
 
--- The slots of the chain that begins with slot i, at most so many: it goes on with the next slot's index until that is 0.
+-- The slots of the chain that begins with slot i, at most so many: it goes on with the next slot's index until that
+-- is 0.
 unfoldable pub chain : ℕ → ℕ → List Slot → List ℕ
 chain zero i slots = []
 chain (suc most) zero slots = []

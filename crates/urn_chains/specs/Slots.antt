@@ -3,8 +3,9 @@ use mathlib.Core.List.{List, [], _∷_, _++_}
 use Prim.Native.Nat.{ℕ, zero, suc, _+_}
 use lib.ListN.{getD, take, drop, replicate}
 
--- A slot other than slot 0 begins with the index of the slot that follows in its chain (0: none does); its second byte is the juror, and the ballot comes behind them [urn].
--- Slot 0 has the same parts with a meaning of their own: `next` is where the ballot chain begins, `juror` where the free chain does.
+-- A slot other than slot 0 begins with the index of the slot that follows in its chain (0: none does); its second
+-- byte is the juror, and the ballot comes behind them [urn]. Slot 0 has the same parts with a meaning of their own:
+-- `next` is where the ballot chain begins, `juror` where the free chain does.
 pub record Slot : Type 0 where
   pub next : ℕ
   pub juror : ℕ

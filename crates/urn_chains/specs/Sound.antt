@@ -1,12 +1,12 @@
 -- When an urn is sound. Every test here ends, whatever the bytes.
-use mathlib.Core.Path.{_≡_}
-use mathlib.Core.Bool.{Bool, true, false, cond, not, _&&_, _||_}
+use mathlib.Core.Bool.{Bool, true, false, not, _&&_, _||_}
 use mathlib.Core.Option.{Option, none, some}
 use mathlib.Core.List.{List, [], _∷_, _++_, map}
-use Prim.Native.Nat.{ℕ, zero, suc, _-_, _*_, _/_, _%_}
+use Prim.Native.Nat.{ℕ, suc, _-_, _*_, _/_, _%_}
 use lib.Dec.{eqb, leb, ltb}
 use lib.ListN.{length}
 use Rattle.jury.specs.declared.shape.Shape.{Shape}
+use Rattle.jury.specs.Shape.{gradedLimits}
 use Rattle.jury.specs.Reason.{Reason, firstOf}
 use Rattle.jury.specs.Ballots.{ballotReasons}
 use Rattle.basics.specs.Lists.{tabulate}
@@ -24,7 +24,12 @@ unfoldable pub noReason : Option Reason → Bool
 noReason none = true
 noReason (some r) = false
 
--- A good ballot: it has a byte for each candidate and grade, and none of the tests of ballots fails it, as the ballot of a jury of one.
+-- The numbers of candidates and grades are those of a jury that grades: a ranking shape, with no grades, is none.
+abbrev pub gradedShape : ℕ → ℕ → Bool
+gradedShape k d = gradedLimits (juryOfOne k d)
+
+-- A good ballot: it has a byte for each candidate and grade, and none of the tests of ballots fails it, as the ballot
+-- of a jury of one.
 unfoldable pub goodBallot : ℕ → ℕ → List ℕ → Bool
 goodBallot k d ballot = eqb (length ballot) (k * d) && noReason (firstOf (ballotReasons (juryOfOne k d) ballot))
 
@@ -40,7 +45,8 @@ inUrn n i = ltb 0 i && ltb i n
 unfoldable pub eachOnce : ℕ → List ℕ → Bool
 eachOnce n is = all (inUrn n) is && distinct is && all (λ i. member i is) (tabulate (n - 1) suc)
 
--- What the chains of an urn of n slots have to be: each slot from 1 on is in exactly one of them, once; the jurors are distinct and numbered 1 to 255; the ballots are good.
+-- What the chains of an urn of n slots have to be: each slot from 1 on is in exactly one of them, once; the jurors are
+-- distinct and numbered 1 to 255; the ballots are good.
 unfoldable pub goodChains : ℕ → ℕ → ℕ → List Entry → List ℕ → Bool
 goodChains k d n es is =
     eachOnce n (map (λ e. e .slot) es ++ is)
@@ -55,7 +61,8 @@ allZero bytes = all (λ x. eqb x 0) bytes
 unfoldable pub emptySlot : Slot → Bool
 emptySlot s = eqb (s .juror) 0 && allZero (s .ballot)
 
--- Both chains end; they are as they have to be; behind the two indexes of slot 0, and behind the index of a free slot, all bytes are 0 [urn-sound].
+-- Both chains end; they are as they have to be; behind the two indexes of slot 0, and behind the index of a free slot,
+-- all bytes are 0 [urn-sound].
 unfoldable pub soundSlots : ℕ → ℕ → List Slot → Bool
 soundSlots k d slots =
     ends (length slots) (slotAt slots 0 .next) slots
@@ -78,3 +85,10 @@ urnSlots k d urn = slotsOf (k * d) (slotCount (k * d) (length urn)) urn
 
 unfoldable pub sound : ℕ → ℕ → List ℕ → Bool
 sound k d urn = urnLength (k * d) (length urn) && soundSlots k d (urnSlots k d urn)
+
+-- The ballots of an urn in chain order, and its free slots.
+abbrev pub entriesOf : ℕ → ℕ → List ℕ → List Entry
+entriesOf k d urn = ballotChain (urnSlots k d urn)
+
+abbrev pub freeOf : ℕ → ℕ → List ℕ → List ℕ
+freeOf k d urn = freeChain (urnSlots k d urn)

@@ -1,13 +1,10 @@
 // The search for a juror's ballot.
 use basics::byte::wide;
 ghost use mathlib.Core.Path.{_≡_};
-ghost use mathlib.Core.Bool.{true};
 ghost use lib.ListN.{getD};
 ghost use Rattle.urn_chains.specs.Slots.{slotsOf};
 ghost use Rattle.urn_chains.specs.Chains.{chain};
-ghost use Rattle.basics.specs.Lists.{all};
-ghost use Rattle.urn_chains.specs.Sound.{inUrn};
-ghost use Rattle.urn_chains.specs.Inner.{SlotTable, linkOf};
+ghost use Rattle.urn_chains.specs.inner.Position.{Searchable, positionOf};
 
 // A ballot's slot, and the slot before it in the ballot chain: slot 0 where it is the first.
 pub enum ChainPosition {
@@ -17,9 +14,9 @@ pub enum ChainPosition {
 
 // Looks for the juror's ballot along the ballot chain of an urn of ballots of `bytes` bytes.
 pub fn find(urn: &[u8], bytes: usize, slots: usize, juror: usize) -> ChainPosition
-    requires { ⌜ SlotTable bytes slots (now urn) ⌝ }
-    requires { ⌜ all (inUrn slots) (chain slots (getD (now urn) 0 0) (slotsOf bytes slots (now urn))) ≡ true ⌝ }
-    ensures { λ r. ⌜ r ≡ linkOf (slotsOf bytes slots (now (urn .entry))) juror 0 (chain slots (getD (now (urn .entry)) 0 0) (slotsOf bytes slots (now (urn .entry)))) ⌝ }
+    requires { ⌜ Searchable bytes slots (now urn) ⌝ }
+    ensures { λ r. ⌜ r ≡ positionOf (slotsOf bytes slots (now (urn .entry))) juror 0
+        (chain slots (getD (now (urn .entry)) 0 0) (slotsOf bytes slots (now (urn .entry)))) ⌝ }
 {
     let size = 2 + bytes;
     let mut before = 0;

@@ -3,15 +3,15 @@ use basics::byte::wide;
 use jury::reason::Verdict;
 use jury::shape::Shape;
 ghost use mathlib.Core.Path.{_≡_};
-ghost use mathlib.Core.Bool.{true, false, _&&_};
-ghost use Prim.Native.Nat.{_*_, _<_};
+ghost use mathlib.Core.Bool.{_&&_};
+ghost use Prim.Native.Nat.{_*_};
 ghost use lib.Dec.{T};
 ghost use lib.ListN.{getD};
-ghost use Rattle.jury.specs.Shape.{gradedLimits};
 ghost use Rattle.urn_chains.specs.Slots.{slotsOf, slotAt};
 ghost use Rattle.urn_chains.specs.Chains.{chain};
-ghost use Rattle.urn_chains.specs.Sound.{juryOfOne, goodJuror, goodBallot, allZero};
-ghost use Rattle.urn_chains.specs.Inner.{SlotTable, Walked, noMarks, looked, ballotAt, freeAt, ballotsFrom, freeFrom};
+ghost use Rattle.urn_chains.specs.Sound.{gradedShape, goodJuror, goodBallot, allZero};
+ghost use Rattle.urn_chains.specs.inner.Table.{SlotTable, GradedTable};
+ghost use Rattle.urn_chains.specs.inner.Walk.{BallotLook, FreeLook, Walked, noMarks, looked, ballotAt, freeAt, ballotsFrom, freeFrom};
 
 // What a walk along a chain found: whether all is well and, if so, the slots met so far and how many this chain has.
 pub struct Walk {
@@ -26,7 +26,8 @@ pub enum SlotCheck {
     Wrong,
 }
 
-// Whether all bytes are 0. Each of them is looked at: where a loop may end at any byte, the processor cannot take several at a time.
+// Whether all bytes are 0. Each of them is looked at: where a loop may end at any byte, the processor cannot take
+// several at a time.
 pub fn is_zero(bytes: &[u8]) -> bool
     ensures { λ r. ⌜ r ≡ allZero (now (bytes .entry)) ⌝ }
 {
@@ -43,7 +44,7 @@ pub fn is_zero(bytes: &[u8]) -> bool
 
 // Whether a slot of the ballot chain holds a juror's number and a good ballot. The number of a juror is a byte.
 fn holds_ballot(k: usize, d: usize, juror: u8, ballot: &[u8]) -> bool
-    requires { ⌜ T (gradedLimits (juryOfOne k d)) ⌝ }
+    requires { ⌜ T (gradedShape k d) ⌝ }
     ensures { λ r. ⌜ r ≡ (goodJuror juror && goodBallot k d (now (ballot .entry))) ⌝ }
 {
     if juror == 0 {
@@ -62,10 +63,9 @@ fn holds_ballot(k: usize, d: usize, juror: u8, ballot: &[u8]) -> bool
 
 // A slot of the ballot chain.
 fn look_at_ballot(urn: &[u8], k: usize, d: usize, slots: usize, slot: usize) -> SlotCheck
-    requires { ⌜ T (gradedLimits (juryOfOne k d)) ⌝ }
-    requires { ⌜ SlotTable (k * d) slots (now urn) ⌝ }
-    requires { ⌜ 0 < slot ⌝ }
-    ensures { λ r. ⌜ r ≡ looked (ballotAt k d (slotsOf (k * d) slots (now (urn .entry))) slot) (slotAt (slotsOf (k * d) slots (now (urn .entry))) slot) ⌝ }
+    requires { ⌜ BallotLook k d slots slot (now urn) ⌝ }
+    ensures { λ r. ⌜ r ≡ looked (ballotAt k d (slotsOf (k * d) slots (now (urn .entry))) slot)
+        (slotAt (slotsOf (k * d) slots (now (urn .entry))) slot) ⌝ }
 {
     if slots <= slot {
         return SlotCheck::Wrong;
@@ -86,9 +86,9 @@ fn look_at_ballot(urn: &[u8], k: usize, d: usize, slots: usize, slot: usize) -> 
 
 // A slot of the free chain, of an urn whose ballots have so many bytes.
 fn look_at_free(urn: &[u8], bytes: usize, slots: usize, slot: usize) -> SlotCheck
-    requires { ⌜ SlotTable bytes slots (now urn) ⌝ }
-    requires { ⌜ 0 < slot ⌝ }
-    ensures { λ r. ⌜ r ≡ looked (freeAt (slotsOf bytes slots (now (urn .entry))) slot) (slotAt (slotsOf bytes slots (now (urn .entry))) slot) ⌝ }
+    requires { ⌜ FreeLook bytes slots slot (now urn) ⌝ }
+    ensures { λ r. ⌜ r ≡ looked (freeAt (slotsOf bytes slots (now (urn .entry))) slot)
+        (slotAt (slotsOf bytes slots (now (urn .entry))) slot) ⌝ }
 {
     if slots <= slot {
         return SlotCheck::Wrong;
@@ -112,10 +112,10 @@ fn look_at_free(urn: &[u8], bytes: usize, slots: usize, slot: usize) -> SlotChec
 
 // Walks along the ballot chain of an urn. A chain that has not ended after as many slots as there are never ends.
 pub fn walk_ballots(urn: &[u8], k: usize, d: usize, slots: usize) -> Walk
-    requires { ⌜ T (gradedLimits (juryOfOne k d)) ⌝ }
-    requires { ⌜ SlotTable (k * d) slots (now urn) ⌝ }
-    ensures { λ r. ⌜ r .good ≡ ballotsFrom k d (slotsOf (k * d) slots (now (urn .entry))) slots (getD (now (urn .entry)) 0 0) noMarks noMarks ⌝ }
-    ensures { λ r. ⌜ (r .good ≡ true → Walked (chain slots (getD (now (urn .entry)) 0 0) (slotsOf (k * d) slots (now (urn .entry)))) noMarks (r .marks) (r .count)) ⌝ }
+    requires { ⌜ GradedTable k d slots (now urn) ⌝ }
+    ensures { λ r. ⌜ Walked
+        (ballotsFrom k d (slotsOf (k * d) slots (now (urn .entry))) slots (getD (now (urn .entry)) 0 0) noMarks noMarks)
+        (chain slots (getD (now (urn .entry)) 0 0) (slotsOf (k * d) slots (now (urn .entry)))) noMarks r ⌝ }
 {
     let mut marks = [false; 256];
     let mut jurors = [false; 256];
@@ -166,8 +166,9 @@ pub fn walk_ballots(urn: &[u8], k: usize, d: usize, slots: usize) -> Walk
 // Walks along the free chain of an urn in the same way, after the slots that were met before.
 pub fn walk_free(urn: &[u8], bytes: usize, slots: usize, met: [bool; 256]) -> Walk
     requires { ⌜ SlotTable bytes slots (now urn) ⌝ }
-    ensures { λ r. ⌜ r .good ≡ freeFrom (slotsOf bytes slots (now (urn .entry))) slots (getD (now (urn .entry)) 1 0) met ⌝ }
-    ensures { λ r. ⌜ (r .good ≡ true → Walked (chain slots (getD (now (urn .entry)) 1 0) (slotsOf bytes slots (now (urn .entry)))) met (r .marks) (r .count)) ⌝ }
+    ensures { λ r. ⌜ Walked
+        (freeFrom (slotsOf bytes slots (now (urn .entry))) slots (getD (now (urn .entry)) 1 0) met)
+        (chain slots (getD (now (urn .entry)) 1 0) (slotsOf bytes slots (now (urn .entry)))) met r ⌝ }
 {
     let mut marks = met;
     let mut count = 0;

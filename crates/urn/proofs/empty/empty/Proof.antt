@@ -1,7 +1,7 @@
 -- `urn::empty::empty` meets its contract: both reasons, or all slots freed.
 -- Assumes nothing.
-use mathlib.Core.Path.{_≡_, _∙_, refl, sym, ap}
-use mathlib.Core.Bool.{Bool, true, false}
+use mathlib.Core.Path.{_≡_, _∙_, sym, ap}
+use mathlib.Core.Bool.{true}
 use Prim.Native.Nat.{ℕ, _*_}
 use lib.Dec.{T}
 use lib.ListN.{length}
@@ -12,11 +12,12 @@ use Rattle.basics.proofs.Flags.{true-T}
 use Rattle.urn_chains.specs.Slots.{bytesOf}
 use Rattle.urn_chains.specs.Sound.{juryOfOne, slotCount, urnLength}
 use Rattle.urn_chains.proofs.BytesLaws.{count-least}
-use Rattle.urn_chains.proofs.Judging.{counted-false, counted-true, counted-is, few-bytes, table}
-use Rattle.urn.specs.Facts.{gradedShape, countedBy}
+use Rattle.urn_chains.proofs.SlotTests.{counted-false, counted-true, counted-is, few-bytes, table}
+use Rattle.urn_chains.specs.Sound.{gradedShape}
+use Rattle.urn.specs.Facts.{countedBy}
 use Rattle.urn.specs.Empty.{emptyOutcome, allFree, emptied}
-use Rattle.urn.proofs.Deciding.{outcome-refused, outcome-accepted, none-new, some-old, graded-within}
-use Rattle.urn.proofs.Emptying.{empty-1, empty-13, empty-none}
+use Rattle.urn.proofs.Outcomes.{both-parts, outcome-refused, outcome-accepted, none-new, some-old}
+use Rattle.urn.proofs.EmptyUrn.{empty-1, empty-13, empty-none}
 use native.Mathlib.Omega.{arith}
 use borrow.Author.Needs.{needs}
 use Rattle.urn.proofs.empty.empty.Statement.{statement}
@@ -27,7 +28,7 @@ graded : (c : tie.Else1) → gradedShape (c .before .before .before .args .k) (c
 graded c = sym (c .before .is-graded .ensures) ∙ not-false _ (c .if1 .left)
 
 within : (c : tie.Else1) → T (gradedLimits (juryOfOne (c .before .before .before .args .k) (c .before .before .before .args .d)))
-within c = graded-within (c .before .before .before .args .k) (c .before .before .before .args .d) (true-T _ (graded c))
+within c = (true-T _ (graded c))
 
 is-graded-requires : tie.Need-is-graded-requires
 is-graded-requires c κs = tt
@@ -37,7 +38,7 @@ unfolding emptyOutcome emptied countedBy reasonOf
 returns c =
     let a = c .before .before .before .args in
     let e = empty-1 (a .k) (a .d) (a .urn .now) (sym (c .before .is-graded .ensures) ∙ not-true _ (c .if1 .taken)) in
-    (outcome-refused _ _ _ e, some-old _ _ _ _ e)
+    both-parts (outcome-refused _ _ _ e) (some-old _ _ _ _ e)
 
 mul-bytes : tie.Need-mul-bytes
 mul-bytes c =
@@ -57,7 +58,7 @@ returns-2 c =
     let b = a .k * a .d in
     let m = length (a .urn .now) in
     let e = empty-13 (a .k) (a .d) (a .urn .now) (graded g) (counted-false (urnLength b m) (slotCount b m) _ (c .before .slots-in .ensures) (c .if2 .taken) (count-least b m)) in
-    (outcome-refused _ _ _ e, some-old _ _ _ _ e)
+    both-parts (outcome-refused _ _ _ e) (some-old _ _ _ _ e)
 
 free-all-requires : tie.Need-free-all-requires
 free-all-requires c κs =
@@ -79,12 +80,11 @@ returns-3 c =
     let a = g .before .before .before .args in
     let b = a .k * a .d in
     let m = length (a .urn .now) in
-    let e = empty-none (a .k) (a .d) (a .urn .now) (graded g) (counted-true (urnLength b m) (slotCount b m) _ (q .before .slots-in .ensures) (q .if2 .left)) in (
-      outcome-accepted _ _ e,
-      c .before .before .free-all .ensures
-          ∙ ap (λ (n : ℕ). bytesOf (allFree n b)) (counted-is (urnLength b m) (slotCount b m) _ (q .before .slots-in .ensures) (q .if2 .left))
-          ∙ sym (none-new _ _ _ e),
-    )
+    let e = empty-none (a .k) (a .d) (a .urn .now) (graded g) (counted-true (urnLength b m) (slotCount b m) _ (q .before .slots-in .ensures) (q .if2 .left)) in
+    both-parts (outcome-accepted _ _ e)
+    (c .before .before .free-all .ensures
+    ∙ ap (λ (n : ℕ). bytesOf (allFree n b)) (counted-is (urnLength b m) (slotCount b m) _ (q .before .slots-in .ensures) (q .if2 .left))
+    ∙ sym (none-new _ _ _ e))
 
 pub empty-spec : {M : Type 1} → statement M
 empty-spec =

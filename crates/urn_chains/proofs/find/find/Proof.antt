@@ -1,13 +1,12 @@
 -- `urn_chains::find::find` meets its contract: finding the ballot in the rest of the chain is finding it at all.
 -- Assumes nothing.
-use mathlib.Core.Path.{_≡_, _∙_, refl, sym, ap}
-use Prim.Native.Nat.{ℕ, _+_, _-_, _*_, _≤_, _<_}
+use mathlib.Core.Path.{_∙_, sym}
+use Prim.Native.Nat.{_+_, _-_, _*_, _≤_, _<_}
 use lib.ListN.{length, getD}
 use Rattle.urn_chains.specs.Slots.{slotBytes, slotsOf}
 use Rattle.urn_chains.proofs.SlotLaws.{slot-within, size-least, next-is, juror-is}
-use Rattle.urn_chains.proofs.Finding.{OnFind, find-start, find-below, find-here, find-go, find-stuck, find-end}
+use Rattle.urn_chains.proofs.Positions.{OnFind, find-start, find-below, find-here, find-go, find-stuck, find-end}
 use native.Mathlib.Omega.{arith}
-use borrow.Author.Needs.{needs}
 use Rattle.urn_chains.proofs.find.find.Statement.{statement}
 use Rattle.urn_chains.proofs.find.find.Tie as tie
 
@@ -31,16 +30,16 @@ unfolding slotBytes
 inside c =
     let at = c .before .before in
     let s = at .before .before .before .before in
-    omega (arith, slot-within (at .loop .slot) (s .args .slots) (s .args .bytes) (below-end c), s .pre .0 .size)
+    omega (arith, slot-within (at .loop .slot) (s .args .slots) (s .args .bytes) (below-end c), s .pre .table .size)
 
 add-size : tie.Need-add-size Inv-loop μ-loop
 add-size c =
-    omega (arith, c .before .pre .0 .few)
+    omega (arith, c .before .pre .table .few)
 
 shared-slice-read-wide : tie.Need-shared-slice-read-wide Inv-loop μ-loop
 shared-slice-read-wide c =
     let s = c .before .before in
-    let l : 0 < length (s .args .urn .now) = omega (arith, s .pre .0 .size, size-least (s .args .bytes) (s .args .slots) (s .pre .0 .least)) in
+    let l : 0 < length (s .args .urn .now) = omega (arith, s .pre .table .size, size-least (s .args .bytes) (s .args .slots) (s .pre .table .least)) in
     l
 
 wide-requires : tie.Need-wide-requires Inv-loop μ-loop
@@ -51,7 +50,7 @@ loop-holds : tie.Need-loop-holds Inv-loop μ-loop
 loop-holds c =
     let s = c .before .before .before in
     let a = s .args in
-    find-start (slotsOf (a .bytes) (a .slots) (a .urn .now)) (a .slots) (getD (a .urn .now) 0 0) (a .juror) (c .wide .result) (c .wide .ensures) (s .pre .1)
+    find-start (slotsOf (a .bytes) (a .slots) (a .urn .now)) (a .slots) (getD (a .urn .now) 0 0) (a .juror) (c .wide .result) (c .wide .ensures) (s .pre .inside)
 
 returns : tie.Need-returns Inv-loop μ-loop
 returns c =
@@ -95,7 +94,7 @@ wide-requires-3 c κs =
 add-count : tie.Need-add-count Inv-loop μ-loop
 add-count c =
     let at = c .before .before .before .before .before .before .before in
-    omega (arith, at .loop .inv .within, at .before .before .before .before .pre .0 .most)
+    omega (arith, at .loop .inv .within, at .before .before .before .before .pre .table .most)
 
 loop-less : tie.Need-loop-less Inv-loop μ-loop
 loop-less c =

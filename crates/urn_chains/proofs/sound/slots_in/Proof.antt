@@ -1,10 +1,9 @@
 -- `urn_chains::sound::slots_in` meets its contract: each answer is the definition's at the outcomes of the tests that led there.
 -- Assumes nothing.
-use mathlib.Core.Path.{_≡_, _∙_, refl, sym, ap}
-use mathlib.Core.Bool.{Bool, true, false, cond}
-use Prim.Native.Nat.{ℕ, _+_, _/_, _%_}
+use mathlib.Core.Path.{sym, ap}
+use mathlib.Core.Bool.{Bool, cond}
 use Rattle.urn_chains.specs.Slots.{slotBytes}
-use Rattle.urn_chains.specs.Sound.{slotCount, urnLength}
+use Rattle.urn_chains.specs.Sound.{slotCount}
 use Rattle.urn_chains.proofs.BytesLaws.{length-rest, length-few, length-many, length-all}
 use native.Mathlib.Omega.{arith}
 use borrow.Author.Needs.{needs}

@@ -1,18 +1,16 @@
 -- `urn_chains::sound::test` meets its contract: the length first, then the slots.
 -- Assumes nothing.
-use mathlib.Core.Path.{_≡_, _∙_, refl, sym, ap}
-use mathlib.Core.Bool.{Bool, true, false, _&&_}
-use mathlib.Core.List.{List}
+use mathlib.Core.Path.{_∙_, sym, ap}
+use mathlib.Core.Bool.{Bool, _&&_}
 use Prim.Native.Nat.{ℕ, _*_}
 use lib.ListN.{length}
-use Rattle.urn_chains.specs.Slots.{Slot, slotsOf}
+use Rattle.urn_chains.specs.Slots.{slotsOf}
 use Rattle.urn_chains.specs.Chains.{ballotChain}
 use Rattle.urn_chains.specs.Sound.{slotCount, urnLength, urnSlots, soundSlots, sound}
-use Rattle.urn_chains.specs.Inner.{soundness}
+use Rattle.urn_chains.specs.inner.Table.{soundness}
 use Rattle.urn_chains.proofs.BytesLaws.{count-least}
-use Rattle.urn_chains.proofs.Judging.{unsound-is, counted-false, counted-true, counted-is, few-bytes, table}
+use Rattle.urn_chains.proofs.SlotTests.{unsound-is, counted-false, counted-true, counted-is, few-bytes, table}
 use native.Mathlib.Omega.{arith}
-use borrow.Author.Needs.{needs}
 use Rattle.urn_chains.proofs.sound.test.Statement.{statement}
 use Rattle.urn_chains.proofs.sound.test.Tie as tie
 
@@ -39,7 +37,7 @@ test-slots-requires c κs =
     let a = s .args in
     let b = a .k * a .d in
     let m = length (a .urn .now) in
-    (s .pre, table b (a .urn .now) _ (few-bytes (a .k) (a .d) (s .pre)) (counted-true (urnLength b m) (slotCount b m) _ (c .before .slots-in .ensures) (c .if1 .left)) (counted-is (urnLength b m) (slotCount b m) _ (c .before .slots-in .ensures) (c .if1 .left)))
+    record { graded = s .pre; table = table b (a .urn .now) _ (few-bytes (a .k) (a .d) (s .pre)) (counted-true (urnLength b m) (slotCount b m) _ (c .before .slots-in .ensures) (c .if1 .left)) (counted-is (urnLength b m) (slotCount b m) _ (c .before .slots-in .ensures) (c .if1 .left)) }
 
 returns-2 : tie.Need-returns-2
 unfolding sound urnSlots

@@ -1,13 +1,11 @@
 -- `urn_chains::walk::holds_ballot` meets its contract: the juror's number is not 0, and the tests of ballots find no reason.
 -- Assumes nothing.
-use mathlib.Core.Path.{_≡_, _∙_, refl, sym, ap}
-use mathlib.Core.Bool.{Bool, true, false, _&&_}
-use mathlib.Core.Option.{Option}
-use Rattle.jury.specs.Reason.{Reason, refusedFor, firstOf}
-use Rattle.jury.specs.Ballots.{ballotReasons}
+use mathlib.Core.Path.{_∙_, sym, ap}
+use mathlib.Core.Bool.{Bool, _&&_}
+use Rattle.jury.specs.Reason.{refusedFor}
 use Rattle.jury.proofs.Limits.{graded-T}
-use Rattle.urn_chains.specs.Sound.{juryOfOne, noReason, goodBallot, goodJuror}
-use Rattle.urn_chains.proofs.Holding.{no-juror, some-juror, good-graded}
+use Rattle.urn_chains.specs.Sound.{juryOfOne, noReason, goodBallot}
+use Rattle.urn_chains.proofs.GoodBallots.{no-juror, some-juror, good-graded}
 use native.Mathlib.Omega.{arith}
 use borrow.Author.Needs.{needs}
 use Rattle.urn_chains.proofs.walk.holds_ballot.Statement.{statement}

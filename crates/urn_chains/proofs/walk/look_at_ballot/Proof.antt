@@ -1,15 +1,15 @@
 -- `urn_chains::walk::look_at_ballot` meets its contract: the bytes at the slot's place are the slot's parts.
 -- Assumes nothing.
-use mathlib.Core.Path.{_≡_, _∙_, refl, sym, ap}
-use mathlib.Core.Bool.{Bool, true, false, _&&_}
+use mathlib.Core.Path.{_≡_, _∙_, sym, ap}
+use mathlib.Core.Bool.{_&&_}
 use Prim.Native.Nat.{ℕ, _+_, _-_, _*_, _≤_}
 use lib.ListN.{length, getD, take, drop}
 use borrow.Author.Tests.{not-true, not-false}
-use Rattle.urn_chains.specs.Slots.{slotBytes, slotsOf, slotAt}
+use Rattle.urn_chains.specs.Slots.{slotBytes, slotsOf}
 use Rattle.urn_chains.specs.Sound.{goodJuror, goodBallot}
-use Rattle.urn_chains.specs.Inner.{ballotAt}
+use Rattle.urn_chains.specs.inner.Walk.{ballotAt}
 use Rattle.urn_chains.proofs.SlotLaws.{slot-within, next-is, juror-is}
-use Rattle.urn_chains.proofs.Looking.{look-wrong, look-well, ballot-out, ballot-by-bytes}
+use Rattle.urn_chains.proofs.SlotChecks.{look-wrong, look-well, ballot-out, ballot-by-bytes}
 use native.Mathlib.Omega.{arith}
 use borrow.Author.Needs.{needs}
 use Rattle.urn_chains.proofs.walk.look_at_ballot.Statement.{statement}
@@ -20,7 +20,7 @@ inside : (c : tie.Else1) → c .before .before .args .slot * (2 + c .before .bef
 unfolding slotBytes
 inside c =
     let a = c .before .before .args in
-    omega (arith, slot-within (a .slot) (a .slots) (a .k * a .d) (c .if1 .left), c .before .before .pre .1 .0 .size)
+    omega (arith, slot-within (a .slot) (a .slots) (a .k * a .d) (c .if1 .left), c .before .before .pre .bytes .table .size)
 
 -- what the tests of the slot tell
 held : (c : tie.After-holds-ballot) → ballotAt (c .before .before .before .before .before .args .k) (c .before .before .before .before .before .args .d) (slotsOf (c .before .before .before .before .before .args .k * c .before .before .before .before .before .args .d) (c .before .before .before .before .before .args .slots) (c .before .before .before .before .before .args .urn .now)) (c .before .before .before .before .before .args .slot) ≡ c .holds-ballot .result
@@ -30,14 +30,14 @@ held c =
     let a = e .before .before .args in
     let p = e .before .before .pre in
     let at = a .slot * (2 + a .k * a .d) in
-    ballot-by-bytes (a .k * a .d) (a .slots) (a .urn .now) (a .slot) (p .1 .1) (a .k) (a .d) (e .if1 .left) (p .1 .0 .size)
+    ballot-by-bytes (a .k * a .d) (a .slots) (a .urn .now) (a .slot) (p .chained) (a .k) (a .d) (e .if1 .left) (p .bytes .table .size)
     ∙ ap (λ (n : ℕ). goodJuror (getD (a .urn .now) (at + 1) 0) && goodBallot (a .k) (a .d) (take n (drop (at + 2) (a .urn .now)))) {x = a .k * a .d} {y = at + (2 + a .k * a .d) - (at + 2)} (omega arith)
     ∙ sym (c .holds-ballot .ensures)
 
 returns : tie.Need-returns
 returns c =
     let a = c .before .before .args in
-    look-wrong _ _ (ballot-out (a .k * a .d) (a .slots) (a .urn .now) (a .slot) (c .before .before .pre .1 .1) (a .k) (a .d) (c .if1 .taken))
+    look-wrong _ _ (ballot-out (a .k * a .d) (a .slots) (a .urn .now) (a .slot) (c .before .before .pre .chained) (a .k) (a .d) (c .if1 .taken))
 
 mul-size : tie.Need-mul-size
 mul-size c = search needs

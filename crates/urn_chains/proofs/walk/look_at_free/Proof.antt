@@ -1,16 +1,15 @@
 -- `urn_chains::walk::look_at_free` meets its contract: the bytes at the slot's place are the slot's parts.
 -- Assumes nothing.
-use mathlib.Core.Path.{_≡_, _∙_, refl, sym, ap}
-use mathlib.Core.Bool.{Bool, true, false, _&&_}
+use mathlib.Core.Path.{_≡_, _∙_, sym, ap}
+use mathlib.Core.Bool.{Bool, _&&_}
 use Prim.Native.Nat.{ℕ, _+_, _-_, _*_, _≤_}
-use lib.Dec.{eqb}
 use lib.ListN.{length, getD, take, drop}
 use borrow.Author.Tests.{not-true, not-false, eq-eqb, ne-eqb}
-use Rattle.urn_chains.specs.Slots.{slotBytes, slotsOf, slotAt}
+use Rattle.urn_chains.specs.Slots.{slotBytes, slotsOf}
 use Rattle.urn_chains.specs.Sound.{allZero}
-use Rattle.urn_chains.specs.Inner.{freeAt}
+use Rattle.urn_chains.specs.inner.Walk.{freeAt}
 use Rattle.urn_chains.proofs.SlotLaws.{slot-within, next-is, juror-is}
-use Rattle.urn_chains.proofs.Looking.{look-wrong, look-well, free-out, free-by-bytes}
+use Rattle.urn_chains.proofs.SlotChecks.{look-wrong, look-well, free-out, free-by-bytes}
 use native.Mathlib.Omega.{arith}
 use borrow.Author.Needs.{needs}
 use Rattle.urn_chains.proofs.walk.look_at_free.Statement.{statement}
@@ -21,7 +20,7 @@ inside : (c : tie.Else1) → c .before .before .args .slot * (2 + c .before .bef
 unfolding slotBytes
 inside c =
     let a = c .before .before .args in
-    omega (arith, slot-within (a .slot) (a .slots) (a .bytes) (c .if1 .left), c .before .before .pre .0 .size)
+    omega (arith, slot-within (a .slot) (a .slots) (a .bytes) (c .if1 .left), c .before .before .pre .table .size)
 
 -- what the tests of the slot tell
 held : (c : tie.After-is-zero) → freeAt (slotsOf (c .before .before .before .before .before .before .args .bytes) (c .before .before .before .before .before .before .args .slots) (c .before .before .before .before .before .before .args .urn .now)) (c .before .before .before .before .before .before .args .slot) ≡ c .is-zero .result
@@ -31,7 +30,7 @@ held c =
     let a = e .before .before .args in
     let p = e .before .before .pre in
     let at = a .slot * (2 + a .bytes) in
-    free-by-bytes (a .bytes) (a .slots) (a .urn .now) (a .slot) (p .1) (e .if1 .left) (p .0 .size)
+    free-by-bytes (a .bytes) (a .slots) (a .urn .now) (a .slot) (p .chained) (e .if1 .left) (p .table .size)
     ∙ ap (λ (t : Bool). t && allZero (take (a .bytes) (drop (at + 2) (a .urn .now)))) (eq-eqb (getD (a .urn .now) (at + 1) 0) 0 (c .before .before .if2 .left))
     ∙ ap (λ (n : ℕ). allZero (take n (drop (at + 2) (a .urn .now)))) {x = a .bytes} {y = at + (2 + a .bytes) - (at + 2)} (omega arith)
     ∙ sym (c .is-zero .ensures)
@@ -39,11 +38,11 @@ held c =
 returns : tie.Need-returns
 returns c =
     let a = c .before .before .args in
-    look-wrong _ _ (free-out (a .bytes) (a .slots) (a .urn .now) (a .slot) (c .before .before .pre .1) (c .if1 .taken))
+    look-wrong _ _ (free-out (a .bytes) (a .slots) (a .urn .now) (a .slot) (c .before .before .pre .chained) (c .if1 .taken))
 
 add-size : tie.Need-add-size
 add-size c =
-    omega (arith, c .before .before .pre .0 .few)
+    omega (arith, c .before .before .pre .table .few)
 
 mul-at : tie.Need-mul-at
 mul-at c =
@@ -73,7 +72,7 @@ returns-2 c =
     let p = e .before .before .pre in
     let at = a .slot * (2 + a .bytes) in
     look-wrong _ _
-    (free-by-bytes (a .bytes) (a .slots) (a .urn .now) (a .slot) (p .1) (e .if1 .left) (p .0 .size)
+    (free-by-bytes (a .bytes) (a .slots) (a .urn .now) (a .slot) (p .chained) (e .if1 .left) (p .table .size)
     ∙ ap (λ (t : Bool). t && allZero (take (a .bytes) (drop (at + 2) (a .urn .now)))) (ne-eqb (getD (a .urn .now) (at + 1) 0) 0 (c .if2 .taken)))
 
 sub-is-zero : tie.Need-sub-is-zero

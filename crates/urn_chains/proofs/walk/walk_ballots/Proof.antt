@@ -1,15 +1,14 @@
 -- `urn_chains::walk::walk_ballots` meets its contract: what is left to find along the chain is all that there is to find.
 -- Assumes nothing.
-use mathlib.Core.Path.{_≡_, _∙_, refl, sym, ap, subst}
-use mathlib.Core.Bool.{Bool, true, false}
-use mathlib.Core.List.{List}
+use mathlib.Core.Path.{_≡_, _∙_, sym, subst}
+use mathlib.Core.Bool.{true, false}
 use Prim.Native.Nat.{ℕ, _-_, _*_, _<_}
 use lib.ListN.{length, getD}
-use Rattle.urn_chains.specs.Slots.{Slot, slotBytes, slotsOf, slotAt}
-use Rattle.urn_chains.specs.Inner.{noMarks, ballotAt}
+use Rattle.urn_chains.specs.Slots.{slotsOf, slotAt}
+use Rattle.urn_chains.specs.inner.Walk.{noMarks, ballotAt}
 use Rattle.urn_chains.proofs.SlotLaws.{slots-length, size-least}
-use Rattle.urn_chains.proofs.Looking.{ballot-below, ballot-juror}
-use Rattle.urn_chains.proofs.Walking.{OnBallots, ballots-start, ballots-go, ballots-fail, ballots-done, ballots-walked, ballots-wrong, ballots-met, ballots-twice, looked-well, looked-wrong, not-walked}
+use Rattle.urn_chains.proofs.SlotChecks.{ballot-below, ballot-juror}
+use Rattle.urn_chains.proofs.Walks.{OnBallots, ballots-start, ballots-go, ballots-fail, ballots-walked, ballots-wrong, ballots-met, ballots-twice, looked-well, looked-wrong, not-walked}
 use native.Mathlib.Omega.{arith}
 use borrow.Author.Needs.{needs}
 use Rattle.urn_chains.proofs.walk.walk_ballots.Statement.{statement}
@@ -39,7 +38,7 @@ slot-marked c =
     let s = at .before .before .before .before in
     let a = s .args in
     let ss = slotsOf (a .k * a .d) (a .slots) (a .urn .now) in
-    omega (arith, ballot-below (a .k) (a .d) ss (at .loop .slot) (well c .0), slots-length (a .k * a .d) (a .slots) (a .urn .now), s .pre .1 .most)
+    omega (arith, ballot-below (a .k) (a .d) ss (at .loop .slot) (well c .0), slots-length (a .k * a .d) (a .slots) (a .urn .now), s .pre .table .most)
 
 juror-marked : (c : tie.After-known-told Inv-loop μ-loop) → c .before .look .given .0 .0 < 256
 juror-marked c =
@@ -51,7 +50,7 @@ juror-marked c =
 shared-slice-read-wide : tie.Need-shared-slice-read-wide Inv-loop μ-loop
 shared-slice-read-wide c =
     let s = c .before .before in
-    let l : 0 < length (s .args .urn .now) = omega (arith, s .pre .1 .size, size-least (s .args .k * s .args .d) (s .args .slots) (s .pre .1 .least)) in
+    let l : 0 < length (s .args .urn .now) = omega (arith, s .pre .table .size, size-least (s .args .k * s .args .d) (s .args .slots) (s .pre .table .least)) in
     l
 
 wide-requires : tie.Need-wide-requires Inv-loop μ-loop
@@ -69,13 +68,13 @@ returns : tie.Need-returns Inv-loop μ-loop
 returns c =
     let at = c .before .before in
     let a = at .before .before .before .before .args in
-    (ballots-fail (a .k) (a .d) _ (a .slots) _ _ _ _ _ (at .loop .inv) (omega (arith, c .before .loop-test .taken)) (λ l. absurd (omega (arith, c .if1 .taken))), λ e. not-walked e)
+    not-walked _ _ _ _ _ (ballots-fail (a .k) (a .d) _ (a .slots) _ _ _ _ _ (at .loop .inv) (omega (arith, c .before .loop-test .taken)) (λ l. absurd (omega (arith, c .if1 .taken))))
 
 look-at-ballot-requires : tie.Need-look-at-ballot-requires Inv-loop μ-loop
 look-at-ballot-requires c κs =
     let at = c .before .before in
     let s = at .before .before .before .before in
-    (s .pre .0, (s .pre .1, omega (arith, c .before .loop-test .taken)))
+    record { bytes = s .pre; chained = omega (arith, c .before .loop-test .taken) }
 
 enum-known-look : tie.Need-enum-known-look Inv-loop μ-loop
 enum-known-look c =
@@ -89,11 +88,9 @@ returns-2 : tie.Need-returns-2 Inv-loop μ-loop
 returns-2 c =
     let at = c .before .before .before .before .before in
     let a = at .before .before .before .before .args in
-    let p : 0 < at .loop .slot = omega (arith, c .before .before .before .before .loop-test .taken) in (
-      ballots-fail (a .k) (a .d) _ (a .slots) _ _ _ _ _ (at .loop .inv) p
-          (λ l. ballots-wrong (a .k) (a .d) _ (a .slots - at .loop .count) (at .loop .slot) _ _ (omega arith) p (looked-wrong _ _ (sym (c .before .before .look-at-ballot .ensures) ∙ c .enum-told .given .1))),
-      λ e. not-walked e,
-    )
+    let p : 0 < at .loop .slot = omega (arith, c .before .before .before .before .loop-test .taken) in
+    not-walked _ _ _ _ _ (ballots-fail (a .k) (a .d) _ (a .slots) _ _ _ _ _ (at .loop .inv) p
+    (λ l. ballots-wrong (a .k) (a .d) _ (a .slots - at .loop .count) (at .loop .slot) _ _ (omega arith) p (looked-wrong _ _ (sym (c .before .before .look-at-ballot .ensures) ∙ c .enum-told .given .1))))
 
 array-read-if2 : tie.Need-array-read-if2 Inv-loop μ-loop
 array-read-if2 c =
@@ -103,11 +100,9 @@ returns-3 : tie.Need-returns-3 Inv-loop μ-loop
 returns-3 c =
     let at = c .before .before .before .before .before .before .before in
     let a = at .before .before .before .before .args in
-    let p : 0 < at .loop .slot = omega (arith, c .before .before .before .before .before .before .loop-test .taken) in (
-      ballots-fail (a .k) (a .d) _ (a .slots) _ _ _ _ _ (at .loop .inv) p
-          (λ l. ballots-met (a .k) (a .d) _ (a .slots - at .loop .count) (at .loop .slot) _ _ (omega arith) p (c .if2 .taken)),
-      λ e. not-walked e,
-    )
+    let p : 0 < at .loop .slot = omega (arith, c .before .before .before .before .before .before .loop-test .taken) in
+    not-walked _ _ _ _ _ (ballots-fail (a .k) (a .d) _ (a .slots) _ _ _ _ _ (at .loop .inv) p
+    (λ l. ballots-met (a .k) (a .d) _ (a .slots - at .loop .count) (at .loop .slot) _ _ (omega arith) p (c .if2 .taken)))
 
 array-read-if3 : tie.Need-array-read-if3 Inv-loop μ-loop
 array-read-if3 c =
@@ -118,11 +113,9 @@ returns-4 c =
     let k = c .before .before in
     let at = k .before .before .before .before .before .before in
     let a = at .before .before .before .before .args in
-    let p : 0 < at .loop .slot = omega (arith, k .before .before .before .before .before .loop-test .taken) in (
-      ballots-fail (a .k) (a .d) _ (a .slots) _ _ _ _ _ (at .loop .inv) p
-          (λ l. ballots-twice (a .k) (a .d) _ (a .slots - at .loop .count) (at .loop .slot) _ _ (omega arith) p (subst (λ (j : ℕ). getD (at .loop .jurors) j false ≡ true) (well k .1) (c .if3 .taken))),
-      λ e. not-walked e,
-    )
+    let p : 0 < at .loop .slot = omega (arith, k .before .before .before .before .before .loop-test .taken) in
+    not-walked _ _ _ _ _ (ballots-fail (a .k) (a .d) _ (a .slots) _ _ _ _ _ (at .loop .inv) p
+    (λ l. ballots-twice (a .k) (a .d) _ (a .slots - at .loop .count) (at .loop .slot) _ _ (omega arith) p (subst (λ (j : ℕ). getD (at .loop .jurors) j false ≡ true) (well k .1) (c .if3 .taken))))
 
 array-write-marks : tie.Need-array-write-marks Inv-loop μ-loop
 array-write-marks c =
@@ -136,7 +129,7 @@ add-count : tie.Need-add-count Inv-loop μ-loop
 add-count c =
     let k = c .before .before in
     let at = k .before .before .before .before .before .before in
-    omega (arith, at .loop .inv .within, at .before .before .before .before .pre .1 .most)
+    omega (arith, at .loop .inv .within, at .before .before .before .before .pre .table .most)
 
 loop-less : tie.Need-loop-less Inv-loop μ-loop
 loop-less c =
@@ -156,7 +149,7 @@ returns-5 : tie.Need-returns-5 Inv-loop μ-loop
 returns-5 c =
     let at = c .before in
     let a = at .before .before .before .before .args in
-    (ballots-done (a .k) (a .d) _ (a .slots) _ _ _ _ (at .loop .slot) (at .loop .inv) (c .loop-test .left), λ e. ballots-walked (a .k) (a .d) _ (a .slots) _ _ _ _ (at .loop .slot) (at .loop .inv) (c .loop-test .left))
+    ballots-walked (a .k) (a .d) _ (a .slots) _ _ _ _ (at .loop .slot) (at .loop .inv) (c .loop-test .left)
 
 pub walk-ballots-spec : {M : Type 1} → statement M
 walk-ballots-spec =

@@ -1,15 +1,14 @@
 -- `urn_chains::walk::walk_free` meets its contract: what is left to find along the chain is all that there is to find.
 -- Assumes nothing.
-use mathlib.Core.Path.{_≡_, _∙_, refl, sym, ap, subst}
-use mathlib.Core.Bool.{Bool, true, false}
-use mathlib.Core.List.{List}
-use Prim.Native.Nat.{ℕ, _-_, _*_, _<_}
+use mathlib.Core.Path.{_≡_, _∙_, sym}
+use mathlib.Core.Bool.{true}
+use Prim.Native.Nat.{_-_, _<_}
 use lib.ListN.{length, getD}
-use Rattle.urn_chains.specs.Slots.{Slot, slotBytes, slotsOf, slotAt}
-use Rattle.urn_chains.specs.Inner.{freeAt}
+use Rattle.urn_chains.specs.Slots.{slotsOf, slotAt}
+use Rattle.urn_chains.specs.inner.Walk.{freeAt}
 use Rattle.urn_chains.proofs.SlotLaws.{slots-length, size-least}
-use Rattle.urn_chains.proofs.Looking.{free-below}
-use Rattle.urn_chains.proofs.Walking.{OnFree, free-start, free-go, free-fail, free-done, free-walked, free-wrong, free-met, looked-well, looked-wrong, not-walked}
+use Rattle.urn_chains.proofs.SlotChecks.{free-below}
+use Rattle.urn_chains.proofs.Walks.{OnFree, free-start, free-go, free-fail, free-walked, free-wrong, free-met, looked-well, looked-wrong, not-walked}
 use native.Mathlib.Omega.{arith}
 use borrow.Author.Needs.{needs}
 use Rattle.urn_chains.proofs.walk.walk_free.Statement.{statement}
@@ -65,13 +64,13 @@ returns : tie.Need-returns Inv-loop μ-loop
 returns c =
     let at = c .before .before in
     let a = at .before .before .before .before .args in
-    (free-fail _ (a .slots) _ _ _ _ _ (at .loop .inv) (omega (arith, c .before .loop-test .taken)) (λ l. absurd (omega (arith, c .if1 .taken))), λ e. not-walked e)
+    not-walked _ _ _ _ _ (free-fail _ (a .slots) _ _ _ _ _ (at .loop .inv) (omega (arith, c .before .loop-test .taken)) (λ l. absurd (omega (arith, c .if1 .taken))))
 
 look-at-free-requires : tie.Need-look-at-free-requires Inv-loop μ-loop
 look-at-free-requires c κs =
     let at = c .before .before in
     let s = at .before .before .before .before in
-    (s .pre, omega (arith, c .before .loop-test .taken))
+    record { table = s .pre; chained = omega (arith, c .before .loop-test .taken) }
 
 enum-known-look : tie.Need-enum-known-look Inv-loop μ-loop
 enum-known-look c =
@@ -85,11 +84,9 @@ returns-2 : tie.Need-returns-2 Inv-loop μ-loop
 returns-2 c =
     let at = c .before .before .before .before .before in
     let a = at .before .before .before .before .args in
-    let p : 0 < at .loop .slot = omega (arith, c .before .before .before .before .loop-test .taken) in (
-      free-fail _ (a .slots) _ _ _ _ _ (at .loop .inv) p
-          (λ l. free-wrong _ (a .slots - at .loop .count) (at .loop .slot) _ (omega arith) p (looked-wrong _ _ (sym (c .before .before .look-at-free .ensures) ∙ c .enum-told .given .1))),
-      λ e. not-walked e,
-    )
+    let p : 0 < at .loop .slot = omega (arith, c .before .before .before .before .loop-test .taken) in
+    not-walked _ _ _ _ _ (free-fail _ (a .slots) _ _ _ _ _ (at .loop .inv) p
+    (λ l. free-wrong _ (a .slots - at .loop .count) (at .loop .slot) _ (omega arith) p (looked-wrong _ _ (sym (c .before .before .look-at-free .ensures) ∙ c .enum-told .given .1))))
 
 array-read-if2 : tie.Need-array-read-if2 Inv-loop μ-loop
 array-read-if2 c =
@@ -99,11 +96,9 @@ returns-3 : tie.Need-returns-3 Inv-loop μ-loop
 returns-3 c =
     let at = c .before .before .before .before .before .before .before in
     let a = at .before .before .before .before .args in
-    let p : 0 < at .loop .slot = omega (arith, c .before .before .before .before .before .before .loop-test .taken) in (
-      free-fail _ (a .slots) _ _ _ _ _ (at .loop .inv) p
-          (λ l. free-met _ (a .slots - at .loop .count) (at .loop .slot) _ (omega arith) p (c .if2 .taken)),
-      λ e. not-walked e,
-    )
+    let p : 0 < at .loop .slot = omega (arith, c .before .before .before .before .before .before .loop-test .taken) in
+    not-walked _ _ _ _ _ (free-fail _ (a .slots) _ _ _ _ _ (at .loop .inv) p
+    (λ l. free-met _ (a .slots - at .loop .count) (at .loop .slot) _ (omega arith) p (c .if2 .taken)))
 
 array-write-marks : tie.Need-array-write-marks Inv-loop μ-loop
 array-write-marks c =
@@ -133,7 +128,7 @@ returns-4 : tie.Need-returns-4 Inv-loop μ-loop
 returns-4 c =
     let at = c .before in
     let a = at .before .before .before .before .args in
-    (free-done _ (a .slots) _ _ _ _ (at .loop .slot) (at .loop .inv) (c .loop-test .left), λ e. free-walked _ (a .slots) _ _ _ _ (at .loop .slot) (at .loop .inv) (c .loop-test .left))
+    free-walked _ (a .slots) _ _ _ _ (at .loop .slot) (at .loop .inv) (c .loop-test .left)
 
 pub walk-free-spec : {M : Type 1} → statement M
 walk-free-spec =
