@@ -54,8 +54,8 @@ returns-2 : tie.Need-returns-2
 unfolding statusOf sizeNumbers outcomeOf
 returns-2 c =
     let a = c .before .before .before .before .before .before .before .before .before .before .before .args in
-    let why = reasonOf (c .before .before .before .before .before .before .before .before .said2 .given .0 .0) in
-    let e = ap (λ (s : Answer). sizeNumbers (outcomeOf s)) (c .before .before .before .before .before .before .before .before .said2 .given .1) in
+    let why = reasonOf (c .before .before .before .before .before .before .before .before .outcome2 .given .0 .0) in
+    let e = ap (λ (s : Answer). sizeNumbers (outcomeOf s)) (c .before .before .before .before .before .before .before .before .outcome2 .given .1) in
     let number = c .before .before .before .before .before .before .number in
     let place = c .before .before .before .before .before .place in
     let f = two (number .result) (place .result) (why .number) (why .place) (0 ∷ 0 ∷ []) (number .ensures) (place .ensures) ∙ sym e in

@@ -1,26 +1,57 @@
--- `c_trustees::by_trustees::jugy_trustees` meets its contract: where the answer array is long enough, it says what the entry point says.
+-- `c_trustees::by_trustees::jugy_trustees` meets its contract: where the answer array is long enough, it says what the
+-- entry point says.
 -- Assumes nothing.
 use borrow.Author.Needs.{needs}
 use mathlib.Core.Path.{_≡_, _∙_, sym, ap}
 use mathlib.Core.List.{List, _++_}
 use Prim.Native.Nat.{ℕ}
 use lib.ListN.{drop}
-use Rattle.trustee_shares.specs.Views.{Dealing}
-use Rattle.trustees.specs.Shared.{Shared, shared}
+use Rattle.trustees.specs.Call.{Call}
+use Rattle.trustees.specs.Result.{TrusteesResult, trusteesResult}
 use Rattle.c_answers.specs.Numbers.{shapeOf, statusOf}
-use Rattle.c_trustees.specs.Numbers.{tallyNumbers, tallyAnswer}
+use Rattle.c_trustees.specs.Numbers.{tallyNumbers, tallyAnswer, Leaves}
 use Rattle.c_answers.proofs.Answering.{short-status, short-answered, short-altered, room-status, room-answered, room-altered}
 use Rattle.c_trustees.proofs.Tallying.{tallied}
 use Rattle.c_trustees.proofs.by_trustees.jugy_trustees.Statement.{statement}
 use Rattle.c_trustees.proofs.by_trustees.jugy_trustees.Tie as tie
 
+-- The call that this is, from where the function starts.
+abbrev call : tie.Start → Call
+call s =
+    let a = s .args in
+    record {
+      shape = shapeOf (a .candidates) (a .grades) (a .ballots);
+      table = a .table .now;
+      ballots = a .bytes .now;
+      trustees = a .trustees;
+      lent = record {
+        dealing = record { ballotParts = a .shares .now; dealerParts = a .triples .now };
+        wireParts = a .wires .now;
+        published = a .published .now;
+      };
+    }
+
+-- The stages: the answer array is too short; it is long enough; the entry point has run.
+abbrev started-short : tie.Then1 → tie.Start
+started-short c = c .before .before .before .before .before .before .before .before
+
+abbrev started : tie.Else1 → tie.Start
+started c = c .before .before .before .before .before .before .before .before
+
+same : (x y : Leaves) → x .status ≡ y .status → x .answer ≡ y .answer → x .wireParts ≡ y .wireParts
+    → x .published ≡ y .published → x ≡ y
+same x y a b c d = rw (a, b, c, d) refl
+
 returns : tie.Need-returns
-unfolding shapeOf
 returns c =
-    let a = c .before .before .before .before .before .before .before .before .args in
-    let r : Shared = (shared (shapeOf (a .candidates) (a .grades) (a .ballots)) (a .table .now) (a .bytes .now) (a .trustees) (record { ballotParts = a .parts .now; dealerParts = a .dealt .now }) (a .wires .now) (a .published .now)) in
+    let start = started-short c in
+    let answer = start .args .answer .now in
+    let short = c .if1 .taken in
+    let r = trusteesResult (call start) in
     let numbers = tallyNumbers (r .answer) (r .closing) in
-    (sym (short-status tallyAnswer (a .answer .now) (c .if1 .taken) numbers), (sym (short-answered tallyAnswer (a .answer .now) (c .if1 .taken) numbers), (sym (short-altered tallyAnswer (a .answer .now) (c .if1 .taken) (r .wireParts) (a .wires .now)), sym (short-altered tallyAnswer (a .answer .now) (c .if1 .taken) (r .published) (a .published .now)))))
+    same _ _ (sym (short-status tallyAnswer answer short numbers)) (sym (short-answered tallyAnswer answer short numbers))
+    (sym (short-altered tallyAnswer answer short (r .wireParts) (start .args .wires .now)))
+    (sym (short-altered tallyAnswer answer short (r .published) (start .args .published .now)))
 
 run-requires : tie.Need-run-requires
 run-requires c κs = search needs
@@ -43,11 +74,20 @@ returns-2 c =
     let put = c .before .before in
     let outcome = put .before .before .before .before .before .before in
     let long = outcome .before .before .before in
-    let a = long .before .before .before .before .before .before .before .before .args in
-    let r : Shared = (shared (shapeOf (a .candidates) (a .grades) (a .ballots)) (a .table .now) (a .bytes .now) (a .trustees) (record { ballotParts = a .parts .now; dealerParts = a .dealt .now }) (a .wires .now) (a .published .now)) in
+    let start = started long in
+    let answer = start .args .answer .now in
+    let room = long .if1 .left in
+    let r = trusteesResult (call start) in
     let numbers = tallyNumbers (r .answer) (r .closing) in
-    let e = tallied _ _ _ _ (outcome .run .ensures .0) (outcome .run .ensures .1 .0) in
-    (put .put-tally .ensures .0 ∙ ap statusOf e ∙ sym (room-status tallyAnswer (a .answer .now) (long .if1 .left) numbers), (put .put-tally .ensures .1 ∙ ap (λ (l : List ℕ). l ++ drop tallyAnswer (a .answer .now)) e ∙ sym (room-answered tallyAnswer (a .answer .now) (long .if1 .left) numbers), (outcome .run .ensures .1 .1 .0 ∙ sym (room-altered tallyAnswer (a .answer .now) (long .if1 .left) (r .wireParts) (a .wires .now)), outcome .run .ensures .1 .1 .1 ∙ sym (room-altered tallyAnswer (a .answer .now) (long .if1 .left) (r .published) (a .published .now)))))
+    let is = outcome .run .ensures in
+    let e = tallied _ _ _ _ (ap (λ (x : TrusteesResult). x .answer) is) (ap (λ (x : TrusteesResult). x .closing) is) in
+    same _ _ (put .put-tally .ensures .reads ∙ ap statusOf e ∙ sym (room-status tallyAnswer answer room numbers))
+    (put .put-tally .ensures .array ∙ ap (λ (l : List ℕ). l ++ drop tallyAnswer answer) e
+    ∙ sym (room-answered tallyAnswer answer room numbers))
+    (ap (λ (x : TrusteesResult). x .wireParts) is
+    ∙ sym (room-altered tallyAnswer answer room (r .wireParts) (start .args .wires .now)))
+    (ap (λ (x : TrusteesResult). x .published) is
+    ∙ sym (room-altered tallyAnswer answer room (r .published) (start .args .published .now)))
 
 pub jugy-trustees-spec : {M : Type 1} → statement M
 jugy-trustees-spec =
