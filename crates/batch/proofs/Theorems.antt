@@ -246,10 +246,10 @@ batch-accuracy s table size w ballots tape wires board answer e j h =
     let same = sym (a .2) in (
       ap (closingBytes s) (a .2) ∙ q .plain (laneOf j ballots) (laneOf j tape) (laneOf j wires) (laneOf j board) answer (a .0),
       λ i l.
-          let r = q .winners (laneOf j ballots) (laneOf j tape) (laneOf j wires) (laneOf j board) answer (a .0) i l in
+          let r = q .says-who-wins (laneOf j ballots) (laneOf j tape) (laneOf j wires) (laneOf j board) answer (a .0) .winner i l in
           (λ x. r .0 (ap (λ (b : List ℕ). getD (closingBytes s b) i 0) same ∙ x), λ x. ap (λ (b : List ℕ). getD (closingBytes s b) i 0) (a .2) ∙ r .1 x),
       λ i l.
-          let r = q .losers (laneOf j ballots) (laneOf j tape) (laneOf j wires) (laneOf j board) answer (a .0) i l in
+          let r = q .says-who-wins (laneOf j ballots) (laneOf j tape) (laneOf j wires) (laneOf j board) answer (a .0) .loser i l in
           (λ x. r .0 (ap (λ (b : List ℕ). getD (closingBytes s b) i 0) same ∙ x), λ x. ap (λ (b : List ℕ). getD (closingBytes s b) i 0) (a .2) ∙ r .1 x),
     )
 

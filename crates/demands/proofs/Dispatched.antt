@@ -28,6 +28,6 @@ dispatch-accuracy count ss share t j table size accepts below wrote own i lt =
     let h = subst (λ (l : List ℕ). runResult s l (p .ballots) (p .tapes) (p .wires) (p .boards) .answer ≡ accepted (sizeOf (gatesOf (p .lists)))) own (e .runs) in
     let b = e .board ∙ ap (λ (l : List ℕ). runResult s l (p .ballots) (p .tapes) (p .wires) (p .boards) .board) own in
     record {
-      winner = subst (λ (l : List ℕ). (getD (closingBytes s l) i 0 ≡ 1) ↔ Wins s (p .ballots) i) (sym b) (a .winners (p .ballots) (p .tapes) (p .wires) (p .boards) _ h i lt);
-      loser = subst (λ (l : List ℕ). (getD (closingBytes s l) i 0 ≡ 0) ↔ (¬ Wins s (p .ballots) i)) (sym b) (a .losers (p .ballots) (p .tapes) (p .wires) (p .boards) _ h i lt);
+      winner = subst (λ (l : List ℕ). (getD (closingBytes s l) i 0 ≡ 1) ↔ Wins s (p .ballots) i) (sym b) (a .says-who-wins (p .ballots) (p .tapes) (p .wires) (p .boards) _ h .winner i lt);
+      loser = subst (λ (l : List ℕ). (getD (closingBytes s l) i 0 ≡ 0) ↔ (¬ Wins s (p .ballots) i)) (sym b) (a .says-who-wins (p .ballots) (p .tapes) (p .wires) (p .boards) _ h .loser i lt);
     }

@@ -7,6 +7,7 @@ use Rattle.season.specs.Season.{SheetMemory}
 use Rattle.urn.specs.Memory.{UrnMemory}
 use Rattle.urn.specs.Theorems.{UrnHolds, PreviewsTell}
 use Rattle.urn_run.specs.Theorems.{UrnRunMemory, UrnRunHolds}
+use Rattle.trustees.specs.Call.{Call}
 use Rattle.trustees.specs.Demands as trustees
 use Rattle.dispatch.specs.Theorems.{Refusals, Lengths, Dispatching}
 use Rattle.demands.specs.Dispatched.{DispatchAccuracy}
@@ -19,7 +20,7 @@ pub record Memory : Type 0 where
   pub sheet : SheetMemory
   pub urn : UrnMemory
   pub urn-run : UrnRunMemory
-  pub by-trustees : trustees.Memory
+  pub by-trustees : (c : Call) → trustees.Memory c
   pub dispatcher-refusals : Refusals
   pub dispatcher-lengths : Lengths
   pub lanes : BatchMemory

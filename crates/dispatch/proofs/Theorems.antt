@@ -21,7 +21,7 @@ use Rattle.tally.specs.Run.{RunResult, runResult, runResultAfter}
 use Rattle.tally.specs.Hiding.{closingBytes, Hidden}
 use Rattle.tally.proofs.Hiding.{run-answer, run-board, board-tells-no-more}
 use Rattle.tally.proofs.RunReasons.{ran-by}
-use Rattle.tally.proofs.Demands.{three-demands}
+use Rattle.tally.proofs.Demands.{run-lengths}
 use Rattle.dispatch_rounds.specs.declared.statement.Statement.{Statement}
 use Rattle.dispatch_rounds.specs.Tables.{Tables, lent, shapeOf, pieceOf, listOf, conditionalIn, piecesOf, behind, through}
 use Rattle.dispatch_rounds.specs.Reasons.{reasonsOf, atJury, juryReasons}
@@ -114,7 +114,7 @@ ran-long : (s : Statement) (t : Tables) → firstOf (reasonsOf s t) ≡ none →
 unfolding ranBoard
 ran-long s t e =
     let p = piecesOf s t in
-    three-demands .memory .run-length (shapeOf s) (p .lists) (p .ballots) (p .tapes) (p .wires) (p .boards) .1 ∙ jury-passed s t e .boardLong
+    run-lengths (shapeOf s) (p .lists) (p .ballots) (p .tapes) (p .wires) (p .boards) .1 ∙ jury-passed s t e .boardLong
 
 -- jury j's piece of the boards
 board-at : (i j : ℕ) (ss : List Statement) (t : Tables) (w : List ℕ) → firstOf (juryReasons i ss t) ≡ none → j < length ss

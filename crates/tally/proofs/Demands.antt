@@ -3,12 +3,11 @@
 use mathlib.Core.Path.{_≡_, _∙_, refl, sym, ap, subst}
 use mathlib.Core.Bool.{Bool, true, false, cond}
 use mathlib.Core.Option.{Option, none, some}
-use mathlib.Core.Logic.{_≢_, _↔_}
 use mathlib.Core.List.{List, [], _∷_}
-use Prim.Native.Nat.{ℕ, _+_, _*_, _≤_, _<_}
+use Prim.Native.Nat.{ℕ, _+_, _*_, _≤_}
 use native.Mathlib.Omega.{arith}
-use lib.Dec.{eqb}
-use lib.ListN.{length, getD, take, length-replicate}
+use lib.Dec.{T}
+use lib.ListN.{length, take, length-replicate}
 use Rattle.gates.specs.Gate.{Gate, gatesOf}
 use Rattle.gates.specs.Wires.{wiresOf, outputsOf}
 use Rattle.gates.specs.Board.{MaskTape}
@@ -23,17 +22,20 @@ use Rattle.jury.specs.Ballots.{rowsOf, firstBadRow, gradedReasons, rankedReason
 use Rattle.jury.specs.Rankings.{firstNotAsymmetric, firstNotWeakOrder}
 use Rattle.jury.specs.Accepted.{AcceptedBallots}
 use Rattle.jury.proofs.BallotLaws.{judged, kindReason, judged-by}
-use Rattle.tally.specs.Answer.{refused, accepted, outcome, Size, sizeOf}
-use Rattle.tally.specs.Rule.{closingFor, Wins}
+use Rattle.tally.specs.Answer.{Outcome, refused, accepted, hasNumberIn, Size, sizeOf}
+use Rattle.tally.specs.Rule.{closingFor}
+use Rattle.tally.specs.SaysWhoWins.{SaysWhoWins}
+use Rattle.tally.specs.Memory.{Each, KeepsMemory, BoardKeepsMemory}
 use Rattle.tally.specs.OwnList.{ownList}
-use Rattle.tally.specs.Count.{plainClosing}
+use Rattle.tally.specs.Count.{countReason, plainClosing, countOutcome}
 use Rattle.tally.specs.Test.{testReasons, testOutcome}
 use Rattle.tally.specs.Write.{writeReasons, writeOutcome, written, OwnListHolds}
 use Rattle.tally.specs.Run.{RunResult, bufferReasons, runReasons, runResultAfter, runResult}
 use Rattle.tally.specs.Hiding.{closingBytes}
-use Rattle.tally.specs.Demands.{Memory, listIn, Accuracy, ThreeDemands}
-use Rattle.tally.proofs.Rules.{byte-says}
-use Rattle.tally.proofs.PlainFacts.{plain-first}
+use Rattle.tally.specs.Demands.{Memory, listIn, RunAccuracy, CountAccuracy, ThreeDemands}
+use Rattle.tally.proofs.Rules.{rule-says}
+use Rattle.tally.proofs.PlainFacts.{plain-first, plain-length, plain-says}
+use Rattle.tally.proofs.CountReason.{count-accepts}
 use Rattle.tally.proofs.TestReasons.{never, orElse, TestPassed, test-passed}
 use Rattle.tally.proofs.RunReasons.{lentFound, lent-by, firstOfThree, run-first, outcome-refused, RunPassed, run-passed, ran-by}
 use Rattle.tally.proofs.Hiding.{ran-accepted, run-answer, run-wires, run-finished, run-closing, board-tells-no-more}
@@ -72,6 +74,10 @@ module _ (s : Shape) (table ballots tape wires board : List ℕ) where
         ap length (run-wires s table ballots wires board tape p tape (p .mask)) ∙ length-replicate (length wires) 0,
         omega (arith, f .size, p .boardLength),
       )
+
+pub run-lengths : (s : Shape) (table ballots tape wires board : List ℕ)
+    → (length (runResult s table ballots tape wires board .wires) ≡ length wires) × (length (runResult s table ballots tape wires board .board) ≡ length board)
+run-lengths s table ballots tape wires board = lengths s table ballots tape wires board (firstOf (runReasons s table ballots tape wires board)) refl
 
 -- reasons past the third have larger numbers
 row-number : (row : Place) (r : Reason) → firstOf (foundAt 6 row ∷ []) ≡ some r → 4 ≤ r .number
@@ -164,37 +170,53 @@ module _ (s : Shape) (table : List ℕ) (size : Size) (p : writing.WritePassed s
     plain : closingBytes s (runResult s list ballots tape wires board .board) ≡ take (s .candidates) (plainClosing s ballots)
     plain = closing ∙ sym (plain-first s ballots (passed .ballotsPassed))
 
-    module _ (i : ℕ) (h : i < s .candidates) where
-      byte : getD (closingBytes s (runResult s list ballots tape wires board .board)) i 0 ≡ getD (closingFor s ballots) i 0
-      byte = ap (λ (bytes : List ℕ). getD bytes i 0) closing
+    says : SaysWhoWins s ballots (closingBytes s (runResult s list ballots tape wires board .board))
+    says = subst (SaysWhoWins s ballots) (sym closing) (rule-says s ballots (passed .ballotsPassed))
 
-      winner : (getD (closingBytes s (runResult s list ballots tape wires board .board)) i 0 ≡ 1) ↔ Wins s ballots i
-      winner = let iff = byte-says s ballots (passed .ballotsPassed) i h .one in (λ one. iff .0 (sym byte ∙ one), λ wins. byte ∙ iff .1 wins)
+-- a call that is lent nothing to write to keeps it
+nothing-lent : {Values : Type 0} {numbers : List ℕ} {answer : Outcome Values}
+    → ((r : Reason) → answer ≡ refused r → T (hasNumberIn numbers r)) → KeepsMemory numbers answer [] []
+unfolding Each
+nothing-lent named = record { number = named; refusal = λ r e. tt; empties = λ values e. tt; lengths = tt }
 
-      loser : (getD (closingBytes s (runResult s list ballots tape wires board .board)) i 0 ≡ 0) ↔ (¬ Wins s ballots i)
-      loser = let iff = byte-says s ballots (passed .ballotsPassed) i h .zero in (λ zero. iff .0 (sym byte ∙ zero), λ loses. byte ∙ iff .1 loses)
+run-memory : (s : Shape) (table ballots tape wires board : List ℕ)
+    → BoardKeepsMemory (1 ∷ 2 ∷ 3 ∷ 4 ∷ 5 ∷ 6 ∷ 11 ∷ 12 ∷ 7 ∷ 8 ∷ 9 ∷ 10 ∷ []) wires board (runResult s table ballots tape wires board)
+unfolding Each
+run-memory s table ballots tape wires board =
+    let long = run-lengths s table ballots tape wires board in
+    record {
+      number = numbering.run-number s table ballots tape wires board;
+      refusal = λ r e. let q = ran-refused s table ballots tape wires board r e in (q .1, (q .2, tt));
+      empties = λ size e.
+          let p = run-passed s table ballots tape wires board (ran-accepted s table ballots wires board tape size e .0) in
+          (run-wires s table ballots wires board tape p tape (p .mask), tt);
+      lengths = (long .0, (long .1, tt));
+    }
 
 memory : Memory
+unfolding Each
 memory =
     record {
-      measure-number = numbering.measure-number;
-      write-number = numbering.write-number;
-      test-number = numbering.test-number;
-      run-number = numbering.run-number;
-      count-number = numbering.count-number;
-      write-refused = λ s table r e. writing.write-refused s table r (refused-reason s table r e) .1;
-      write-length = writing.write-length;
-      run-refused = λ s table ballots tape wires board r e. let q = ran-refused s table ballots tape wires board r e in (q .1, q .2);
-      run-empties = λ s table ballots tape wires board size e.
-          let p = run-passed s table ballots tape wires board (ran-accepted s table ballots wires board tape size e .0) in
-          run-wires s table ballots wires board tape p tape (p .mask);
-      run-length = λ s table ballots tape wires board. lengths s table ballots tape wires board (firstOf (runReasons s table ballots tape wires board)) refl;
+      measure = λ s. nothing-lent (numbering.measure-number s);
+      write = λ s table. record {
+        number = numbering.write-number s table;
+        refusal = λ r e. (writing.write-refused s table r (refused-reason s table r e) .1, tt);
+        empties = λ size e. tt;
+        lengths = (writing.write-length s table, tt);
+      };
+      test = λ s table. nothing-lent (numbering.test-number s table);
+      run = run-memory;
+      count = λ s ballots. nothing-lent (count-named s ballots);
     }
   where
     refused-reason : (s : Shape) (table : List ℕ) (r : Reason) → writeOutcome s table ≡ refused r → firstOf (writeReasons s table) ≡ some r
     refused-reason s table r e = outcome-refused (firstOf (writeReasons s table)) (sizeOf (ownList s)) r (unfold writeOutcome in e)
 
-accuracy : (s : Shape) (table : List ℕ) (size : Size) → writeOutcome s table ≡ accepted size → Accuracy s table size
+    count-named : (s : Shape) (ballots : List ℕ) (r : Reason) → countOutcome s ballots ≡ refused r → T (hasNumberIn (1 ∷ 4 ∷ 5 ∷ 6 ∷ 11 ∷ 12 ∷ []) r)
+    count-named s ballots r e =
+        numbering.count-number s ballots r (outcome-refused (countReason s ballots) (plainClosing s ballots) r (unfold countOutcome in e))
+
+accuracy : (s : Shape) (table : List ℕ) (size : Size) → writeOutcome s table ≡ accepted size → RunAccuracy s table size
 unfolding list
 accuracy s table size e =
     let p = writing.write-passed s table size e in
@@ -202,9 +224,15 @@ accuracy s table size e =
       never-2-or-3 = λ ballots tape wires board r f. let n = number s table size p ballots tape wires board r f in (λ two. omega (arith, two), λ three. omega (arith, three));
       runs = accepts s table size p;
       plain = plain s table size p;
-      winners = winner s table size p;
-      losers = loser s table size p;
+      says-who-wins = says s table size p;
+    }
+
+counting : CountAccuracy
+counting =
+    record {
+      says-who-wins = λ s ballots e. plain-says s ballots (count-accepts s ballots .0 e);
+      eight-bytes = plain-length;
     }
 
 pub three-demands : ThreeDemands
-three-demands = record { memory = memory; accuracy = accuracy; hiding = board-tells-no-more }
+three-demands = record { memory = memory; accuracy = accuracy; counting = counting; hiding = board-tells-no-more }

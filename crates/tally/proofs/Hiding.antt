@@ -18,7 +18,7 @@ use Rattle.jury.specs.Shape.{ballotBytes}
 use Rattle.jury.specs.Reason.{Reason, firstOf}
 use Rattle.tally.specs.Answer.{Outcome, refused, accepted, Size, sizeOf}
 use Rattle.tally.specs.Run.{RunResult, runReasons, runResultAfter, runResult}
-use Rattle.tally.specs.Hiding.{closingBytes, Hidden, BoardTellsNoMore}
+use Rattle.tally.specs.Hiding.{closingBytes, RunTellsNoMore}
 use Rattle.tally.proofs.TestReasons.{never}
 use Rattle.tally.proofs.RunReasons.{RunPassed, run-passed, run-passed-back, ran-by}
 
@@ -95,7 +95,7 @@ module _ (s : Shape) (table ballots wires board : List ℕ) where
         let n : length b - s .candidates ≡ conditionalCount (gatesOf table) = omega (arith, run-finished .size) in
         ap (λ (m : ℕ). drop m b) n ∙ run-finished .closing
 
-pub board-tells-no-more : BoardTellsNoMore
+pub board-tells-no-more : RunTellsNoMore
 board-tells-no-more s table xs ys t u vs ws bs ds first second e f closing =
     let gs = gatesOf table in
     let a = ran-accepted s table xs vs bs t first e in

@@ -17,7 +17,7 @@ use Rattle.tally.specs.Count.{plainClosing}
 use Rattle.tally.specs.Write.{writeOutcome}
 use Rattle.tally.specs.Run.{runResult}
 use Rattle.tally.specs.Hiding.{closingBytes}
-use Rattle.tally.specs.Demands.{listIn, Accuracy}
+use Rattle.tally.specs.Demands.{listIn, RunAccuracy}
 use Rattle.tally.specs.Monotone.{TwoRuns, byteBefore, byteAfter, MonotoneOnGates}
 use Rattle.tally.proofs.RunReasons.{run-passed}
 use Rattle.tally.proofs.Hiding.{ran-accepted}
@@ -31,7 +31,7 @@ unraised s candidate e unchanged = refl
 unraised s candidate e (once-more raises once) = absurd (true≢false (sym e ∙ graded-is s (within s (once .old-accepted .within))))
 
 module _ (s : Shape) (table : List ℕ) (size : Size) (old new : List ℕ) (r : TwoRuns s table size old new) where
-  holds : Accuracy s table size
+  holds : RunAccuracy s table size
   holds = three-demands .accuracy s table size (r .written)
 
   -- ballots of an accepted run are accepted

@@ -85,9 +85,9 @@ three-passed none (some r) c e = let z : _≡_ {A = ℕ} 0 1 = cc in absurd (ome
 three-passed (some r) b c e = let z : _≡_ {A = ℕ} 0 1 = cc in absurd (omega arith)
 
 -- the reason of an answer
-pub outcome-refused : (o : Option Reason) (values : Size) (r : Reason) → outcome o values ≡ refused r → o ≡ some r
+pub outcome-refused : {Values : Type 0} (o : Option Reason) (values : Values) (r : Reason) → outcome o values ≡ refused r → o ≡ some r
 unfolding outcome
-outcome-refused none values r e = never values r (sym e)
+outcome-refused none values r e = let z : _≡_ {A = ℕ} 0 1 = cc in absurd (omega arith)
 outcome-refused (some q) values r e = let same : q ≡ r = cc in ap some same
 
 pub outcome-accepted : (o : Option Reason) (values size : Size) → outcome o values ≡ accepted size → o ≡ none

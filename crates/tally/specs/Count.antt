@@ -7,6 +7,7 @@ use Rattle.jury.specs.Shape.{withinLimits}
 use Rattle.jury.specs.Reason.{Reason, unless, firstOf}
 use Rattle.jury.specs.Ballots.{ballotReasons}
 use Rattle.jury.specs.ClosingBytes.{eightBytes}
+use Rattle.tally.specs.Answer.{Outcome, outcome}
 use Rattle.tally.specs.Rule.{closingFor}
 
 -- The reasons that concern a count, in checking order: 1, 4, 5, then 6 of grades or 11 and 12 of rankings.
@@ -20,3 +21,7 @@ closingAfter (some r) bytes = eightBytes []
 
 unfoldable pub plainClosing : Shape → List ℕ → List ℕ
 plainClosing s xs = closingAfter (countReason s xs) (closingFor s xs)
+
+-- The outcome of a count.
+unfoldable pub countOutcome : Shape → List ℕ → Outcome (List ℕ)
+countOutcome s xs = outcome (countReason s xs) (plainClosing s xs)

@@ -35,6 +35,10 @@ pub record RunResult : Type 0 where
   pub wires : List ℕ
   pub board : List ℕ
 
+-- What a call leaves, by its tape, wire table and board: a call whose shape, list and ballots are settled.
+abbrev pub BoardCall : Type 0
+BoardCall = (tape wires board : List ℕ) → RunResult
+
 -- A refusal alters nothing that is lent. An accepted run leaves zeros in the wire table, and on the board the shown bits and the closing bytes of the wires that the ballots have under the list (request 2.13).
 unfoldable pub runResultAfter : Option Reason → Shape → List Gate → List ℕ → List ℕ → List ℕ → List ℕ → RunResult
 runResultAfter (some r) s gs ballots tape wires board = record { answer = refused r; wires = wires; board = board }

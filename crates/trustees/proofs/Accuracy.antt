@@ -13,21 +13,17 @@ use Rattle.gates.specs.Wires.{wire, wiresOf, outputsOf}
 use Rattle.gates.specs.Board.{Bits}
 use Rattle.gates.proofs.Laws.{AllGood, all-good, wires-hold, wires-start, wires-bits, wire-bit, output-is, length-outputs}
 use Rattle.gates.proofs.WireLaws.{length-wires}
-use Rattle.jury.specs.declared.shape.Shape.{Shape}
 use Rattle.jury.specs.Reason.{Reason, firstOf}
 use Rattle.jury.specs.ClosingBytes.{eightBytes}
-use Rattle.jury.proofs.Limits.{bounds}
-use Rattle.jury.proofs.Rows.{eight-at}
 use Rattle.jury.proofs.Tabulate.{tabulate-cong, tabulate-getD}
 use Rattle.tally.specs.Answer.{accepted, Size, sizeOf}
-use Rattle.tally.specs.Rule.{closingFor}
+use Rattle.tally.specs.SaysWhoWins.{SaysWhoWins}
 use Rattle.tally.specs.Count.{plainClosing}
 use Rattle.tally.specs.Demands.{listIn}
 use Rattle.tally.proofs.TestReasons.{never}
 use Rattle.tally.proofs.RunReasons.{run-passed}
 use Rattle.tally.proofs.Hiding.{ran-accepted, run-closing}
-use Rattle.tally.proofs.Rules.{byte-says}
-use Rattle.tally.proofs.PlainFacts.{plain-accepted}
+use Rattle.tally.proofs.PlainFacts.{plain-accepted, plain-says}
 use Rattle.tally.proofs.OwnList.{own-list-holds}
 use Rattle.tally.proofs.Writing as writing
 use Rattle.trustee_shares.specs.Shares.{opened, part}
@@ -139,21 +135,9 @@ module _ (c : Call) (table : List ℕ) (size : Size) (w : writing.WritePassed (c
       ∙ ap eightBytes (own-list-holds (c .shape) (w .within) .closing (c .ballots) (p .ballotsPassed))
       ∙ sym (plain-accepted (c .shape) (c .ballots) (p .ballotsPassed))
 
-  -- a candidate's sum is its closing byte by the rule
-  byte : (i : ℕ) → i < c .shape .candidates
-      → getD (trusteesResult c .closing) i 0 ≡ getD (closingFor (c .shape) (c .ballots)) i 0
-  byte i h =
-      ap (λ (bytes : List ℕ). getD bytes i 0) (count ∙ plain-accepted (c .shape) (c .ballots) (p .ballotsPassed))
-      ∙ eight-at (closingFor (c .shape) (c .ballots)) i (omega (arith, bounds (c .shape) (p .ballotsPassed .within) .k-most))
-
   pub own-list : OwnList c
   own-list =
       record {
         plain-count = count;
-        winners = λ i h.
-            let iff = byte-says (c .shape) (c .ballots) (p .ballotsPassed) i h .one in
-            (λ one. iff .0 (sym (byte i h) ∙ one), λ wins. byte i h ∙ iff .1 wins);
-        losers = λ i h.
-            let iff = byte-says (c .shape) (c .ballots) (p .ballotsPassed) i h .zero in
-            (λ zero. iff .0 (sym (byte i h) ∙ zero), λ loses. byte i h ∙ iff .1 loses);
+        says-who-wins = subst (SaysWhoWins (c .shape) (c .ballots)) (sym count) (plain-says (c .shape) (c .ballots) (p .ballotsPassed));
       }

@@ -14,6 +14,7 @@ use Rattle.jury.specs.Ballots.{ballotReasons}
 use Rattle.jury.specs.ClosingBytes.{eightBytes}
 use Rattle.tally.specs.Answer.{refused, accepted, hasNumberIn, Size, sizeOf}
 use Rattle.tally.specs.Test.{testReasons}
+use Rattle.tally.specs.Memory.{Each}
 use Rattle.tally.proofs.TestReasons.{never}
 use Rattle.tally.proofs.Numbering.{Fine, All, FineSaid, first-fine, both, unless-fine, found-fine, list-fine, kind-fine, refused-fine}
 use Rattle.tally.proofs.Writing as writing
@@ -106,12 +107,17 @@ module _ (c : Call) where
       )
 
 memory : (c : Call) → Memory c
+unfolding Each
 memory c =
+    let long = lengths c (firstOf (trusteesReasons c)) refl in
     record {
-      number = number c;
-      refusal = refusal c;
-      empties = empties c;
-      lengths = lengths c (firstOf (trusteesReasons c)) refl;
+      keeps = record {
+        number = number c;
+        refusal = λ r e. let q = refusal c r e in (q .0, (q .1, tt));
+        empties = λ size e. (empties c size e, tt);
+        lengths = (long .0, (long .1, tt));
+      };
+      zeros = λ r e. refusal c r e .2;
     }
 
 pub demands : Demands

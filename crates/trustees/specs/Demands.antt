@@ -1,18 +1,17 @@
 -- The three demands for the trustees' call, over the definition that its contract equates with the program's answer and
 -- with all that is lent.
 use mathlib.Core.Path.{_≡_}
-use mathlib.Core.Logic.{_↔_}
 use mathlib.Core.List.{List, [], _∷_}
 use Prim.Native.Nat.{ℕ, _+_, _<_}
-use lib.Dec.{T}
-use lib.ListN.{length, getD, replicate}
+use lib.ListN.{length, replicate}
 use Rattle.gates.specs.Gate.{gatesOf}
 use Rattle.gates.specs.Wires.{wire, wiresOf, outputsOf}
 use Rattle.gates.specs.Hiding.{ExactlyOne}
 use Rattle.jury.specs.Reason.{Reason}
 use Rattle.jury.specs.ClosingBytes.{eightBytes}
-use Rattle.tally.specs.Answer.{refused, accepted, hasNumberIn, Size, sizeOf}
-use Rattle.tally.specs.Rule.{Wins}
+use Rattle.tally.specs.Answer.{refused, accepted, Size, sizeOf}
+use Rattle.tally.specs.SaysWhoWins.{SaysWhoWins}
+use Rattle.tally.specs.Memory.{Lent, KeepsMemory}
 use Rattle.tally.specs.Count.{plainClosing}
 use Rattle.tally.specs.Run.{runResult}
 use Rattle.tally.specs.Hiding.{closingBytes}
@@ -27,18 +26,13 @@ use Rattle.trustees.specs.Result.{trusteesResult}
 abbrev pub Accepted : Call → Type 0
 Accepted c = trusteesResult c .answer ≡ accepted (sizeOf (gatesOf (c .table)))
 
--- Demand 1: a refusal's number is that of a reason which concerns the call, a refusal alters no lent byte and answers
--- zeros, an accepted call leaves wire parts of zeros, and no call changes a length.
+-- Demand 1. The call may write to two tables and empties the wire parts; a refusal answers zeros for the sums.
 pub record Memory (c : Call) : Type 0 where
-  pub number : (r : Reason) → trusteesResult c .answer ≡ refused r
-      → T (hasNumberIn (1 ∷ 2 ∷ 3 ∷ 4 ∷ 5 ∷ 6 ∷ 11 ∷ 12 ∷ 16 ∷ 17 ∷ 18 ∷ []) r)
-  pub refusal : (r : Reason) → trusteesResult c .answer ≡ refused r
-      → (trusteesResult c .wireParts ≡ c .lent .wireParts) × (trusteesResult c .published ≡ c .lent .published)
-      × (trusteesResult c .closing ≡ replicate 8 0)
-  pub empties : (size : Size) → trusteesResult c .answer ≡ accepted size
-      → trusteesResult c .wireParts ≡ replicate (length (c .lent .wireParts)) 0
-  pub lengths : (length (trusteesResult c .wireParts) ≡ length (c .lent .wireParts))
-      × (length (trusteesResult c .published) ≡ length (c .lent .published))
+  pub keeps : let parts : Lent = record { before = c .lent .wireParts; after = trusteesResult c .wireParts } in
+      let bits : Lent = record { before = c .lent .published; after = trusteesResult c .published } in
+      KeepsMemory (1 ∷ 2 ∷ 3 ∷ 4 ∷ 5 ∷ 6 ∷ 11 ∷ 12 ∷ 16 ∷ 17 ∷ 18 ∷ []) (trusteesResult c .answer) (parts ∷ bits ∷ [])
+      (parts ∷ [])
+  pub zeros : (r : Reason) → trusteesResult c .answer ≡ refused r → trusteesResult c .closing ≡ replicate 8 0
 
 -- Demand 2 of an accepted call: the parts of every wire add up to the plain wire, and the sums answered are the closing
 -- bytes of every accepted plain run, whatever its tape, as eight bytes. The call leaves zeros for wire parts; that it
@@ -54,14 +48,10 @@ pub record Accuracy (c : Call) (size : Size) : Type 0 where
       → trusteesResult c .closing
       ≡ eightBytes (closingBytes (c .shape) (runResult (c .shape) (c .table) (c .ballots) tape wires board .board))
 
--- Under the list that the core writes for a shape, the sums are the plain count's bytes: 1 for each candidate that wins
--- by the rule of the shape's kind, 0 for each that does not.
+-- Under the list that the core writes for a shape, the sums are the plain count's bytes, and say who wins.
 pub record OwnList (c : Call) : Type 0 where
   pub plain-count : trusteesResult c .closing ≡ plainClosing (c .shape) (c .ballots)
-  pub winners : (i : ℕ) → i < c .shape .candidates
-      → (getD (trusteesResult c .closing) i 0 ≡ 1) ↔ Wins (c .shape) (c .ballots) i
-  pub losers : (i : ℕ) → i < c .shape .candidates
-      → (getD (trusteesResult c .closing) i 0 ≡ 0) ↔ (¬ Wins (c .shape) (c .ballots) i)
+  pub says-who-wins : SaysWhoWins (c .shape) (c .ballots) (trusteesResult c .closing)
 
 -- Demand 3 for trustees, of two calls that agree in shape, list and number of trustees: whichever trustee q is left out,
 -- for each accepted dealing d of the first, one accepted dealing e of the second, and no other, lets the trustees but q

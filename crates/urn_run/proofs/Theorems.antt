@@ -22,11 +22,11 @@ use Rattle.tally.specs.Test.{testOutcome}
 use Rattle.tally.specs.Write.{writeOutcome}
 use Rattle.tally.specs.Run.{RunResult, bufferReasons, runReasons, runResultAfter, runResult}
 use Rattle.tally.specs.Hiding.{closingBytes, Hidden}
-use Rattle.tally.specs.Demands.{listIn, Accuracy}
+use Rattle.tally.specs.Demands.{listIn, RunAccuracy}
 use Rattle.tally.proofs.TestReasons.{never, test-passed}
 use Rattle.tally.proofs.Numbering.{Fine, All, FineSaid, first-fine, unless-fine, found-fine, list-fine, refused-fine}
 use Rattle.tally.proofs.Hiding.{board-tells-no-more}
-use Rattle.tally.proofs.Demands.{three-demands}
+use Rattle.tally.proofs.Demands.{run-lengths, three-demands}
 use Rattle.urn_chains.specs.Sound.{sound}
 use Rattle.urn_chains.proofs.Marks.{true-or-false}
 use Rattle.urn_run.specs.Run.{chainBallots, ballotsIn, urnRunReasons, ranOnUrn}
@@ -73,7 +73,7 @@ module _ (s : Shape) (table urn tape wires board : List ℕ) where
   same-lengths none e =
       let p = urn-run-passed s table urn tape wires board e in
       let f = same-run s table urn tape wires board (p .graded) (p .isSound) in
-      let l = three-demands .memory .run-length s table (chainBallots (s .candidates) (s .grades) urn) tape wires board in
+      let l = run-lengths s table (chainBallots (s .candidates) (s .grades) urn) tape wires board in
       (ap (λ (z : RunResult). length (z .wires)) f ∙ l .0, ap (λ (z : RunResult). length (z .board)) f ∙ l .1)
 
 -- every reason of a run on an urn
@@ -122,7 +122,7 @@ memory =
     }
 
 -- demand 2, from that of the run
-module _ (s : Shape) (table : List ℕ) (size : Size) (a : Accuracy s table size) where
+module _ (s : Shape) (table : List ℕ) (size : Size) (a : RunAccuracy s table size) where
   list : List ℕ
   list = listIn s size table
 
@@ -173,11 +173,11 @@ module _ (s : Shape) (table : List ℕ) (size : Size) (a : Accuracy s table size
             same-closing urn tape wires board answer e ∙ a .plain (chainBallots (s .candidates) (s .grades) urn) tape wires board answer (run-answers urn tape wires board answer e);
         winners = λ urn tape wires board answer e i h.
             let q = ap (λ (bytes : List ℕ). getD bytes i 0) (same-closing urn tape wires board answer e) in
-            let w = a .winners (chainBallots (s .candidates) (s .grades) urn) tape wires board answer (run-answers urn tape wires board answer e) i h in
+            let w = a .says-who-wins (chainBallots (s .candidates) (s .grades) urn) tape wires board answer (run-answers urn tape wires board answer e) .winner i h in
             (λ one. w .0 (sym q ∙ one), λ wins. q ∙ w .1 wins);
         losers = λ urn tape wires board answer e i h.
             let q = ap (λ (bytes : List ℕ). getD bytes i 0) (same-closing urn tape wires board answer e) in
-            let w = a .losers (chainBallots (s .candidates) (s .grades) urn) tape wires board answer (run-answers urn tape wires board answer e) i h in
+            let w = a .says-who-wins (chainBallots (s .candidates) (s .grades) urn) tape wires board answer (run-answers urn tape wires board answer e) .loser i h in
             (λ zero. w .0 (sym q ∙ zero), λ loses. q ∙ w .1 loses);
       }
 
