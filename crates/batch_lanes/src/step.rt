@@ -1,5 +1,5 @@
-// The evaluating step over words, which is no entry point: its `requires` is what the tests of a list and of what is lent
-// establish. It asks of the words' lengths what the step over bytes asks of the bytes'.
+// The evaluating step over words, which is no entry point: its `requires` is what the tests of a list and of what is
+// lent establish. It asks of the words' lengths what the step over bytes asks of the bytes'.
 use crate::word;
 use gates::kind;
 ghost use mathlib.Core.Path.{_≡_};
@@ -29,8 +29,16 @@ fn run_gate(
     requires { ⌜ now marks ≡ conditionalMarks ⌝ }
     requires { ⌜ GateReady (now table) g own (now tape) shown (now wires) (now board) ⌝ }
     ensures { λ r. ⌜ r ≡ shown + conditionalCount (gateAt (now (table .entry)) g ∷ []) ⌝ }
-    ensures { λ _. ⌜ ((j : ℕ) → j < laneCount → laneOf j (now (wires .exit)) ≡ set (laneOf j (now (wires .entry))) own (value (laneOf j (now (wires .entry))) (gateAt (now (table .entry)) g))) ⌝ }
-    ensures { λ _. ⌜ ((j : ℕ) → j < laneCount → laneOf j (now (board .exit)) ≡ cond (conditionalOf (gateAt (now (table .entry)) g .kind)) (set (laneOf j (now (board .entry))) shown (shownBit (laneOf j (now (wires .entry))) (gateAt (now (table .entry)) g) (getD (laneOf j (now (tape .entry))) shown 0))) (laneOf j (now (board .entry)))) ⌝ }
+    ensures { λ _.
+        ⌜ ((j : ℕ) → j < laneCount → laneOf j (now (wires .exit))
+        ≡ set (laneOf j (now (wires .entry))) own (value (laneOf j (now (wires .entry)))
+        (gateAt (now (table .entry)) g))) ⌝ }
+    ensures { λ _.
+        ⌜ ((j : ℕ) → j < laneCount → laneOf j (now (board .exit))
+        ≡ cond (conditionalOf (gateAt (now (table .entry)) g .kind))
+        (set (laneOf j (now (board .entry))) shown
+        (shownBit (laneOf j (now (wires .entry))) (gateAt (now (table .entry)) g)
+        (getD (laneOf j (now (tape .entry))) shown 0))) (laneOf j (now (board .entry)))) ⌝ }
 {
     let at = 4 * g;
     let kind = table[at];
@@ -62,8 +70,13 @@ pub fn step(
 ) -> usize
     requires { ⌜ StepReady inputs (now table) from to (now tape) shown (now wires) (now board) ⌝ }
     ensures { λ r. ⌜ r ≡ shown + conditionalCount (rangeOf (now (table .entry)) from to) ⌝ }
-    ensures { λ _. ⌜ ((j : ℕ) → j < laneCount → laneOf j (now (wires .exit)) ≡ stepWires inputs (now (table .entry)) from to (laneOf j (now (wires .entry)))) ⌝ }
-    ensures { λ _. ⌜ ((j : ℕ) → j < laneCount → laneOf j (now (board .exit)) ≡ stepBoard inputs (now (table .entry)) from to (laneOf j (now (tape .entry))) shown (laneOf j (now (wires .entry))) (laneOf j (now (board .entry)))) ⌝ }
+    ensures { λ _.
+        ⌜ ((j : ℕ) → j < laneCount → laneOf j (now (wires .exit))
+        ≡ stepWires inputs (now (table .entry)) from to (laneOf j (now (wires .entry)))) ⌝ }
+    ensures { λ _.
+        ⌜ ((j : ℕ) → j < laneCount → laneOf j (now (board .exit))
+        ≡ stepBoard inputs (now (table .entry)) from to (laneOf j (now (tape .entry))) shown
+        (laneOf j (now (wires .entry))) (laneOf j (now (board .entry)))) ⌝ }
 {
     let marks = kind::CONDITIONAL;
     let mut next = shown;
@@ -79,7 +92,9 @@ pub fn step(
 fn close(outputs: usize, wires: &[u64], shown: usize, board: &mut [u64])
     requires { ⌜ outputs ≤ length (now wires) ⌝ }
     requires { ⌜ length (now board) ≡ shown + outputs ⌝ }
-    ensures { λ _. ⌜ now (board .exit) ≡ take shown (now (board .entry)) ++ drop (length (now (wires .entry)) - outputs) (now (wires .entry)) ⌝ }
+    ensures { λ _.
+        ⌜ now (board .exit) ≡ take shown (now (board .entry))
+        ++ drop (length (now (wires .entry)) - outputs) (now (wires .entry)) ⌝ }
 {
     let first = wires.len() - outputs;
     word::copy(&wires[first..], &mut board[shown..]);
@@ -95,8 +110,13 @@ pub fn run(
     board: &mut [u64],
 )
     requires { ⌜ RunReady (now inputs) (now table) outputs (now tape) (now wires) (now board) ⌝ }
-    ensures { λ _. ⌜ ((j : ℕ) → j < laneCount → laneOf j (now (wires .exit)) ≡ wiresOf (laneOf j (now (inputs .entry))) (gatesOf (now (table .entry)))) ⌝ }
-    ensures { λ _. ⌜ ((j : ℕ) → j < laneCount → laneOf j (now (board .exit)) ≡ boardOf (wiresOf (laneOf j (now (inputs .entry))) (gatesOf (now (table .entry)))) (gatesOf (now (table .entry))) outputs (laneOf j (now (tape .entry)))) ⌝ }
+    ensures { λ _.
+        ⌜ ((j : ℕ) → j < laneCount → laneOf j (now (wires .exit))
+        ≡ wiresOf (laneOf j (now (inputs .entry))) (gatesOf (now (table .entry)))) ⌝ }
+    ensures { λ _.
+        ⌜ ((j : ℕ) → j < laneCount → laneOf j (now (board .exit))
+        ≡ boardOf (wiresOf (laneOf j (now (inputs .entry))) (gatesOf (now (table .entry))))
+        (gatesOf (now (table .entry))) outputs (laneOf j (now (tape .entry)))) ⌝ }
 {
     word::copy(inputs, wires);
     let shown = step(

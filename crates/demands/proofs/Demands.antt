@@ -13,7 +13,6 @@ use Rattle.dispatch.proofs.Theorems.{dispatching}
 use Rattle.batch.proofs.Theorems.{each-as-alone, accepted-as-all, batch-memory, batch-accuracy, batch-hiding}
 use Rattle.batch.proofs.Refusals.{refused-as-alone, fault-as-alone}
 use Rattle.demands.specs.Demands.{AllDemands}
-use Rattle.demands.proofs.Dispatched.{dispatch-accuracy}
 
 pub all-demands : AllDemands
 all-demands =
@@ -25,8 +24,6 @@ all-demands =
         urn = urn-memory;
         urn-run = urn-run-holds .memory;
         by-trustees = trustees.demands .memory;
-        dispatcher-refusals = dispatching .refusals;
-        dispatcher-lengths = dispatching .lengths;
         lanes = batch-memory;
       };
       base = three-demands;
@@ -39,7 +36,6 @@ all-demands =
       urn-run = urn-run-holds;
       by-trustees = trustees.demands;
       dispatcher = dispatching;
-      dispatcher-accuracy = dispatch-accuracy;
       lanes-alone = each-as-alone;
       lanes-accepted = accepted-as-all;
       lanes-refused = refused-as-alone;

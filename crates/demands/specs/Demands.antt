@@ -9,8 +9,7 @@ use Rattle.urn.specs.Theorems.{UrnHolds, PreviewsTell}
 use Rattle.urn_run.specs.Theorems.{UrnRunMemory, UrnRunHolds}
 use Rattle.trustees.specs.Call.{Call}
 use Rattle.trustees.specs.Demands as trustees
-use Rattle.dispatch.specs.Theorems.{Refusals, Lengths, Dispatching}
-use Rattle.demands.specs.Dispatched.{DispatchAccuracy}
+use Rattle.dispatch.specs.Theorems.{Dispatching}
 use Rattle.batch.specs.Theorems.{EachAsAlone, AcceptedAsAll, RefusedAsAlone, FaultAsAlone, BatchMemory, BatchAccuracy, BatchHiding}
 
 -- The demand [memory], for each table that a call is lent: ballots, gate and wire table, tape and board; a text and its output; the bytes of a season; an urn; the tables of a run on an urn, of trustees, of a dispatched call and of 64 juries.
@@ -21,8 +20,6 @@ pub record Memory : Type 0 where
   pub urn : UrnMemory
   pub urn-run : UrnRunMemory
   pub by-trustees : (c : Call) → trustees.Memory c
-  pub dispatcher-refusals : Refusals
-  pub dispatcher-lengths : Lengths
   pub lanes : BatchMemory
 
 -- All of it: the three demands on a run, and what each request adds.
@@ -43,9 +40,8 @@ pub record AllDemands : Type 0 where
   pub urn-run : UrnRunHolds
   -- [trustees]: memory, accuracy, and that views tell no more than the closing bytes
   pub by-trustees : trustees.Demands
-  -- [dispatcher]: rounds, lengths, refusals, each jury as alone, hiding; accuracy
+  -- [dispatcher]: rounds, memory, refusals, each jury as alone, accuracy, hiding
   pub dispatcher : Dispatching
-  pub dispatcher-accuracy : DispatchAccuracy
   -- [lanes]: each jury of an accepted call as alone, which calls are accepted, what a refusal says of the juries; accuracy, hiding
   pub lanes-alone : EachAsAlone
   pub lanes-accepted : AcceptedAsAll

@@ -6,7 +6,7 @@ use mathlib.Core.List.{List, [], _∷_, _++_}
 use Prim.Native.Nat.{ℕ, _+_, _*_}
 use lib.Dec.{T}
 use lib.ListN.{length, replicate, length-replicate}
-use Rattle.gates.specs.Gate.{Gate, gatesOf}
+use Rattle.gates.specs.Gate.{gatesOf}
 use Rattle.jury.specs.declared.shape.Shape.{Shape}
 use Rattle.jury.specs.Shape.{isRanking}
 use Rattle.jury.specs.Reason.{Reason, reasonAt, firstOf}
@@ -18,7 +18,6 @@ use Rattle.tally.specs.Memory.{Each}
 use Rattle.tally.proofs.TestReasons.{never}
 use Rattle.tally.proofs.Numbering.{Fine, All, FineSaid, first-fine, both, unless-fine, found-fine, list-fine, kind-fine, refused-fine}
 use Rattle.tally.proofs.Writing as writing
-use Rattle.trustee_shares.specs.Views.{Dealing, publishedOf}
 use Rattle.trustee_shares.proofs.Tables.{length-joined}
 use Rattle.trustees.specs.Call.{PartTables, Call, publishedIn}
 use Rattle.trustees.specs.Reasons.{partReasons, trusteesReasons}

@@ -9,7 +9,6 @@ use lib.ListN.{length, getD}
 use lib.Seq.{ext-getD}
 use Rattle.gates.specs.Gate.{gatesOf}
 use Rattle.gates.specs.Wires.{wiresOf, outputsOf}
-use Rattle.jury.specs.declared.shape.Shape.{Shape}
 use Rattle.jury.specs.ClosingBytes.{eightBytes}
 use Rattle.jury.proofs.Rows.{eight-at}
 use Rattle.tally.specs.Answer.{accepted, Size, sizeOf}

@@ -24,7 +24,7 @@ use Rattle.jury.proofs.Rows.{eight-at, eight-length}
 use Rattle.jury.proofs.Tabulate.{length-tabulate, getD-tabulate, tabulate-cong, upTo, upTo-new, upTo-old}
 use Rattle.tally.specs.Answer.{Size, sizeOf}
 use Rattle.trustee_shares.specs.Shares.{opened, part, Held}
-use Rattle.trustee_shares.specs.Views.{piece, joined, Dealing, ballotsOf, dealtOf, wirePartsOf, maskedFactors, closingParts, publishedOf}
+use Rattle.trustee_shares.specs.Views.{piece, joined, ballotsOf, dealtOf, wirePartsOf, maskedFactors, closingParts, publishedOf}
 use Rattle.trustee_shares.proofs.Accuracy.{opened-same}
 use Rattle.trustee_shares.proofs.Tables.{length-piece, piece-joined}
 use Rattle.trustee_shares.proofs.Publishing.{length-masked}

@@ -2,7 +2,7 @@
 use mathlib.Core.List.{List}
 use Prim.Native.Nat.{ℕ}
 use lib.ListN.{length}
-use Rattle.gates.specs.Gate.{Gate, gatesOf}
+use Rattle.gates.specs.Gate.{gatesOf}
 use Rattle.jury.specs.declared.shape.Shape.{Shape}
 use Rattle.trustee_shares.specs.Shares.{Held}
 use Rattle.trustee_shares.specs.Views.{Dealing, wirePartsOf, publishedOf, View, viewOf}
@@ -36,7 +36,8 @@ abbrev pub wirePartsIn : Call → Held
 wirePartsIn c = wirePartsOf (c .trustees) (length (c .ballots)) (gatesOf (c .table)) (c .lent .dealing)
 
 abbrev pub publishedIn : Call → Held
-publishedIn c = publishedOf (c .trustees) (length (c .ballots)) (gatesOf (c .table)) (c .shape .candidates) (c .lent .dealing)
+publishedIn c = publishedOf (c .trustees) (length (c .ballots)) (gatesOf (c .table)) (c .shape .candidates)
+    (c .lent .dealing)
 
 -- What the trustees but q hold and see.
 abbrev pub viewIn : ℕ → Call → View

@@ -53,9 +53,9 @@ pub record OwnList (c : Call) : Type 0 where
   pub plain-count : trusteesResult c .closing ≡ plainClosing (c .shape) (c .ballots)
   pub says-who-wins : SaysWhoWins (c .shape) (c .ballots) (trusteesResult c .closing)
 
--- Demand 3 for trustees, of two calls that agree in shape, list and number of trustees: whichever trustee q is left out,
--- for each accepted dealing d of the first, one accepted dealing e of the second, and no other, lets the trustees but q
--- hold and see the same. The published bits of a view are the table that the call leaves.
+-- Demand 3 for trustees, of two calls that agree in shape, list and number of trustees: whichever trustee q is left
+-- out, for each accepted dealing d of the first, one accepted dealing e of the second, and no other, lets the trustees
+-- but q hold and see the same. The published bits of a view are the table that the call leaves.
 pub record Hidden (c c′ : Call) : Type 0 where
   pub same-view : (q : ℕ) → q < c .trustees → (d : Dealing) → Accepted (dealtAs c d)
       → ExactlyOne (λ (e : Dealing). Accepted (dealtAs c′ e) × (viewIn q (dealtAs c d) ≡ viewIn q (dealtAs c′ e)))

@@ -11,8 +11,8 @@ ghost use Rattle.trustee_shares.specs.Views.{piece};
 ghost use Rattle.trustees.specs.inner.Sizes.{ClosingFits};
 ghost use Rattle.trustees.specs.Result.{TrusteesResult, trusteesResult};
 
-// G and C of the list, or the first reason that applies; and the opened closing bits: 0 from place k on, and eight zeros
-// on a refusal.
+// G and C of the list, or the first reason that applies; and the opened closing bits: 0 from place k on, and eight
+// zeros on a refusal.
 pub struct Tallied {
     pub answer: Answer,
     pub closing: [u8; 8],

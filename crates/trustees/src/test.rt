@@ -101,7 +101,8 @@ fn test_parts(
     requires { ⌜ SmallSizes (length (now ballots)) outputs gates conditional ⌝ }
     ensures { λ r.
         ⌜ refusedFor r
-        ≡ firstOf (partReasons outputs (record { gates = gates; conditional = conditional }) (now (ballots .entry)) t (record {
+        ≡ firstOf (partReasons outputs (record { gates = gates; conditional = conditional }) (now (ballots .entry)) t
+        (record {
           dealing = record { ballotParts = now (shares .entry); dealerParts = now (triples .entry) };
           wireParts = now (wires .entry);
           published = now (published .entry);

@@ -8,7 +8,7 @@ use Rattle.gates.specs.declared.place.Place.the-variants.{At, Nowhere}
 use Rattle.jury.specs.Rankings.{before, firstOver, notWeakOrder, firstNotWeakOrder}
 use Rattle.jury.proofs.Searches.{ballot-within}
 use Rattle.batch_lanes.specs.Lane.{laneCount, lane, laneOf}
-use Rattle.batch.specs.Ballots.{foundBit}
+use Rattle.batch.specs.inner.Found.{foundBit}
 use Rattle.batch.proofs.RankLaws.{test-found, found-none, found-more}
 use Rattle.batch.proofs.rankings.not_weak_order.Statement.{statement}
 use Rattle.batch.proofs.rankings.not_weak_order.Tie as tie

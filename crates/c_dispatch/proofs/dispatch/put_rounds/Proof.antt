@@ -53,7 +53,12 @@ returns c =
     let ten = c .before .before .before .before .before .ten in
     let f = ten .ensures ∙ sym e in
     let n : length (ten .result) ≡ 10 = omega (arith, ap length (ten .ensures), start .good) in
-    (sym (ap statusOf e), c .before .before .put .ensures ∙ ap (λ (r : List ℕ). r ++ drop (length (ten .result)) (a .answer .now)) f ∙ ap (λ (k : ℕ). answerNumbers (verdictReason (a .outcome .verdict)) xs ++ drop k (a .answer .now)) n)
+    record {
+      reads = sym (ap statusOf e);
+      array =
+          c .before .before .put .ensures ∙ ap (λ (r : List ℕ). r ++ drop (length (ten .result)) (a .answer .now)) f
+          ∙ ap (λ (k : ℕ). answerNumbers (verdictReason (a .outcome .verdict)) xs ++ drop k (a .answer .now)) n;
+    }
 
 same-length-2 : tie.Need-same-length-2
 same-length-2 c = search needs
@@ -70,7 +75,12 @@ returns-2 c =
     let ten = c .before .before .before .before .before .ten2 in
     let f = ten .ensures ∙ ap (λ (m : ℕ). m ∷ known .0 .1 .0 ∷ xs) (number .ensures) ∙ sym e in
     let n : length (ten .result) ≡ 10 = omega (arith, ap length (ten .ensures), start .good) in
-    (number .ensures ∙ sym (ap statusOf e), c .before .before .put2 .ensures ∙ ap (λ (r : List ℕ). r ++ drop (length (ten .result)) (a .answer .now)) f ∙ ap (λ (k : ℕ). answerNumbers (verdictReason (a .outcome .verdict)) xs ++ drop k (a .answer .now)) n)
+    record {
+      reads = number .ensures ∙ sym (ap statusOf e);
+      array =
+          c .before .before .put2 .ensures ∙ ap (λ (r : List ℕ). r ++ drop (length (ten .result)) (a .answer .now)) f
+          ∙ ap (λ (k : ℕ). answerNumbers (verdictReason (a .outcome .verdict)) xs ++ drop k (a .answer .now)) n;
+    }
 
 pub put-rounds-spec : {M : Type 1} → statement M
 put-rounds-spec =
