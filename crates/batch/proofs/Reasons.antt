@@ -24,6 +24,7 @@ use Rattle.jury.specs.Rankings.{firstOver, firstNotAsymmetric, firstNotWeakOrde
 use Rattle.jury.proofs.BallotLaws.{kindReason}
 use Rattle.jury.proofs.Searches.{none-first, first-none}
 use Rattle.tally.specs.Answer.{refused, outcome, Size, sizeOf}
+use Rattle.tally.specs.Run.{RunResult}
 use Rattle.tally.specs.Test.{testReasons, testOutcome}
 use Rattle.tally.proofs.TestReasons.{orElse, first-append, TestPassed, test-passed}
 use Rattle.tally.proofs.RunReasons.{firstOfThree, outcome-refused}

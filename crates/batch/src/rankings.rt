@@ -102,7 +102,7 @@ fn not_weak_order_after(words: &[u64], k: usize, b: usize, i: usize) -> u64
     let mut j = 0;
     while j < k {
         let forth = puts_before(words, k, b, i, j);
-        let third = neitherAfterNorBefore(words, k, b, i, j);
+        let third = neither_after_nor_before(words, k, b, i, j);
         faults = faults | (forth & third);
         j += 1;
     }
@@ -110,7 +110,7 @@ fn not_weak_order_after(words: &[u64], k: usize, b: usize, i: usize) -> u64
 }
 
 // The juries in which i is not put before some candidate that is not put before j either.
-fn neitherAfterNorBefore(words: &[u64], k: usize, b: usize, i: usize, j: usize) -> u64
+fn neither_after_nor_before(words: &[u64], k: usize, b: usize, i: usize, j: usize) -> u64
     requires { ⌜ ((b + 1) * k * k ≤ length (now words)) × (i < k) × (j < k) ⌝ }
     ensures { λ r.
         ⌜ ((u : ℕ) → u < laneCount → lane u r ≡ cond (spec.neitherAfterNorBefore k (laneOf u (now (words .entry))) b i

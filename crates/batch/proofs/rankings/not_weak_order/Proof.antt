@@ -62,5 +62,5 @@ returns c =
     let n = start .args .n in
     λ u h. at .loop .inv .1 u h ∙ ap (λ (m : ℕ). foundBit (firstOver m (λ b. cond (notWeakOrder k (laneOf u words) b) (At b) Nowhere))) {x = at .loop .b} {y = n} (omega arith)
 
-pub not_weak_order-spec : {M : Type 1} → statement M
-not_weak_order-spec = tie.close (tie.spec Inv-loop μ-loop loop-holds not-weak-order-in-ballot-requires add-b loop-less loop-again returns)
+pub not-weak-order-spec : {M : Type 1} → statement M
+not-weak-order-spec = tie.close (tie.spec Inv-loop μ-loop loop-holds not-weak-order-in-ballot-requires add-b loop-less loop-again returns)

@@ -34,7 +34,7 @@ call s =
 
 -- The stages: the tests pass; the list is evaluated; the wires are emptied.
 abbrev started : tie.After-enum-told → tie.Start
-started c = c .before .before .before .before .before .before .before .before .before .before
+started c = let lending = c .before .before .before in lending .before .before .before .before .before .before .before
 
 abbrev told-by : tie.After-run → tie.After-enum-told
 told-by c = c .before .before .before
@@ -84,7 +84,7 @@ returns c =
     ∙ sym (ap (λ (r : RunResult). r .answer) e))
     (emptied .empty .ensures ∙ ap (λ (n : ℕ). replicate n 0) (done .run .kept .1 .1 .1 .1 .0)
     ∙ sym (ap (λ (r : RunResult). r .wires) e))
-    (words-are _ (boardAlone of) (λ i. c .before .before .before .before .slice-known4 .given i .fits) (done .run .ensures .1)
+    (words-are _ (boardAlone of) (λ i. c .before .before .before .before .slice-known4 .given i .fits) (done .run .ensures .board-is)
     ∙ ap (λ (n : ℕ). wordsOf n (boardAlone of)) (done .run .kept .1 .1 .1 .1 .1 .0 ∙ p .boardLength)
     ∙ sym (ap (λ (r : RunResult). r .board) e))
 
@@ -97,7 +97,8 @@ same-length-4 c = search needs
 returns-2 : tie.Need-returns-2
 unfolding outcomeOf batchResultAfter
 returns-2 c =
-    let of = call (c .before .before .before .before .before .before .before .before .before .before) in
+    let lending = c .before .before .before in
+    let of = call (lending .before .before .before .before .before .before .before) in
     let r = reasonOf (c .enum-told2 .given .0 .0) in
     let told = ap outcomeOf (c .enum-told2 .given .1) in
     let e = result-by of (some r)

@@ -33,7 +33,7 @@ call s =
 
 -- The stages: the list passes its test; the ballots pass theirs; the buffers are tested.
 abbrev started : tie.After-known-told → tie.Start
-started c = c .before .before .before .before .before .before .before .before .before
+started c = let lending = c .before .before .before .before in lending .before .before .before .before .before
 
 abbrev list-passed : tie.After-enum-told2 → tie.After-known-told
 list-passed c = c .before .before .before

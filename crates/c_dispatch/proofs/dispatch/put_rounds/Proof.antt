@@ -46,7 +46,8 @@ same-length c = search needs
 returns : tie.Need-returns
 unfolding statusOf answerNumbers verdictReason
 returns c =
-    let start = c .before .before .before .before .before .before .before .before .before .before in
+    let lending = c .before .before .before .before .before .before in
+    let start = lending .before .before .before .before in
     let a = start .args in
     let xs = a .outcome .rounds in
     let e = ap (λ (v : JuriesVerdict). answerNumbers (verdictReason v) xs) (c .before .before .before .before .before .before .enum-told .given .1) in
@@ -66,7 +67,8 @@ same-length-2 c = search needs
 returns-2 : tie.Need-returns-2
 unfolding statusOf answerNumbers verdictReason reasonAt
 returns-2 c =
-    let start = c .before .before .before .before .before .before .before .before .before .before .before .before in
+    let lending = c .before .before .before .before .before .before .before .before in
+    let start = lending .before .before .before .before in
     let a = start .args in
     let xs = a .outcome .rounds in
     let known = c .before .before .before .before .before .before .before .before .verdict .given in

@@ -180,18 +180,18 @@ same-length-4 c = search needs
 returns-4 : tie.Need-returns-4
 unfolding dispatchResultAfter
 returns-4 c =
-    let run = c .before .before .before .before .before .before .before .before .before in
+    let zeroed = c .before .before .before in
+    let run = zeroed .before .before .before .before .before .before in
     let t = passed run in
     let of = call (begun (tested t)) in
     let fin = run .run-rounds .ensures in
     let given = fin .done * of .quantum in
-    let zeroed = c .before .before .before .empty in
     let e = by-tests (tested t) none (passes t) in
     same-result _ _ (passes t ∙ sym (ap (λ (d : DispatchResult). d .reason) e))
     (c .rounds-of .ensures (of .tables) ∙ sym (ap (λ (d : DispatchResult). d .rounds) e))
     (emptied given (juriesIn of) (of .tables) (no-reason t) (tested t .test-juries .result .wires)
-    (run .run-rounds .last .1 .1 .1 .1 .1 .1 .1 .0) (zeroed .last .0) (tested t .test-juries .ensures .wires (passes t))
-    (fin .state .wiresAre) (zeroed .ensures) ∙ sym (ap (λ (d : DispatchResult). d .wires) e))
+    (run .run-rounds .last .1 .1 .1 .1 .1 .1 .1 .0) (zeroed .empty .last .0) (tested t .test-juries .ensures .wires (passes t))
+    (fin .state .wiresAre) (zeroed .empty .ensures) ∙ sym (ap (λ (d : DispatchResult). d .wires) e))
     (fin .state .boardsAre ∙ boards-end given 0 (juriesIn of) (of .tables) (no-reason t) (fin .all)
     ∙ sym (ap (λ (d : DispatchResult). d .boards) e))
 

@@ -26,6 +26,10 @@ Inv-loop count headers conditional quantum lists ballots tapes wires₀ boards�
 abbrev μ-loop : tie.MeasureT-loop
 μ-loop count headers conditional quantum lists ballots tapes wires₀ boards₀ most shown₀ done₀ wires boards shown done = most - done
 
+-- From a round to where the function starts.
+abbrev begun : tie.In-loop Inv-loop μ-loop → tie.Start Inv-loop μ-loop
+begun c = c .before .before .before .before .before .before .before .before
+
 -- the tables as they are lent
 abbrev all : tie.Start Inv-loop μ-loop → Tables
 all s = lent (s .args .lists .now) (s .args .ballots .now) (s .args .tapes .now) (s .args .wires .now) (s .args .boards .now)
@@ -64,7 +68,7 @@ mul-loop c =
 
 round-requires : tie.Need-round-requires Inv-loop μ-loop
 round-requires c κs =
-    let s = c .before .before .before .before .before .before .before .before .before .before in
+    let s = begun (c .before .before) in
     let l = c .before .before .before .loop in
     let most = few (c .before .before .before) in
     record {
@@ -93,7 +97,7 @@ loop-less c = omega (arith, needed (c .before .before .before .before .before .b
 
 loop-again : tie.Need-loop-again Inv-loop μ-loop
 loop-again c =
-    let s = c .before .before .before .before .before .before .before .before .before .before .before .before .before .before .before in
+    let s = begun (c .before .before .before .before .before .before .before) in
     let a = s .args in
     let l = c .before .before .before .before .before .before .before .before .loop in
     let r = c .before .before .before .before .round in (
@@ -102,7 +106,7 @@ loop-again c =
       r .kept .1 .1 .1 .1 .1 .1 .1 .1 .1 .0 ∙ l .inv .1,
       r .kept .1 .1 .1 .1 .1 .1 .1 .1 .1 .1 .0 ∙ l .inv .2,
       omega (arith, needed (c .before .before .before .before .before .before .before)),
-      further (a .quantum) (c .before .before .before .before .before .before .before .before .before .most-gates .result) (l .done) (l .inv .4) (c .before .before .before .before .before .before .before .loop-test .taken),
+      further (a .quantum) ((c .before .before .before .before .before .before .before) .before .before .most-gates .result) (l .done) (l .inv .4) (c .before .before .before .before .before .before .before .loop-test .taken),
     )
   where
     further : (quantum most done : ℕ) → ((r : ℕ) → r < done → r * quantum < most) → done * quantum < most

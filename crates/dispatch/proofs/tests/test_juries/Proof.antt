@@ -69,12 +69,16 @@ found c =
     (lent-same _ _ _ _ _ _ _ _ _ _ (rest-is (at .lists) (s .args .lists .now)) (rest-is (at .ballots) (s .args .ballots .now)) (rest-is (at .tapes) (s .args .tapes .now))
     (rest-is (at .wires) (s .args .wires .now)) (rest-is (at .boards) (s .args .boards .now)))
 
+-- From where a jury was tested to the begin of its turn.
+abbrev in-turn : tie.After-test-jury Inv-loop μ-loop → tie.In-loop Inv-loop μ-loop
+in-turn c = c .before .before .before .before .before .before .before
+
 -- it passed
-well : (c : tie.After-known-told Inv-loop μ-loop) → let i = c .before .before .before .before .before .before .before .before .before .before in
+well : (c : tie.After-known-told Inv-loop μ-loop) → let i = in-turn (c .before .before .before) in
     (firstOf (reasonsOf (jury i) (here i)) ≡ none) × (c .before .answer .given .0 .1 .0 ≡ conditionalIn (jury i) (here i))
 unfolding conditionalIn
 well c =
-    let i = c .before .before .before .before .before .before .before .before .before .before in
+    let i = in-turn (c .before .before .before) in
     accepted-mark (c .before .before .before .test-jury .result) (firstOf (reasonsOf (jury i) (here i))) (gatesOf (listOf (jury i) (here i))) (c .before .answer .given .0 .0) (c .before .answer .given .0 .1 .0)
     (found (c .before .before .before)) (c .before .answer .given .1)
 
@@ -177,7 +181,7 @@ array-write-conditional c = omega arith
 
 after-requires : tie.Need-after-requires Inv-loop μ-loop
 after-requires c κs =
-    let i = c .before .before .before .before .before .before .before .before .before .before in
+    let i = in-turn (c .before .before .before) in
     let s = i .before .before .before .before .before .before .before in
     let l = i .before .loop in
     let w = well c in
@@ -202,7 +206,7 @@ loop-less c = omega arith
 loop-again : tie.Need-loop-again Inv-loop μ-loop
 loop-again c =
     let k = c .before in
-    let i = k .before .before .before .before .before .before .before .before .before .before in
+    let i = in-turn (k .before .before .before) in
     let s = i .before .before .before .before .before .before .before in
     let l = i .before .loop in
     let w = well k in

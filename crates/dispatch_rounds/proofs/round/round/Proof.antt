@@ -1,4 +1,5 @@
--- `dispatch_rounds::round::round` meets its contract: after each turn the juries passed have had their part of the round, and those ahead stand as before it.
+-- `dispatch_rounds::round::round` meets its contract: after each turn the juries passed have had their part of the round,
+-- and those ahead stand as before it.
 -- Assumes nothing.
 use mathlib.Core.Path.{_≡_, _∙_, refl, sym, ap, subst}
 use mathlib.Core.List.{List, [], _∷_, _++_}
@@ -33,6 +34,16 @@ Inv-loop count done quantum lists ballots tapes wires₀ boards₀ headers condi
 
 abbrev μ-loop : tie.MeasureT-loop
 μ-loop count done quantum lists ballots tapes wires₀ boards₀ headers conditional given shown₀ at₀ j₀ wires boards shown at j = count - j
+
+-- The stages of a turn: it begins; the places behind the jury are known; the jury has had its turn.
+abbrev begun : tie.In-loop Inv-loop μ-loop → tie.Start Inv-loop μ-loop
+begun c = c .before .before .before .before .before .before .before
+
+abbrev in-loop : tie.After-after Inv-loop μ-loop → tie.In-loop Inv-loop μ-loop
+in-loop c = c .before .before
+
+abbrev placed : tie.After-turn Inv-loop μ-loop → tie.After-after Inv-loop μ-loop
+placed c = c .before .before .before .before .before .before
 
 -- what a header past the last would be
 abbrev blank : JuryHeader
@@ -116,9 +127,9 @@ places-are : (c : tie.After-after Inv-loop μ-loop) (ws bs : List ℕ) → Turn 
     → c .after .result ≡ placesAfter (c .before .before .before .loop .at) (jury (c .before .before)) (conditionalIn (jury (c .before .before)) (here (c .before .before) ws bs))
 places-are c ws bs k = c .after .ensures ∙ ap (placesAfter (c .before .before .before .loop .at) (jury (c .before .before))) (k .mark)
 
-abbrev places : (c : tie.After-after Inv-loop μ-loop) → let s = c .before .before .before .before .before .before .before .before .before in
+abbrev places : (c : tie.After-after Inv-loop μ-loop) → let s = begun (in-loop c) in
     c .after .result ≡ placesAfter (c .before .before .before .loop .at) (jury (c .before .before)) (conditionalIn (jury (c .before .before)) (here (c .before .before) (s .pre .wires-lent) (s .pre .boards-lent)))
-places c = let s = c .before .before .before .before .before .before .before .before .before in places-are c (s .pre .wires-lent) (s .pre .boards-lent) (known (c .before .before))
+places c = let s = begun (in-loop c) in places-are c (s .pre .wires-lent) (s .pre .boards-lent) (known (c .before .before))
 
 mul-given : tie.Need-mul-given Inv-loop μ-loop
 mul-given c =
@@ -218,15 +229,15 @@ part-turn-end-5 c = let k = known (c .before .before .before .before .before .be
 
 -- the pieces that the turn is handed
 record Handed (c : tie.After-after Inv-loop μ-loop) (ws bs : List ℕ) : Type 0 where
-  pub list : take (c .after .result .lists - c .before .before .before .loop .at .lists) (drop (c .before .before .before .loop .at .lists) (c .before .before .before .before .before .before .before .before .before .args .lists .now)) ≡ piecesOf (jury (c .before .before)) (here (c .before .before) ws bs) .lists
-  pub ballots : take (c .after .result .ballots - c .before .before .before .loop .at .ballots) (drop (c .before .before .before .loop .at .ballots) (c .before .before .before .before .before .before .before .before .before .args .ballots .now)) ≡ piecesOf (jury (c .before .before)) (here (c .before .before) ws bs) .ballots
-  pub tape : take (c .after .result .tapes - c .before .before .before .loop .at .tapes) (drop (c .before .before .before .loop .at .tapes) (c .before .before .before .before .before .before .before .before .before .args .tapes .now)) ≡ piecesOf (jury (c .before .before)) (here (c .before .before) ws bs) .tapes
-  pub wires : take (c .after .result .wires - c .before .before .before .loop .at .wires) (drop (c .before .before .before .loop .at .wires) (c .before .before .before .loop .wires)) ≡ juryWires (given (c .before .before .before .before .before .before .before .before .before)) (jury (c .before .before)) (piecesOf (jury (c .before .before)) (here (c .before .before) ws bs))
-  pub board : take (c .after .result .boards - c .before .before .before .loop .at .boards) (drop (c .before .before .before .loop .at .boards) (c .before .before .before .loop .boards)) ≡ juryBoard (given (c .before .before .before .before .before .before .before .before .before)) (jury (c .before .before)) (piecesOf (jury (c .before .before)) (here (c .before .before) ws bs))
+  pub list : take (c .after .result .lists - c .before .before .before .loop .at .lists) (drop (c .before .before .before .loop .at .lists) (begun (in-loop c) .args .lists .now)) ≡ piecesOf (jury (c .before .before)) (here (c .before .before) ws bs) .lists
+  pub ballots : take (c .after .result .ballots - c .before .before .before .loop .at .ballots) (drop (c .before .before .before .loop .at .ballots) (begun (in-loop c) .args .ballots .now)) ≡ piecesOf (jury (c .before .before)) (here (c .before .before) ws bs) .ballots
+  pub tape : take (c .after .result .tapes - c .before .before .before .loop .at .tapes) (drop (c .before .before .before .loop .at .tapes) (begun (in-loop c) .args .tapes .now)) ≡ piecesOf (jury (c .before .before)) (here (c .before .before) ws bs) .tapes
+  pub wires : take (c .after .result .wires - c .before .before .before .loop .at .wires) (drop (c .before .before .before .loop .at .wires) (c .before .before .before .loop .wires)) ≡ juryWires (given (begun (in-loop c))) (jury (c .before .before)) (piecesOf (jury (c .before .before)) (here (c .before .before) ws bs))
+  pub board : take (c .after .result .boards - c .before .before .before .loop .at .boards) (drop (c .before .before .before .loop .at .boards) (c .before .before .before .loop .boards)) ≡ juryBoard (given (begun (in-loop c))) (jury (c .before .before)) (piecesOf (jury (c .before .before)) (here (c .before .before) ws bs))
 
 handed : (c : tie.After-after Inv-loop μ-loop) (ws bs : List ℕ) → Turn (c .before .before) ws bs → Handed c ws bs
 handed c ws bs k =
-    let s = c .before .before .before .before .before .before .before .before .before in
+    let s = begun (in-loop c) in
     let l = c .before .before .before .loop in
     let j = jury (c .before .before) in
     let q = places-are c ws bs k in
@@ -240,13 +251,13 @@ handed c ws bs k =
     }
 
 -- the jury on them
-ready : (c : tie.After-after Inv-loop μ-loop) (ws bs : List ℕ) → Turn (c .before .before) ws bs → let s = c .before .before .before .before .before .before .before .before .before in let l = c .before .before .before .loop in let j = jury (c .before .before) in let p = piecesOf j (here (c .before .before) ws bs) in
+ready : (c : tie.After-after Inv-loop μ-loop) (ws bs : List ℕ) → Turn (c .before .before) ws bs → let s = begun (in-loop c) in let l = c .before .before .before .loop in let j = jury (c .before .before) in let p = piecesOf j (here (c .before .before) ws bs) in
     JuryState (given s) j
     (lent (take (c .after .result .lists - l .at .lists) (drop (l .at .lists) (s .args .lists .now))) (take (c .after .result .ballots - l .at .ballots) (drop (l .at .ballots) (s .args .ballots .now)))
     (take (c .after .result .tapes - l .at .tapes) (drop (l .at .tapes) (s .args .tapes .now))) (p .wires) (p .boards))
     (take (c .after .result .wires - l .at .wires) (drop (l .at .wires) (l .wires))) (take (c .after .result .boards - l .at .boards) (drop (l .at .boards) (l .boards))) (getD (l .shown) (l .j) 0)
 ready c ws bs k =
-    let s = c .before .before .before .before .before .before .before .before .before in
+    let s = begun (in-loop c) in
     let j = jury (c .before .before) in
     let h = handed c ws bs k in
     jury-as (given s) j (piecesOf j (here (c .before .before) ws bs)) _ _ _ _ _ _ _ _ _ (h .list) (h .ballots) (h .tape) (h .wires) (h .board) (k .shown) (k .stands)
@@ -254,7 +265,7 @@ ready c ws bs k =
 turn-requires : tie.Need-turn-requires Inv-loop μ-loop
 turn-requires c κs =
     let a = c .before .before .before .before .before in
-    let s = a .before .before .before .before .before .before .before .before .before in
+    let s = begun (in-loop a) in
     let p = piecesOf (jury (a .before .before)) (here (a .before .before) (s .pre .wires-lent) (s .pre .boards-lent)) in
     record {
       quantum-least = s .pre .quantum-least;
@@ -277,14 +288,14 @@ loop-less : tie.Need-loop-less Inv-loop μ-loop
 loop-less c = omega arith
 
 -- the juries after the turn
-next : (c : tie.After-turn Inv-loop μ-loop) (ws bs : List ℕ) → Entry (c .before .before .before .before .before .before .before .before .before .before .before .before .before .before .before) ws bs → let a = c .before .before .before .before .before .before in let s = c .before .before .before .before .before .before .before .before .before .before .before .before .before .before .before in let l = a .before .before .before .loop in
+next : (c : tie.After-turn Inv-loop μ-loop) (ws bs : List ℕ) → Entry (begun (in-loop (placed c))) ws bs → let a = c .before .before .before .before .before .before in let s = begun (in-loop (placed c)) in let l = a .before .before .before .loop in
     Mid (take (s .args .count) (s .args .t2)) (lentTo s ws bs) (given s) (given s + s .args .quantum) (s .args .t3) (l .j + 1) (drop (l .j + 1) (take (s .args .count) (s .args .t2))) (a .after .result)
     (take (l .at .wires) (l .wires) ++ (c .turn .last .1 .1 .1 .1 .1 .1 .1 .0 ++ drop (a .after .result .wires - l .at .wires) (drop (l .at .wires) (l .wires))))
     (take (l .at .boards) (l .boards) ++ (c .turn .last .1 .1 .1 .1 .1 .1 .1 .1 .0 ++ drop (a .after .result .boards - l .at .boards) (drop (l .at .boards) (l .boards))))
     (set (l .shown) (l .j) (c .turn .result))
 next c ws bs st =
     let a = c .before .before .before .before .before .before in
-    let s = c .before .before .before .before .before .before .before .before .before .before .before .before .before .before .before in
+    let s = begun (in-loop (placed c)) in
     let l = a .before .before .before .loop in
     let i = a .before .before in
     let ss = take (s .args .count) (s .args .t2) in
@@ -312,7 +323,7 @@ next c ws bs st =
 
 -- no length changes
 same-wires : (c : tie.After-turn Inv-loop μ-loop) → let a = c .before .before .before .before .before .before in let l = a .before .before .before .loop in
-    length (take (l .at .wires) (l .wires) ++ (c .turn .last .1 .1 .1 .1 .1 .1 .1 .0 ++ drop (a .after .result .wires - l .at .wires) (drop (l .at .wires) (l .wires)))) ≡ length (c .before .before .before .before .before .before .before .before .before .before .before .before .before .before .before .args .wires .now)
+    length (take (l .at .wires) (l .wires) ++ (c .turn .last .1 .1 .1 .1 .1 .1 .1 .0 ++ drop (a .after .result .wires - l .at .wires) (drop (l .at .wires) (l .wires)))) ≡ length (begun (in-loop (placed c)) .args .wires .now)
 same-wires c =
     let a = c .before .before .before .before .before .before in
     let l = a .before .before .before .loop in
@@ -322,7 +333,7 @@ same-wires c =
     spliced-long n (l .at .wires) (l .wires) (c .turn .last .1 .1 .1 .1 .1 .1 .1 .0) room (c .turn .kept .1 .1 .1 .1 .1 .1 .1 .0 ∙ part-long n (l .at .wires) (l .wires) room) ∙ l .inv .2
 
 same-boards : (c : tie.After-turn Inv-loop μ-loop) → let a = c .before .before .before .before .before .before in let l = a .before .before .before .loop in
-    length (take (l .at .boards) (l .boards) ++ (c .turn .last .1 .1 .1 .1 .1 .1 .1 .1 .0 ++ drop (a .after .result .boards - l .at .boards) (drop (l .at .boards) (l .boards)))) ≡ length (c .before .before .before .before .before .before .before .before .before .before .before .before .before .before .before .args .boards .now)
+    length (take (l .at .boards) (l .boards) ++ (c .turn .last .1 .1 .1 .1 .1 .1 .1 .1 .0 ++ drop (a .after .result .boards - l .at .boards) (drop (l .at .boards) (l .boards)))) ≡ length (begun (in-loop (placed c)) .args .boards .now)
 same-boards c =
     let a = c .before .before .before .before .before .before in
     let l = a .before .before .before .loop in

@@ -1,4 +1,5 @@
--- `dispatch_rounds::round::turn` meets its contract: a finished jury stands as it is, and any other is led on by a step, and closed with its last gate.
+-- `dispatch_rounds::round::turn` meets its contract: a finished jury stands as it is, and any other is led on by a step,
+-- and closed with its last gate.
 -- Assumes nothing.
 use mathlib.Core.Path.{sym, ap, subst}
 use mathlib.Core.List.{List}
@@ -13,6 +14,13 @@ use Rattle.dispatch_rounds.specs.inner.State.{JuryState}
 use Rattle.dispatch_rounds.proofs.JuryStates.{turn-begins, turn-goes-on, turn-ends, turn-idle, jury-wires-long}
 use Rattle.dispatch_rounds.proofs.round.turn.Statement.{statement}
 use Rattle.dispatch_rounds.proofs.round.turn.Tie as tie
+
+-- The stages: the ballots are in the wire table; the last gates are done.
+abbrev started : tie.After-load → tie.Start
+started c = c .before .before .before .before .before .before .before .before
+
+abbrev loaded : tie.After-step → tie.After-load
+loaded c = c .before .before .before .before .before .before
 
 -- the jury at entry
 abbrev Entry : tie.Start → List ℕ → List ℕ → Type 0
@@ -50,7 +58,7 @@ begun c ws bs j =
 step-requires : tie.Need-step-requires
 step-requires c κs =
     let l = c .before .before .before .before .before in
-    let s = l .before .before .before .before .before .before .before .before in
+    let s = started l in
     let a = s .args in
     let j = s .pre .state in
     let before : a .given < a .header .gates = l .before .before .if1 .left in
@@ -58,11 +66,11 @@ step-requires c κs =
     _ (a .board .now) (a .shown) (begun l (s .pre .wires-lent) (s .pre .board-lent) j)
 
 -- after its last gate
-finished : (c : tie.After-step) (ws bs : List ℕ) → Entry (c .before .before .before .before .before .before .before .before .before .before .before .before .before .before) ws bs → let a = c .before .before .before .before .before .before .before .before .before .before .before .before .before .before .args in
+finished : (c : tie.After-step) (ws bs : List ℕ) → Entry (started (loaded c)) ws bs → let a = started (loaded c) .args in
     Stands (a .ballots .now) (a .list .now) (a .tape .now) ws bs (length (gatesOf (a .list .now))) (c .step .last .1 .1 .1 .1 .1 .1 .0) (c .step .last .1 .1 .1 .1 .1 .1 .1 .0) (c .step .result)
 finished c ws bs j =
     let l = c .before .before .before .before .before .before in
-    let a = c .before .before .before .before .before .before .before .before .before .before .before .before .before .before .args in
+    let a = started (loaded c) .args in
     let before : a .given < a .header .gates = l .before .before .if1 .left in
     let r = c .step in
     subst (λ (n : ℕ). Stands (a .ballots .now) (a .list .now) (a .tape .now) ws bs n (r .last .1 .1 .1 .1 .1 .1 .0) (r .last .1 .1 .1 .1 .1 .1 .1 .0) (r .result)) (sym (j .gates))
@@ -72,7 +80,7 @@ finished c ws bs j =
 close-requires : tie.Need-close-requires
 close-requires c κs =
     let e = c .before .before .before .before .before .before in
-    let s = e .before .before .before .before .before .before .before .before .before .before .before .before .before .before in
+    let s = started (loaded e) in
     let a = s .args in
     let j = s .pre .state in
     let q = can-close (a .ballots .now) (a .list .now) (a .header .candidates) (a .tape .now) (s .pre .wires-lent) (s .pre .board-lent) (j .run) _ _ _ (finished e (s .pre .wires-lent) (s .pre .board-lent) j) in
@@ -86,8 +94,9 @@ same-length-2 c = search needs
 
 returns-2 : tie.Need-returns-2
 returns-2 c =
-    let e = c .before .before .before .before .before .before .before .before .before in
-    let a = e .before .before .before .before .before .before .before .before .before .before .before .before .before .before .args in
+    let closed = c .before .before in
+    let e = closed .before .before .before .before .before .before .before in
+    let a = started (loaded e) .args in
     let past = e .before .before .before .if2 .taken in
     λ (ws bs : List ℕ) j.
     turn-ends (a .header) (lent (a .list .now) (a .ballots .now) (a .tape .now) ws bs) (j .run) (j .some-gate) (j .gates) (a .given + a .quantum) _ _ _ _ (omega arith) (finished e ws bs j) (c .before .before .close .ensures)
@@ -98,7 +107,7 @@ add-step c = search needs
 step-requires-2 : tie.Need-step-requires-2
 step-requires-2 c κs =
     let l = c .before .before .before .before .before in
-    let s = l .before .before .before .before .before .before .before .before in
+    let s = started l in
     let a = s .args in
     let j = s .pre .state in
     let ahead = c .before .before .if2 .left in
@@ -115,7 +124,7 @@ returns-3 : tie.Need-returns-3
 returns-3 c =
     let e = c .before .before .before .before in
     let l = e .before .before .before .before .before .before in
-    let s = l .before .before .before .before .before .before .before .before in
+    let s = started l in
     let a = s .args in
     let ahead = e .before .before .before .if2 .left in
     let r = e .step2 in

@@ -39,7 +39,7 @@ call s =
 -- The stages, by what has happened so far: the tests refuse; they pass; the gates are evaluated; the closing bits are
 -- opened; the wire parts are emptied.
 abbrev started : tie.After-known-told → tie.Start
-started c = c .before .before .before .before .before .before .before .before .before .before .before .before
+started c = let lending = c .before .before .before .before in lending .before .before .before .before .before .before .before .before
 
 abbrev evaluated : tie.After-open-closing → tie.After-evaluate
 evaluated c = c .before .before .before .before .before .before
@@ -89,7 +89,8 @@ same-length-2 c = search needs
 returns : tie.Need-returns
 unfolding outcomeOf trusteesResultAfter eightBytes
 returns c =
-    let start = c .before .before .before .before .before .before .before .before .before .before .before in
+    let lending = c .before .before .before in
+    let start = lending .before .before .before .before .before .before .before .before in
     let r = reasonOf (c .enum-told .given .0 .0) in
     let told = ap outcomeOf (c .enum-told .given .1) in
     let e = result-by (call start) (some r)

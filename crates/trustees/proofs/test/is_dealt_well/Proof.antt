@@ -42,7 +42,8 @@ returns-3 c =
 
 products-add-up-requires : tie.Need-products-add-up-requires
 products-add-up-requires c κs =
-    let s = c .before .before .before .before .before .before .before .before .before in
+    let lending = c .before .before .before .before in
+    let s = lending .before .before .before .before .before in
     (omega (arith, s .pre .conditional-most), s .pre .dealer-length)
 
 returns-4 : tie.Need-returns-4

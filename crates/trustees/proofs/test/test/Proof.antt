@@ -36,7 +36,7 @@ call s =
 
 -- The stages, by what has happened so far: the list passes its test; the ballots pass theirs; the parts are tested.
 abbrev started : tie.After-known-told → tie.Start
-started c = c .before .before .before .before .before .before .before .before .before .before
+started c = let lending = c .before .before .before .before in lending .before .before .before .before .before .before
 
 abbrev list-passed : tie.After-enum-told2 → tie.After-known-told
 list-passed c = c .before .before .before
@@ -84,7 +84,8 @@ enum-told c = search needs
 returns : tie.Need-returns
 unfolding outcomeOf
 returns c =
-    let start = c .before .before .before .before .before .before .before .before .before in
+    let lending = c .before .before .before in
+    let start = lending .before .before .before .before .before .before in
     let r = reasonOf (c .enum-told .given .0 .0) in
     let e = ap outcomeOf (c .enum-told .given .1) in
     e ∙ refuses start r (by-test (call start) r (sym (c .before .before .test .ensures) ∙ e))

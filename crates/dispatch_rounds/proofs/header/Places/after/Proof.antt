@@ -42,8 +42,9 @@ add-t13 c = search needs
 
 returns : tie.Need-returns
 returns c =
-    let a = c .before .before .before .before .before .before .before .before .before .args in
-    ap (λ (i : ℕ). made (a .self) (a .header) (a .conditional) i) (c .before .before .before .before .before .before .before .before .ballot-bytes .ensures)
+    let measured = c .before .before .before .before .before .before .before .before in
+    let a = measured .before .args in
+    ap (λ (i : ℕ). made (a .self) (a .header) (a .conditional) i) (measured .ballot-bytes .ensures)
 
 pub after-spec : {M : Type 1} → statement M
 after-spec =

@@ -1,4 +1,4 @@
--- `batch::rankings::neitherAfterNorBefore` meets its contract: in each lane, the word says whether some candidate below l keeps i and j apart.
+-- `batch::rankings::neither_after_nor_before` meets its contract: in each lane, the word says whether some candidate below l keeps i and j apart.
 -- Assumes nothing.
 use mathlib.Core.Path.{_≡_, _∙_, ap}
 use mathlib.Core.Bool.{not, _&&_}
@@ -8,8 +8,8 @@ use borrow.Author.Needs.{needs}
 use Rattle.jury.specs.Rankings.{before, someBelow, neitherAfterNorBefore}
 use Rattle.batch_lanes.specs.Lane.{laneCount, lane, laneOf}
 use Rattle.batch.proofs.RankLaws.{bit, both-lane, not-lane, some-none, some-more}
-use Rattle.batch.proofs.rankings.neitherAfterNorBefore.Statement.{statement}
-use Rattle.batch.proofs.rankings.neitherAfterNorBefore.Tie as tie
+use Rattle.batch.proofs.rankings.neither_after_nor_before.Statement.{statement}
+use Rattle.batch.proofs.rankings.neither_after_nor_before.Tie as tie
 
 abbrev Inv-loop : tie.InvT-loop
 Inv-loop words k b i j found₀ l₀ found l = (l ≤ k) × ((u : ℕ) → u < laneCount → lane u found ≡ bit (someBelow l (λ l. not (before k (laneOf u words) b i l) && not (before k (laneOf u words) b l j))))
@@ -67,5 +67,5 @@ returns c =
     let j = start .args .j in
     λ u h. at .loop .inv .1 u h ∙ ap (λ (m : ℕ). bit (someBelow m (λ l. not (before k (laneOf u words) b i l) && not (before k (laneOf u words) b l j)))) {x = at .loop .l} {y = k} (omega arith)
 
-pub apart-spec : {M : Type 1} → statement M
-apart-spec = tie.close (tie.spec Inv-loop μ-loop loop-holds puts-before-requires puts-before-requires-2 add-l loop-less loop-again returns)
+pub neither-after-nor-before-spec : {M : Type 1} → statement M
+neither-after-nor-before-spec = tie.close (tie.spec Inv-loop μ-loop loop-holds puts-before-requires puts-before-requires-2 add-l loop-less loop-again returns)
