@@ -1,4 +1,3 @@
 pub mod Copying
 pub mod Answering
-pub mod Lengths
 pub mod Statuses

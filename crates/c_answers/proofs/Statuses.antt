@@ -2,6 +2,7 @@
 -- Assumes nothing.
 use mathlib.Core.Path.{_≡_, _∙_, refl, sym}
 use mathlib.Core.Logic.{_↔_}
+use mathlib.Core.Option.{Option, none, some}
 use mathlib.Core.Bool.{Bool, true, false, _&&_, _||_}
 use mathlib.Core.List.{List, [], _∷_}
 use Prim.Native.Nat.{ℕ, _<_, _≤_}
@@ -11,10 +12,10 @@ use lib.ListN.{length}
 use borrow.Author.Tests.{eqb-true, ltb-true, ltb-false}
 use Rattle.gates.proofs.Goodness.{and-left, and-right}
 use Rattle.jury.specs.Reason.{Reason}
-use Rattle.tally.specs.Answer.{Outcome, refused, accepted, hasNumberIn, Size}
+use Rattle.tally.specs.Answer.{Outcome, refused, accepted, outcome, hasNumberIn, Size}
 use Rattle.tally.specs.Measure.{Measures}
-use Rattle.c_answers.specs.Numbers.{sizeNumbers, measureNumbers, oneNumber, statusOf, shortAnswer, status}
-use Rattle.c_answers.specs.Status.{isAccepted, StatusReads}
+use Rattle.c_answers.specs.Numbers.{sizeNumbers, measureNumbers, answerNumbers, oneNumber, statusOf, shortAnswer, status}
+use Rattle.c_answers.specs.Status.{isAccepted, StatusReads, SizeStatus, MeasureStatus, OneStatus, CountStatus}
 use Rattle.c_answers.proofs.Answering.{short-status, room-status}
 
 -- each of these numbers is one from 1 to the last
@@ -68,14 +69,23 @@ module _ (last : ℕ) where
       tells few needed (numbers (accepted v)) answer true (omega (arith, acceptance v)) (λ e. tt, λ a. acceptance v)
 
   -- of each kind of answer
-  pub size-tells : last < shortAnswer → (answer : List ℕ) (outcome : Outcome Size) → ((r : Reason) → outcome ≡ refused r → Numbered last r) → StatusReads last 4 (sizeNumbers outcome) answer (isAccepted outcome)
+  pub size-tells : last < shortAnswer → (answer : List ℕ) (outcome : Outcome Size) → ((r : Reason) → outcome ≡ refused r → Numbered last r) → SizeStatus last answer outcome
   unfolding statusOf sizeNumbers
   size-tells few answer outcome h = outcome-tells few 4 sizeNumbers answer (λ r. refl) (λ v. refl) outcome h
 
-  pub measure-tells : last < shortAnswer → (answer : List ℕ) (outcome : Outcome Measures) → ((r : Reason) → outcome ≡ refused r → Numbered last r) → StatusReads last 5 (measureNumbers outcome) answer (isAccepted outcome)
+  pub measure-tells : last < shortAnswer → (answer : List ℕ) (outcome : Outcome Measures) → ((r : Reason) → outcome ≡ refused r → Numbered last r) → MeasureStatus last answer outcome
   unfolding statusOf measureNumbers
   measure-tells few answer outcome h = outcome-tells few 5 measureNumbers answer (λ r. refl) (λ v. refl) outcome h
 
-  pub one-tells : last < shortAnswer → (answer : List ℕ) (outcome : Outcome ℕ) → ((r : Reason) → outcome ≡ refused r → Numbered last r) → StatusReads last 3 (oneNumber outcome) answer (isAccepted outcome)
+  pub one-tells : last < shortAnswer → (answer : List ℕ) (outcome : Outcome ℕ) → ((r : Reason) → outcome ≡ refused r → Numbered last r) → OneStatus last answer outcome
   unfolding statusOf oneNumber
   one-tells few answer outcome h = outcome-tells few 3 oneNumber answer (λ r. refl) (λ v. refl) outcome h
+
+  -- reason and place stand before the eight numbers
+  pub count-tells : last < shortAnswer → (answer : List ℕ) (o : Option Reason) (told : List ℕ)
+      → ((r : Reason) → o ≡ some r → Numbered last r) → CountStatus last answer o told
+  unfolding statusOf answerNumbers isAccepted outcome
+  count-tells few answer (some r) told h =
+      let n = h r refl in
+      tells few 10 (answerNumbers (some r) told) answer false (n .most) (λ e. absurd (omega (arith, n .least)), λ a. absurd a)
+  count-tells few answer none told h = tells few 10 (answerNumbers none told) answer true (omega arith) (λ e. tt, λ a. refl)

@@ -28,7 +28,8 @@ unfoldable pub answerNumbers : Option Reason → List ℕ → List ℕ
 answerNumbers none closing = 0 ∷ 0 ∷ closing
 answerNumbers (some r) closing = r .number ∷ r .place ∷ closing
 
--- Calls that tell one number, as the length of a text or the ballots of an urn: reason and place, then that number, 0 on a refusal.
+-- Calls that tell one number, as the length of a text or the ballots of an urn: reason and place, then that number,
+-- which is 0 on a refusal.
 unfoldable pub oneNumber : Outcome ℕ → List ℕ
 oneNumber (refused r) = r .number ∷ r .place ∷ 0 ∷ []
 oneNumber (accepted told) = 0 ∷ 0 ∷ told ∷ []
@@ -50,7 +51,7 @@ oneAnswer = 3
 unfoldable pub statusOf : List ℕ → ℕ
 statusOf numbers = getD numbers 0 0
 
--- The status of a call whose answer array is shorter than the call needs. `Status` says that no reason has this number.
+-- The status of a call whose answer array is shorter than the call needs. `Status` says that no reason has it.
 abbrev pub shortAnswer : ℕ
 shortAnswer = 255
 
@@ -58,10 +59,27 @@ shortAnswer = 255
 unfoldable pub status : ℕ → List ℕ → List ℕ → ℕ
 status needed numbers answer = cond (ltb (length answer) needed) shortAnswer (statusOf numbers)
 
--- The answer array afterwards: the numbers at its start, what stands behind them as it was; one that is too short is not altered.
+-- The answer array afterwards: the numbers at its start, what stands behind them as it was; one that is too short stays
+-- unaltered.
 unfoldable pub answered : ℕ → List ℕ → List ℕ → List ℕ
 answered needed numbers answer = cond (ltb (length answer) needed) answer (numbers ++ drop needed answer)
 
 -- Another lent slice afterwards: as the entry point leaves it, or as it was where the answer array is too short.
 unfoldable pub altered : ℕ → List ℕ → List ℕ → List ℕ → List ℕ
 altered needed answer new old = cond (ltb (length answer) needed) old new
+
+-- What an exported call leaves: what it returns, the answer array, and the other tables that it was lent.
+pub record CallResult : Type 0 where
+  pub returned : ℕ
+  pub answer : List ℕ
+  pub lent : List (List ℕ)
+
+-- Of an answer of so many numbers, by the lent tables as they were and as the entry point leaves them: a call whose
+-- answer array is too short alters nothing.
+unfoldable pub callResult : (needed : ℕ) (numbers answer : List ℕ) (before after : List (List ℕ)) → CallResult
+callResult needed numbers answer before after =
+    record {
+      returned = status needed numbers answer;
+      answer = answered needed numbers answer;
+      lent = cond (ltb (length answer) needed) before after;
+    }

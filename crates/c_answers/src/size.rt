@@ -1,12 +1,11 @@
 // The answer of writing, testing or running, as numbers in a lent array.
 use crate::array::put;
 use tally::answer::Answer;
-ghost use mathlib.Core.Path.{_≡_};
-ghost use mathlib.Core.List.{_++_};
 ghost use Prim.Native.Nat.{_≤_};
-ghost use lib.ListN.{length, drop};
+ghost use lib.ListN.{length};
 ghost use Rattle.tally.specs.Answer.{outcomeOf};
-ghost use Rattle.c_answers.specs.Numbers.{sizeAnswer, sizeNumbers, statusOf};
+ghost use Rattle.c_answers.specs.Numbers.{sizeAnswer, sizeNumbers};
+ghost use Rattle.c_answers.specs.inner.Puts.{Puts};
 
 // How many numbers such an answer has: reason, place, G and C.
 pub const SIZE_ANSWER: usize = 4;
@@ -14,8 +13,8 @@ pub const SIZE_ANSWER: usize = 4;
 // The answer of writing, testing or running, and its status.
 pub fn put_size(outcome: Answer, answer: &mut [usize]) -> usize
     requires { ⌜ sizeAnswer ≤ length (now answer) ⌝ }
-    ensures { λ r. ⌜ r ≡ statusOf (sizeNumbers (outcomeOf outcome)) ⌝ }
-    ensures { λ _. ⌜ now (answer .exit) ≡ sizeNumbers (outcomeOf outcome) ++ drop sizeAnswer (now (answer .entry)) ⌝ }
+    ensures { λ r.
+        ⌜ Puts sizeAnswer (sizeNumbers (outcomeOf outcome)) (now (answer .entry)) (now (answer .exit)) r ⌝ }
 {
     match outcome {
         Answer::Accepted { gates, conditional } => {

@@ -4,8 +4,9 @@ use c_answers::size::SIZE_ANSWER;
 use c_answers::size::put_size;
 use jury::shape::Shape;
 ghost use mathlib.Core.Path.{_≡_};
+ghost use mathlib.Core.List.{[], _∷_};
 ghost use Rattle.c_answers.specs.Numbers.{shapeOf};
-ghost use Rattle.c_batch.specs.Leaves.{Leaves, leaves};
+ghost use Rattle.c_batch.specs.Calls.{batchCall};
 
 // Runs a list on the words of the juries' ballots, bit j of each being jury j's: reason, place, G and C.
 #[no_mangle]
@@ -21,21 +22,18 @@ pub extern "C" fn jugy_run_batch(
     answer: &mut [usize],
 ) -> usize
     ensures { λ r.
-        ⌜ _≡_ {A = Leaves}
-        (record {
-          status = r;
+        ⌜ record {
+          returned = r;
           answer = now (answer .exit);
-          wires = now (wires .exit);
-          board = now (board .exit);
-        })
-        (leaves (record {
+          lent = now (wires .exit) ∷ now (board .exit) ∷ [];
+        } ≡ batchCall (record {
           shape = shapeOf candidates grades ballots;
           table = now (table .entry);
           ballots = now (words .entry);
           tape = now (tape .entry);
           wires = now (wires .entry);
           board = now (board .entry);
-        }) (now (answer .entry))) ⌝ }
+        }) (now (answer .entry)) ⌝ }
 {
     if answer.len() < SIZE_ANSWER {
         return SHORT_ANSWER;

@@ -5,7 +5,7 @@ use lib.ListN.{getD}
 use Rattle.dispatch_rounds.specs.declared.header.JuryHeader.{JuryHeader}
 use Rattle.dispatch.specs.Call.{Call}
 use Rattle.dispatch.specs.Result.{DispatchResult, dispatchResult}
-use Rattle.c_answers.specs.Numbers.{answerNumbers, status, answered, altered}
+use Rattle.c_answers.specs.Numbers.{answerNumbers, CallResult, callResult}
 
 -- Four numbers a jury: k, d, n and G. A number that the array does not hold counts as 0, and a header with k = 0 is
 -- turned away for reason 1.
@@ -31,20 +31,8 @@ dispatchNumbers d = answerNumbers (d .reason) (d .rounds)
 abbrev pub dispatchAnswer : ℕ
 dispatchAnswer = 10
 
--- What a call from C leaves.
-pub record Leaves : Type 0 where
-  pub status : ℕ
-  pub answer : List ℕ
-  pub wires : List ℕ
-  pub boards : List ℕ
-
--- The entry point's own result, where the answer array has room for it. A shorter one is told by the status alone.
-abbrev pub leaves : Call → (answer : List ℕ) → Leaves
-leaves c answer =
-    let result = dispatchResult c in
-    record {
-      status = status dispatchAnswer (dispatchNumbers result) answer;
-      answer = answered dispatchAnswer (dispatchNumbers result) answer;
-      wires = altered dispatchAnswer answer (result .wires) (c .tables .wires);
-      boards = altered dispatchAnswer answer (result .boards) (c .tables .boards);
-    }
+-- What a call from C leaves: the entry point's own result, where the answer array has room for it.
+abbrev pub dispatchCall : Call → (answer : List ℕ) → CallResult
+dispatchCall c answer =
+    let r = dispatchResult c in
+    callResult dispatchAnswer (dispatchNumbers r) answer (c .tables .wires ∷ c .tables .boards ∷ []) (r .wires ∷ r .boards ∷ [])

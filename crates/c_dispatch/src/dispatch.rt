@@ -5,14 +5,14 @@ use dispatch::dispatch::Dispatched;
 use dispatch::verdict::JuriesVerdict;
 use dispatch_rounds::header::JuryHeader;
 ghost use mathlib.Core.Path.{_≡_};
-ghost use mathlib.Core.List.{_∷_};
+ghost use mathlib.Core.List.{[], _∷_};
 ghost use Prim.Native.Nat.{_≤_, _<_};
 ghost use lib.ListN.{length, getD};
 ghost use Rattle.dispatch_rounds.specs.Tables.{lent};
 ghost use Rattle.dispatch.specs.Reasons.{verdictReason};
 ghost use Rattle.c_answers.specs.Numbers.{answerNumbers};
-ghost use Rattle.c_dispatch.specs.Numbers.{headerAt, headersIn, dispatchAnswer, Leaves, leaves};
-ghost use Rattle.c_dispatch.specs.inner.Put.{PutRounds};
+ghost use Rattle.c_answers.specs.inner.Puts.{Puts};
+ghost use Rattle.c_dispatch.specs.Numbers.{headerAt, headersIn, dispatchAnswer, dispatchCall};
 
 // How many numbers the answer has: reason, place and eight numbers of rounds.
 const DISPATCH_ANSWER: usize = 10;
@@ -76,8 +76,8 @@ fn ten(reason: usize, place: usize, rounds: [usize; 8]) -> [usize; 10]
 fn put_rounds(outcome: Dispatched, answer: &mut [usize]) -> usize
     requires { ⌜ dispatchAnswer ≤ length (now answer) ⌝ }
     ensures { λ r.
-        ⌜ PutRounds (answerNumbers (verdictReason (outcome .verdict)) (outcome .rounds)) r
-        (now (answer .entry)) (now (answer .exit)) ⌝ }
+        ⌜ Puts dispatchAnswer (answerNumbers (verdictReason (outcome .verdict)) (outcome .rounds))
+        (now (answer .entry)) (now (answer .exit)) r ⌝ }
 {
     let verdict = outcome.verdict;
     let rounds = outcome.rounds;
@@ -110,20 +110,17 @@ pub extern "C" fn jugy_dispatch(
     answer: &mut [usize],
 ) -> usize
     ensures { λ r.
-        ⌜ _≡_ {A = Leaves}
-        (record {
-          status = r;
+        ⌜ record {
+          returned = r;
           answer = now (answer .exit);
-          wires = now (wires .exit);
-          boards = now (boards .exit);
-        })
-        (leaves (record {
+          lent = now (wires .exit) ∷ now (boards .exit) ∷ [];
+        } ≡ dispatchCall (record {
           count = count;
           headers = headersIn (now (headers .entry));
           quantum = quantum;
           tables = lent (now (lists .entry)) (now (ballots .entry)) (now (tapes .entry)) (now (wires .entry))
               (now (boards .entry));
-        }) (now (answer .entry))) ⌝ }
+        }) (now (answer .entry)) ⌝ }
 {
     if answer.len() < DISPATCH_ANSWER {
         return SHORT_ANSWER;

@@ -1,27 +1,26 @@
 // The answers of measuring and of counting, as numbers in a lent array.
 use c_answers::array::put;
+use c_answers::array::put_eight;
 use jury::byte::wide;
 use jury::reason::Verdict;
 use tally::count::Counted;
 use tally::measure::Measured;
 ghost use mathlib.Core.Path.{_≡_};
-ghost use mathlib.Core.List.{_∷_, _++_};
 ghost use Prim.Native.Nat.{_≤_};
-ghost use lib.ListN.{length, drop};
+ghost use lib.ListN.{length};
 ghost use Rattle.jury.specs.Reason.{refusedFor};
 ghost use Rattle.tally.specs.Measure.{measuredBy};
-ghost use Rattle.c_answers.specs.Numbers.{measureAnswer, countAnswer, measureNumbers, answerNumbers, statusOf};
+ghost use Rattle.c_answers.specs.Numbers.{measureAnswer, countAnswer, measureNumbers, answerNumbers};
+ghost use Rattle.c_answers.specs.inner.Puts.{Puts};
 
-// How many numbers the answers have: reason and place, then G, C and I, or eight closing bytes.
+// How many numbers the answer of measuring has: reason and place, then G, C and I.
 pub(crate) const MEASURE_ANSWER: usize = 5;
-
-pub(crate) const COUNT_ANSWER: usize = 10;
 
 // The answer of measuring, and its status.
 pub(crate) fn put_measures(outcome: Measured, answer: &mut [usize]) -> usize
     requires { ⌜ measureAnswer ≤ length (now answer) ⌝ }
-    ensures { λ r. ⌜ r ≡ statusOf (measureNumbers (measuredBy outcome)) ⌝ }
-    ensures { λ _. ⌜ now (answer .exit) ≡ measureNumbers (measuredBy outcome) ++ drop measureAnswer (now (answer .entry)) ⌝ }
+    ensures { λ r.
+        ⌜ Puts measureAnswer (measureNumbers (measuredBy outcome)) (now (answer .entry)) (now (answer .exit)) r ⌝ }
 {
     match outcome {
         Measured::Accepted {
@@ -41,13 +40,11 @@ pub(crate) fn put_measures(outcome: Measured, answer: &mut [usize]) -> usize
     }
 }
 
-// Reason and place, and the eight closing bytes as numbers.
-fn ten(reason: usize, place: usize, closing: [u8; 8]) -> [usize; 10]
-    ensures { λ r. ⌜ r ≡ reason ∷ place ∷ closing ⌝ }
+// The eight closing bytes as numbers.
+fn numbers(closing: [u8; 8]) -> [usize; 8]
+    ensures { λ r. ⌜ r ≡ closing ⌝ }
 {
     [
-        reason,
-        place,
         wide(closing[0]),
         wide(closing[1]),
         wide(closing[2]),
@@ -62,23 +59,15 @@ fn ten(reason: usize, place: usize, closing: [u8; 8]) -> [usize; 10]
 // The answer of a plain count, and its status.
 pub(crate) fn put_count(counted: Counted, answer: &mut [usize]) -> usize
     requires { ⌜ countAnswer ≤ length (now answer) ⌝ }
-    ensures { λ r. ⌜ r ≡ statusOf (answerNumbers (refusedFor (counted .verdict)) (counted .closing)) ⌝ }
-    ensures { λ _. ⌜ now (answer .exit) ≡ answerNumbers (refusedFor (counted .verdict)) (counted .closing) ++ drop countAnswer (now (answer .entry)) ⌝ }
+    ensures { λ r.
+        ⌜ Puts countAnswer (answerNumbers (refusedFor (counted .verdict)) (counted .closing)) (now (answer .entry))
+        (now (answer .exit)) r ⌝ }
 {
     let verdict = counted.verdict;
     let closing = counted.closing;
+    let told = numbers(closing);
     match verdict {
-        Verdict::Accepted => {
-            let numbers = ten(0, 0, closing);
-            put(&numbers, answer);
-            0
-        }
-        Verdict::Refused(reason) => {
-            let number = reason.number();
-            let place = reason.place();
-            let numbers = ten(number, place, closing);
-            put(&numbers, answer);
-            number
-        }
+        Verdict::Accepted => put_eight(0, 0, told, answer),
+        Verdict::Refused(reason) => put_eight(reason.number(), reason.place(), told, answer),
     }
 }

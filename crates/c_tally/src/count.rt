@@ -1,6 +1,6 @@
 // Counting plainly, as a C program calls it.
-use crate::answer::COUNT_ANSWER;
 use crate::answer::put_count;
+use c_answers::array::COUNT_ANSWER;
 use c_answers::array::SHORT_ANSWER;
 use jury::reason::Refusal;
 use jury::reason::Verdict;
@@ -8,8 +8,9 @@ use jury::shape::Shape;
 use jury::shape::ShapeResult;
 use tally::count::Counted;
 ghost use mathlib.Core.Path.{_≡_};
-ghost use Rattle.tally.specs.Count.{countReason, plainClosing};
-ghost use Rattle.c_answers.specs.Numbers.{shapeOf, countAnswer, answerNumbers, status, answered};
+ghost use mathlib.Core.List.{[]};
+ghost use Rattle.c_answers.specs.Numbers.{shapeOf};
+ghost use Rattle.c_tally.specs.Calls.{countCall};
 
 // Counts plainly: reason, place and the eight closing bytes.
 #[no_mangle]
@@ -20,8 +21,9 @@ pub extern "C" fn jugy_count(
     bytes: &[u8],
     answer: &mut [usize],
 ) -> usize
-    ensures { λ r. ⌜ r ≡ status countAnswer (answerNumbers (countReason (shapeOf candidates grades ballots) (now (bytes .entry))) (plainClosing (shapeOf candidates grades ballots) (now (bytes .entry)))) (now (answer .entry)) ⌝ }
-    ensures { λ _. ⌜ now (answer .exit) ≡ answered countAnswer (answerNumbers (countReason (shapeOf candidates grades ballots) (now (bytes .entry))) (plainClosing (shapeOf candidates grades ballots) (now (bytes .entry)))) (now (answer .entry)) ⌝ }
+    ensures { λ r.
+        ⌜ record { returned = r; answer = now (answer .exit); lent = [] }
+        ≡ countCall (shapeOf candidates grades ballots) (now (bytes .entry)) (now (answer .entry)) ⌝ }
 {
     if answer.len() < COUNT_ANSWER {
         return SHORT_ANSWER;

@@ -7,8 +7,9 @@ use jury::shape::Shape;
 use jury::shape::ShapeResult;
 use tally::measure::Measured;
 ghost use mathlib.Core.Path.{_≡_};
-ghost use Rattle.tally.specs.Measure.{measureOutcome};
-ghost use Rattle.c_answers.specs.Numbers.{shapeOf, measureAnswer, measureNumbers, status, answered};
+ghost use mathlib.Core.List.{[]};
+ghost use Rattle.c_answers.specs.Numbers.{shapeOf};
+ghost use Rattle.c_tally.specs.Calls.{measureCall};
 
 // Measures the own list of a shape: reason, place, G, C and I.
 #[no_mangle]
@@ -18,8 +19,9 @@ pub extern "C" fn jugy_measure(
     ballots: usize,
     answer: &mut [usize],
 ) -> usize
-    ensures { λ r. ⌜ r ≡ status measureAnswer (measureNumbers (measureOutcome (shapeOf candidates grades ballots))) (now (answer .entry)) ⌝ }
-    ensures { λ _. ⌜ now (answer .exit) ≡ answered measureAnswer (measureNumbers (measureOutcome (shapeOf candidates grades ballots))) (now (answer .entry)) ⌝ }
+    ensures { λ r.
+        ⌜ record { returned = r; answer = now (answer .exit); lent = [] }
+        ≡ measureCall (shapeOf candidates grades ballots) (now (answer .entry)) ⌝ }
 {
     if answer.len() < MEASURE_ANSWER {
         return SHORT_ANSWER;

@@ -7,8 +7,9 @@ use jury::shape::Shape;
 use jury::shape::ShapeResult;
 use tally::answer::Answer;
 ghost use mathlib.Core.Path.{_≡_};
-ghost use Rattle.tally.specs.Run.{runResult};
-ghost use Rattle.c_answers.specs.Numbers.{shapeOf, sizeAnswer, sizeNumbers, status, answered, altered};
+ghost use mathlib.Core.List.{[], _∷_};
+ghost use Rattle.c_answers.specs.Numbers.{shapeOf};
+ghost use Rattle.c_tally.specs.Calls.{runCall};
 
 // Runs a list on the bytes of the ballots: reason, place, G and C.
 #[no_mangle]
@@ -23,10 +24,13 @@ pub extern "C" fn jugy_run(
     board: &mut [u8],
     answer: &mut [usize],
 ) -> usize
-    ensures { λ r. ⌜ r ≡ status sizeAnswer (sizeNumbers ((runResult (shapeOf candidates grades ballots) (now (table .entry)) (now (bytes .entry)) (now (tape .entry)) (now (wires .entry)) (now (board .entry))) .answer)) (now (answer .entry)) ⌝ }
-    ensures { λ _. ⌜ now (answer .exit) ≡ answered sizeAnswer (sizeNumbers ((runResult (shapeOf candidates grades ballots) (now (table .entry)) (now (bytes .entry)) (now (tape .entry)) (now (wires .entry)) (now (board .entry))) .answer)) (now (answer .entry)) ⌝ }
-    ensures { λ _. ⌜ now (wires .exit) ≡ altered sizeAnswer (now (answer .entry)) ((runResult (shapeOf candidates grades ballots) (now (table .entry)) (now (bytes .entry)) (now (tape .entry)) (now (wires .entry)) (now (board .entry))) .wires) (now (wires .entry)) ⌝ }
-    ensures { λ _. ⌜ now (board .exit) ≡ altered sizeAnswer (now (answer .entry)) ((runResult (shapeOf candidates grades ballots) (now (table .entry)) (now (bytes .entry)) (now (tape .entry)) (now (wires .entry)) (now (board .entry))) .board) (now (board .entry)) ⌝ }
+    ensures { λ r.
+        ⌜ record {
+          returned = r;
+          answer = now (answer .exit);
+          lent = now (wires .exit) ∷ now (board .exit) ∷ [];
+        } ≡ runCall (shapeOf candidates grades ballots) (now (table .entry)) (now (bytes .entry)) (now (tape .entry))
+        (now (wires .entry)) (now (board .entry)) (now (answer .entry)) ⌝ }
 {
     if answer.len() < SIZE_ANSWER {
         return SHORT_ANSWER;

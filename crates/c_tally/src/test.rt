@@ -7,8 +7,9 @@ use jury::shape::Shape;
 use jury::shape::ShapeResult;
 use tally::answer::Answer;
 ghost use mathlib.Core.Path.{_≡_};
-ghost use Rattle.tally.specs.Test.{testOutcome};
-ghost use Rattle.c_answers.specs.Numbers.{shapeOf, sizeAnswer, sizeNumbers, status, answered};
+ghost use mathlib.Core.List.{[]};
+ghost use Rattle.c_answers.specs.Numbers.{shapeOf};
+ghost use Rattle.c_tally.specs.Calls.{testCall};
 
 // Tests anyone's list for a shape: reason, place, G and C.
 #[no_mangle]
@@ -19,8 +20,9 @@ pub extern "C" fn jugy_test(
     table: &[u32],
     answer: &mut [usize],
 ) -> usize
-    ensures { λ r. ⌜ r ≡ status sizeAnswer (sizeNumbers (testOutcome (shapeOf candidates grades ballots) (now (table .entry)))) (now (answer .entry)) ⌝ }
-    ensures { λ _. ⌜ now (answer .exit) ≡ answered sizeAnswer (sizeNumbers (testOutcome (shapeOf candidates grades ballots) (now (table .entry)))) (now (answer .entry)) ⌝ }
+    ensures { λ r.
+        ⌜ record { returned = r; answer = now (answer .exit); lent = [] }
+        ≡ testCall (shapeOf candidates grades ballots) (now (table .entry)) (now (answer .entry)) ⌝ }
 {
     if answer.len() < SIZE_ANSWER {
         return SHORT_ANSWER;

@@ -7,10 +7,10 @@ use jury::shape::Shape;
 use jury::shape::ShapeResult;
 use tally::answer::Answer;
 ghost use mathlib.Core.Path.{_≡_};
-ghost use lib.Dec.{T};
-ghost use Rattle.jury.specs.Shape.{withinLimits};
-ghost use Rattle.tally.specs.Write.{writeOutcome, written, OwnListHolds};
-ghost use Rattle.c_answers.specs.Numbers.{shapeOf, sizeAnswer, sizeNumbers, status, answered, altered};
+ghost use mathlib.Core.List.{[], _∷_};
+ghost use Rattle.tally.specs.Write.{HoldsWithin};
+ghost use Rattle.c_answers.specs.Numbers.{shapeOf};
+ghost use Rattle.c_tally.specs.Calls.{writeCall};
 
 // Writes the own list of a shape: reason, place, G and C.
 #[no_mangle]
@@ -21,10 +21,10 @@ pub extern "C" fn jugy_write(
     table: &mut [u32],
     answer: &mut [usize],
 ) -> usize
-    ensures { λ r. ⌜ r ≡ status sizeAnswer (sizeNumbers (writeOutcome (shapeOf candidates grades ballots) (now (table .entry)))) (now (answer .entry)) ⌝ }
-    ensures { λ _. ⌜ now (answer .exit) ≡ answered sizeAnswer (sizeNumbers (writeOutcome (shapeOf candidates grades ballots) (now (table .entry)))) (now (answer .entry)) ⌝ }
-    ensures { λ _. ⌜ now (table .exit) ≡ altered sizeAnswer (now (answer .entry)) (written (shapeOf candidates grades ballots) (now (table .entry))) (now (table .entry)) ⌝ }
-    ensures { λ _. ⌜ (T (withinLimits (shapeOf candidates grades ballots)) → OwnListHolds (shapeOf candidates grades ballots)) ⌝ }
+    ensures leaves { λ r.
+        ⌜ record { returned = r; answer = now (answer .exit); lent = now (table .exit) ∷ [] }
+        ≡ writeCall (shapeOf candidates grades ballots) (now (table .entry)) (now (answer .entry)) ⌝ }
+    ensures holds { λ _. ⌜ HoldsWithin (shapeOf candidates grades ballots) ⌝ }
 {
     if answer.len() < SIZE_ANSWER {
         return SHORT_ANSWER;

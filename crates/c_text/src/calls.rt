@@ -1,38 +1,30 @@
 // Lists as text, as a C program calls for them.
 use c_answers::array::ONE_ANSWER;
 use c_answers::array::SHORT_ANSWER;
+use c_answers::array::put_one;
+use jury::reason::Refusal;
 use jury::shape::Shape;
+use jury::shape::ShapeResult;
 use text::answer::Answer;
+use text::answer::TextRefusal;
 ghost use mathlib.Core.Path.{_≡_};
-ghost use mathlib.Core.List.{_++_};
+ghost use mathlib.Core.List.{[], _∷_};
 ghost use Prim.Native.Nat.{_≤_};
-ghost use lib.ListN.{length, drop};
+ghost use lib.ListN.{length};
 ghost use Rattle.text.specs.Answer.{lengthOutcome};
-ghost use Rattle.text.specs.Write.{textOutcome, textWritten};
-ghost use Rattle.text.specs.Read.{readOutcome, numbersRead};
-ghost use Rattle.c_answers.specs.Numbers.{oneAnswer, oneNumber, shapeOf, statusOf, status, answered, altered};
+ghost use Rattle.c_answers.specs.Numbers.{oneAnswer, oneNumber, shapeOf};
+ghost use Rattle.c_answers.specs.inner.Puts.{Puts};
+ghost use Rattle.c_text.specs.Calls.{writeTextCall, readTextCall};
 
 // The answer of writing or reading a text, and its status.
 fn put_length(outcome: Answer, answer: &mut [usize]) -> usize
     requires { ⌜ oneAnswer ≤ length (now answer) ⌝ }
-    ensures { λ r. ⌜ r ≡ statusOf (oneNumber (lengthOutcome outcome)) ⌝ }
-    ensures { λ _. ⌜ now (answer .exit) ≡ oneNumber (lengthOutcome outcome) ++ drop oneAnswer (now (answer .entry)) ⌝ }
+    ensures { λ r.
+        ⌜ Puts oneAnswer (oneNumber (lengthOutcome outcome)) (now (answer .entry)) (now (answer .exit)) r ⌝ }
 {
     match outcome {
-        Answer::Accepted { length } => {
-            answer[0] = 0;
-            answer[1] = 0;
-            answer[2] = length;
-            0
-        }
-        Answer::Refused(reason) => {
-            let number = reason.number();
-            let place = reason.place();
-            answer[0] = number;
-            answer[1] = place;
-            answer[2] = 0;
-            number
-        }
+        Answer::Accepted { length } => put_one(0, 0, length, answer),
+        Answer::Refused(reason) => put_one(reason.number(), reason.place(), 0, answer),
     }
 }
 
@@ -46,17 +38,16 @@ pub extern "C" fn jugy_write_text(
     output: &mut [u8],
     answer: &mut [usize],
 ) -> usize
-    ensures { λ r. ⌜ r ≡ status oneAnswer (oneNumber (textOutcome (shapeOf candidates grades ballots) (now (table .entry)) (now (output .entry)))) (now (answer .entry)) ⌝ }
-    ensures { λ _. ⌜ now (answer .exit) ≡ answered oneAnswer (oneNumber (textOutcome (shapeOf candidates grades ballots) (now (table .entry)) (now (output .entry)))) (now (answer .entry)) ⌝ }
-    ensures { λ _. ⌜ now (output .exit) ≡ altered oneAnswer (now (answer .entry)) (textWritten (shapeOf candidates grades ballots) (now (table .entry)) (now (output .entry))) (now (output .entry)) ⌝ }
+    ensures { λ r.
+        ⌜ record { returned = r; answer = now (answer .exit); lent = now (output .exit) ∷ [] }
+        ≡ writeTextCall (shapeOf candidates grades ballots) (now (table .entry)) (now (output .entry))
+        (now (answer .entry)) ⌝ }
 {
     if answer.len() < ONE_ANSWER {
         return SHORT_ANSWER;
     }
-    let shape = Shape {
-        candidates,
-        grades,
-        ballots,
+    let ShapeResult::Within(shape) = Shape::new(candidates, grades, ballots) else {
+        return put_length(Answer::Refused(TextRefusal::OfList(Refusal::Shape)), answer);
     };
     let outcome = text::write::write(shape, table, output);
     put_length(outcome, answer)
@@ -72,17 +63,16 @@ pub extern "C" fn jugy_read_text(
     output: &mut [u32],
     answer: &mut [usize],
 ) -> usize
-    ensures { λ r. ⌜ r ≡ status oneAnswer (oneNumber (readOutcome (shapeOf candidates grades ballots) (now (text .entry)) (now (output .entry)))) (now (answer .entry)) ⌝ }
-    ensures { λ _. ⌜ now (answer .exit) ≡ answered oneAnswer (oneNumber (readOutcome (shapeOf candidates grades ballots) (now (text .entry)) (now (output .entry)))) (now (answer .entry)) ⌝ }
-    ensures { λ _. ⌜ now (output .exit) ≡ altered oneAnswer (now (answer .entry)) (numbersRead (shapeOf candidates grades ballots) (now (text .entry)) (now (output .entry))) (now (output .entry)) ⌝ }
+    ensures { λ r.
+        ⌜ record { returned = r; answer = now (answer .exit); lent = now (output .exit) ∷ [] }
+        ≡ readTextCall (shapeOf candidates grades ballots) (now (text .entry)) (now (output .entry))
+        (now (answer .entry)) ⌝ }
 {
     if answer.len() < ONE_ANSWER {
         return SHORT_ANSWER;
     }
-    let shape = Shape {
-        candidates,
-        grades,
-        ballots,
+    let ShapeResult::Within(shape) = Shape::new(candidates, grades, ballots) else {
+        return put_length(Answer::Refused(TextRefusal::OfList(Refusal::Shape)), answer);
     };
     let outcome = text::read::read(shape, text, output);
     put_length(outcome, answer)

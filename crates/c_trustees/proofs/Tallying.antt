@@ -45,6 +45,3 @@ pub tally-status : (outcome : Outcome Size) (closing : List ℕ) → statusOf (s
 unfolding statusOf tallyNumbers sizeNumbers
 tally-status (refused r) closing = refl
 tally-status (accepted size) closing = refl
-
-pub tallied : (a b : Outcome Size) (xs ys : List ℕ) → a ≡ b → xs ≡ ys → tallyNumbers a xs ≡ tallyNumbers b ys
-tallied a b xs ys e f = ap (λ (s : Outcome Size). tallyNumbers s xs) e ∙ ap (tallyNumbers b) f

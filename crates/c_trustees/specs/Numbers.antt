@@ -1,10 +1,10 @@
 -- The numbers that the trustees' call leaves in its answer array, and all that it leaves.
-use mathlib.Core.List.{List, _++_}
+use mathlib.Core.List.{List, [], _∷_, _++_}
 use Prim.Native.Nat.{ℕ}
 use Rattle.tally.specs.Answer.{Outcome, Size}
 use Rattle.trustees.specs.Call.{Call}
-use Rattle.trustees.specs.Result.{TrusteesResult, trusteesResult}
-use Rattle.c_answers.specs.Numbers.{sizeNumbers, status, answered, altered}
+use Rattle.trustees.specs.Result.{trusteesResult}
+use Rattle.c_answers.specs.Numbers.{sizeNumbers, CallResult, callResult}
 
 -- Reason, 0 where accepted; place; G; C; then the sums of the closing bits as eight bytes, all of them 0 on a refusal.
 unfoldable pub tallyNumbers : Outcome Size → List ℕ → List ℕ
@@ -14,23 +14,9 @@ tallyNumbers outcome closing = sizeNumbers outcome ++ closing
 abbrev pub tallyAnswer : ℕ
 tallyAnswer = 12
 
--- What a call from C leaves.
-pub record Leaves : Type 0 where
-  pub status : ℕ
-  pub answer : List ℕ
-  pub wireParts : List ℕ
-  pub published : List ℕ
-
--- The entry point's own result, where the answer array has room for it. A shorter one is told by the status alone.
-abbrev pub leavesFor : (result : TrusteesResult) (c : Call) (answer : List ℕ) → Leaves
-leavesFor result c answer =
-    let numbers = tallyNumbers (result .answer) (result .closing) in
-    record {
-      status = status tallyAnswer numbers answer;
-      answer = answered tallyAnswer numbers answer;
-      wireParts = altered tallyAnswer answer (result .wireParts) (c .lent .wireParts);
-      published = altered tallyAnswer answer (result .published) (c .lent .published);
-    }
-
-abbrev pub leaves : Call → (answer : List ℕ) → Leaves
-leaves c answer = leavesFor (trusteesResult c) c answer
+-- What a call from C leaves: the entry point's own result, where the answer array has room for it.
+abbrev pub trusteesCall : Call → (answer : List ℕ) → CallResult
+trusteesCall c answer =
+    let r = trusteesResult c in
+    callResult tallyAnswer (tallyNumbers (r .answer) (r .closing)) answer (c .lent .wireParts ∷ c .lent .published ∷ [])
+    (r .wireParts ∷ r .published ∷ [])

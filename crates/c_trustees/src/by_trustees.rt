@@ -7,12 +7,14 @@ use jury::shape::Shape;
 use trustees::run::Tallied;
 use trustees::run::run;
 ghost use mathlib.Core.Path.{_≡_};
+ghost use mathlib.Core.List.{[], _∷_};
 ghost use Prim.Native.Nat.{_≤_};
 ghost use lib.ListN.{length};
 ghost use Rattle.tally.specs.Answer.{outcomeOf};
 ghost use Rattle.c_answers.specs.Numbers.{shapeOf};
-ghost use Rattle.c_trustees.specs.inner.Put.{PutClosing, PutTally};
-ghost use Rattle.c_trustees.specs.Numbers.{tallyNumbers, tallyAnswer, Leaves, leaves};
+ghost use Rattle.c_answers.specs.inner.Puts.{Puts};
+ghost use Rattle.c_trustees.specs.inner.Put.{PutClosing};
+ghost use Rattle.c_trustees.specs.Numbers.{tallyNumbers, tallyAnswer, trusteesCall};
 
 // How many numbers an answer has: reason, place, G, C and the eight bytes.
 const TALLY_ANSWER: usize = 12;
@@ -36,8 +38,8 @@ fn put_closing(closing: [u8; 8], answer: &mut [usize])
 fn put_tally(outcome: Tallied, answer: &mut [usize]) -> usize
     requires { ⌜ tallyAnswer ≤ length (now answer) ⌝ }
     ensures { λ r.
-        ⌜ PutTally (tallyNumbers (outcomeOf (outcome .answer)) (outcome .closing)) r
-        (now (answer .entry)) (now (answer .exit)) ⌝ }
+        ⌜ Puts tallyAnswer (tallyNumbers (outcomeOf (outcome .answer)) (outcome .closing))
+        (now (answer .entry)) (now (answer .exit)) r ⌝ }
 {
     let size = outcome.answer;
     let closing = outcome.closing;
@@ -62,14 +64,11 @@ pub extern "C" fn jugy_trustees(
     answer: &mut [usize],
 ) -> usize
     ensures { λ r.
-        ⌜ _≡_ {A = Leaves}
-        (record {
-          status = r;
+        ⌜ record {
+          returned = r;
           answer = now (answer .exit);
-          wireParts = now (wires .exit);
-          published = now (published .exit);
-        })
-        (leaves (record {
+          lent = now (wires .exit) ∷ now (published .exit) ∷ [];
+        } ≡ trusteesCall (record {
           shape = shapeOf candidates grades ballots;
           table = now (table .entry);
           ballots = now (bytes .entry);
@@ -79,7 +78,7 @@ pub extern "C" fn jugy_trustees(
             wireParts = now (wires .entry);
             published = now (published .entry);
           };
-        }) (now (answer .entry))) ⌝ }
+        }) (now (answer .entry)) ⌝ }
 {
     if answer.len() < TALLY_ANSWER {
         return SHORT_ANSWER;

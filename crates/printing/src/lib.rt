@@ -19,6 +19,14 @@ pub fn print_number(n: usize) {
     io::print_decimal(STDOUT_FILENO, n as u64);
 }
 
+// The line of a refusal: its reason's number and place.
+pub fn print_refused(number: usize, place: usize) {
+    print_text(b"refused");
+    print_number(number);
+    print_number(place);
+    print_text(b"\n");
+}
+
 // A line: the text, the bytes as numbers, each with a space before it, and a line feed.
 pub fn print_bytes(text: &[u8], bytes: &[u8]) {
     io::write_all(STDOUT_FILENO, text);

@@ -32,7 +32,9 @@ use Rattle.tally.proofs.TestReasons.{orElse, first-append}
 use Rattle.tally.proofs.Writing.{WritePassed, write-passed, write-refused, outside, write-length, list-in}
 use Rattle.tally.proofs.RunReasons.{outcome-refused, outcome-accepted}
 use Rattle.tally.proofs.OwnRun.{own-answer, own-closing}
-use Rattle.rehearsal.specs.Rehearsal.{Lent, Cut, shapeIn, ballotsIn, rehearsalReasons, printedOf, rehearsalOutcome, runOutcome}
+use Rattle.rehearsal.specs.Rehearsal.{shapeIn, ballotsIn, rehearsalReasons, printedOf, rehearsalOutcome}
+use Rattle.rehearsal.specs.inner.Buffers.{Buffers, Cut}
+use Rattle.rehearsal.specs.inner.Rehearses.{runOutcome}
 
 bits-take : (n : ℕ) (xs : List ℕ) → Bits xs → Bits (take n xs)
 bits-take zero xs b i = omega arith
@@ -139,7 +141,7 @@ module _ (s : Shape) (list : List ℕ) (gates conditional : ℕ) (tape wires boa
         omega (arith, length-append b rest)
 
 -- after an accepted write, the list's numbers and the buffers are what the run asks
-module _ (s : Shape) (table tape wires board : List ℕ) (l : Lent table tape wires board) (g c : ℕ) (e : outcomeOf (answer.Accepted g c) ≡ writeOutcome s table) where
+module _ (s : Shape) (table tape wires board : List ℕ) (l : Buffers table tape wires board) (g c : ℕ) (e : outcomeOf (answer.Accepted g c) ≡ writeOutcome s table) where
   passed : WritePassed s table (record { gates = g; conditional = c })
   passed = unfold outcomeOf in (write-passed s table (record { gates = g; conditional = c }) (sym e))
 

@@ -2,7 +2,6 @@
 mod rehearse;
 
 use crate::rehearse::Rehearsed;
-use jury::reason::Refusal;
 use jury::shape::Shape;
 use libc::STDIN_FILENO;
 ghost use mathlib.Core.Path.{_≡_};
@@ -14,13 +13,6 @@ fn print_jury(shape: Shape) {
     printing::print_number(shape.candidates);
     printing::print_number(shape.grades);
     printing::print_number(shape.ballots);
-    printing::print_text(b"\n");
-}
-
-fn print_refused(reason: Refusal) {
-    printing::print_text(b"refused");
-    printing::print_number(reason.number());
-    printing::print_number(reason.place());
     printing::print_text(b"\n");
 }
 
@@ -63,7 +55,7 @@ fn main() {
     let mut board = board();
     let got = io::read_full(STDIN_FILENO, &mut input);
     match rehearse::rehearse(&input[..got], &mut table, &tape, &mut wires, &mut board) {
-        Rehearsed::Refused(reason) => print_refused(reason),
+        Rehearsed::Refused(reason) => printing::print_refused(reason.number(), reason.place()),
         Rehearsed::Winners { shape, first } => {
             print_jury(shape);
             printing::print_bytes(b"winners", &board[first..first + shape.candidates]);

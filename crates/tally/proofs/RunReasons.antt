@@ -24,9 +24,9 @@ use Rattle.jury.proofs.AcceptedLaws as ballots-laws
 use Rattle.gates.specs.Step.{RunReady}
 use Rattle.gates.specs.Test.{firstBad}
 use Rattle.gates.proofs.Evaluating.{accepted-list}
-use Rattle.tally.specs.Answer.{refused, accepted, outcome, Size, sizeOf}
+use Rattle.tally.specs.Answer.{Outcome, refused, accepted, outcome, Size, sizeOf}
 use Rattle.tally.specs.Test.{testReasons, testOutcome}
-use Rattle.tally.specs.Run.{bufferReasons, runReasons, runResultAfter, runResult}
+use Rattle.tally.specs.Run.{RunResult, bufferReasons, runReasons, runResultAfter, runResult}
 use Rattle.tally.proofs.TestReasons.{orElse, first-append, never, TestPassed, test-passed}
 
 -- what the tests 7 to 10 answer, from their outcomes
@@ -83,6 +83,14 @@ three-passed none none none e = (refl, refl, refl)
 three-passed none none (some r) e = let z : _≡_ {A = ℕ} 0 1 = cc in absurd (omega arith)
 three-passed none (some r) c e = let z : _≡_ {A = ℕ} 0 1 = cc in absurd (omega arith)
 three-passed (some r) b c e = let z : _≡_ {A = ℕ} 0 1 = cc in absurd (omega arith)
+
+-- three parts make the result of a call
+pub same-result : {answer answer′ : Outcome Size} {wires wires′ board board′ : List ℕ} → answer ≡ answer′ → wires ≡ wires′ → board ≡ board′
+    → _≡_ {A = RunResult} (record { answer = answer; wires = wires; board = board }) (record { answer = answer′; wires = wires′; board = board′ })
+same-result {answer} {answer′} {wires} {wires′} {board} {board′} e f g =
+    ap (λ (z : Outcome Size). record { answer = z; wires = wires; board = board }) e
+    ∙ ap (λ (z : List ℕ). record { answer = answer′; wires = z; board = board }) f
+    ∙ ap (λ (z : List ℕ). record { answer = answer′; wires = wires′; board = z }) g
 
 -- the reason of an answer
 pub outcome-refused : {Values : Type 0} (o : Option Reason) (values : Values) (r : Reason) → outcome o values ≡ refused r → o ≡ some r

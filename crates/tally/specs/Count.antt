@@ -1,4 +1,5 @@
 -- The entry point [count].
+use mathlib.Core.Path.{_≡_}
 use mathlib.Core.Option.{Option, none, some}
 use mathlib.Core.List.{List, [], _∷_}
 use Prim.Native.Nat.{ℕ}
@@ -21,6 +22,11 @@ closingAfter (some r) bytes = eightBytes []
 
 unfoldable pub plainClosing : Shape → List ℕ → List ℕ
 plainClosing s xs = closingAfter (countReason s xs) (closingFor s xs)
+
+-- What the entry point promises of its verdict and of the closing bytes.
+pub record Counts (s : Shape) (xs : List ℕ) (reason : Option Reason) (bytes : List ℕ) : Type 0 where
+  pub verdict : reason ≡ countReason s xs
+  pub closing : bytes ≡ plainClosing s xs
 
 -- The outcome of a count.
 unfoldable pub countOutcome : Shape → List ℕ → Outcome (List ℕ)

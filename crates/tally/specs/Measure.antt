@@ -26,5 +26,6 @@ measureOutcome s = outcome (firstOf (unless (withinLimits s) 1 ∷ [])) (measure
 
 -- What each case of the program's enum means, as a number with values.
 unfoldable pub measuredBy : Measured → Outcome Measures
-measuredBy (Accepted gates conditional inputs) = accepted (record { gates = gates; conditional = conditional; inputs = inputs })
+measuredBy (Accepted gates conditional inputs) =
+    accepted (record { gates = gates; conditional = conditional; inputs = inputs })
 measuredBy (Refused r) = refused (reasonOf r)

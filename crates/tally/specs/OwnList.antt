@@ -14,4 +14,7 @@ unfoldable pub ownList : Shape → List Gate
 ownList s = cond (isRanking s) (ownRanking (s .candidates) (s .ballots)) (graded.ownList s)
 
 unfoldable pub gateBound : Shape → ℕ
-gateBound s = cond (isRanking s) (rankingBound (s .candidates) (s .ballots) (widthOf (s .ballots))) (graded-bound.gateBound s)
+gateBound s =
+    cond (isRanking s)
+    (rankingBound (s .candidates) (s .ballots) (widthOf (s .ballots)))
+    (graded-bound.gateBound s)

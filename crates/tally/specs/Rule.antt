@@ -15,7 +15,9 @@ use Rattle.rule_schulze.specs.Winner.{Winner}
 -- The closing bytes that the rule gives the ballots of a jury.
 unfoldable pub closingFor : Shape → List ℕ → List ℕ
 closingFor s xs =
-    cond (isRanking s) (closingBytes (votes (s .candidates) (s .ballots) xs) (s .candidates)) (judgmentOf (countsOf s xs))
+    cond (isRanking s)
+    (closingBytes (votes (s .candidates) (s .ballots) xs) (s .candidates))
+    (judgmentOf (countsOf s xs))
 
 -- Who wins, said without a computation.
 pub record Wins (s : Shape) (xs : List ℕ) (i : ℕ) : Type 0 where

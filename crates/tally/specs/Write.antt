@@ -3,7 +3,7 @@ use mathlib.Core.Path.{_≡_}
 use mathlib.Core.Option.{Option, none, some}
 use mathlib.Core.List.{List, [], _∷_, _++_}
 use Prim.Native.Nat.{ℕ, _*_, _≤_}
-use lib.Dec.{leb}
+use lib.Dec.{T, leb}
 use lib.ListN.{length, drop}
 use Rattle.gates.specs.Gate.{numbersOf}
 use Rattle.gates.specs.Wires.{wiresOf, outputsOf}
@@ -38,4 +38,14 @@ pub record OwnListHolds (s : Shape) : Type 0 where
   -- G keeps the bound of [bound] and [judgment-bound], or that of request 2.2
   pub bounded : length (ownList s) ≤ gateBound s
   -- its closing bytes are those of the rule, whatever the accepted ballots
-  pub closing : (ballots : List ℕ) → AcceptedBallots s ballots → outputsOf (s .candidates) (wiresOf ballots (ownList s)) ≡ closingFor s ballots
+  pub closing : (ballots : List ℕ) → AcceptedBallots s ballots
+      → outputsOf (s .candidates) (wiresOf ballots (ownList s)) ≡ closingFor s ballots
+
+abbrev pub HoldsWithin : Shape → Type 0
+HoldsWithin s = T (withinLimits s) → OwnListHolds s
+
+-- What the entry point promises of its answer and of the table.
+pub record Writes (s : Shape) (before : List ℕ) (answer : Outcome Size) (after : List ℕ) : Type 0 where
+  pub answers : answer ≡ writeOutcome s before
+  pub leaves : after ≡ written s before
+  pub own-list : HoldsWithin s

@@ -9,11 +9,13 @@ ghost use Rattle.gate_words.specs.Writing.{Wrote};
 ghost use Rattle.jury.specs.Shape.{withinLimits, ballotBytes};
 ghost use Rattle.tally.specs.OwnList.{ownList};
 
-// Writes it from the table's first number on, as far as the table goes. The writer says how many gates the list has, and
-// how many of them are conditional, whatever the table.
+// Writes it from the table's first number on, as far as the table goes. The writer says how many gates the list has,
+// and how many of them are conditional, whatever the table.
 pub fn own_list(shape: Shape, table: &mut [u32]) -> Writer
     requires { ⌜ T (withinLimits shape) ⌝ }
-    ensures { λ r. ⌜ Wrote (record { gate = 0; wire = ballotBytes shape; conditional = 0 }) (now (table .entry)) (ownList shape) (now (table .exit)) r ⌝ }
+    ensures { λ r.
+        ⌜ Wrote (record { gate = 0; wire = ballotBytes shape; conditional = 0 }) (now (table .entry)) (ownList shape)
+        (now (table .exit)) r ⌝ }
 {
     if shape.is_ranking() {
         ranked_writer::list::ranked_list(shape.candidates as u32, shape.ballots as u32, table)

@@ -19,16 +19,19 @@ use Rattle.jury.specs.Reason.{Reason, reasonAt, unless, foundAt, firstOf}
 use Rattle.tally.specs.Answer.{Outcome, refused, accepted, outcome, Size, sizeOf}
 use Rattle.tally.specs.Test.{testReasons, testOutcome}
 use Rattle.tally.proofs.TestReasons.{orElse, first-append}
+use Rattle.tally.proofs.RunReasons.{outcome-refused}
+use Rattle.text.specs.Answer.{TextResult}
 use Rattle.text.specs.Text.{textOf, linesOf, firstMalformed, gatesIn}
 use Rattle.text.specs.Write.{textReasons, textOutcome, outputAfter, textWritten}
 use Rattle.text.specs.Read.{readReasons, readOutcome, numbersRead}
 
--- a refusal is the first reason that applies
-pub outcome-refused : {A : Type 0} (o : Option Reason) (v : A) (r : Reason) → outcome o v ≡ refused r → o ≡ some r
-unfolding outcome
-outcome-refused none v r e = let z : _≡_ {A = ℕ} 0 1 = cc in absurd (omega arith)
-outcome-refused (some q) v r e = let p : q ≡ r = cc in ap {B = Option Reason} some p
+-- both parts make the result of a call
+pub same-text : {answer answer′ : Outcome ℕ} {output output′ : List ℕ} → (answer ≡ answer′) × (output ≡ output′)
+    → _≡_ {A = TextResult} (record { answer = answer; output = output }) (record { answer = answer′; output = output′ })
+same-text {answer} {answer′} {output} {output′} e =
+    ap (λ (z : Outcome ℕ). record { answer = z; output = output }) (e .0) ∙ ap (λ (z : List ℕ). record { answer = answer′; output = z }) (e .1)
 
+-- an accepted call has no reason against it
 pub outcome-accepted : {A : Type 0} (o : Option Reason) (v w : A) → outcome o v ≡ accepted w → (o ≡ none) × (v ≡ w)
 unfolding outcome
 outcome-accepted none v w e = (refl, cc)

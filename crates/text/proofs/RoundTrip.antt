@@ -28,12 +28,15 @@ use Rattle.jury.proofs.Limits.{bounds, inputs-bound}
 use Rattle.tally.specs.Answer.{refused, accepted, outcome, hasNumberIn, Size, sizeOf}
 use Rattle.tally.specs.Test.{testReasons, testOutcome}
 use Rattle.tally.proofs.TestReasons.{orElse, first-append, test-passed, test-passed-back}
-use Rattle.tally.proofs.Numbering.{All, first-fine, both, unless-fine, found-fine, list-fine, outcome-fine, refused-fine}
+use Rattle.tally.specs.Memory.{Each}
+use Rattle.tally.proofs.RunReasons.{outcome-refused}
+use Rattle.text.proofs.Numbering.{text-number, read-number}
 use Rattle.text.specs.Text.{textOf, linesOf, firstMalformed, gatesIn}
 use Rattle.text.specs.Write.{textReasons, textOutcome, outputAfter, textWritten}
 use Rattle.text.specs.Read.{readReasons, readOutcome, numbersRead}
-use Rattle.text.specs.RoundTrip.{RoundTrip, TextMemory}
-use Rattle.text.proofs.Reasons.{outcome-refused, outcome-accepted, text-good, text-refused, text-accepted, numbers-good, read-refused, read-accepted}
+use Rattle.text.specs.RoundTrip.{RoundTrip}
+use Rattle.text.specs.Demands.{TextMemory}
+use Rattle.text.proofs.Reasons.{outcome-accepted, text-good, text-refused, text-accepted, numbers-good, read-refused, read-accepted}
 use Rattle.text.proofs.Whole.{gates-many, text-is, all-writable, text-lines}
 
 impossible : {P : Type 0} (r : Reason) → some r ≡ none → P
@@ -167,33 +170,22 @@ read-length s text output = by (firstOf (readReasons s text output)) refl
         ∙ same-length (numbersOf (gatesIn (linesOf text))) output (omega (arith, length-numbers (gatesIn (linesOf text)), many, read-room s text output e))
     by (some r) e = ap length (sym (read-refused s text output r e .1))
 
--- the numbers of the tests of either call
-write-number : (s : Shape) (table output : List ℕ) (r : Reason) → textOutcome s table output ≡ refused r → T (hasNumberIn (1 ∷ 2 ∷ 3 ∷ 24 ∷ []) r)
-unfolding textOutcome textReasons testReasons All hasNumberIn reasonAt
-write-number s table output r e =
-    let ns : List ℕ = 1 ∷ 2 ∷ 3 ∷ 24 ∷ [] in
-    refused-fine ns (textOutcome s table output) r
-    (outcome-fine ns _ _
-    (first-fine ns (textReasons s table output)
-    (both ns (testReasons s table) (unless (leb (length (textOf (gatesOf table))) (length output)) 24 ∷ []) (unless-fine ns _ 1 tt, (list-fine ns _ tt (λ g. tt), tt)) (unless-fine ns _ 24 tt, tt)))) e
-
-read-number : (s : Shape) (text output : List ℕ) (r : Reason) → readOutcome s text output ≡ refused r → T (hasNumberIn (1 ∷ 2 ∷ 23 ∷ 3 ∷ 24 ∷ []) r)
-unfolding readOutcome readReasons All hasNumberIn reasonAt
-read-number s text output r e =
-    let ns : List ℕ = 1 ∷ 2 ∷ 23 ∷ 3 ∷ 24 ∷ [] in
-    refused-fine ns (readOutcome s text output) r
-    (outcome-fine ns _ _
-    (first-fine ns (readReasons s text output)
-    (unless-fine ns _ 1 tt, (unless-fine ns _ 2 tt, (found-fine ns 23 _ (λ i. tt), (found-fine ns 3 _ (λ g. tt), (unless-fine ns _ 24 tt, tt))))))) e
-
 pub text-memory : TextMemory
-unfolding textOutcome readOutcome
+unfolding textOutcome readOutcome Each
 text-memory =
     record {
-      write-number = write-number;
-      read-number = read-number;
-      write-refused = λ s table output r e. sym (text-refused s table output r (outcome-refused (firstOf (textReasons s table output)) (length (textOf (gatesOf table))) r e) .1);
-      write-length = text-length;
-      read-refused = λ s text output r e. sym (read-refused s text output r (outcome-refused (firstOf (readReasons s text output)) (4 * length (linesOf text)) r e) .1);
-      read-length = read-length;
+      write = λ s table output. record {
+        number = text-number s table output;
+        refusal = λ r e.
+            (sym (text-refused s table output r (outcome-refused (firstOf (textReasons s table output)) (length (textOf (gatesOf table))) r e) .1), tt);
+        empties = λ length e. tt;
+        lengths = (text-length s table output, tt);
+      };
+      read = λ s text output. record {
+        number = read-number s text output;
+        refusal = λ r e.
+            (sym (read-refused s text output r (outcome-refused (firstOf (readReasons s text output)) (4 * length (linesOf text)) r e) .1), tt);
+        empties = λ length e. tt;
+        lengths = (read-length s text output, tt);
+      };
     }

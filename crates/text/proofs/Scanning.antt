@@ -18,8 +18,8 @@ use Rattle.gates.specs.declared.place.Place.the-variants.{At, Nowhere}
 use Rattle.gates.proofs.Reading.{first-bad-nil, first-bad-cons, good-by}
 use Rattle.text_lines.specs.Decimal.{taken}
 use Rattle.text_lines.specs.Line.{gateIn, gateOf}
-use Rattle.text.specs.Text.{inFront, linesOf, otherAt, firstMalformed, gatesIn}
-use Rattle.text_lines.specs.Inner.{lineFound, LineWithin}
+use Rattle.text.specs.Text.{inFront, linesOf, malformedAt, firstMalformed, gatesIn}
+use Rattle.text_lines.specs.inner.Found.{lineFound, LineWithin}
 use Rattle.text_lines.specs.declared.line.Line.{Line}
 use Rattle.text_lines.specs.declared.line.Line.the-variants as line
 use Rattle.text.proofs.TextLaws.{gate-first, other-first, other-here, other-later, gates-cons, first-line}
@@ -94,11 +94,11 @@ not-both o i p q = let z : _≡_ {A = ℕ} 0 1 = cc in absurd (omega arith)
 
 -- no line is another, from whatever number the lines are counted
 pub nowhere-any : (ls : List (List ℕ)) (i j : ℕ) → firstMalformed i ls ≡ Nowhere → firstMalformed j ls ≡ Nowhere
-unfolding firstMalformed otherAt
+unfolding firstMalformed malformedAt
 nowhere-any [] i j e = refl
 nowhere-any (l ∷ ls) i j e = by (gateOf l) e (nowhere-any ls (suc i) (suc j))
   where
-    by : (o : Option Gate) → otherAt o i (firstMalformed (suc i) ls) ≡ Nowhere → (firstMalformed (suc i) ls ≡ Nowhere → firstMalformed (suc j) ls ≡ Nowhere) → otherAt o j (firstMalformed (suc j) ls) ≡ Nowhere
+    by : (o : Option Gate) → malformedAt o i (firstMalformed (suc i) ls) ≡ Nowhere → (firstMalformed (suc i) ls ≡ Nowhere → firstMalformed (suc j) ls ≡ Nowhere) → malformedAt o j (firstMalformed (suc j) ls) ≡ Nowhere
     by none e ih = let z : _≡_ {A = ℕ} 0 1 = cc in absurd (omega arith)
     by (some g) e ih = ih e
 

@@ -15,7 +15,7 @@ use Rattle.gates.specs.declared.place.Place.{Place}
 use Rattle.gates.specs.declared.place.Place.the-variants.{At, Nowhere}
 use Rattle.text_lines.specs.Decimal.{decimalWithin, decimal, Taken, taken}
 use Rattle.text_lines.specs.Line.{operandText, lineOf, gateIn, gateOf}
-use Rattle.text.specs.Text.{textOf, inFront, linesOf, otherAt, firstMalformed, gateBefore, gatesIn}
+use Rattle.text.specs.Text.{textOf, inFront, linesOf, malformedAt, firstMalformed, gateBefore, gatesIn}
 use Rattle.text_lines.proofs.LineLaws.{Writable, read-line, wrote-line, line-read, line-wrote}
 
 -- no line feed among these characters
@@ -157,11 +157,11 @@ other-first c cs e = by (gateOf (f .line)) refl
 
 -- The first line that is no gate, and the gates, line by line.
 pub other-here : (i : ℕ) (cs : List ℕ) (o : OtherFirst cs) → firstMalformed i (linesOf cs) ≡ At i
-unfolding firstMalformed otherAt
+unfolding firstMalformed malformedAt
 other-here i cs o = ap (firstMalformed i) (o .lines) ∙ rw (o .reads)
 
 pub other-later : (i : ℕ) (cs : List ℕ) (t : Taken Gate) → gateIn cs ≡ some t → firstMalformed i (linesOf cs) ≡ firstMalformed (suc i) (linesOf (t .behind))
-unfolding firstMalformed otherAt
+unfolding firstMalformed malformedAt
 other-later i cs t e = let f = gate-first cs t e in ap (firstMalformed i) (f .lines) ∙ rw (f .reads)
 
 pub gates-cons : (cs : List ℕ) (t : Taken Gate) → gateIn cs ≡ some t → gatesIn (linesOf cs) ≡ t .value ∷ gatesIn (linesOf (t .behind))

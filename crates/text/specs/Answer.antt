@@ -1,4 +1,5 @@
 -- What writing and reading a text answer, by the numbers of the reasons.
+use mathlib.Core.List.{List}
 use Prim.Native.Nat.{ℕ}
 use Rattle.jury.specs.Reason.{Reason, reasonAt, reasonOf}
 use Rattle.tally.specs.Answer.{Outcome, refused, accepted}
@@ -7,7 +8,8 @@ use Rattle.text.specs.declared.answer.TextRefusal.the-variants.{OfList, 
 use Rattle.text.specs.declared.answer.Answer.{Answer}
 use Rattle.text.specs.declared.answer.Answer.the-variants.{Accepted, Refused}
 
--- The number and place of each case: a line of another form is reason 23 at that line, an output that is too short reason 24.
+-- The number and place of each case: a line of another form is reason 23 at that line, an output that is too short
+-- reason 24.
 unfoldable pub textReasonOf : TextRefusal → Reason
 textReasonOf (OfList r) = reasonOf r
 textReasonOf (Line i) = reasonAt 23 i
@@ -17,3 +19,8 @@ textReasonOf Output = reasonAt 24 0
 unfoldable pub lengthOutcome : Answer → Outcome ℕ
 lengthOutcome (Accepted length) = accepted length
 lengthOutcome (Refused r) = refused (textReasonOf r)
+
+-- What a call leaves: its answer, and the output.
+pub record TextResult : Type 0 where
+  pub answer : Outcome ℕ
+  pub output : List ℕ

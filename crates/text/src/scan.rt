@@ -1,6 +1,7 @@
 // A text line by line: one pass for each test, and one that puts the numbers.
 use gates::place::Place;
 use text_lines::line;
+use text_lines::line::LINE_FEED;
 use text_lines::line::Line;
 ghost use mathlib.Core.Path.{_≡_};
 ghost use Prim.Native.Nat.{_+_, _*_, _≤_, _<_};
@@ -12,8 +13,6 @@ ghost use mathlib.Core.Bool.{_&&_};
 ghost use Rattle.gates.specs.Test.{firstBad};
 ghost use Rattle.gates.specs.declared.place.Place.the-variants.{Nowhere};
 ghost use Rattle.text.specs.Text.{linesOf, firstMalformed, gatesIn};
-
-const LINE_FEED: u8 = 10;
 
 // How many lines a text has: its line feeds, and one more where characters stand behind the last of them.
 pub(crate) fn line_count(text: &[u8]) -> usize
@@ -38,7 +37,7 @@ pub(crate) fn line_count(text: &[u8]) -> usize
 }
 
 // The first line that is no gate.
-pub(crate) fn first_other(text: &[u8]) -> Place
+pub(crate) fn first_malformed(text: &[u8]) -> Place
     ensures { λ r. ⌜ r ≡ firstMalformed 0 (linesOf (now (text .entry))) ⌝ }
 {
     let mut at = 0;
@@ -106,7 +105,9 @@ pub(crate) fn first_bad(inputs: usize, text: &[u8]) -> Place
 pub(crate) fn put_gates(text: &[u8], output: &mut [u32])
     requires { ⌜ firstMalformed 0 (linesOf (now text)) ≡ Nowhere ⌝ }
     requires { ⌜ 4 * length (linesOf (now text)) ≤ length (now output) ⌝ }
-    ensures { λ _. ⌜ now (output .exit) ≡ sets (now (output .entry)) 0 (numbersOf (gatesIn (linesOf (now (text .entry))))) ⌝ }
+    ensures { λ _.
+        ⌜ now (output .exit)
+        ≡ sets (now (output .entry)) 0 (numbersOf (gatesIn (linesOf (now (text .entry))))) ⌝ }
 {
     let mut at = 0;
     let mut i = 0;

@@ -14,7 +14,7 @@ use Rattle.gates.specs.Kind.{operandsOf}
 use Rattle.gates.specs.Gate.{Gate}
 use Rattle.text_lines.specs.Decimal.{Taken, taken, numberIn}
 use Rattle.text_lines.specs.Line.{knownKind, operandIn, endIn, gateIn}
-use Rattle.text_lines.specs.Inner.{numberFound, NumberWithin}
+use Rattle.text_lines.specs.inner.Found.{numberFound, NumberWithin}
 use Rattle.text_lines.specs.declared.decimal.Found.{Found}
 use Rattle.text_lines.specs.declared.decimal.Found.the-variants.{Value, Malformed}
 

@@ -37,7 +37,8 @@ pub record Taken (Values : Type 0) : Type 0 where
 abbrev pub taken : {Values : Type 0} → Values → List ℕ → Option (Taken Values)
 taken value behind = some (record { value = value; behind = behind })
 
--- The digits from here on, those before them having come to n: the whole number, or nothing where it is above the largest.
+-- The digits from here on, those before them having come to n: the whole number, or nothing where it is above the
+-- largest.
 unfoldable pub digitsIn : ℕ → List ℕ → Option (Taken ℕ)
 digitsIn n [] = taken n []
 digitsIn n (c ∷ cs) =

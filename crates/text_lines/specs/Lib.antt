@@ -1,3 +1,3 @@
 pub mod Decimal
 pub mod Line
-pub mod Inner
+pub mod inner

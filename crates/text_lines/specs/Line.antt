@@ -27,7 +27,8 @@ lineOf g =
     ++ operandText (ltb 2 (operandsOf (g .kind))) (g .c)
     ++ lineFeed ∷ []
 
--- The same parts at the start of some characters, each of which may be missing: a kind that there is, an operand, which is 0 where it is not in use, and a line feed.
+-- The same parts at the start of some characters, each of which may be missing: a known kind, an operand, which is 0
+-- where it is not in use, and a line feed.
 unfoldable pub knownKind : Taken ℕ → Option (Taken ℕ)
 knownKind k = cond (ltb (k .value) 8) (some k) none
 

@@ -4,7 +4,7 @@ ghost use Prim.Native.Nat.{_+_, _≤_, _<_};
 ghost use lib.ListN.{length, drop};
 ghost use lib.Seq.{sets};
 ghost use Rattle.text_lines.specs.Decimal.{decimal, isDigit, digitsIn, numberIn};
-ghost use Rattle.text_lines.specs.Inner.{numberFound, NumberWithin};
+ghost use Rattle.text_lines.specs.inner.Found.{numberFound, NumberWithin};
 
 const ZERO: u8 = 48;
 

@@ -6,11 +6,12 @@ ghost use mathlib.Core.Path.{_≡_};
 ghost use Prim.Native.Nat.{_≤_};
 ghost use lib.ListN.{length, drop};
 ghost use Rattle.text_lines.specs.Line.{operandIn, gateIn};
-ghost use Rattle.text_lines.specs.Inner.{numberFound, NumberWithin, lineFound, LineWithin};
+ghost use Rattle.text_lines.specs.inner.Found.{numberFound, NumberWithin, lineFound, LineWithin};
 
-const SPACE: u8 = 32;
+// What stands before each operand, and what ends a line.
+pub const SPACE: u8 = 32;
 
-const LINE_FEED: u8 = 10;
+pub const LINE_FEED: u8 = 10;
 
 // The gate of a line, with the place behind it, or that the line has another form.
 pub enum Line {

@@ -1,15 +1,13 @@
 // One gate as a line, put into a text.
 use crate::decimal;
+use crate::line::LINE_FEED;
+use crate::line::SPACE;
 use gates::kind;
 ghost use mathlib.Core.Path.{_≡_};
 ghost use Prim.Native.Nat.{_+_, _≤_};
 ghost use lib.ListN.{length};
 ghost use lib.Seq.{sets};
 ghost use Rattle.text_lines.specs.Line.{operandText, lineOf};
-
-const SPACE: u8 = 32;
-
-const LINE_FEED: u8 = 10;
 
 // How many characters an operand takes.
 fn operand_length(used: bool, n: u32) -> usize
@@ -49,7 +47,9 @@ fn put_operand(used: bool, n: u32, at: usize, output: &mut [u8]) -> usize
 pub fn put_line(kind: u32, a: u32, b: u32, c: u32, at: usize, output: &mut [u8]) -> usize
     requires { ⌜ at + length (lineOf (record { kind = kind; a = a; b = b; c = c })) ≤ length (now output) ⌝ }
     ensures { λ r. ⌜ r ≡ at + length (lineOf (record { kind = kind; a = a; b = b; c = c })) ⌝ }
-    ensures { λ _. ⌜ now (output .exit) ≡ sets (now (output .entry)) at (lineOf (record { kind = kind; a = a; b = b; c = c })) ⌝ }
+    ensures { λ _.
+        ⌜ now (output .exit)
+        ≡ sets (now (output .entry)) at (lineOf (record { kind = kind; a = a; b = b; c = c })) ⌝ }
 {
     let counts = kind::OPERANDS;
     let count = kind::operands(&counts, kind);

@@ -1,17 +1,14 @@
 -- `c_batch::run::jugy_run_batch` meets its contract: where the answer array is long enough, it says what the entry point
 -- says.
 -- Assumes nothing.
-use mathlib.Core.Path.{_≡_, _∙_, refl, sym, ap}
-use mathlib.Core.List.{List, _++_}
-use Prim.Native.Nat.{ℕ}
-use lib.ListN.{drop}
+use mathlib.Core.Path.{ap}
+use mathlib.Core.List.{[], _∷_}
 use borrow.Author.Needs.{needs}
 use Rattle.tally.specs.Run.{RunResult}
-use Rattle.c_answers.specs.Numbers.{shapeOf, statusOf, sizeAnswer, sizeNumbers}
-use Rattle.c_answers.proofs.Answering.{short-status, short-answered, short-altered, room-status, room-answered, room-altered}
+use Rattle.c_answers.specs.Numbers.{shapeOf, sizeAnswer, sizeNumbers}
+use Rattle.c_answers.proofs.Answering.{short-call, put-call}
 use Rattle.batch.specs.Call.{Call}
 use Rattle.batch.specs.Run.{batchResult}
-use Rattle.c_batch.specs.Leaves.{Leaves}
 use Rattle.c_batch.proofs.run.jugy_run_batch.Statement.{statement}
 use Rattle.c_batch.proofs.run.jugy_run_batch.Tie as tie
 
@@ -35,19 +32,12 @@ started-short c = c .before .before .before .before .before .before .before
 abbrev started : tie.Else1 → tie.Start
 started c = c .before .before .before .before .before .before .before
 
-same : (x y : Leaves) → x .status ≡ y .status → x .answer ≡ y .answer → x .wires ≡ y .wires → x .board ≡ y .board → x ≡ y
-same x y a b c d = rw (a, b, c, d) refl
-
 returns : tie.Need-returns
 returns c =
-    let a = started-short c .args in
-    let answer = a .answer .now in
-    let short = c .if1 .taken in
-    let all = batchResult (call (started-short c)) in
-    let numbers = sizeNumbers (all .answer) in
-    same _ _ (sym (short-status sizeAnswer answer short numbers)) (sym (short-answered sizeAnswer answer short numbers))
-    (sym (short-altered sizeAnswer answer short (all .wires) (a .wires .now)))
-    (sym (short-altered sizeAnswer answer short (all .board) (a .board .now)))
+    let of = call (started-short c) in
+    let r = batchResult of in
+    short-call sizeAnswer (started-short c .args .answer .now) (c .if1 .taken) (sizeNumbers (r .answer))
+    (of .wires ∷ of .board ∷ []) (r .wires ∷ r .board ∷ [])
 
 run-requires : tie.Need-run-requires
 run-requires c κs = search needs
@@ -67,20 +57,14 @@ same-length-3 c = search needs
 returns-2 : tie.Need-returns-2
 unfolding shapeOf
 returns-2 c =
-    let put = c .before .before .put-size in
     let ran = c .before .before .before .before .before .before .before .before in
     let long = ran .before .before .before in
-    let a = started long .args in
-    let answer = a .answer .now in
-    let room = long .if1 .left in
-    let all = batchResult (call (started long)) in
-    let numbers = sizeNumbers (all .answer) in
-    let is = ran .run .ensures in
-    let e = ap (λ (x : RunResult). sizeNumbers (x .answer)) is in
-    same _ _ (put .ensures .0 ∙ ap statusOf e ∙ sym (room-status sizeAnswer answer room numbers))
-    (put .ensures .1 ∙ ap (λ (r : List ℕ). r ++ drop sizeAnswer answer) e ∙ sym (room-answered sizeAnswer answer room numbers))
-    (ap (λ (x : RunResult). x .wires) is ∙ sym (room-altered sizeAnswer answer room (all .wires) (a .wires .now)))
-    (ap (λ (x : RunResult). x .board) is ∙ sym (room-altered sizeAnswer answer room (all .board) (a .board .now)))
+    let of = call (started long) in
+    let r = batchResult of in
+    let left = ran .run .ensures in
+    put-call sizeAnswer (started long .args .answer .now) (long .if1 .left) (sizeNumbers (r .answer)) _ _ _
+    (c .before .before .put-size .ensures) (ap (λ (z : RunResult). sizeNumbers (z .answer)) left)
+    (of .wires ∷ of .board ∷ []) (r .wires ∷ r .board ∷ []) _ (ap (λ (z : RunResult). z .wires ∷ z .board ∷ []) left)
 
 pub jugy-run-batch-spec : {M : Type 1} → statement M
 jugy-run-batch-spec =

@@ -1,20 +1,15 @@
 -- `c_dispatch::dispatch::jugy_dispatch` meets its contract: where the answer array is long enough, it says what the
 -- dispatcher says.
 -- Assumes nothing.
-use mathlib.Core.Path.{_≡_, _∙_, refl, sym, ap}
-use mathlib.Core.Option.{Option}
-use mathlib.Core.List.{List, _++_}
-use Prim.Native.Nat.{ℕ}
-use lib.ListN.{drop}
+use mathlib.Core.Path.{_∙_, ap}
+use mathlib.Core.List.{List, [], _∷_}
 use borrow.Author.Needs.{needs}
-use Rattle.jury.specs.Reason.{Reason}
 use Rattle.dispatch_rounds.specs.declared.header.JuryHeader.{JuryHeader}
 use Rattle.dispatch_rounds.specs.Tables.{lent}
 use Rattle.dispatch.specs.Call.{Call}
 use Rattle.dispatch.specs.Result.{DispatchResult, dispatchResult}
-use Rattle.c_answers.specs.Numbers.{answerNumbers, statusOf}
-use Rattle.c_dispatch.specs.Numbers.{headersIn, dispatchNumbers, dispatchAnswer, Leaves}
-use Rattle.c_answers.proofs.Answering.{short-status, short-answered, short-altered, room-status, room-answered, room-altered}
+use Rattle.c_dispatch.specs.Numbers.{headersIn, dispatchNumbers, dispatchAnswer}
+use Rattle.c_answers.proofs.Answering.{short-call, put-call}
 use Rattle.c_dispatch.proofs.dispatch.jugy_dispatch.Statement.{statement}
 use Rattle.c_dispatch.proofs.dispatch.jugy_dispatch.Tie as tie
 
@@ -39,24 +34,12 @@ started-short c = c .before .before .before .before .before .before .before .bef
 abbrev started : tie.Else1 → tie.Start
 started c = c .before .before .before .before .before .before .before .before
 
-same : (x y : Leaves) → x .status ≡ y .status → x .answer ≡ y .answer → x .wires ≡ y .wires → x .boards ≡ y .boards → x ≡ y
-same x y a b c d = rw (a, b, c, d) refl
-
--- the numbers of an answer follow its two parts
-counted : (o q : Option Reason) (xs ys : List ℕ) → o ≡ q → xs ≡ ys → answerNumbers o xs ≡ answerNumbers q ys
-counted o q xs ys e f = ap (λ (r : Option Reason). answerNumbers r xs) e ∙ ap (answerNumbers q) f
-
 returns : tie.Need-returns
 returns c =
-    let start = started-short c in
-    let a = start .args in
-    let answer = a .answer .now in
-    let short = c .if1 .taken in
-    let d = dispatchResult (call start) in
-    let numbers = dispatchNumbers d in
-    same _ _ (sym (short-status dispatchAnswer answer short numbers)) (sym (short-answered dispatchAnswer answer short numbers))
-    (sym (short-altered dispatchAnswer answer short (d .wires) (a .wires .now)))
-    (sym (short-altered dispatchAnswer answer short (d .boards) (a .boards .now)))
+    let of = call (started-short c) in
+    let r = dispatchResult of in
+    short-call dispatchAnswer (started-short c .args .answer .now) (c .if1 .taken) (dispatchNumbers r)
+    (of .tables .wires ∷ of .tables .boards ∷ []) (r .wires ∷ r .boards ∷ [])
 
 headers-in-requires : tie.Need-headers-in-requires
 headers-in-requires c κs = search needs
@@ -78,23 +61,18 @@ same-length-3 c = search needs
 
 returns-2 : tie.Need-returns-2
 returns-2 c =
-    let put = c .before .before .put-rounds in
     let ran = c .before .before .before .before .before .before .before .before in
     let read = ran .before .before .before in
     let long = read .before in
     let start = started long in
-    let a = start .args in
-    let answer = a .answer .now in
-    let room = long .if1 .left in
-    let d = dispatchResult (call start) in
-    let numbers = dispatchNumbers d in
-    let is : _ ≡ d = ran .dispatch .ensures ∙ ap (λ (z : List JuryHeader). dispatchResult (with-headers start z)) (read .headers-in .ensures) in
-    let e = counted _ _ _ _ (ap (λ (x : DispatchResult). x .reason) is) (ap (λ (x : DispatchResult). x .rounds) is) in
-    same _ _ (put .ensures .reads ∙ ap statusOf e ∙ sym (room-status dispatchAnswer answer room numbers))
-    (put .ensures .array ∙ ap (λ (l : List ℕ). l ++ drop dispatchAnswer answer) e
-    ∙ sym (room-answered dispatchAnswer answer room numbers))
-    (ap (λ (x : DispatchResult). x .wires) is ∙ sym (room-altered dispatchAnswer answer room (d .wires) (a .wires .now)))
-    (ap (λ (x : DispatchResult). x .boards) is ∙ sym (room-altered dispatchAnswer answer room (d .boards) (a .boards .now)))
+    let of = call start in
+    let r = dispatchResult of in
+    let left = ran .dispatch .ensures
+    ∙ ap (λ (z : List JuryHeader). dispatchResult (with-headers start z)) (read .headers-in .ensures) in
+    put-call dispatchAnswer (start .args .answer .now) (long .if1 .left) (dispatchNumbers r) _ _ _
+    (c .before .before .put-rounds .ensures) (ap dispatchNumbers left)
+    (of .tables .wires ∷ of .tables .boards ∷ []) (r .wires ∷ r .boards ∷ []) _
+    (ap (λ (z : DispatchResult). z .wires ∷ z .boards ∷ []) left)
 
 pub jugy-dispatch-spec : {M : Type 1} → statement M
 jugy-dispatch-spec =

@@ -55,8 +55,8 @@ returns c =
     let f = ten .ensures ∙ sym e in
     let n : length (ten .result) ≡ 10 = omega (arith, ap length (ten .ensures), start .good) in
     record {
-      reads = sym (ap statusOf e);
-      array =
+      returns = sym (ap statusOf e);
+      writes =
           c .before .before .put .ensures ∙ ap (λ (r : List ℕ). r ++ drop (length (ten .result)) (a .answer .now)) f
           ∙ ap (λ (k : ℕ). answerNumbers (verdictReason (a .outcome .verdict)) xs ++ drop k (a .answer .now)) n;
     }
@@ -78,8 +78,8 @@ returns-2 c =
     let f = ten .ensures ∙ ap (λ (m : ℕ). m ∷ known .0 .1 .0 ∷ xs) (number .ensures) ∙ sym e in
     let n : length (ten .result) ≡ 10 = omega (arith, ap length (ten .ensures), start .good) in
     record {
-      reads = number .ensures ∙ sym (ap statusOf e);
-      array =
+      returns = number .ensures ∙ sym (ap statusOf e);
+      writes =
           c .before .before .put2 .ensures ∙ ap (λ (r : List ℕ). r ++ drop (length (ten .result)) (a .answer .now)) f
           ∙ ap (λ (k : ℕ). answerNumbers (verdictReason (a .outcome .verdict)) xs ++ drop k (a .answer .now)) n;
     }

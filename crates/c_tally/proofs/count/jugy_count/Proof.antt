@@ -1,10 +1,9 @@
--- `jugyvaros::count::jugy_count` meets its contract: where the answer array is long enough, it says what the entry point says, or what it would say of a shape outside the limits.
+-- `c_tally::count::jugy_count` meets its contract: where the answer array is long enough, it says what the entry point says, or what it would say of a shape outside the limits.
 -- Assumes nothing.
-use mathlib.Core.Path.{_≡_, _∙_, sym, ap}
+use mathlib.Core.Path.{_≡_, _∙_, refl, sym, ap}
 use mathlib.Core.Option.{Option}
-use mathlib.Core.List.{List, _++_}
+use mathlib.Core.List.{List, [], _∷_}
 use Prim.Native.Nat.{ℕ}
-use lib.ListN.{drop}
 use borrow.Author.Needs.{needs}
 use Rattle.jury.specs.declared.shape.Shape.{Shape}
 use Rattle.jury.specs.Shape.{withinLimits}
@@ -14,8 +13,8 @@ use Rattle.jury.proofs.Constructed.{shape-is, outside-is}
 use Rattle.tally.specs.Count.{countReason, plainClosing}
 use Rattle.tally.proofs.CountReason.{outside-reason}
 use Rattle.tally.proofs.Outside.{outside-closing}
-use Rattle.c_answers.specs.Numbers.{shapeOf, statusOf, answerNumbers}
-use Rattle.c_answers.proofs.Answering.{short-status, short-answered, room-status, room-answered}
+use Rattle.c_answers.specs.Numbers.{shapeOf, answerNumbers}
+use Rattle.c_answers.proofs.Answering.{short-call, put-call}
 use Rattle.c_tally.proofs.count.jugy_count.Statement.{statement}
 use Rattle.c_tally.proofs.count.jugy_count.Tie as tie
 
@@ -27,8 +26,8 @@ returns : tie.Need-returns
 unfolding shapeOf
 returns c =
     let a = c .before .before .before .args in
-    let numbers = answerNumbers (countReason (shapeOf (a .candidates) (a .grades) (a .ballots)) (a .bytes .now)) (plainClosing (shapeOf (a .candidates) (a .grades) (a .ballots)) (a .bytes .now)) in
-    (sym (short-status 10 (a .answer .now) (c .if1 .taken) numbers), sym (short-answered 10 (a .answer .now) (c .if1 .taken) numbers))
+    let s = shapeOf (a .candidates) (a .grades) (a .ballots) in
+    short-call 10 (a .answer .now) (c .if1 .taken) (answerNumbers (countReason s (a .bytes .now)) (plainClosing s (a .bytes .now))) [] []
 
 new-requires : tie.Need-new-requires
 new-requires c κs = search needs
@@ -53,11 +52,10 @@ returns-2 c =
     let long = made .before in
     let a = long .before .before .before .args in
     let s = shapeOf (a .candidates) (a .grades) (a .ballots) in
-    let put = c .before .before .put-count in
     let outside = outside-is (withinLimits s) s (sym (made .new .ensures .0) ∙ told .enum-told .given .1) in
-    let numbers = answerNumbers (countReason s (a .bytes .now)) (plainClosing s (a .bytes .now)) in
-    let e = counted _ _ _ _ (sym (outside-reason s (a .bytes .now) outside)) (sym (outside-closing s outside (a .bytes .now))) in
-    (put .ensures .0 ∙ ap statusOf e ∙ sym (room-status 10 (a .answer .now) (long .if1 .left) numbers), put .ensures .1 ∙ ap (λ (r : List ℕ). r ++ drop 10 (a .answer .now)) e ∙ sym (room-answered 10 (a .answer .now) (long .if1 .left) numbers))
+    put-call 10 (a .answer .now) (long .if1 .left) (answerNumbers (countReason s (a .bytes .now)) (plainClosing s (a .bytes .now))) _ _ _
+    (c .before .before .put-count .ensures)
+    (counted _ _ _ _ (sym (outside-reason s (a .bytes .now) outside)) (sym (outside-closing s outside (a .bytes .now)))) [] [] [] refl
 
 count-requires : tie.Need-count-requires
 count-requires c κs = search needs
@@ -77,12 +75,11 @@ returns-3 c =
     let long = made .before in
     let a = long .before .before .before .args in
     let s = shapeOf (a .candidates) (a .grades) (a .ballots) in
-    let put = c .before .before .put-count2 in
     let same = shape-is (withinLimits s) s (known .shape .given .0 .0) (sym (made .new .ensures .0) ∙ known .shape .given .1) in
-    let numbers = answerNumbers (countReason s (a .bytes .now)) (plainClosing s (a .bytes .now)) in
-    let e = counted _ _ _ _ (outcome .count .ensures .0 ∙ ap (λ (z : Shape). countReason z (a .bytes .now)) same)
-    (outcome .count .ensures .1 ∙ ap (λ (z : Shape). plainClosing z (a .bytes .now)) same) in
-    (put .ensures .0 ∙ ap statusOf e ∙ sym (room-status 10 (a .answer .now) (long .if1 .left) numbers), put .ensures .1 ∙ ap (λ (r : List ℕ). r ++ drop 10 (a .answer .now)) e ∙ sym (room-answered 10 (a .answer .now) (long .if1 .left) numbers))
+    put-call 10 (a .answer .now) (long .if1 .left) (answerNumbers (countReason s (a .bytes .now)) (plainClosing s (a .bytes .now))) _ _ _
+    (c .before .before .put-count2 .ensures)
+    (counted _ _ _ _ (outcome .count .ensures .verdict ∙ ap (λ (z : Shape). countReason z (a .bytes .now)) same)
+    (outcome .count .ensures .closing ∙ ap (λ (z : Shape). plainClosing z (a .bytes .now)) same)) [] [] [] refl
 
 pub jugy-count-spec : {M : Type 1} → statement M
 jugy-count-spec =

@@ -1,9 +1,8 @@
--- `jugyvaros::measure::jugy_measure` meets its contract: where the answer array is long enough, it says what the entry point says, or what it would say of a shape outside the limits.
+-- `c_tally::measure::jugy_measure` meets its contract: where the answer array is long enough, it says what the entry point says, or what it would say of a shape outside the limits.
 -- Assumes nothing.
-use mathlib.Core.Path.{_∙_, sym, ap}
-use mathlib.Core.List.{List, _++_}
+use mathlib.Core.Path.{_≡_, _∙_, refl, sym, ap}
+use mathlib.Core.List.{List, [], _∷_}
 use Prim.Native.Nat.{ℕ}
-use lib.ListN.{drop}
 use borrow.Author.Needs.{needs}
 use Rattle.jury.specs.Shape.{withinLimits}
 use Rattle.jury.specs.Reason.{reasonOf}
@@ -11,8 +10,8 @@ use Rattle.jury.proofs.Constructed.{shape-is, outside-is}
 use Rattle.tally.specs.Answer.{Outcome}
 use Rattle.tally.specs.Measure.{Measures, measuredBy, measureOutcome}
 use Rattle.tally.proofs.Outside.{outside-measure}
-use Rattle.c_answers.specs.Numbers.{shapeOf, statusOf, measureNumbers}
-use Rattle.c_answers.proofs.Answering.{short-status, short-answered, room-status, room-answered}
+use Rattle.c_answers.specs.Numbers.{shapeOf, measureNumbers}
+use Rattle.c_answers.proofs.Answering.{short-call, put-call}
 use Rattle.c_tally.proofs.measure.jugy_measure.Statement.{statement}
 use Rattle.c_tally.proofs.measure.jugy_measure.Tie as tie
 
@@ -20,8 +19,7 @@ returns : tie.Need-returns
 unfolding shapeOf
 returns c =
     let a = c .before .before .args in
-    let numbers = measureNumbers (measureOutcome (shapeOf (a .candidates) (a .grades) (a .ballots))) in
-    (sym (short-status 5 (a .answer .now) (c .if1 .taken) numbers), sym (short-answered 5 (a .answer .now) (c .if1 .taken) numbers))
+    short-call 5 (a .answer .now) (c .if1 .taken) (measureNumbers (measureOutcome (shapeOf (a .candidates) (a .grades) (a .ballots)))) [] []
 
 new-requires : tie.Need-new-requires
 new-requires c κs = search needs
@@ -46,11 +44,9 @@ returns-2 c =
     let long = made .before in
     let a = long .before .before .args in
     let s = shapeOf (a .candidates) (a .grades) (a .ballots) in
-    let put = c .before .before .put-measures in
     let outside = outside-is (withinLimits s) s (sym (made .new .ensures .0) ∙ told .enum-told .given .1) in
-    let numbers = measureNumbers (measureOutcome s) in
-    let e = ap (λ (s : Outcome Measures). measureNumbers s) (sym (outside-measure s outside)) in
-    (put .ensures .0 ∙ ap statusOf e ∙ sym (room-status 5 (a .answer .now) (long .if1 .left) numbers), put .ensures .1 ∙ ap (λ (r : List ℕ). r ++ drop 5 (a .answer .now)) e ∙ sym (room-answered 5 (a .answer .now) (long .if1 .left) numbers))
+    put-call 5 (a .answer .now) (long .if1 .left) (measureNumbers (measureOutcome s)) _ _ _ (c .before .before .put-measures .ensures)
+    (ap measureNumbers (sym (outside-measure s outside))) [] [] [] refl
 
 measure-requires : tie.Need-measure-requires
 measure-requires c κs = search needs
@@ -70,11 +66,9 @@ returns-3 c =
     let long = made .before in
     let a = long .before .before .args in
     let s = shapeOf (a .candidates) (a .grades) (a .ballots) in
-    let put = c .before .before .put-measures2 in
     let same = shape-is (withinLimits s) s (known .shape .given .0 .0) (sym (made .new .ensures .0) ∙ known .shape .given .1) in
-    let numbers = measureNumbers (measureOutcome s) in
-    let e = ap (λ (s : Outcome Measures). measureNumbers s) (outcome .measure .ensures ∙ ap measureOutcome same) in
-    (put .ensures .0 ∙ ap statusOf e ∙ sym (room-status 5 (a .answer .now) (long .if1 .left) numbers), put .ensures .1 ∙ ap (λ (r : List ℕ). r ++ drop 5 (a .answer .now)) e ∙ sym (room-answered 5 (a .answer .now) (long .if1 .left) numbers))
+    put-call 5 (a .answer .now) (long .if1 .left) (measureNumbers (measureOutcome s)) _ _ _ (c .before .before .put-measures2 .ensures)
+    (ap measureNumbers (outcome .measure .ensures ∙ ap measureOutcome same)) [] [] [] refl
 
 pub jugy-measure-spec : {M : Type 1} → statement M
 jugy-measure-spec =

@@ -1,9 +1,8 @@
--- `jugyvaros::run::jugy_run` meets its contract: where the answer array is long enough, it says what the entry point says, or what it would say of a shape outside the limits.
+-- `c_tally::run::jugy_run` meets its contract: where the answer array is long enough, it says what the entry point says, or what it would say of a shape outside the limits.
 -- Assumes nothing.
-use mathlib.Core.Path.{_∙_, sym, ap}
-use mathlib.Core.List.{List, _++_}
+use mathlib.Core.Path.{_≡_, _∙_, refl, sym, ap}
+use mathlib.Core.List.{List, [], _∷_}
 use Prim.Native.Nat.{ℕ}
-use lib.ListN.{drop}
 use borrow.Author.Needs.{needs}
 use Rattle.jury.specs.declared.shape.Shape.{Shape}
 use Rattle.jury.specs.Shape.{withinLimits}
@@ -12,8 +11,8 @@ use Rattle.jury.proofs.Constructed.{shape-is, outside-is}
 use Rattle.tally.specs.Answer.{Outcome, outcomeOf, Size}
 use Rattle.tally.specs.Run.{RunResult, runResult}
 use Rattle.tally.proofs.Outside.{outside-run}
-use Rattle.c_answers.specs.Numbers.{shapeOf, statusOf, sizeNumbers}
-use Rattle.c_answers.proofs.Answering.{short-status, short-answered, short-altered, room-status, room-answered, room-altered}
+use Rattle.c_answers.specs.Numbers.{shapeOf, sizeNumbers}
+use Rattle.c_answers.proofs.Answering.{short-call, put-call}
 use Rattle.c_tally.proofs.run.jugy_run.Statement.{statement}
 use Rattle.c_tally.proofs.run.jugy_run.Tie as tie
 
@@ -21,8 +20,8 @@ returns : tie.Need-returns
 unfolding shapeOf
 returns c =
     let a = c .before .before .before .before .before .before .before .args in
-    let numbers = sizeNumbers ((runResult (shapeOf (a .candidates) (a .grades) (a .ballots)) (a .table .now) (a .bytes .now) (a .tape .now) (a .wires .now) (a .board .now)) .answer) in
-    (sym (short-status 4 (a .answer .now) (c .if1 .taken) numbers), (sym (short-answered 4 (a .answer .now) (c .if1 .taken) numbers), (sym (short-altered 4 (a .answer .now) (c .if1 .taken) ((runResult (shapeOf (a .candidates) (a .grades) (a .ballots)) (a .table .now) (a .bytes .now) (a .tape .now) (a .wires .now) (a .board .now)) .wires) (a .wires .now)), sym (short-altered 4 (a .answer .now) (c .if1 .taken) ((runResult (shapeOf (a .candidates) (a .grades) (a .ballots)) (a .table .now) (a .bytes .now) (a .tape .now) (a .wires .now) (a .board .now)) .board) (a .board .now)))))
+    let r = runResult (shapeOf (a .candidates) (a .grades) (a .ballots)) (a .table .now) (a .bytes .now) (a .tape .now) (a .wires .now) (a .board .now) in
+    short-call 4 (a .answer .now) (c .if1 .taken) (sizeNumbers (r .answer)) (a .wires .now ∷ a .board .now ∷ []) (r .wires ∷ r .board ∷ [])
 
 new-requires : tie.Need-new-requires
 new-requires c κs = search needs
@@ -47,12 +46,12 @@ returns-2 c =
     let long = made .before in
     let a = long .before .before .before .before .before .before .before .args in
     let s = shapeOf (a .candidates) (a .grades) (a .ballots) in
-    let put = c .before .before .put-size in
     let outside = outside-is (withinLimits s) s (sym (made .new .ensures .0) ∙ told .enum-told .given .1) in
-    let numbers = sizeNumbers ((runResult s (a .table .now) (a .bytes .now) (a .tape .now) (a .wires .now) (a .board .now)) .answer) in
+    let r = runResult s (a .table .now) (a .bytes .now) (a .tape .now) (a .wires .now) (a .board .now) in
     let left = outside-run s outside (a .table .now) (a .bytes .now) (a .tape .now) (a .wires .now) (a .board .now) in
-    let e = ap (λ (z : RunResult). sizeNumbers (z .answer)) (sym left) in
-    (put .ensures .0 ∙ ap statusOf e ∙ sym (room-status 4 (a .answer .now) (long .if1 .left) numbers), (put .ensures .1 ∙ ap (λ (r : List ℕ). r ++ drop 4 (a .answer .now)) e ∙ sym (room-answered 4 (a .answer .now) (long .if1 .left) numbers), (sym (room-altered 4 (a .answer .now) (long .if1 .left) ((runResult s (a .table .now) (a .bytes .now) (a .tape .now) (a .wires .now) (a .board .now)) .wires) (a .wires .now) ∙ ap (λ (z : RunResult). z .wires) left), sym (room-altered 4 (a .answer .now) (long .if1 .left) ((runResult s (a .table .now) (a .bytes .now) (a .tape .now) (a .wires .now) (a .board .now)) .board) (a .board .now) ∙ ap (λ (z : RunResult). z .board) left))))
+    put-call 4 (a .answer .now) (long .if1 .left) (sizeNumbers (r .answer)) _ _ _ (c .before .before .put-size .ensures)
+    (ap (λ (z : RunResult). sizeNumbers (z .answer)) (sym left)) (a .wires .now ∷ a .board .now ∷ []) (r .wires ∷ r .board ∷ []) _
+    (ap (λ (z : RunResult). z .wires ∷ z .board ∷ []) (sym left))
 
 run-requires : tie.Need-run-requires
 run-requires c κs = search needs
@@ -78,11 +77,12 @@ returns-3 c =
     let long = made .before in
     let a = long .before .before .before .before .before .before .before .args in
     let s = shapeOf (a .candidates) (a .grades) (a .ballots) in
-    let put = c .before .before .put-size2 in
     let same = shape-is (withinLimits s) s (known .shape .given .0 .0) (sym (made .new .ensures .0) ∙ known .shape .given .1) in
-    let numbers = sizeNumbers ((runResult s (a .table .now) (a .bytes .now) (a .tape .now) (a .wires .now) (a .board .now)) .answer) in
-    let e = ap (λ (s : Outcome Size). sizeNumbers s) (outcome .run .ensures .0 ∙ ap (λ (z : Shape). (runResult z (a .table .now) (a .bytes .now) (a .tape .now) (a .wires .now) (a .board .now)) .answer) same) in
-    (put .ensures .0 ∙ ap statusOf e ∙ sym (room-status 4 (a .answer .now) (long .if1 .left) numbers), (put .ensures .1 ∙ ap (λ (r : List ℕ). r ++ drop 4 (a .answer .now)) e ∙ sym (room-answered 4 (a .answer .now) (long .if1 .left) numbers), (outcome .run .ensures .1 .0 ∙ ap (λ (z : Shape). (runResult z (a .table .now) (a .bytes .now) (a .tape .now) (a .wires .now) (a .board .now)) .wires) same ∙ sym (room-altered 4 (a .answer .now) (long .if1 .left) ((runResult s (a .table .now) (a .bytes .now) (a .tape .now) (a .wires .now) (a .board .now)) .wires) (a .wires .now)), outcome .run .ensures .1 .1 ∙ ap (λ (z : Shape). (runResult z (a .table .now) (a .bytes .now) (a .tape .now) (a .wires .now) (a .board .now)) .board) same ∙ sym (room-altered 4 (a .answer .now) (long .if1 .left) ((runResult s (a .table .now) (a .bytes .now) (a .tape .now) (a .wires .now) (a .board .now)) .board) (a .board .now)))))
+    let r = runResult s (a .table .now) (a .bytes .now) (a .tape .now) (a .wires .now) (a .board .now) in
+    let left = outcome .run .ensures ∙ ap (λ (z : Shape). runResult z (a .table .now) (a .bytes .now) (a .tape .now) (a .wires .now) (a .board .now)) same in
+    put-call 4 (a .answer .now) (long .if1 .left) (sizeNumbers (r .answer)) _ _ _ (c .before .before .put-size2 .ensures)
+    (ap (λ (z : RunResult). sizeNumbers (z .answer)) left) (a .wires .now ∷ a .board .now ∷ []) (r .wires ∷ r .board ∷ []) _
+    (ap (λ (z : RunResult). z .wires ∷ z .board ∷ []) left)
 
 pub jugy-run-spec : {M : Type 1} → statement M
 jugy-run-spec =

@@ -1,9 +1,8 @@
--- `jugyvaros::test::jugy_test` meets its contract: where the answer array is long enough, it says what the entry point says, or what it would say of a shape outside the limits.
+-- `c_tally::test::jugy_test` meets its contract: where the answer array is long enough, it says what the entry point says, or what it would say of a shape outside the limits.
 -- Assumes nothing.
-use mathlib.Core.Path.{_∙_, sym, ap}
-use mathlib.Core.List.{List, _++_}
+use mathlib.Core.Path.{_≡_, _∙_, refl, sym, ap}
+use mathlib.Core.List.{List, [], _∷_}
 use Prim.Native.Nat.{ℕ}
-use lib.ListN.{drop}
 use borrow.Author.Needs.{needs}
 use Rattle.jury.specs.declared.shape.Shape.{Shape}
 use Rattle.jury.specs.Shape.{withinLimits}
@@ -12,8 +11,8 @@ use Rattle.jury.proofs.Constructed.{shape-is, outside-is}
 use Rattle.tally.specs.Answer.{Outcome, outcomeOf, Size}
 use Rattle.tally.specs.Test.{testOutcome}
 use Rattle.tally.proofs.TestReasons.{outside-list}
-use Rattle.c_answers.specs.Numbers.{shapeOf, statusOf, sizeNumbers}
-use Rattle.c_answers.proofs.Answering.{short-status, short-answered, room-status, room-answered}
+use Rattle.c_answers.specs.Numbers.{shapeOf, sizeNumbers}
+use Rattle.c_answers.proofs.Answering.{short-call, put-call}
 use Rattle.c_tally.proofs.test.jugy_test.Statement.{statement}
 use Rattle.c_tally.proofs.test.jugy_test.Tie as tie
 
@@ -21,8 +20,7 @@ returns : tie.Need-returns
 unfolding shapeOf
 returns c =
     let a = c .before .before .before .args in
-    let numbers = sizeNumbers (testOutcome (shapeOf (a .candidates) (a .grades) (a .ballots)) (a .table .now)) in
-    (sym (short-status 4 (a .answer .now) (c .if1 .taken) numbers), sym (short-answered 4 (a .answer .now) (c .if1 .taken) numbers))
+    short-call 4 (a .answer .now) (c .if1 .taken) (sizeNumbers (testOutcome (shapeOf (a .candidates) (a .grades) (a .ballots)) (a .table .now))) [] []
 
 new-requires : tie.Need-new-requires
 new-requires c κs = search needs
@@ -47,11 +45,9 @@ returns-2 c =
     let long = made .before in
     let a = long .before .before .before .args in
     let s = shapeOf (a .candidates) (a .grades) (a .ballots) in
-    let put = c .before .before .put-size in
     let outside = outside-is (withinLimits s) s (sym (made .new .ensures .0) ∙ told .enum-told .given .1) in
-    let numbers = sizeNumbers (testOutcome s (a .table .now)) in
-    let e = ap (λ (s : Outcome Size). sizeNumbers s) (sym (outside-list s (a .table .now) outside)) in
-    (put .ensures .0 ∙ ap statusOf e ∙ sym (room-status 4 (a .answer .now) (long .if1 .left) numbers), put .ensures .1 ∙ ap (λ (r : List ℕ). r ++ drop 4 (a .answer .now)) e ∙ sym (room-answered 4 (a .answer .now) (long .if1 .left) numbers))
+    put-call 4 (a .answer .now) (long .if1 .left) (sizeNumbers (testOutcome s (a .table .now))) _ _ _ (c .before .before .put-size .ensures)
+    (ap sizeNumbers (sym (outside-list s (a .table .now) outside))) [] [] [] refl
 
 test-requires : tie.Need-test-requires
 test-requires c κs = search needs
@@ -71,11 +67,9 @@ returns-3 c =
     let long = made .before in
     let a = long .before .before .before .args in
     let s = shapeOf (a .candidates) (a .grades) (a .ballots) in
-    let put = c .before .before .put-size2 in
     let same = shape-is (withinLimits s) s (known .shape .given .0 .0) (sym (made .new .ensures .0) ∙ known .shape .given .1) in
-    let numbers = sizeNumbers (testOutcome s (a .table .now)) in
-    let e = ap (λ (s : Outcome Size). sizeNumbers s) (outcome .test .ensures ∙ ap (λ (z : Shape). testOutcome z (a .table .now)) same) in
-    (put .ensures .0 ∙ ap statusOf e ∙ sym (room-status 4 (a .answer .now) (long .if1 .left) numbers), put .ensures .1 ∙ ap (λ (r : List ℕ). r ++ drop 4 (a .answer .now)) e ∙ sym (room-answered 4 (a .answer .now) (long .if1 .left) numbers))
+    put-call 4 (a .answer .now) (long .if1 .left) (sizeNumbers (testOutcome s (a .table .now))) _ _ _ (c .before .before .put-size2 .ensures)
+    (ap sizeNumbers (outcome .test .ensures ∙ ap (λ (z : Shape). testOutcome z (a .table .now)) same)) [] [] [] refl
 
 pub jugy-test-spec : {M : Type 1} → statement M
 jugy-test-spec =

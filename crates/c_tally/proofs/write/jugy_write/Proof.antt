@@ -1,9 +1,8 @@
--- `jugyvaros::write::jugy_write` meets its contract: where the answer array is long enough, it says what the entry point says, or what it would say of a shape outside the limits.
+-- `c_tally::write::jugy_write` meets its contract: where the answer array is long enough, it says what the entry point says, or what it would say of a shape outside the limits.
 -- Assumes nothing.
-use mathlib.Core.Path.{_∙_, sym, ap}
-use mathlib.Core.List.{List, _++_}
+use mathlib.Core.Path.{_≡_, _∙_, refl, sym, ap}
+use mathlib.Core.List.{List, [], _∷_}
 use Prim.Native.Nat.{ℕ}
-use lib.ListN.{drop}
 use borrow.Author.Needs.{needs}
 use Rattle.jury.specs.declared.shape.Shape.{Shape}
 use Rattle.jury.specs.Shape.{withinLimits}
@@ -14,8 +13,8 @@ use Rattle.tally.specs.Answer.{Outcome, outcomeOf, Size}
 use Rattle.tally.specs.Write.{writeOutcome, written}
 use Rattle.tally.proofs.OwnList.{own-list-holds}
 use Rattle.tally.proofs.Writing.{write-refused, outside as outside-write}
-use Rattle.c_answers.specs.Numbers.{shapeOf, statusOf, sizeNumbers}
-use Rattle.c_answers.proofs.Answering.{short-status, short-answered, short-altered, room-status, room-answered, room-altered}
+use Rattle.c_answers.specs.Numbers.{shapeOf, sizeNumbers}
+use Rattle.c_answers.proofs.Answering.{short-call, put-call}
 use Rattle.c_tally.proofs.write.jugy_write.Statement.{statement}
 use Rattle.c_tally.proofs.write.jugy_write.Tie as tie
 
@@ -23,8 +22,10 @@ returns : tie.Need-returns
 unfolding shapeOf
 returns c =
     let a = c .before .before .before .args in
-    let numbers = sizeNumbers (writeOutcome (shapeOf (a .candidates) (a .grades) (a .ballots)) (a .table .now)) in
-    (sym (short-status 4 (a .answer .now) (c .if1 .taken) numbers), (sym (short-answered 4 (a .answer .now) (c .if1 .taken) numbers), (sym (short-altered 4 (a .answer .now) (c .if1 .taken) (written (shapeOf (a .candidates) (a .grades) (a .ballots)) (a .table .now)) (a .table .now)), λ t. own-list-holds (shapeOf (a .candidates) (a .grades) (a .ballots)) (T-true (withinLimits (shapeOf (a .candidates) (a .grades) (a .ballots))) t))))
+    let s = shapeOf (a .candidates) (a .grades) (a .ballots) in (
+      short-call 4 (a .answer .now) (c .if1 .taken) (sizeNumbers (writeOutcome s (a .table .now))) (a .table .now ∷ []) (written s (a .table .now) ∷ []),
+      λ t. own-list-holds s (T-true (withinLimits s) t),
+    )
 
 new-requires : tie.Need-new-requires
 new-requires c κs = search needs
@@ -49,12 +50,12 @@ returns-2 c =
     let long = made .before in
     let a = long .before .before .before .args in
     let s = shapeOf (a .candidates) (a .grades) (a .ballots) in
-    let put = c .before .before .put-size in
     let outside = outside-is (withinLimits s) s (sym (made .new .ensures .0) ∙ told .enum-told .given .1) in
-    let numbers = sizeNumbers (writeOutcome s (a .table .now)) in
-    let refusal = write-refused s (a .table .now) (reasonAt 1 0) (outside-write s (a .table .now) outside) in
-    let e = ap (λ (s : Outcome Size). sizeNumbers s) (sym (refusal .0)) in
-    (put .ensures .0 ∙ ap statusOf e ∙ sym (room-status 4 (a .answer .now) (long .if1 .left) numbers), (put .ensures .1 ∙ ap (λ (r : List ℕ). r ++ drop 4 (a .answer .now)) e ∙ sym (room-answered 4 (a .answer .now) (long .if1 .left) numbers), (sym (room-altered 4 (a .answer .now) (long .if1 .left) (written s (a .table .now)) (a .table .now) ∙ refusal .1), λ t. own-list-holds s (T-true (withinLimits s) t))))
+    let refusal = write-refused s (a .table .now) (reasonAt 1 0) (outside-write s (a .table .now) outside) in (
+      put-call 4 (a .answer .now) (long .if1 .left) (sizeNumbers (writeOutcome s (a .table .now))) _ _ _ (c .before .before .put-size .ensures)
+          (ap sizeNumbers (sym (refusal .0))) (a .table .now ∷ []) (written s (a .table .now) ∷ []) _ (ap (λ (z : List ℕ). z ∷ []) (sym (refusal .1))),
+      λ t. own-list-holds s (T-true (withinLimits s) t),
+    )
 
 write-requires : tie.Need-write-requires
 write-requires c κs = search needs
@@ -77,11 +78,13 @@ returns-3 c =
     let long = made .before in
     let a = long .before .before .before .args in
     let s = shapeOf (a .candidates) (a .grades) (a .ballots) in
-    let put = c .before .before .put-size2 in
     let same = shape-is (withinLimits s) s (known .shape .given .0 .0) (sym (made .new .ensures .0) ∙ known .shape .given .1) in
-    let numbers = sizeNumbers (writeOutcome s (a .table .now)) in
-    let e = ap (λ (s : Outcome Size). sizeNumbers s) (outcome .write .ensures .0 ∙ ap (λ (z : Shape). writeOutcome z (a .table .now)) same) in
-    (put .ensures .0 ∙ ap statusOf e ∙ sym (room-status 4 (a .answer .now) (long .if1 .left) numbers), (put .ensures .1 ∙ ap (λ (r : List ℕ). r ++ drop 4 (a .answer .now)) e ∙ sym (room-answered 4 (a .answer .now) (long .if1 .left) numbers), (outcome .write .ensures .1 .0 ∙ ap (λ (z : Shape). written z (a .table .now)) same ∙ sym (room-altered 4 (a .answer .now) (long .if1 .left) (written s (a .table .now)) (a .table .now)), λ t. own-list-holds s (T-true (withinLimits s) t))))
+    let wrote = outcome .write .ensures in (
+      put-call 4 (a .answer .now) (long .if1 .left) (sizeNumbers (writeOutcome s (a .table .now))) _ _ _ (c .before .before .put-size2 .ensures)
+          (ap sizeNumbers (wrote .answers ∙ ap (λ (z : Shape). writeOutcome z (a .table .now)) same)) (a .table .now ∷ []) (written s (a .table .now) ∷ []) _
+          (ap (λ (z : List ℕ). z ∷ []) (wrote .leaves ∙ ap (λ (z : Shape). written z (a .table .now)) same)),
+      λ t. own-list-holds s (T-true (withinLimits s) t),
+    )
 
 pub jugy-write-spec : {M : Type 1} → statement M
 jugy-write-spec =

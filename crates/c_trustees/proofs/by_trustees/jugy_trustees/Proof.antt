@@ -2,16 +2,13 @@
 -- entry point says.
 -- Assumes nothing.
 use borrow.Author.Needs.{needs}
-use mathlib.Core.Path.{_≡_, _∙_, refl, sym, ap}
-use mathlib.Core.List.{List, _++_}
-use Prim.Native.Nat.{ℕ}
-use lib.ListN.{drop}
+use mathlib.Core.Path.{ap}
+use mathlib.Core.List.{[], _∷_}
 use Rattle.trustees.specs.Call.{Call}
 use Rattle.trustees.specs.Result.{TrusteesResult, trusteesResult}
-use Rattle.c_answers.specs.Numbers.{shapeOf, statusOf}
-use Rattle.c_trustees.specs.Numbers.{tallyNumbers, tallyAnswer, Leaves}
-use Rattle.c_answers.proofs.Answering.{short-status, short-answered, short-altered, room-status, room-answered, room-altered}
-use Rattle.c_trustees.proofs.Tallying.{tallied}
+use Rattle.c_answers.specs.Numbers.{shapeOf}
+use Rattle.c_trustees.specs.Numbers.{tallyNumbers, tallyAnswer}
+use Rattle.c_answers.proofs.Answering.{short-call, put-call}
 use Rattle.c_trustees.proofs.by_trustees.jugy_trustees.Statement.{statement}
 use Rattle.c_trustees.proofs.by_trustees.jugy_trustees.Tie as tie
 
@@ -38,20 +35,12 @@ started-short c = c .before .before .before .before .before .before .before .bef
 abbrev started : tie.Else1 → tie.Start
 started c = c .before .before .before .before .before .before .before .before
 
-same : (x y : Leaves) → x .status ≡ y .status → x .answer ≡ y .answer → x .wireParts ≡ y .wireParts
-    → x .published ≡ y .published → x ≡ y
-same x y a b c d = rw (a, b, c, d) refl
-
 returns : tie.Need-returns
 returns c =
-    let start = started-short c in
-    let answer = start .args .answer .now in
-    let short = c .if1 .taken in
-    let r = trusteesResult (call start) in
-    let numbers = tallyNumbers (r .answer) (r .closing) in
-    same _ _ (sym (short-status tallyAnswer answer short numbers)) (sym (short-answered tallyAnswer answer short numbers))
-    (sym (short-altered tallyAnswer answer short (r .wireParts) (start .args .wires .now)))
-    (sym (short-altered tallyAnswer answer short (r .published) (start .args .published .now)))
+    let of = call (started-short c) in
+    let r = trusteesResult of in
+    short-call tallyAnswer (started-short c .args .answer .now) (c .if1 .taken) (tallyNumbers (r .answer) (r .closing))
+    (of .lent .wireParts ∷ of .lent .published ∷ []) (r .wireParts ∷ r .published ∷ [])
 
 run-requires : tie.Need-run-requires
 run-requires c κs = search needs
@@ -74,20 +63,13 @@ returns-2 c =
     let put = c .before .before in
     let outcome = put .before .before .before .before .before .before in
     let long = outcome .before .before .before in
-    let start = started long in
-    let answer = start .args .answer .now in
-    let room = long .if1 .left in
-    let r = trusteesResult (call start) in
-    let numbers = tallyNumbers (r .answer) (r .closing) in
-    let is = outcome .run .ensures in
-    let e = tallied _ _ _ _ (ap (λ (x : TrusteesResult). x .answer) is) (ap (λ (x : TrusteesResult). x .closing) is) in
-    same _ _ (put .put-tally .ensures .reads ∙ ap statusOf e ∙ sym (room-status tallyAnswer answer room numbers))
-    (put .put-tally .ensures .array ∙ ap (λ (l : List ℕ). l ++ drop tallyAnswer answer) e
-    ∙ sym (room-answered tallyAnswer answer room numbers))
-    (ap (λ (x : TrusteesResult). x .wireParts) is
-    ∙ sym (room-altered tallyAnswer answer room (r .wireParts) (start .args .wires .now)))
-    (ap (λ (x : TrusteesResult). x .published) is
-    ∙ sym (room-altered tallyAnswer answer room (r .published) (start .args .published .now)))
+    let of = call (started long) in
+    let r = trusteesResult of in
+    let left = outcome .run .ensures in
+    put-call tallyAnswer (started long .args .answer .now) (long .if1 .left) (tallyNumbers (r .answer) (r .closing)) _ _ _
+    (put .put-tally .ensures) (ap (λ (z : TrusteesResult). tallyNumbers (z .answer) (z .closing)) left)
+    (of .lent .wireParts ∷ of .lent .published ∷ []) (r .wireParts ∷ r .published ∷ []) _
+    (ap (λ (z : TrusteesResult). z .wireParts ∷ z .published ∷ []) left)
 
 pub jugy-trustees-spec : {M : Type 1} → statement M
 jugy-trustees-spec =

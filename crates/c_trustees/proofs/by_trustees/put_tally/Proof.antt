@@ -25,9 +25,9 @@ returns c =
     let outcome = outcomeOf (a .outcome .answer) in
     let closing = a .outcome .closing in
     record {
-      reads = four .put-size .ensures .0 ∙ tally-status outcome closing;
-      array = all-put outcome closing (a .answer .now) _ _ (bytes .put-closing .ensures .eight) (s .pre)
-          (four .put-size .ensures .1) (bytes .put-closing .ensures .bytes);
+      returns = four .put-size .ensures .returns ∙ tally-status outcome closing;
+      writes = all-put outcome closing (a .answer .now) _ _ (bytes .put-closing .ensures .eight) (s .pre)
+          (four .put-size .ensures .writes) (bytes .put-closing .ensures .bytes);
     }
 
 pub put-tally-spec : {M : Type 1} → statement M

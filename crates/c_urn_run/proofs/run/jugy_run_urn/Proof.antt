@@ -60,9 +60,9 @@ returns-2 c =
     let put = c .before .before .put-size in
     let numbers = sizeNumbers (all .answer) in
     let e = ap (λ (s : Outcome Size). sizeNumbers s) (outcome .ensures .0) in (
-      put .ensures .0 ∙ ap statusOf e ∙ sym (room-status 4 (a .answer .now) long numbers),
+      put .ensures .returns ∙ ap statusOf e ∙ sym (room-status 4 (a .answer .now) long numbers),
       (
-        put .ensures .1 ∙ ap (λ (r : List ℕ). r ++ drop 4 (a .answer .now)) e ∙ sym (room-answered 4 (a .answer .now) long numbers),
+        put .ensures .writes ∙ ap (λ (r : List ℕ). r ++ drop 4 (a .answer .now)) e ∙ sym (room-answered 4 (a .answer .now) long numbers),
         (
           outcome .ensures .1 .0 ∙ sym (room-altered 4 (a .answer .now) long (all .wires) (a .wires .now)),
           outcome .ensures .1 .1 ∙ sym (room-altered 4 (a .answer .now) long (all .board) (a .board .now)),

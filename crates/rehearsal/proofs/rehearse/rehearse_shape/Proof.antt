@@ -9,7 +9,9 @@ use borrow.Author.Needs.{needs}
 use Rattle.tally.specs.Answer.{Outcome, outcomeOf}
 use Rattle.tally.specs.declared.answer.Answer.the-variants as answer
 use Rattle.tally.specs.Write.{writeOutcome, written}
-use Rattle.rehearsal.specs.Rehearsal.{Cut, shapeIn, ballotsIn, rehearsalOutcome, runOutcome, saidOn, endOn}
+use Rattle.rehearsal.specs.Rehearsal.{shapeIn, ballotsIn, rehearsalOutcome, outcomeOn}
+use Rattle.rehearsal.specs.inner.Buffers.{Cut}
+use Rattle.rehearsal.specs.inner.Rehearses.{runOutcome, endOn}
 use Rattle.rehearsal.proofs.Rehearsing.{cut-long, gates-few, list-fits, write-cut, by-the-run, by-the-write, no-ballots, some-ballots}
 use Rattle.rehearsal.proofs.rehearse.rehearse_shape.Statement.{statement}
 use Rattle.rehearsal.proofs.rehearse.rehearse_shape.Tie as tie
@@ -28,21 +30,21 @@ outcome-accepted : (c : tie.After-known-told2) →
 unfolding gates-of conditional-of
 outcome-accepted c =
     let w = c .before .before .before .before .before in
-    sym (ap outcomeOf (c .before .gates .given .1)) ∙ w .write .ensures .0
+    sym (ap outcomeOf (c .before .gates .given .1)) ∙ w .write .ensures .answers
 
 few : (c : tie.After-known-told2) → gates-of c ≤ 4000
 few c =
     let w = c .before .before .before .before .before in
     let start = w .before .before .before .before .before .before .before in
     let a = start .args in
-    gates-few (start .args .shape) (a .table .now) (a .tape .now) (a .wires .now) (a .board .now) (start .pre .1) (gates-of c) (conditional-of c) (outcome-accepted c)
+    gates-few (start .args .shape) (a .table .now) (a .tape .now) (a .wires .now) (a .board .now) (start .pre .buffers) (gates-of c) (conditional-of c) (outcome-accepted c)
 
 fits : (c : tie.After-known-told2) → 4 * gates-of c ≤ length (c .before .before .before .before .before .write .last .1 .0)
 fits c =
     let w = c .before .before .before .before .before in
     let start = w .before .before .before .before .before .before .before in
     let a = start .args in
-    omega (arith, ap length (w .write .ensures .1 .0), list-fits (start .args .shape) (a .table .now) (a .tape .now) (a .wires .now) (a .board .now) (start .pre .1) (gates-of c) (conditional-of c) (outcome-accepted c))
+    omega (arith, ap length (w .write .ensures .leaves), list-fits (start .args .shape) (a .table .now) (a .tape .now) (a .wires .now) (a .board .now) (start .pre .buffers) (gates-of c) (conditional-of c) (outcome-accepted c))
 
 write-requires : tie.Need-write-requires
 write-requires c κs = search needs
@@ -78,8 +80,8 @@ cut c =
     let w = c .before .before .before .before .before in
     let start = w .before .before .before .before .before .before .before in
     let a = start .args in
-    write-cut (start .args .shape) (a .table .now) (a .tape .now) (a .wires .now) (a .board .now) (start .pre .1) (gates-of c) (conditional-of c) (outcome-accepted c) _
-    (ap (take (4 * gates-of c)) (w .write .ensures .1 .0))
+    write-cut (start .args .shape) (a .table .now) (a .tape .now) (a .wires .now) (a .board .now) (start .pre .buffers) (gates-of c) (conditional-of c) (outcome-accepted c) _
+    (ap (take (4 * gates-of c)) (w .write .ensures .leaves))
 
 run-list-requires : tie.Need-run-list-requires
 unfolding gates-of conditional-of
@@ -102,12 +104,16 @@ same-length : tie.Need-same-length
 same-length c = search needs
 
 returns : tie.Need-returns
-unfolding saidOn endOn
+unfolding outcomeOn endOn
 returns c =
     let w = c .before .before .before .before .before in
     let start = w .before .before .before .before .before .before .before in
     let a = start .args in
-    (by-the-write (a .input .now) (a .table .now) (start .args .shape) (c .before .reason .given .0 .0) (start .pre .0) (sym (ap outcomeOf (c .before .reason .given .1)) ∙ w .write .ensures .0), omega arith)
+    record {
+      answers = by-the-write (a .input .now) (a .table .now) (start .args .shape) (c .before .reason .given .0 .0) (start .pre .shape-is)
+          (sym (ap outcomeOf (c .before .reason .given .1)) ∙ w .write .ensures .answers);
+      on-board = omega arith;
+    }
 
 -- the run's answer is the rehearsal's
 same-answer : (c : tie.After-known-told2) (ballots : List ℕ) →
@@ -120,7 +126,7 @@ same-answer c ballots e =
     let start = w .before .before .before .before .before .before .before in
     let a = start .args in
     ap (runOutcome (start .args .shape)) e
-    ∙ by-the-run (start .args .shape) (a .table .now) (a .tape .now) (a .wires .now) (a .board .now) (start .pre .1) (gates-of c) (conditional-of c) (outcome-accepted c) (a .input .now) (start .pre .0)
+    ∙ by-the-run (start .args .shape) (a .table .now) (a .tape .now) (a .wires .now) (a .board .now) (start .pre .buffers) (gates-of c) (conditional-of c) (outcome-accepted c) (a .input .now) (start .pre .shape-is)
 
 same-length-2 : tie.Need-same-length-2
 same-length-2 c = search needs
@@ -138,10 +144,11 @@ returns-2 c =
     let told = short .before .before in
     let w = told .before .before .before .before .before in
     let start = w .before .before .before .before .before .before .before in
-    let a = start .args in (
-      run .run-list .ensures .0 ∙ same-answer told [] (sym (no-ballots (a .input .now) (short .if1 .taken))),
-      run .run-list .ensures .1,
-    )
+    let a = start .args in
+    record {
+      answers = run .run-list .ensures .answers ∙ same-answer told [] (sym (no-ballots (a .input .now) (short .if1 .taken)));
+      on-board = run .run-list .ensures .on-board;
+    }
 
 same-length-5 : tie.Need-same-length-5
 same-length-5 c = search needs
@@ -159,10 +166,11 @@ returns-3 c =
     let told = long .before .before in
     let w = told .before .before .before .before .before in
     let start = w .before .before .before .before .before .before .before in
-    let a = start .args in (
-      run .run-list2 .ensures .0 ∙ same-answer told (take (length (a .input .now) - 3) (drop 3 (a .input .now))) (some-ballots (a .input .now)),
-      run .run-list2 .ensures .1,
-    )
+    let a = start .args in
+    record {
+      answers = run .run-list2 .ensures .answers ∙ same-answer told (take (length (a .input .now) - 3) (drop 3 (a .input .now))) (some-ballots (a .input .now));
+      on-board = run .run-list2 .ensures .on-board;
+    }
 
 pub rehearse-shape-spec : {M : Type 1} → statement M
 rehearse-shape-spec =

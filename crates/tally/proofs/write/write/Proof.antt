@@ -42,7 +42,7 @@ returns c =
     let a = c .before .before .before .args in
     let r = write-refused (a .shape) (a .table .now) (reasonAt 1 0)
     (outside (a .shape) (a .table .now) (sym (c .before .is-within-limits .ensures) ∙ not-true (c .before .is-within-limits .result) (c .if1 .taken))) in
-    (sym (r .0), (sym (r .1), holds (a .shape)))
+    record { answers = sym (r .0); leaves = sym (r .1); own-list = holds (a .shape) }
 
 -- the shape is within its limits
 limits : (c : tie.Else1) → withinLimits (c .before .before .before .args .shape) ≡ true
@@ -59,7 +59,7 @@ returns-2 c =
     let a = within .before .before .before .args in
     let short = lt-leb (4 * length (ownList (a .shape))) (length (a .table .now)) (omega (arith, c .if2 .taken, measured .gates .ensures)) in
     let r = write-refused (a .shape) (a .table .now) (reasonAt 2 0) (too-short (a .shape) (a .table .now) (limits within) short) in
-    (sym (r .0), (sym (r .1), holds (a .shape)))
+    record { answers = sym (r .0); leaves = sym (r .1); own-list = holds (a .shape) }
 
 -- the table has room
 room : (c : tie.Else2) → let a = c .before .before .before .before .before .args in 4 * length (ownList (a .shape)) ≤ length (a .table .now)
@@ -85,10 +85,12 @@ returns-3 c =
     let a = within .before .before .before .args in
     let h = room test in
     let r = write-accepted (a .shape) (a .table .now) (fits (a .shape) (a .table .now) (limits within) (le-leb (4 * length (ownList (a .shape))) (length (a .table .now)) h)) in
-    let w = done .own-list in (
-      sized (a .shape) (w .result .gate) (w .result .conditional) (w .ensures .gates) (w .ensures .conditionals) ∙ sym (r .0),
-      (w .ensures .numbers (omega (arith, h)) ∙ stored (a .shape) (a .table .now) h ∙ sym (r .1), holds (a .shape)),
-    )
+    let w = done .own-list in
+    record {
+      answers = sized (a .shape) (w .result .gate) (w .result .conditional) (w .ensures .gates) (w .ensures .conditionals) ∙ sym (r .0);
+      leaves = w .ensures .numbers (omega (arith, h)) ∙ stored (a .shape) (a .table .now) h ∙ sym (r .1);
+      own-list = holds (a .shape);
+    }
 
 pub write-spec : {M : Type 1} → statement M
 write-spec =

@@ -24,7 +24,7 @@ use Rattle.text.specs.Text.{linesOf, firstMalformed, gatesIn}
 use Rattle.text.specs.Answer.{textReasonOf, lengthOutcome}
 use Rattle.text.proofs.Storing.{sets-front}
 use Rattle.text.proofs.Whole.{gates-many}
-use Rattle.text.proofs.Reasons.{shape-outside, too-few, too-many, other-line, bad-gate, numbers-short, numbers-good, read-refused, read-accepted}
+use Rattle.text.proofs.Reasons.{same-text, shape-outside, too-few, too-many, other-line, bad-gate, numbers-short, numbers-good, read-refused, read-accepted}
 use native.Mathlib.Omega.{arith}
 use borrow.Author.Needs.{needs}
 use Rattle.text.proofs.read.read.Statement.{statement}
@@ -38,7 +38,7 @@ unfolding lengthOutcome textReasonOf reasonOf
 returns c =
     let a = c .before .before .before .before .args in
     let w = c .before .is-within-limits in
-    read-refused (a .shape) (a .text .now) (a .output .now) (reasonAt 1 0) (shape-outside (a .shape) (a .text .now) (a .output .now) (sym (w .ensures) ∙ not-true (w .result) (c .if1 .taken)))
+    same-text (read-refused (a .shape) (a .text .now) (a .output .now) (reasonAt 1 0) (shape-outside (a .shape) (a .text .now) (a .output .now) (sym (w .ensures) ∙ not-true (w .result) (c .if1 .taken))))
 
 -- what the tests passed establish, one after the other
 limits : (c : tie.Else1) → withinLimits (c .before .before .before .before .args .shape) ≡ true
@@ -51,7 +51,7 @@ few : (c : tie.Else3) → length (linesOf (c .before .before .before .before .be
 few c = omega (arith, c .before .before .before .line-count .ensures, c .if3 .left)
 
 gates-all : (c : tie.After-enum-told) → firstMalformed 0 (linesOf (c .before .before .before .before .before .before .before .before .before .before .before .args .text .now)) ≡ Nowhere
-gates-all c = sym (c .before .before .first-other .ensures) ∙ c .enum-told .given .1
+gates-all c = sym (c .before .before .first-malformed .ensures) ∙ c .enum-told .given .1
 
 inputs-few : (c : tie.After-ballot-bytes) → c .ballot-bytes .result < 4294967296
 inputs-few c =
@@ -92,18 +92,18 @@ returns-2 : tie.Need-returns-2
 unfolding lengthOutcome textReasonOf reasonOf
 returns-2 c =
     let a = c .before .before .before .before .before .before .before .args in
-    read-refused (a .shape) (a .text .now) (a .output .now) (reasonAt 2 0)
-    (too-few (a .shape) (a .text .now) (a .output .now) (limits (c .before .before .before)) (omega (arith, c .before .before .line-count .ensures, c .if2 .taken)))
+    same-text (read-refused (a .shape) (a .text .now) (a .output .now) (reasonAt 2 0)
+    (too-few (a .shape) (a .text .now) (a .output .now) (limits (c .before .before .before)) (omega (arith, c .before .before .line-count .ensures, c .if2 .taken))))
 
 returns-3 : tie.Need-returns-3
 unfolding lengthOutcome textReasonOf reasonOf
 returns-3 c =
     let a = c .before .before .before .before .before .before .before .before .args in
-    read-refused (a .shape) (a .text .now) (a .output .now) (reasonAt 2 0)
-    (too-many (a .shape) (a .text .now) (a .output .now) (limits (c .before .before .before .before)) (enough (c .before)) (omega (arith, c .before .before .before .line-count .ensures, c .if3 .taken)))
+    same-text (read-refused (a .shape) (a .text .now) (a .output .now) (reasonAt 2 0)
+    (too-many (a .shape) (a .text .now) (a .output .now) (limits (c .before .before .before .before)) (enough (c .before)) (omega (arith, c .before .before .before .line-count .ensures, c .if3 .taken))))
 
-first-other-requires : tie.Need-first-other-requires
-first-other-requires c κs = search needs
+first-malformed-requires : tie.Need-first-malformed-requires
+first-malformed-requires c κs = search needs
 
 enum-known-i : tie.Need-enum-known-i
 enum-known-i c = search needs
@@ -113,8 +113,8 @@ unfolding lengthOutcome textReasonOf
 returns-4 c =
     let a = c .before .before .before .before .before .before .before .before .before .before .before .before .args in
     let g = c .before .i .given in
-    read-refused (a .shape) (a .text .now) (a .output .now) (reasonAt 23 (g .0 .0))
-    (other-line (a .shape) (a .text .now) (a .output .now) (limits (c .before .before .before .before .before .before .before .before)) (enough (c .before .before .before .before .before)) (few (c .before .before .before .before)) (g .0 .0) (sym (c .before .before .before .first-other .ensures) ∙ g .1))
+    same-text (read-refused (a .shape) (a .text .now) (a .output .now) (reasonAt 23 (g .0 .0))
+    (other-line (a .shape) (a .text .now) (a .output .now) (limits (c .before .before .before .before .before .before .before .before)) (enough (c .before .before .before .before .before)) (few (c .before .before .before .before)) (g .0 .0) (sym (c .before .before .before .first-malformed .ensures) ∙ g .1)))
 
 enum-told : tie.Need-enum-told
 enum-told c = search needs
@@ -133,8 +133,8 @@ unfolding lengthOutcome textReasonOf reasonOf
 returns-5 c =
     let a = c .before .before .before .before .before .before .before .before .before .before .before .before .before .before .before .before .args in
     let g = c .before .g .given in
-    read-refused (a .shape) (a .text .now) (a .output .now) (reasonAt 3 (g .0 .0))
-    (bad-gate (a .shape) (a .text .now) (a .output .now) (limits (c .before .before .before .before .before .before .before .before .before .before .before .before)) (enough (c .before .before .before .before .before .before .before .before .before)) (few (c .before .before .before .before .before .before .before .before)) (gates-all (c .before .before .before .before .before)) (g .0 .0) (tested (c .before .before .before) ∙ g .1))
+    same-text (read-refused (a .shape) (a .text .now) (a .output .now) (reasonAt 3 (g .0 .0))
+    (bad-gate (a .shape) (a .text .now) (a .output .now) (limits (c .before .before .before .before .before .before .before .before .before .before .before .before)) (enough (c .before .before .before .before .before .before .before .before .before)) (few (c .before .before .before .before .before .before .before .before)) (gates-all (c .before .before .before .before .before)) (g .0 .0) (tested (c .before .before .before) ∙ g .1)))
 
 enum-told-2 : tie.Need-enum-told-2
 enum-told-2 c = search needs
@@ -146,8 +146,8 @@ returns-6 : tie.Need-returns-6
 unfolding lengthOutcome textReasonOf
 returns-6 c =
     let a = c .before .before .before .before .before .before .before .before .before .before .before .before .before .before .before .before .args in
-    read-refused (a .shape) (a .text .now) (a .output .now) (reasonAt 24 0)
-    (numbers-short (a .shape) (a .text .now) (a .output .now) (limits (c .before .before .before .before .before .before .before .before .before .before .before .before)) (enough (c .before .before .before .before .before .before .before .before .before)) (few (c .before .before .before .before .before .before .before .before)) (gates-all (c .before .before .before .before .before)) (gates-good (c .before)) (omega (arith, c .before .before .before .before .before .before .before .before .before .before .before .line-count .ensures, c .if4 .taken)))
+    same-text (read-refused (a .shape) (a .text .now) (a .output .now) (reasonAt 24 0)
+    (numbers-short (a .shape) (a .text .now) (a .output .now) (limits (c .before .before .before .before .before .before .before .before .before .before .before .before)) (enough (c .before .before .before .before .before .before .before .before .before)) (few (c .before .before .before .before .before .before .before .before)) (gates-all (c .before .before .before .before .before)) (gates-good (c .before)) (omega (arith, c .before .before .before .before .before .before .before .before .before .before .before .line-count .ensures, c .if4 .taken))))
 
 -- the numbers have room
 fits : (c : tie.Else4) → 4 * length (linesOf (c .before .before .before .before .before .before .before .before .before .before .before .before .before .before .before .before .args .text .now)) ≤ length (c .before .before .before .before .before .before .before .before .before .before .before .before .before .before .before .before .args .output .now)
@@ -170,7 +170,7 @@ returns-7 c =
     let ns = numbersOf (gatesIn (linesOf text)) in
     let room : length ns ≤ length (a .output .now) = omega (arith, length-numbers (gatesIn (linesOf text)), gates-many (linesOf text) 0 (gates-all (c .before .before .before .before .before .before .before .before .before)), fits (c .before .before .before .before)) in
     let e = read-accepted (a .shape) text (a .output .now) (numbers-good (a .shape) text (a .output .now) (limits (c .before .before .before .before .before .before .before .before .before .before .before .before .before .before .before .before)) (enough (c .before .before .before .before .before .before .before .before .before .before .before .before .before)) (few (c .before .before .before .before .before .before .before .before .before .before .before .before)) (gates-all (c .before .before .before .before .before .before .before .before .before)) (gates-good (c .before .before .before .before .before)) (fits (c .before .before .before .before))) in
-    (ap (λ (n : ℕ). accepted (4 * n)) (c .before .before .before .before .before .before .before .before .before .before .before .before .before .before .before .line-count .ensures) ∙ e .0, c .before .before .put-gates .ensures ∙ sets-front (a .output .now) ns room ∙ e .1)
+    same-text (ap (λ (n : ℕ). accepted (4 * n)) (c .before .before .before .before .before .before .before .before .before .before .before .before .before .before .before .line-count .ensures) ∙ e .0, c .before .before .put-gates .ensures ∙ sets-front (a .output .now) ns room ∙ e .1)
 
 pub read-spec : {M : Type 1} → statement M
 read-spec =
@@ -181,7 +181,7 @@ read-spec =
     line-count-requires
     returns-2
     returns-3
-    first-other-requires
+    first-malformed-requires
     enum-known-i
     returns-4
     enum-told

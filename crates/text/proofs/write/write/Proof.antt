@@ -16,7 +16,7 @@ use Rattle.tally.proofs.TestReasons.{TestPassed, test-passed}
 use Rattle.text.specs.Text.{textOf}
 use Rattle.text.specs.Answer.{textReasonOf, lengthOutcome}
 use Rattle.text.proofs.Storing.{sets-front}
-use Rattle.text.proofs.Reasons.{text-of-list, text-short, text-good, text-refused, text-accepted}
+use Rattle.text.proofs.Reasons.{same-text, text-of-list, text-short, text-good, text-refused, text-accepted}
 use native.Mathlib.Omega.{arith}
 use borrow.Author.Needs.{needs}
 use Rattle.text.proofs.write.write.Statement.{statement}
@@ -33,8 +33,8 @@ unfolding lengthOutcome textReasonOf outcomeOf
 returns c =
     let a = c .before .before .before .before .before .before .args in
     let g = c .before .tested .given in
-    text-refused (a .shape) (a .table .now) (a .output .now) (reasonOf (g .0 .0))
-    (text-of-list (a .shape) (a .table .now) (a .output .now) (reasonOf (g .0 .0)) (sym (c .before .before .before .test .ensures) ∙ ap outcomeOf (g .1)))
+    same-text (text-refused (a .shape) (a .table .now) (a .output .now) (reasonOf (g .0 .0))
+    (text-of-list (a .shape) (a .table .now) (a .output .now) (reasonOf (g .0 .0)) (sym (c .before .before .before .test .ensures) ∙ ap outcomeOf (g .1))))
 
 enum-told : tie.Need-enum-told
 enum-told c = search needs
@@ -53,8 +53,8 @@ returns-2 : tie.Need-returns-2
 unfolding lengthOutcome textReasonOf
 returns-2 c =
     let a = c .before .before .before .before .before .before .before .args in
-    text-refused (a .shape) (a .table .now) (a .output .now) (reasonAt 24 0)
-    (text-short (a .shape) (a .table .now) (a .output .now) (passed (c .before .before) .reasons) (omega (arith, c .if1 .taken, c .before .text-length .ensures)))
+    same-text (text-refused (a .shape) (a .table .now) (a .output .now) (reasonAt 24 0)
+    (text-short (a .shape) (a .table .now) (a .output .now) (passed (c .before .before) .reasons) (omega (arith, c .if1 .taken, c .before .text-length .ensures))))
 
 -- the text has room
 fits : (c : tie.Else1) → length (textOf (gatesOf (c .before .before .before .before .before .before .before .args .table .now))) ≤ length (c .before .before .before .before .before .before .before .args .output .now)
@@ -72,7 +72,7 @@ returns-3 c =
     let a = c .before .before .before .before .before .before .before .before .before .before .before .args in
     let text = textOf (gatesOf (a .table .now)) in
     let e = text-accepted (a .shape) (a .table .now) (a .output .now) (text-good (a .shape) (a .table .now) (a .output .now) (passed (c .before .before .before .before .before .before) .reasons) (fits (c .before .before .before .before))) in
-    (ap (λ (n : ℕ). accepted n) (c .before .before .before .before .before .text-length .ensures) ∙ e .0, c .before .before .put-text .ensures ∙ sets-front (a .output .now) text (fits (c .before .before .before .before)) ∙ e .1)
+    same-text (ap (λ (n : ℕ). accepted n) (c .before .before .before .before .before .text-length .ensures) ∙ e .0, c .before .before .put-text .ensures ∙ sets-front (a .output .now) text (fits (c .before .before .before .before)) ∙ e .1)
 
 pub write-spec : {M : Type 1} → statement M
 write-spec =

@@ -7,7 +7,7 @@ use native.Mathlib.Numerals.{add-one}
 use lib.ListN.{length, getD, drop}
 use borrow.Author.Tests.{not-true, not-false}
 use Rattle.text_lines.specs.Decimal.{isDigit, digitsIn}
-use Rattle.text_lines.specs.Inner.{numberFound}
+use Rattle.text_lines.specs.inner.Found.{numberFound}
 use Rattle.text_lines.proofs.DecimalLaws.{digit-is, digits-stop, digits-all, digits-step, digits-over}
 use native.Mathlib.Omega.{arith}
 use borrow.Author.Needs.{needs}

@@ -8,7 +8,7 @@ use native.Mathlib.Numerals.{add-one}
 use lib.ListN.{getD, drop}
 use borrow.Author.Tests.{not-true, not-false}
 use Rattle.text_lines.specs.Decimal.{isDigit, taken, digitsIn}
-use Rattle.text_lines.specs.Inner.{numberFound}
+use Rattle.text_lines.specs.inner.Found.{numberFound}
 use Rattle.text_lines.proofs.DecimalLaws.{digit-is, number-none, number-other, number-zero, number-digits}
 use native.Mathlib.Omega.{arith}
 use borrow.Author.Needs.{needs}

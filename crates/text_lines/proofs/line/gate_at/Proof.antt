@@ -10,7 +10,7 @@ use lib.ListN.{drop}
 use Rattle.gates.specs.Kind.{operandsOf}
 use Rattle.text_lines.specs.Decimal.{Taken, taken, numberIn}
 use Rattle.text_lines.specs.Line.{operandIn, endIn, gateIn}
-use Rattle.text_lines.specs.Inner.{lineFound}
+use Rattle.text_lines.specs.inner.Found.{lineFound}
 use Rattle.text_lines.proofs.Found.{found, lost, found-within, end-none, end-other, end-feed, afterKind, afterA, afterB, afterC, a-found, a-lost, b-found, b-lost, c-found, c-lost, end-found, end-lost, kind-lost, kind-unknown, kind-found}
 use native.Mathlib.Omega.{arith}
 use borrow.Author.Needs.{needs}

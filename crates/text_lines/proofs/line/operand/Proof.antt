@@ -8,7 +8,7 @@ use lib.ListN.{drop}
 use borrow.Author.Tests.{not-true, not-false}
 use Rattle.text_lines.specs.Decimal.{numberIn}
 use Rattle.text_lines.specs.Line.{operandIn}
-use Rattle.text_lines.specs.Inner.{numberFound}
+use Rattle.text_lines.specs.inner.Found.{numberFound}
 use Rattle.text_lines.proofs.Found.{operand-none, operand-other, operand-number}
 use native.Mathlib.Omega.{arith}
 use borrow.Author.Needs.{needs}

@@ -1,4 +1,4 @@
--- `text::scan::first_other` meets its contract.
+-- `text::scan::first_malformed` meets its contract.
 -- Assumes nothing.
 use mathlib.Core.Path.{_≡_, _∙_, refl, sym, ap}
 use Prim.Native.Nat.{ℕ, _-_, _≤_}
@@ -8,8 +8,8 @@ use Rattle.text.specs.Text.{linesOf, firstMalformed}
 use Rattle.text.proofs.Scanning.{next-within, next-later, later-other, here-other, other-end}
 use native.Mathlib.Omega.{arith}
 use borrow.Author.Needs.{needs}
-use Rattle.text.proofs.scan.first_other.Statement.{statement}
-use Rattle.text.proofs.scan.first_other.Tie as tie
+use Rattle.text.proofs.scan.first_malformed.Statement.{statement}
+use Rattle.text.proofs.scan.first_malformed.Tie as tie
 
 abbrev Inv-loop : tie.InvT-loop
 Inv-loop text at₀ i₀ at i = (at ≤ length text) × (i ≤ at) × (firstMalformed i (linesOf (drop at text)) ≡ firstMalformed 0 (linesOf text))
@@ -61,8 +61,8 @@ loop-again c =
 returns-2 : tie.Need-returns-2 Inv-loop μ-loop
 returns-2 c = sym (other-end (c .before .before .before .args .text .now) (c .before .loop .at) (c .loop-test .left) (c .before .loop .i)) ∙ c .before .loop .inv .2
 
-pub first-other-spec : {M : Type 1} → statement M
-first-other-spec =
+pub first-malformed-spec : {M : Type 1} → statement M
+first-malformed-spec =
     tie.close
     (tie.spec
     Inv-loop

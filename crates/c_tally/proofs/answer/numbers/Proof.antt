@@ -1,13 +1,11 @@
--- `c_tally::answer::ten` meets its contract: each byte is its own number.
+-- `c_tally::answer::numbers` meets its contract: each byte is its own number.
 -- Assumes nothing.
-use mathlib.Core.Path.{_∙_, refl, ap}
-use mathlib.Core.List.{List, _∷_}
-use Prim.Native.Nat.{ℕ}
+use mathlib.Core.Path.{_∙_, refl}
 use native.Mathlib.Omega.{arith}
 use borrow.Author.Needs.{needs}
 use Rattle.c_answers.proofs.Copying.{cons, eight}
-use Rattle.c_tally.proofs.answer.ten.Statement.{statement}
-use Rattle.c_tally.proofs.answer.ten.Tie as tie
+use Rattle.c_tally.proofs.answer.numbers.Statement.{statement}
+use Rattle.c_tally.proofs.answer.numbers.Tie as tie
 
 array-read-wide : tie.Need-array-read-wide
 array-read-wide c = search needs
@@ -60,12 +58,11 @@ wide-requires-8 c κs = search needs
 returns : tie.Need-returns
 returns c =
     let start = c .before .before .before .before .before .before .before .before in
-    let xs = start .args .t3 in
-    ap (λ (r : List ℕ). start .args .reason ∷ start .args .place ∷ r)
-    (cons _ _ _ _ (c .before .before .before .before .before .before .before .wide .ensures) (cons _ _ _ _ (c .before .before .before .before .before .before .wide2 .ensures) (cons _ _ _ _ (c .before .before .before .before .before .wide3 .ensures) (cons _ _ _ _ (c .before .before .before .before .wide4 .ensures) (cons _ _ _ _ (c .before .before .before .wide5 .ensures) (cons _ _ _ _ (c .before .before .wide6 .ensures) (cons _ _ _ _ (c .before .wide7 .ensures) (cons _ _ _ _ (c .wide8 .ensures) (refl)))))))) ∙ eight xs (omega (arith, start .good)))
+    cons _ _ _ _ (c .before .before .before .before .before .before .before .wide .ensures) (cons _ _ _ _ (c .before .before .before .before .before .before .wide2 .ensures) (cons _ _ _ _ (c .before .before .before .before .before .wide3 .ensures) (cons _ _ _ _ (c .before .before .before .before .wide4 .ensures) (cons _ _ _ _ (c .before .before .before .wide5 .ensures) (cons _ _ _ _ (c .before .before .wide6 .ensures) (cons _ _ _ _ (c .before .wide7 .ensures) (cons _ _ _ _ (c .wide8 .ensures) refl)))))))
+    ∙ eight (start .args .t1) (omega (arith, start .good))
 
-pub ten-spec : {M : Type 1} → statement M
-ten-spec =
+pub numbers-spec : {M : Type 1} → statement M
+numbers-spec =
     tie.close
     (tie.spec
     array-read-wide
