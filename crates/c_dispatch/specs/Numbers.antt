@@ -35,4 +35,5 @@ dispatchAnswer = 10
 abbrev pub dispatchCall : Call → (answer : List ℕ) → CallResult
 dispatchCall c answer =
     let r = dispatchResult c in
-    callResult dispatchAnswer (dispatchNumbers r) answer (c .tables .wires ∷ c .tables .boards ∷ []) (r .wires ∷ r .boards ∷ [])
+    callResult dispatchAnswer (dispatchNumbers r) answer (c .tables .wires ∷ c .tables .boards ∷ [])
+    (r .wires ∷ r .boards ∷ [])
