@@ -16,7 +16,7 @@ use Rattle.basics.specs.Below.{someBelow}
 use Rattle.batch_lanes.specs.Lane.{laneCount, lane, laneOf}
 use Rattle.batch_lanes.proofs.LaneLaws.{lane-bit, lane-none, lane-all, lane-and, lane-or, lane-xor}
 use Rattle.batch_lanes.proofs.ListLaws.{lanes-at}
-use Rattle.batch.specs.Ballots.{foundBit}
+use Rattle.batch.specs.inner.Found.{foundBit}
 
 -- a test as a bit
 abbrev pub bit : Bool → ℕ

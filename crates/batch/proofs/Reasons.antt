@@ -24,12 +24,14 @@ use Rattle.jury.specs.Rankings.{firstOver, firstNotAsymmetric, firstNotWeakOrde
 use Rattle.jury.proofs.BallotLaws.{kindReason}
 use Rattle.jury.proofs.Searches.{none-first, first-none}
 use Rattle.tally.specs.Answer.{refused, outcome, Size, sizeOf}
+use Rattle.tally.specs.Run.{RunResult}
 use Rattle.tally.specs.Test.{testReasons, testOutcome}
 use Rattle.tally.proofs.TestReasons.{orElse, first-append, TestPassed, test-passed}
 use Rattle.tally.proofs.RunReasons.{firstOfThree, outcome-refused}
 use Rattle.batch_lanes.specs.Lane.{laneCount, laneOf}
+use Rattle.batch.specs.Call.{Call}
 use Rattle.batch.specs.Ballots.{inJury, firstJury, wordGradedReasons, wordRankedReasons, wordBallotReasons}
-use Rattle.batch.specs.Run.{wordBufferReasons, batchReasons, batchAfter, batchResult}
+use Rattle.batch.specs.Run.{wordBufferReasons, batchReasons, batchResultAfter, batchResult}
 
 -- the tests 7, 9 and 10, from their outcomes
 unfoldable pub lentFound : Bool → Bool → Bool → Option Reason
@@ -219,82 +221,86 @@ three-passed none none (some r) e = let z : _≡_ {A = ℕ} 0 1 = cc in absurd (
 three-passed none (some r) c e = let z : _≡_ {A = ℕ} 0 1 = cc in absurd (omega arith)
 three-passed (some r) b c e = let z : _≡_ {A = ℕ} 0 1 = cc in absurd (omega arith)
 
-module _ (s : Shape) (table ballots tape wires board : List ℕ) where
-  pub batch-first : firstOf (batchReasons s table ballots tape wires board)
-      ≡ firstOfThree (firstOf (testReasons s table)) (firstOf (wordBallotReasons s ballots)) (firstOf (wordBufferReasons (ballotBytes s) (s .candidates) (sizeOf (gatesOf table)) tape wires board))
+module _ (c : Call) where
+  pub batch-first : firstOf (batchReasons c)
+      ≡ firstOfThree (firstOf (testReasons (c .shape) (c .table))) (firstOf (wordBallotReasons (c .shape) (c .ballots))) (firstOf (wordBufferReasons (ballotBytes (c .shape)) (c .shape .candidates) (sizeOf (gatesOf (c .table))) (c .tape) (c .wires) (c .board)))
   unfolding batchReasons firstOfThree
   batch-first =
-      let lent = wordBufferReasons (ballotBytes s) (s .candidates) (sizeOf (gatesOf table)) tape wires board in
-      first-append (testReasons s table ++ wordBallotReasons s ballots) lent
-      ∙ ap (λ (r : Option Reason). orElse r (firstOf lent)) (first-append (testReasons s table) (wordBallotReasons s ballots))
+      let lent = wordBufferReasons (ballotBytes (c .shape)) (c .shape .candidates) (sizeOf (gatesOf (c .table))) (c .tape) (c .wires) (c .board) in
+      first-append (testReasons (c .shape) (c .table) ++ wordBallotReasons (c .shape) (c .ballots)) lent
+      ∙ ap (λ (r : Option Reason). orElse r (firstOf lent)) (first-append (testReasons (c .shape) (c .table)) (wordBallotReasons (c .shape) (c .ballots)))
 
   -- the answer by the first group in which a test applies
-  pub by-test : (r : Reason) → testOutcome s table ≡ refused r → firstOf (batchReasons s table ballots tape wires board) ≡ some r
+  pub by-test : (r : Reason) → testOutcome (c .shape) (c .table) ≡ refused r → firstOf (batchReasons c) ≡ some r
   unfolding testOutcome firstOfThree orElse
   by-test r e =
       batch-first
-      ∙ ap (λ (o : Option Reason). firstOfThree o (firstOf (wordBallotReasons s ballots)) (firstOf (wordBufferReasons (ballotBytes s) (s .candidates) (sizeOf (gatesOf table)) tape wires board)))
-      (outcome-refused (firstOf (testReasons s table)) (sizeOf (gatesOf table)) r e)
+      ∙ ap (λ (o : Option Reason). firstOfThree o (firstOf (wordBallotReasons (c .shape) (c .ballots))) (firstOf (wordBufferReasons (ballotBytes (c .shape)) (c .shape .candidates) (sizeOf (gatesOf (c .table))) (c .tape) (c .wires) (c .board))))
+      (outcome-refused (firstOf (testReasons (c .shape) (c .table))) (sizeOf (gatesOf (c .table))) r e)
 
-  module _ (t : firstOf (testReasons s table) ≡ none) where
-    pub by-ballots : (r : Reason) → firstOf (wordBallotReasons s ballots) ≡ some r → firstOf (batchReasons s table ballots tape wires board) ≡ some r
+  module _ (t : firstOf (testReasons (c .shape) (c .table)) ≡ none) where
+    pub by-ballots : (r : Reason) → firstOf (wordBallotReasons (c .shape) (c .ballots)) ≡ some r → firstOf (batchReasons c) ≡ some r
     unfolding firstOfThree orElse
     by-ballots r e = batch-first ∙ rw (t, e)
 
-    pub by-lent : (size : Size) (o : Option Reason) → size ≡ sizeOf (gatesOf table) → firstOf (wordBallotReasons s ballots) ≡ none
-        → firstOf (wordBufferReasons (ballotBytes s) (s .candidates) size tape wires board) ≡ o → firstOf (batchReasons s table ballots tape wires board) ≡ o
+    pub by-lent : (size : Size) (o : Option Reason) → size ≡ sizeOf (gatesOf (c .table)) → firstOf (wordBallotReasons (c .shape) (c .ballots)) ≡ none
+        → firstOf (wordBufferReasons (ballotBytes (c .shape)) (c .shape .candidates) size (c .tape) (c .wires) (c .board)) ≡ o → firstOf (batchReasons c) ≡ o
     unfolding firstOfThree orElse
     by-lent size o f b e =
-        batch-first ∙ rw (t, b) (ap (λ (z : Size). firstOf (wordBufferReasons (ballotBytes s) (s .candidates) z tape wires board)) (sym f) ∙ e)
+        batch-first ∙ rw (t, b) (ap (λ (z : Size). firstOf (wordBufferReasons (ballotBytes (c .shape)) (c .shape .candidates) z (c .tape) (c .wires) (c .board))) (sym f) ∙ e)
 
   -- an accepted call, as facts
   pub record BatchPassed : Type 0 where
-    pub test : TestPassed s table (sizeOf (gatesOf table))
-    pub ballotsPassed : BallotsPassed s ballots
-    pub tapeLength : length tape ≡ conditionalCount (gatesOf table)
-    pub wiresLength : length wires ≡ ballotBytes s + length (gatesOf table)
-    pub boardLength : length board ≡ conditionalCount (gatesOf table) + s .candidates
+    pub test : TestPassed (c .shape) (c .table) (sizeOf (gatesOf (c .table)))
+    pub ballotsPassed : BallotsPassed (c .shape) (c .ballots)
+    pub tapeLength : length (c .tape) ≡ conditionalCount (gatesOf (c .table))
+    pub wiresLength : length (c .wires) ≡ ballotBytes (c .shape) + length (gatesOf (c .table))
+    pub boardLength : length (c .board) ≡ conditionalCount (gatesOf (c .table)) + c .shape .candidates
 
-  pub batch-passed : firstOf (batchReasons s table ballots tape wires board) ≡ none → BatchPassed
+  pub batch-passed : firstOf (batchReasons c) ≡ none → BatchPassed
   unfolding testOutcome outcome sizeOf
   batch-passed e =
-      let size = sizeOf (gatesOf table) in
-      let q = three-passed (firstOf (testReasons s table)) (firstOf (wordBallotReasons s ballots)) (firstOf (wordBufferReasons (ballotBytes s) (s .candidates) size tape wires board)) (sym batch-first ∙ e) in
-      let l = lent-passed (ballotBytes s) (s .candidates) size tape wires board (q .2) in
+      let size = sizeOf (gatesOf (c .table)) in
+      let q = three-passed (firstOf (testReasons (c .shape) (c .table))) (firstOf (wordBallotReasons (c .shape) (c .ballots))) (firstOf (wordBufferReasons (ballotBytes (c .shape)) (c .shape .candidates) size (c .tape) (c .wires) (c .board))) (sym batch-first ∙ e) in
+      let l = lent-passed (ballotBytes (c .shape)) (c .shape .candidates) size (c .tape) (c .wires) (c .board) (q .2) in
       record {
-        test = test-passed s table size (ap (λ (r : Option Reason). outcome r size) (q .0));
-        ballotsPassed = ballots-passed s ballots (q .1);
+        test = test-passed (c .shape) (c .table) size (ap (λ (r : Option Reason). outcome r size) (q .0));
+        ballotsPassed = ballots-passed (c .shape) (c .ballots) (q .1);
         tapeLength = l .tapeLength;
         wiresLength = l .wiresLength;
         boardLength = l .boardLength;
       }
 
-  pub batch-passed-back : BatchPassed → firstOf (batchReasons s table ballots tape wires board) ≡ none
+  pub batch-passed-back : BatchPassed → firstOf (batchReasons c) ≡ none
   unfolding firstOfThree orElse sizeOf
   batch-passed-back r =
       batch-first
       ∙ rw (
         r .test .reasons,
-        ballots-passed-back s ballots (r .ballotsPassed),
-        lent-passed-back (ballotBytes s) (s .candidates) (sizeOf (gatesOf table)) tape wires board
+        ballots-passed-back (c .shape) (c .ballots) (r .ballotsPassed),
+        lent-passed-back (ballotBytes (c .shape)) (c .shape .candidates) (sizeOf (gatesOf (c .table))) (c .tape) (c .wires) (c .board)
             (record { tapeLength = r .tapeLength; wiresLength = r .wiresLength; boardLength = r .boardLength }),
       )
 
   -- what the tests establish is what the evaluation asks
-  pub batch-ready : BatchPassed → RunReady ballots table (s .candidates) tape wires board
+  pub batch-ready : BatchPassed → RunReady (c .ballots) (c .table) (c .shape .candidates) (c .tape) (c .wires) (c .board)
   batch-ready r =
-      let size = sizeOf (gatesOf table) in
-      let f = accepted-list (ballotBytes s) (s .candidates) table (size .gates) (size .conditional) (r .test .tests) in
+      let size = sizeOf (gatesOf (c .table)) in
+      let f = accepted-list (ballotBytes (c .shape)) (c .shape .candidates) (c .table) (size .gates) (size .conditional) (r .test .tests) in
       let n = r .ballotsPassed .size in
       record {
         enough = f .enough;
-        good = ap (λ (i : ℕ). firstBad i 0 (gatesOf table)) n ∙ f .good;
+        good = ap (λ (i : ℕ). firstBad i 0 (gatesOf (c .table))) n ∙ f .good;
         tapeLength = r .tapeLength;
         wiresLength = omega (arith, n, r .wiresLength);
         boardLength = r .boardLength;
       }
 
   -- the whole of a call by its first reason
-  pub batch-by : (o : Option Reason) → firstOf (batchReasons s table ballots tape wires board) ≡ o → batchResult s table ballots tape wires board ≡ batchAfter o s (gatesOf table) ballots tape wires board
+  pub result-by : (o : Option Reason) → firstOf (batchReasons c) ≡ o → batchResult c ≡ batchResultAfter o c
   unfolding batchResult
-  batch-by o e = ap (λ (r : Option Reason). batchAfter r s (gatesOf table) ballots tape wires board) e
+  result-by o e = ap (λ (r : Option Reason). batchResultAfter r c) e
+
+-- a result is told by what it consists of
+pub same-result : (x y : RunResult) → x .answer ≡ y .answer → x .wires ≡ y .wires → x .board ≡ y .board → x ≡ y
+same-result x y a b c = rw (a, b, c) refl

@@ -17,7 +17,7 @@ use Rattle.jury.proofs.BallotLaws.{ones-here, ones-later, bad-here, bad-later}
 use Rattle.batch_lanes.specs.Lane.{laneCount, lane, laneOf}
 use Rattle.batch_lanes.proofs.LaneLaws.{lane-bit, lane-none, lane-all, lane-and, lane-or, lane-xor}
 use Rattle.batch_lanes.proofs.ListLaws.{lanes-length, lanes-at}
-use Rattle.batch.specs.Ballots.{foundBit}
+use Rattle.batch.specs.inner.Found.{foundBit}
 
 -- after some words of a row, m of which are 1 in lane j: whether there was one, and whether there was a second
 pub record Seen (j : ℕ) (once twice m : ℕ) : Type 0 where

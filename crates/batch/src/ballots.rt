@@ -13,7 +13,8 @@ ghost use Rattle.jury.specs.Shape.{gradedLimits, withinLimits};
 ghost use Rattle.jury.specs.Reason.{refusedFor, firstOf};
 ghost use Rattle.jury.specs.Ballots.{ones, rowsOf, firstBadRow};
 ghost use Rattle.batch_lanes.specs.Lane.{laneCount, lane, laneOf};
-ghost use Rattle.batch.specs.Ballots.{foundBit, firstSet, wordGradedReasons, wordRankedReasons, wordBallotReasons};
+ghost use Rattle.batch.specs.Ballots.{wordGradedReasons, wordRankedReasons, wordBallotReasons};
+ghost use Rattle.batch.specs.inner.Found.{foundBit, firstSet};
 
 // How many juries a word serves.
 const JURIES: u32 = 64;
@@ -35,7 +36,8 @@ pub fn test(shape: Shape, ballots: &[u64]) -> Verdict
 
 // Reason 6.
 fn test_grades(shape: Shape, ballots: &[u64]) -> Verdict
-    requires { ⌜ T (gradedLimits shape) × (length (now ballots) ≡ shape .ballots * shape .candidates * shape .grades) ⌝ }
+    requires { ⌜ T (gradedLimits shape) × (length (now ballots)
+        ≡ shape .ballots * shape .candidates * shape .grades) ⌝ }
     ensures { λ r. ⌜ refusedFor r ≡ firstOf (wordGradedReasons shape (now (ballots .entry))) ⌝ }
 {
     let faults = bad_rows(ballots, shape.grades, shape.ballots * shape.candidates);
@@ -64,7 +66,9 @@ fn test_rankings(shape: Shape, ballots: &[u64]) -> Verdict
 // The juries that have, among so many rows of d words, a row without a 1 or with several.
 fn bad_rows(words: &[u64], d: usize, rows: usize) -> u64
     requires { ⌜ length (now words) ≡ rows * d ⌝ }
-    ensures { λ r. ⌜ ((j : ℕ) → j < laneCount → lane j r ≡ foundBit (firstBadRow 0 (rowsOf d rows (laneOf j (now (words .entry)))))) ⌝ }
+    ensures { λ r.
+        ⌜ ((j : ℕ) → j < laneCount → lane j r ≡ foundBit (firstBadRow 0
+        (rowsOf d rows (laneOf j (now (words .entry)))))) ⌝ }
 {
     let mut faults: u64 = 0;
     let mut row = 0;

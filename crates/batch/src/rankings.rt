@@ -1,5 +1,5 @@
-// The tests of ranked ballots for 64 juries at once, each over all ballots: bit j of a word says whether jury j has the fault.
-// What a ballot may not say is told in `jury::rankings`.
+// The tests of ranked ballots for 64 juries at once, each over all ballots: bit j of a word says whether jury j has
+// the fault. What a ballot may not say is told in `jury::rankings`.
 use batch_lanes::word;
 ghost use mathlib.Core.Path.{_≡_};
 ghost use mathlib.Core.Bool.{cond};
@@ -7,12 +7,14 @@ ghost use Prim.Native.Nat.{ℕ, _+_, _*_, _≤_, _<_};
 ghost use lib.ListN.{length};
 ghost use Rattle.jury.specs.Rankings as spec;
 ghost use Rattle.batch_lanes.specs.Lane.{laneCount, lane, laneOf};
-ghost use Rattle.batch.specs.Ballots.{foundBit};
+ghost use Rattle.batch.specs.inner.Found.{foundBit};
 
 // The juries in which some byte is 1 while its opposite is 1 too.
 pub fn not_asymmetric(words: &[u64], k: usize, n: usize) -> u64
     requires { ⌜ length (now words) ≡ n * k * k ⌝ }
-    ensures { λ r. ⌜ ((u : ℕ) → u < laneCount → lane u r ≡ foundBit (spec.firstNotAsymmetric k n (laneOf u (now (words .entry))))) ⌝ }
+    ensures { λ r.
+        ⌜ ((u : ℕ) → u < laneCount → lane u r ≡ foundBit (spec.firstNotAsymmetric k n
+        (laneOf u (now (words .entry))))) ⌝ }
 {
     let mut faults: u64 = 0;
     let mut b = 0;
@@ -26,7 +28,9 @@ pub fn not_asymmetric(words: &[u64], k: usize, n: usize) -> u64
 // Those of ballot b.
 fn not_asymmetric_in_ballot(words: &[u64], k: usize, b: usize) -> u64
     requires { ⌜ (b + 1) * k * k ≤ length (now words) ⌝ }
-    ensures { λ r. ⌜ ((u : ℕ) → u < laneCount → lane u r ≡ foundBit (spec.notAsymmetricInBallot k (laneOf u (now (words .entry))) b)) ⌝ }
+    ensures { λ r.
+        ⌜ ((u : ℕ) → u < laneCount → lane u r ≡ foundBit (spec.notAsymmetricInBallot k (laneOf u (now (words .entry)))
+        b)) ⌝ }
 {
     let mut faults: u64 = 0;
     let mut i = 0;
@@ -40,7 +44,9 @@ fn not_asymmetric_in_ballot(words: &[u64], k: usize, b: usize) -> u64
 // Those of row i of ballot b.
 fn not_asymmetric_in_row(words: &[u64], k: usize, b: usize, i: usize) -> u64
     requires { ⌜ ((b + 1) * k * k ≤ length (now words)) × (i < k) ⌝ }
-    ensures { λ r. ⌜ ((u : ℕ) → u < laneCount → lane u r ≡ foundBit (spec.notAsymmetricInRow k (laneOf u (now (words .entry))) b i)) ⌝ }
+    ensures { λ r.
+        ⌜ ((u : ℕ) → u < laneCount → lane u r ≡ foundBit (spec.notAsymmetricInRow k (laneOf u (now (words .entry))) b
+        i)) ⌝ }
 {
     let mut faults: u64 = 0;
     let mut j = 0;
@@ -57,7 +63,9 @@ fn not_asymmetric_in_row(words: &[u64], k: usize, b: usize, i: usize) -> u64
 // other.
 pub fn not_weak_order(words: &[u64], k: usize, n: usize) -> u64
     requires { ⌜ length (now words) ≡ n * k * k ⌝ }
-    ensures { λ r. ⌜ ((u : ℕ) → u < laneCount → lane u r ≡ foundBit (spec.firstNotWeakOrder k n (laneOf u (now (words .entry))))) ⌝ }
+    ensures { λ r.
+        ⌜ ((u : ℕ) → u < laneCount → lane u r ≡ foundBit (spec.firstNotWeakOrder k n
+        (laneOf u (now (words .entry))))) ⌝ }
 {
     let mut faults: u64 = 0;
     let mut b = 0;
@@ -71,7 +79,8 @@ pub fn not_weak_order(words: &[u64], k: usize, n: usize) -> u64
 // Those of ballot b.
 fn not_weak_order_in_ballot(words: &[u64], k: usize, b: usize) -> u64
     requires { ⌜ (b + 1) * k * k ≤ length (now words) ⌝ }
-    ensures { λ r. ⌜ ((u : ℕ) → u < laneCount → lane u r ≡ cond (spec.notWeakOrder k (laneOf u (now (words .entry))) b) 1 0) ⌝ }
+    ensures { λ r.
+        ⌜ ((u : ℕ) → u < laneCount → lane u r ≡ cond (spec.notWeakOrder k (laneOf u (now (words .entry))) b) 1 0) ⌝ }
 {
     let mut faults: u64 = 0;
     let mut i = 0;
@@ -85,13 +94,15 @@ fn not_weak_order_in_ballot(words: &[u64], k: usize, b: usize) -> u64
 // Those in which i is the one put before.
 fn not_weak_order_after(words: &[u64], k: usize, b: usize, i: usize) -> u64
     requires { ⌜ ((b + 1) * k * k ≤ length (now words)) × (i < k) ⌝ }
-    ensures { λ r. ⌜ ((u : ℕ) → u < laneCount → lane u r ≡ cond (spec.notWeakOrderAfter k (laneOf u (now (words .entry))) b i) 1 0) ⌝ }
+    ensures { λ r.
+        ⌜ ((u : ℕ) → u < laneCount → lane u r ≡ cond (spec.notWeakOrderAfter k (laneOf u (now (words .entry))) b i) 1
+        0) ⌝ }
 {
     let mut faults: u64 = 0;
     let mut j = 0;
     while j < k {
         let forth = puts_before(words, k, b, i, j);
-        let third = neitherAfterNorBefore(words, k, b, i, j);
+        let third = neither_after_nor_before(words, k, b, i, j);
         faults = faults | (forth & third);
         j += 1;
     }
@@ -99,9 +110,11 @@ fn not_weak_order_after(words: &[u64], k: usize, b: usize, i: usize) -> u64
 }
 
 // The juries in which i is not put before some candidate that is not put before j either.
-fn neitherAfterNorBefore(words: &[u64], k: usize, b: usize, i: usize, j: usize) -> u64
+fn neither_after_nor_before(words: &[u64], k: usize, b: usize, i: usize, j: usize) -> u64
     requires { ⌜ ((b + 1) * k * k ≤ length (now words)) × (i < k) × (j < k) ⌝ }
-    ensures { λ r. ⌜ ((u : ℕ) → u < laneCount → lane u r ≡ cond (spec.neitherAfterNorBefore k (laneOf u (now (words .entry))) b i j) 1 0) ⌝ }
+    ensures { λ r.
+        ⌜ ((u : ℕ) → u < laneCount → lane u r ≡ cond (spec.neitherAfterNorBefore k (laneOf u (now (words .entry))) b i
+        j) 1 0) ⌝ }
 {
     let mut found: u64 = 0;
     let mut l = 0;
@@ -117,7 +130,8 @@ fn neitherAfterNorBefore(words: &[u64], k: usize, b: usize, i: usize, j: usize) 
 // The juries in which ballot b puts i strictly before j.
 fn puts_before(words: &[u64], k: usize, b: usize, i: usize, j: usize) -> u64
     requires { ⌜ ((b + 1) * k * k ≤ length (now words)) × (i < k) × (j < k) ⌝ }
-    ensures { λ r. ⌜ ((u : ℕ) → u < laneCount → lane u r ≡ cond (spec.before k (laneOf u (now (words .entry))) b i j) 1 0) ⌝ }
+    ensures { λ r.
+        ⌜ ((u : ℕ) → u < laneCount → lane u r ≡ cond (spec.before k (laneOf u (now (words .entry))) b i j) 1 0) ⌝ }
 {
     let at = (b * k + i) * k + j;
     words[at]

@@ -8,6 +8,7 @@ ghost use mathlib.Core.Path.{_≡_};
 ghost use Rattle.gates.specs.Gate.{gatesOf};
 ghost use Rattle.jury.specs.Reason.{refusedFor, firstOf};
 ghost use Rattle.tally.specs.Answer.{outcomeOf, outcome, sizeOf};
+ghost use Rattle.tally.specs.Run.{RunResult};
 ghost use Rattle.batch.specs.Run.{wordBufferReasons, batchReasons, batchResult};
 
 // Reasons 7, 9 and 10, for a list of so many inputs, outputs, gates and conditional gates.
@@ -20,7 +21,10 @@ fn test_buffers(
     wires: &[u64],
     board: &[u64],
 ) -> Verdict
-    ensures { λ r. ⌜ refusedFor r ≡ firstOf (wordBufferReasons inputs outputs (record { gates = gates; conditional = conditional }) (now (tape .entry)) (now (wires .entry)) (now (board .entry))) ⌝ }
+    ensures { λ r.
+        ⌜ refusedFor r
+        ≡ firstOf (wordBufferReasons inputs outputs (record { gates = gates; conditional = conditional })
+        (now (tape .entry)) (now (wires .entry)) (now (board .entry))) ⌝ }
 {
     if !word::has_length(tape, conditional, 0) {
         return Verdict::Refused(Refusal::TapeLength);
@@ -43,7 +47,17 @@ fn test_run(
     wires: &[u64],
     board: &[u64],
 ) -> Answer
-    ensures { λ r. ⌜ outcomeOf r ≡ outcome (firstOf (batchReasons shape (now (table .entry)) (now (ballots .entry)) (now (tape .entry)) (now (wires .entry)) (now (board .entry)))) (sizeOf (gatesOf (now (table .entry)))) ⌝ }
+    ensures { λ r.
+        ⌜ outcomeOf r
+        ≡ outcome (firstOf (batchReasons (record {
+          shape = shape;
+          table = now (table .entry);
+          ballots = now (ballots .entry);
+          tape = now (tape .entry);
+          wires = now (wires .entry);
+          board = now (board .entry);
+        })))
+        (sizeOf (gatesOf (now (table .entry)))) ⌝ }
 {
     let answer = tally::test::test(shape, table);
     let Answer::Accepted { gates, conditional } = answer else {
@@ -68,7 +82,8 @@ fn test_run(
 }
 
 // Runs a list, whoever wrote it, on the ballots of 64 juries of one shape. Bit j of each number is jury j's. The wire
-// table holds all ballots and values in clear while it runs, so it is emptied once the closing words stand on the board.
+// table holds all ballots and values in clear while it runs, so it is emptied once the closing words stand on the
+// board.
 pub fn run(
     shape: Shape,
     table: &[u32],
@@ -77,9 +92,17 @@ pub fn run(
     wires: &mut [u64],
     board: &mut [u64],
 ) -> Answer
-    ensures { λ r. ⌜ outcomeOf r ≡ (batchResult shape (now (table .entry)) (now (ballots .entry)) (now (tape .entry)) (now (wires .entry)) (now (board .entry))) .answer ⌝ }
-    ensures { λ _. ⌜ now (wires .exit) ≡ (batchResult shape (now (table .entry)) (now (ballots .entry)) (now (tape .entry)) (now (wires .entry)) (now (board .entry))) .wires ⌝ }
-    ensures { λ _. ⌜ now (board .exit) ≡ (batchResult shape (now (table .entry)) (now (ballots .entry)) (now (tape .entry)) (now (wires .entry)) (now (board .entry))) .board ⌝ }
+    ensures { λ r.
+        ⌜ _≡_ {A = RunResult}
+        (record { answer = outcomeOf r; wires = now (wires .exit); board = now (board .exit) })
+        (batchResult (record {
+          shape = shape;
+          table = now (table .entry);
+          ballots = now (ballots .entry);
+          tape = now (tape .entry);
+          wires = now (wires .entry);
+          board = now (board .entry);
+        })) ⌝ }
 {
     let answer = test_run(shape, table, ballots, tape, wires, board);
     if let Answer::Accepted {

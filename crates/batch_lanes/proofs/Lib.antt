@@ -2,5 +2,6 @@ pub mod LaneLaws
 pub mod ListLaws
 pub mod ValueLaws
 pub mod GateLaws
-pub mod Turning
-pub mod Finishing
+pub mod StepLaws
+pub mod RunLaws
+pub mod Examples

@@ -1,18 +1,14 @@
-// The evaluating step over words, which is no entry point: its `requires` is what the tests of a list and of what is lent
-// establish. It asks of the words' lengths what the step over bytes asks of the bytes'.
+// The evaluating step over words, which is no entry point: its `requires` is what the tests of a list and of what is
+// lent establish. It asks of the words' lengths what the step over bytes asks of the bytes'.
 use crate::word;
 use gates::kind;
 ghost use mathlib.Core.Path.{_≡_};
-ghost use mathlib.Core.Bool.{cond};
-ghost use mathlib.Core.List.{_∷_, [], _++_};
-ghost use Prim.Native.Nat.{ℕ, _+_, _-_, _<_, _≤_};
-ghost use lib.ListN.{length, getD, set, take, drop};
-ghost use Rattle.gates.specs.Kind.{conditionalMarks, conditionalOf};
-ghost use Rattle.gates.specs.Gate.{gatesOf};
-ghost use Rattle.gates.specs.Wires.{value, wiresOf};
-ghost use Rattle.gates.specs.Board.{conditionalCount, shownBit, boardOf};
-ghost use Rattle.gates.specs.inner.Step.{StepReady, GateReady, RunReady, rangeOf, stepWires, stepBoard, gateAt};
-ghost use Rattle.batch_lanes.specs.Lane.{laneCount, laneOf};
+ghost use mathlib.Core.List.{_++_};
+ghost use Prim.Native.Nat.{_-_};
+ghost use lib.ListN.{length, take, drop};
+ghost use Rattle.gates.specs.Step.{StepReady, RunReady};
+ghost use Rattle.batch_lanes.specs.Run.{RunDone};
+ghost use Rattle.batch_lanes.specs.inner.Step.{GateAsks, GateDone, StepDone, CloseFits};
 
 // Gate g of the table in all lanes: its value goes to wire own and, where it is conditional, wire a under the tape's
 // word to the board. Answers the number of shown words after it.
@@ -26,11 +22,10 @@ fn run_gate(
     wires: &mut [u64],
     board: &mut [u64],
 ) -> usize
-    requires { ⌜ now marks ≡ conditionalMarks ⌝ }
-    requires { ⌜ GateReady (now table) g own (now tape) shown (now wires) (now board) ⌝ }
-    ensures { λ r. ⌜ r ≡ shown + conditionalCount (gateAt (now (table .entry)) g ∷ []) ⌝ }
-    ensures { λ _. ⌜ ((j : ℕ) → j < laneCount → laneOf j (now (wires .exit)) ≡ set (laneOf j (now (wires .entry))) own (value (laneOf j (now (wires .entry))) (gateAt (now (table .entry)) g))) ⌝ }
-    ensures { λ _. ⌜ ((j : ℕ) → j < laneCount → laneOf j (now (board .exit)) ≡ cond (conditionalOf (gateAt (now (table .entry)) g .kind)) (set (laneOf j (now (board .entry))) shown (shownBit (laneOf j (now (wires .entry))) (gateAt (now (table .entry)) g) (getD (laneOf j (now (tape .entry))) shown 0))) (laneOf j (now (board .entry)))) ⌝ }
+    requires { ⌜ GateAsks (now marks) (now table) g own (now tape) shown (now wires) (now board) ⌝ }
+    ensures { λ r.
+        ⌜ GateDone (now (table .entry)) g own (now (tape .entry)) shown (now (wires .entry)) (now (board .entry))
+        (now (wires .exit)) (now (board .exit)) r ⌝ }
 {
     let at = 4 * g;
     let kind = table[at];
@@ -61,9 +56,10 @@ pub fn step(
     board: &mut [u64],
 ) -> usize
     requires { ⌜ StepReady inputs (now table) from to (now tape) shown (now wires) (now board) ⌝ }
-    ensures { λ r. ⌜ r ≡ shown + conditionalCount (rangeOf (now (table .entry)) from to) ⌝ }
-    ensures { λ _. ⌜ ((j : ℕ) → j < laneCount → laneOf j (now (wires .exit)) ≡ stepWires inputs (now (table .entry)) from to (laneOf j (now (wires .entry)))) ⌝ }
-    ensures { λ _. ⌜ ((j : ℕ) → j < laneCount → laneOf j (now (board .exit)) ≡ stepBoard inputs (now (table .entry)) from to (laneOf j (now (tape .entry))) shown (laneOf j (now (wires .entry))) (laneOf j (now (board .entry)))) ⌝ }
+    ensures { λ r.
+        ⌜ StepDone inputs (now (table .entry)) from to (now (tape .entry)) shown (now (wires .entry))
+        (now (board .entry))
+        (now (wires .exit)) (now (board .exit)) r ⌝ }
 {
     let marks = kind::CONDITIONAL;
     let mut next = shown;
@@ -77,9 +73,10 @@ pub fn step(
 
 // Puts the last wires behind the shown words.
 fn close(outputs: usize, wires: &[u64], shown: usize, board: &mut [u64])
-    requires { ⌜ outputs ≤ length (now wires) ⌝ }
-    requires { ⌜ length (now board) ≡ shown + outputs ⌝ }
-    ensures { λ _. ⌜ now (board .exit) ≡ take shown (now (board .entry)) ++ drop (length (now (wires .entry)) - outputs) (now (wires .entry)) ⌝ }
+    requires { ⌜ CloseFits outputs (now wires) shown (now board) ⌝ }
+    ensures { λ _.
+        ⌜ now (board .exit) ≡ take shown (now (board .entry))
+        ++ drop (length (now (wires .entry)) - outputs) (now (wires .entry)) ⌝ }
 {
     let first = wires.len() - outputs;
     word::copy(&wires[first..], &mut board[shown..]);
@@ -95,8 +92,9 @@ pub fn run(
     board: &mut [u64],
 )
     requires { ⌜ RunReady (now inputs) (now table) outputs (now tape) (now wires) (now board) ⌝ }
-    ensures { λ _. ⌜ ((j : ℕ) → j < laneCount → laneOf j (now (wires .exit)) ≡ wiresOf (laneOf j (now (inputs .entry))) (gatesOf (now (table .entry)))) ⌝ }
-    ensures { λ _. ⌜ ((j : ℕ) → j < laneCount → laneOf j (now (board .exit)) ≡ boardOf (wiresOf (laneOf j (now (inputs .entry))) (gatesOf (now (table .entry)))) (gatesOf (now (table .entry))) outputs (laneOf j (now (tape .entry)))) ⌝ }
+    ensures { λ _.
+        ⌜ RunDone (now (inputs .entry)) (now (table .entry)) outputs (now (tape .entry)) (now (wires .exit))
+        (now (board .exit)) ⌝ }
 {
     word::copy(inputs, wires);
     let shown = step(

@@ -1,4 +1,4 @@
--- The status of a run for 64 juries tells what it has to, by the numbers of the reasons that concern it.
+-- The status of a run for 64 juries means what it has to, by the numbers of the reasons that concern it.
 -- Assumes nothing.
 use native.Mathlib.Omega.{arith}
 use Rattle.c_answers.proofs.Statuses.{fit, numbered, size-tells}
@@ -10,6 +10,7 @@ pub status-tells : StatusMeans
 unfolding fit
 status-tells =
     record {
-      runBatch = λ s table words tape wires board answer.
-          size-tells lastReason (omega arith) answer (batchResult s table words tape wires board .answer) (λ r e. numbered lastReason _ r tt (batch-memory .number s table words tape wires board r e));
+      runBatch = λ c answer.
+          size-tells lastReason (omega arith) answer (batchResult c .answer)
+          (λ r e. numbered lastReason _ r tt (batch-memory c .number r e));
     }

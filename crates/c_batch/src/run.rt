@@ -4,8 +4,9 @@ use c_answers::size::SIZE_ANSWER;
 use c_answers::size::put_size;
 use jury::shape::Shape;
 ghost use mathlib.Core.Path.{_≡_};
-ghost use Rattle.c_answers.specs.Numbers.{shapeOf, sizeAnswer, sizeNumbers, status, answered, altered};
-ghost use Rattle.batch.specs.Run.{batchResult};
+ghost use mathlib.Core.List.{[], _∷_};
+ghost use Rattle.c_answers.specs.Numbers.{shapeOf};
+ghost use Rattle.c_batch.specs.Calls.{batchCall};
 
 // Runs a list on the words of the juries' ballots, bit j of each being jury j's: reason, place, G and C.
 #[no_mangle]
@@ -20,15 +21,23 @@ pub extern "C" fn jugy_run_batch(
     board: &mut [u64],
     answer: &mut [usize],
 ) -> usize
-    ensures { λ r. ⌜ r ≡ status sizeAnswer (sizeNumbers ((batchResult (shapeOf candidates grades ballots) (now (table .entry)) (now (words .entry)) (now (tape .entry)) (now (wires .entry)) (now (board .entry))) .answer)) (now (answer .entry)) ⌝ }
-    ensures { λ _. ⌜ now (answer .exit) ≡ answered sizeAnswer (sizeNumbers ((batchResult (shapeOf candidates grades ballots) (now (table .entry)) (now (words .entry)) (now (tape .entry)) (now (wires .entry)) (now (board .entry))) .answer)) (now (answer .entry)) ⌝ }
-    ensures { λ _. ⌜ now (wires .exit) ≡ altered sizeAnswer (now (answer .entry)) ((batchResult (shapeOf candidates grades ballots) (now (table .entry)) (now (words .entry)) (now (tape .entry)) (now (wires .entry)) (now (board .entry))) .wires) (now (wires .entry)) ⌝ }
-    ensures { λ _. ⌜ now (board .exit) ≡ altered sizeAnswer (now (answer .entry)) ((batchResult (shapeOf candidates grades ballots) (now (table .entry)) (now (words .entry)) (now (tape .entry)) (now (wires .entry)) (now (board .entry))) .board) (now (board .entry)) ⌝ }
+    ensures { λ r.
+        ⌜ record {
+          returned = r;
+          answer = now (answer .exit);
+          lent = now (wires .exit) ∷ now (board .exit) ∷ [];
+        } ≡ batchCall (record {
+          shape = shapeOf candidates grades ballots;
+          table = now (table .entry);
+          ballots = now (words .entry);
+          tape = now (tape .entry);
+          wires = now (wires .entry);
+          board = now (board .entry);
+        }) (now (answer .entry)) ⌝ }
 {
     if answer.len() < SIZE_ANSWER {
         return SHORT_ANSWER;
     }
-    // However the shape is made: the entry point itself refuses one that is outside the limits.
     let shape = Shape {
         candidates,
         grades,

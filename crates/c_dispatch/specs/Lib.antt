@@ -1,2 +1,2 @@
-pub mod Dispatch
+pub mod Numbers
 pub mod Status

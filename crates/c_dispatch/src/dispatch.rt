@@ -3,14 +3,16 @@ use c_answers::array::SHORT_ANSWER;
 use c_answers::array::put;
 use dispatch::dispatch::Dispatched;
 use dispatch::verdict::JuriesVerdict;
-use dispatch_rounds::statement::Statement;
+use dispatch_rounds::header::JuryHeader;
 ghost use mathlib.Core.Path.{_≡_};
-ghost use mathlib.Core.List.{_∷_, _++_};
-ghost use Prim.Native.Nat.{_+_, _*_, _≤_, _<_};
-ghost use lib.ListN.{length, getD, drop};
+ghost use mathlib.Core.List.{[], _∷_};
+ghost use Prim.Native.Nat.{_≤_, _<_};
+ghost use lib.ListN.{length, getD};
+ghost use Rattle.dispatch_rounds.specs.Tables.{lent};
 ghost use Rattle.dispatch.specs.Reasons.{verdictReason};
-ghost use Rattle.c_answers.specs.Numbers.{answerNumbers, statusOf, status, answered, altered};
-ghost use Rattle.c_dispatch.specs.Dispatch.{statementAt, statementsIn, called, dispatchNumbers, dispatchAnswer};
+ghost use Rattle.c_answers.specs.Numbers.{answerNumbers};
+ghost use Rattle.c_answers.specs.inner.Puts.{Puts};
+ghost use Rattle.c_dispatch.specs.Numbers.{headerAt, headersIn, dispatchAnswer, dispatchCall};
 
 // How many numbers the answer has: reason, place and eight numbers of rounds.
 const DISPATCH_ANSWER: usize = 10;
@@ -23,12 +25,12 @@ fn number_at(numbers: &[usize], i: usize) -> usize
 }
 
 // What jury j states.
-fn statement_at(numbers: &[usize], j: usize) -> Statement
+fn header_at(numbers: &[usize], j: usize) -> JuryHeader
     requires { ⌜ j < 8 ⌝ }
-    ensures { λ r. ⌜ r ≡ statementAt (now (numbers .entry)) j ⌝ }
+    ensures { λ r. ⌜ r ≡ headerAt (now (numbers .entry)) j ⌝ }
 {
     let at = 4 * j;
-    Statement {
+    JuryHeader {
         candidates: number_at(numbers, at),
         grades: number_at(numbers, at + 1),
         ballots: number_at(numbers, at + 2),
@@ -36,19 +38,19 @@ fn statement_at(numbers: &[usize], j: usize) -> Statement
     }
 }
 
-// The eight statements, four numbers each. Those that the array does not hold are zeros, which no jury may state.
-fn statements_in(numbers: &[usize]) -> [Statement; 8]
-    ensures { λ r. ⌜ r ≡ statementsIn (now (numbers .entry)) ⌝ }
+// The eight headers, four numbers each. Those that the array does not hold are zeros, which no jury may state.
+fn headers_in(numbers: &[usize]) -> [JuryHeader; 8]
+    ensures { λ r. ⌜ r ≡ headersIn (now (numbers .entry)) ⌝ }
 {
     [
-        statement_at(numbers, 0),
-        statement_at(numbers, 1),
-        statement_at(numbers, 2),
-        statement_at(numbers, 3),
-        statement_at(numbers, 4),
-        statement_at(numbers, 5),
-        statement_at(numbers, 6),
-        statement_at(numbers, 7),
+        header_at(numbers, 0),
+        header_at(numbers, 1),
+        header_at(numbers, 2),
+        header_at(numbers, 3),
+        header_at(numbers, 4),
+        header_at(numbers, 5),
+        header_at(numbers, 6),
+        header_at(numbers, 7),
     ]
 }
 
@@ -73,8 +75,9 @@ fn ten(reason: usize, place: usize, rounds: [usize; 8]) -> [usize; 10]
 // The answer of the dispatcher, and its status.
 fn put_rounds(outcome: Dispatched, answer: &mut [usize]) -> usize
     requires { ⌜ dispatchAnswer ≤ length (now answer) ⌝ }
-    ensures { λ r. ⌜ r ≡ statusOf (answerNumbers (verdictReason (outcome .verdict)) (outcome .rounds)) ⌝ }
-    ensures { λ _. ⌜ now (answer .exit) ≡ answerNumbers (verdictReason (outcome .verdict)) (outcome .rounds) ++ drop dispatchAnswer (now (answer .entry)) ⌝ }
+    ensures { λ r.
+        ⌜ Puts dispatchAnswer (answerNumbers (verdictReason (outcome .verdict)) (outcome .rounds))
+        (now (answer .entry)) (now (answer .exit)) r ⌝ }
 {
     let verdict = outcome.verdict;
     let rounds = outcome.rounds;
@@ -97,8 +100,8 @@ fn put_rounds(outcome: Dispatched, answer: &mut [usize]) -> usize
 #[no_mangle]
 pub extern "C" fn jugy_dispatch(
     count: usize,
-    share: usize,
-    statements: &[usize],
+    quantum: usize,
+    headers: &[usize],
     lists: &[u32],
     ballots: &[u8],
     tapes: &[u8],
@@ -106,19 +109,27 @@ pub extern "C" fn jugy_dispatch(
     boards: &mut [u8],
     answer: &mut [usize],
 ) -> usize
-    ensures { λ r. ⌜ r ≡ status dispatchAnswer (dispatchNumbers (called count share (now (statements .entry)) (now (lists .entry)) (now (ballots .entry)) (now (tapes .entry)) (now (wires .entry)) (now (boards .entry)))) (now (answer .entry)) ⌝ }
-    ensures { λ _. ⌜ now (answer .exit) ≡ answered dispatchAnswer (dispatchNumbers (called count share (now (statements .entry)) (now (lists .entry)) (now (ballots .entry)) (now (tapes .entry)) (now (wires .entry)) (now (boards .entry)))) (now (answer .entry)) ⌝ }
-    ensures { λ _. ⌜ now (wires .exit) ≡ altered dispatchAnswer (now (answer .entry)) ((called count share (now (statements .entry)) (now (lists .entry)) (now (ballots .entry)) (now (tapes .entry)) (now (wires .entry)) (now (boards .entry))) .wires) (now (wires .entry)) ⌝ }
-    ensures { λ _. ⌜ now (boards .exit) ≡ altered dispatchAnswer (now (answer .entry)) ((called count share (now (statements .entry)) (now (lists .entry)) (now (ballots .entry)) (now (tapes .entry)) (now (wires .entry)) (now (boards .entry))) .boards) (now (boards .entry)) ⌝ }
+    ensures { λ r.
+        ⌜ record {
+          returned = r;
+          answer = now (answer .exit);
+          lent = now (wires .exit) ∷ now (boards .exit) ∷ [];
+        } ≡ dispatchCall (record {
+          count = count;
+          headers = headersIn (now (headers .entry));
+          quantum = quantum;
+          tables = lent (now (lists .entry)) (now (ballots .entry)) (now (tapes .entry)) (now (wires .entry))
+              (now (boards .entry));
+        }) (now (answer .entry)) ⌝ }
 {
     if answer.len() < DISPATCH_ANSWER {
         return SHORT_ANSWER;
     }
-    let stated = statements_in(statements);
+    let stated = headers_in(headers);
     let outcome = dispatch::dispatch::dispatch(
         count,
         stated,
-        share,
+        quantum,
         lists,
         ballots,
         tapes,

@@ -1,7 +1,7 @@
 -- The answer of the trustees' call in its array, and its status.
 -- Assumes nothing.
 use mathlib.Core.Path.{_≡_, _∙_, refl, sym, ap}
-use mathlib.Core.List.{List, [], _∷_, _++_}
+use mathlib.Core.List.{List, _++_}
 use Prim.Native.Nat.{ℕ, suc, _+_, _≤_, _<_}
 use native.Mathlib.Omega.{arith}
 use lib.ListN.{length, getD, set, take, drop, length-append, length-drop, drop-of-length-le}
@@ -45,6 +45,3 @@ pub tally-status : (outcome : Outcome Size) (closing : List ℕ) → statusOf (s
 unfolding statusOf tallyNumbers sizeNumbers
 tally-status (refused r) closing = refl
 tally-status (accepted size) closing = refl
-
-pub tallied : (a b : Outcome Size) (xs ys : List ℕ) → a ≡ b → xs ≡ ys → tallyNumbers a xs ≡ tallyNumbers b ys
-tallied a b xs ys e f = ap (λ (s : Outcome Size). tallyNumbers s xs) e ∙ ap (tallyNumbers b) f

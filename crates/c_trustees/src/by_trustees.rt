@@ -7,14 +7,14 @@ use jury::shape::Shape;
 use trustees::run::Tallied;
 use trustees::run::run;
 ghost use mathlib.Core.Path.{_≡_};
-ghost use mathlib.Core.List.{_++_};
+ghost use mathlib.Core.List.{[], _∷_};
 ghost use Prim.Native.Nat.{_≤_};
-ghost use lib.ListN.{length, drop};
-ghost use lib.Seq.{sets};
+ghost use lib.ListN.{length};
 ghost use Rattle.tally.specs.Answer.{outcomeOf};
-ghost use Rattle.trustees.specs.Shared.{shared};
-ghost use Rattle.c_answers.specs.Numbers.{sizeAnswer, shapeOf, statusOf, status, answered, altered};
-ghost use Rattle.c_trustees.specs.Numbers.{tallyNumbers, tallyAnswer};
+ghost use Rattle.c_answers.specs.Numbers.{shapeOf};
+ghost use Rattle.c_answers.specs.inner.Puts.{Puts};
+ghost use Rattle.c_trustees.specs.inner.Put.{PutClosing};
+ghost use Rattle.c_trustees.specs.Numbers.{tallyNumbers, tallyAnswer, trusteesCall};
 
 // How many numbers an answer has: reason, place, G, C and the eight bytes.
 const TALLY_ANSWER: usize = 12;
@@ -25,8 +25,7 @@ const CLOSING_BYTES: usize = 8;
 // The eight bytes, behind reason, place, G and C. That there are eight is what their type says.
 fn put_closing(closing: [u8; 8], answer: &mut [usize])
     requires { ⌜ tallyAnswer ≤ length (now answer) ⌝ }
-    ensures { λ _. ⌜ now (answer .exit) ≡ sets (now (answer .entry)) sizeAnswer closing ⌝ }
-    ensures { λ _. ⌜ length closing ≡ 8 ⌝ }
+    ensures { λ _. ⌜ PutClosing closing (now (answer .entry)) (now (answer .exit)) ⌝ }
 {
     let mut i = 0;
     while i < CLOSING_BYTES {
@@ -38,8 +37,9 @@ fn put_closing(closing: [u8; 8], answer: &mut [usize])
 // The whole answer, and its status.
 fn put_tally(outcome: Tallied, answer: &mut [usize]) -> usize
     requires { ⌜ tallyAnswer ≤ length (now answer) ⌝ }
-    ensures { λ r. ⌜ r ≡ statusOf (tallyNumbers (outcomeOf (outcome .answer)) (outcome .closing)) ⌝ }
-    ensures { λ _. ⌜ now (answer .exit) ≡ tallyNumbers (outcomeOf (outcome .answer)) (outcome .closing) ++ drop tallyAnswer (now (answer .entry)) ⌝ }
+    ensures { λ r.
+        ⌜ Puts tallyAnswer (tallyNumbers (outcomeOf (outcome .answer)) (outcome .closing))
+        (now (answer .entry)) (now (answer .exit)) r ⌝ }
 {
     let size = outcome.answer;
     let closing = outcome.closing;
@@ -57,16 +57,28 @@ pub extern "C" fn jugy_trustees(
     table: &[u32],
     bytes: &[u8],
     trustees: usize,
-    parts: &[u8],
-    dealt: &[u8],
+    shares: &[u8],
+    triples: &[u8],
     wires: &mut [u8],
     published: &mut [u8],
     answer: &mut [usize],
 ) -> usize
-    ensures { λ r. ⌜ r ≡ status tallyAnswer (tallyNumbers ((shared (shapeOf candidates grades ballots) (now (table .entry)) (now (bytes .entry)) trustees (record { ballotParts = now (parts .entry); dealerParts = now (dealt .entry) }) (now (wires .entry)) (now (published .entry))) .answer) ((shared (shapeOf candidates grades ballots) (now (table .entry)) (now (bytes .entry)) trustees (record { ballotParts = now (parts .entry); dealerParts = now (dealt .entry) }) (now (wires .entry)) (now (published .entry))) .closing)) (now (answer .entry)) ⌝ }
-    ensures { λ _. ⌜ now (answer .exit) ≡ answered tallyAnswer (tallyNumbers ((shared (shapeOf candidates grades ballots) (now (table .entry)) (now (bytes .entry)) trustees (record { ballotParts = now (parts .entry); dealerParts = now (dealt .entry) }) (now (wires .entry)) (now (published .entry))) .answer) ((shared (shapeOf candidates grades ballots) (now (table .entry)) (now (bytes .entry)) trustees (record { ballotParts = now (parts .entry); dealerParts = now (dealt .entry) }) (now (wires .entry)) (now (published .entry))) .closing)) (now (answer .entry)) ⌝ }
-    ensures { λ _. ⌜ now (wires .exit) ≡ altered tallyAnswer (now (answer .entry)) ((shared (shapeOf candidates grades ballots) (now (table .entry)) (now (bytes .entry)) trustees (record { ballotParts = now (parts .entry); dealerParts = now (dealt .entry) }) (now (wires .entry)) (now (published .entry))) .wireParts) (now (wires .entry)) ⌝ }
-    ensures { λ _. ⌜ now (published .exit) ≡ altered tallyAnswer (now (answer .entry)) ((shared (shapeOf candidates grades ballots) (now (table .entry)) (now (bytes .entry)) trustees (record { ballotParts = now (parts .entry); dealerParts = now (dealt .entry) }) (now (wires .entry)) (now (published .entry))) .published) (now (published .entry)) ⌝ }
+    ensures { λ r.
+        ⌜ record {
+          returned = r;
+          answer = now (answer .exit);
+          lent = now (wires .exit) ∷ now (published .exit) ∷ [];
+        } ≡ trusteesCall (record {
+          shape = shapeOf candidates grades ballots;
+          table = now (table .entry);
+          ballots = now (bytes .entry);
+          trustees = trustees;
+          lent = record {
+            dealing = record { ballotParts = now (shares .entry); dealerParts = now (triples .entry) };
+            wireParts = now (wires .entry);
+            published = now (published .entry);
+          };
+        }) (now (answer .entry)) ⌝ }
 {
     if answer.len() < TALLY_ANSWER {
         return SHORT_ANSWER;
@@ -81,8 +93,8 @@ pub extern "C" fn jugy_trustees(
         table,
         bytes,
         trustees,
-        parts,
-        dealt,
+        shares,
+        triples,
         wires,
         published,
     );

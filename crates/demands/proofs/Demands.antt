@@ -14,7 +14,6 @@ use Rattle.dispatch.proofs.Theorems.{dispatching}
 use Rattle.batch.proofs.Theorems.{each-as-alone, accepted-as-all, batch-memory, batch-accuracy, batch-hiding}
 use Rattle.batch.proofs.Refusals.{refused-as-alone, fault-as-alone}
 use Rattle.demands.specs.Demands.{AllDemands}
-use Rattle.demands.proofs.Dispatched.{dispatch-accuracy}
 
 pub all-demands : AllDemands
 all-demands =
@@ -24,6 +23,8 @@ all-demands =
         text = text-memory;
         sheet = sheet-memory;
         urn = urn-memory;
+        urn-run = urn-run-holds .memory;
+        by-trustees = trustees.demands .memory;
         lanes = batch-memory;
       };
       accuracy = record { own-list = three-demands .accuracy; plain-count = three-demands .counting };
@@ -42,7 +43,6 @@ all-demands =
       urn-run = urn-run-holds;
       by-trustees = trustees.demands;
       dispatcher = dispatching;
-      dispatcher-accuracy = dispatch-accuracy;
       lanes-alone = each-as-alone;
       lanes-accepted = accepted-as-all;
       lanes-refused = refused-as-alone;

@@ -17,12 +17,11 @@ use Rattle.text.specs.Demands.{TextMemory}
 use Rattle.season.specs.Theorems.{SheetMemory, SheetSums}
 use Rattle.urn.specs.Memory.{UrnMemory}
 use Rattle.urn.specs.Theorems.{UrnHolds, PreviewsTell}
-use Rattle.urn_run.specs.Theorems.{UrnRunHolds}
+use Rattle.urn_run.specs.Theorems.{UrnRunMemory, UrnRunHolds}
+use Rattle.trustees.specs.Call.{Call}
 use Rattle.trustees.specs.Demands as trustees
 use Rattle.dispatch.specs.Theorems.{Dispatching}
-use Rattle.demands.specs.Dispatched.{DispatchAccuracy}
-use Rattle.batch.specs.Theorems.{EachAsAlone, AcceptedAsAll, RefusedAsAlone, FaultAsAlone}
-use Rattle.batch.specs.Theorems.{BatchMemory, BatchAccuracy, BatchHiding}
+use Rattle.batch.specs.Theorems.{EachAsAlone, AcceptedAsAll, RefusedAsAlone, FaultAsAlone, BatchMemory, BatchAccuracy, BatchHiding}
 
 -- The demand [memory], where no record below has it: the five entry points, the calls on a text, the season sheet, the
 -- urn, and 64 juries.
@@ -31,6 +30,8 @@ pub record Memory : Type 0 where
   pub text : TextMemory
   pub sheet : SheetMemory
   pub urn : UrnMemory
+  pub urn-run : UrnRunMemory
+  pub by-trustees : (c : Call) → trustees.Memory c
   pub lanes : BatchMemory
 
 -- The demand [accuracy] for the five entry points: under the own list of a shape, and of the plain count by itself.
@@ -67,11 +68,9 @@ pub record AllDemands : Type 0 where
   pub urn-run : UrnRunHolds
   -- [trustees]: memory, accuracy, and that views tell no more than the closing bytes
   pub by-trustees : trustees.Demands
-  -- [dispatcher]: rounds, lengths, refusals, the untouched rest, each jury as alone, hiding; accuracy
+  -- [dispatcher]: rounds, memory, refusals, each jury as alone, accuracy, hiding
   pub dispatcher : Dispatching
-  pub dispatcher-accuracy : DispatchAccuracy
-  -- [lanes]: each jury of an accepted call as alone, which calls are accepted, what a refusal says of the juries;
-  -- accuracy, hiding
+  -- [lanes]: each jury of an accepted call as alone, which calls are accepted, what a refusal says of the juries; accuracy, hiding
   pub lanes-alone : EachAsAlone
   pub lanes-accepted : AcceptedAsAll
   pub lanes-refused : RefusedAsAlone

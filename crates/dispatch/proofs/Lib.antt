@@ -1,3 +1,3 @@
-pub mod Testing
+pub mod JuryTests
 pub mod Whole
 pub mod Theorems

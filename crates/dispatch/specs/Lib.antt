@@ -1,4 +1,6 @@
+pub mod Call
 pub mod Reasons
-pub mod Dispatch
-pub mod Inner
+pub mod Result
+pub mod NoIdleRound
+pub mod inner
 pub mod Theorems

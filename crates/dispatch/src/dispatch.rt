@@ -1,8 +1,8 @@
 // The entry point of the dispatcher.
 use crate::tests::test_juries;
 use crate::verdict::JuriesVerdict;
+use dispatch_rounds::header::JuryHeader;
 use dispatch_rounds::round::round;
-use dispatch_rounds::statement::Statement;
 use jury::reason::Refusal;
 ghost use mathlib.Core.Path.{_≡_};
 ghost use mathlib.Core.Bool.{_&&_};
@@ -12,18 +12,19 @@ ghost use lib.ListN.{take};
 ghost use Rattle.dispatch_rounds.specs.Tables.{Tables, lent};
 ghost use Rattle.dispatch.specs.Reasons.{verdictReason};
 ghost use Rattle.dispatch_rounds.specs.Rounds.{eightOf, roundsFor};
-ghost use Rattle.dispatch.specs.Dispatch.{dispatched};
-ghost use Rattle.dispatch.specs.Inner.{Ready, Finished, mostGates};
+ghost use Rattle.dispatch.specs.Result.{DispatchResult, dispatchResult};
+ghost use Rattle.dispatch.specs.inner.Rounds.{Ready, RoundsSmall, Finished, mostGates};
 
 pub const LEAST_JURIES: usize = 1;
 
 pub const MOST_JURIES: usize = 8;
 
-pub const LEAST_SHARE: usize = 1;
+pub const LEAST_QUANTUM: usize = 1;
 
-pub const MOST_SHARE: usize = 65536;
+pub const MOST_QUANTUM: usize = 65536;
 
-// The answer of a call: its verdict, and how many rounds each jury took; 0 where there is no jury, and all 0 on a refusal.
+// The answer of a call: its verdict, and how many rounds each jury took; 0 where there is no jury, and all 0 on a
+// refusal.
 pub struct Dispatched {
     pub verdict: JuriesVerdict,
     pub rounds: [usize; 8],
@@ -44,30 +45,32 @@ fn larger(a: usize, b: usize) -> usize
 }
 
 // The number of gates of the longest jury.
-fn most_gates(count: usize, statements: [Statement; 8]) -> usize
+fn most_gates(count: usize, headers: [JuryHeader; 8]) -> usize
     requires { ⌜ count ≤ 8 ⌝ }
-    ensures { λ r. ⌜ r ≡ mostGates (take count statements) ⌝ }
+    ensures { λ r. ⌜ r ≡ mostGates (take count headers) ⌝ }
 {
     let mut most = 0;
     let mut j = 0;
     while j < count {
-        let statement = statements[j];
-        most = larger(most, statement.gates);
+        let header = headers[j];
+        most = larger(most, header.gates);
         j += 1;
     }
     most
 }
 
 // How many rounds each jury takes, which no other jury changes.
-fn rounds_of(count: usize, statements: [Statement; 8], share: usize) -> [usize; 8]
-    requires { ⌜ (count ≤ 8) × (1 ≤ share) × (share ≤ 65536) × (mostGates (take count statements) ≤ 1048576) ⌝ }
-    ensures { λ r. ⌜ ((t : Tables) → r ≡ eightOf (λ (s : Statement) (p : Tables). roundsFor (s .gates) share) (take count statements) t) ⌝ }
+fn rounds_of(count: usize, headers: [JuryHeader; 8], quantum: usize) -> [usize; 8]
+    requires { ⌜ RoundsSmall count headers quantum ⌝ }
+    ensures { λ r.
+        ⌜ ((t : Tables)
+        → r ≡ eightOf (λ (s : JuryHeader) (p : Tables). roundsFor (s .gates) quantum) (take count headers) t) ⌝ }
 {
     let mut rounds = [0usize; 8];
     let mut j = 0;
     while j < count {
-        let statement = statements[j];
-        rounds[j] = (statement.gates + (share - 1)) / share;
+        let header = headers[j];
+        rounds[j] = (header.gates + (quantum - 1)) / quantum;
         j += 1;
     }
     rounds
@@ -76,28 +79,40 @@ fn rounds_of(count: usize, statements: [Statement; 8], share: usize) -> [usize; 
 // Round after round, until the longest jury is finished.
 fn run_rounds(
     count: usize,
-    statements: [Statement; 8],
+    headers: [JuryHeader; 8],
     conditional: [usize; 8],
-    share: usize,
+    quantum: usize,
     lists: &[u32],
     ballots: &[u8],
     tapes: &[u8],
     wires: &mut [u8],
     boards: &mut [u8],
 )
-    requires { ⌜ Ready count statements conditional share (lent (now lists) (now ballots) (now tapes) (now wires) (now boards)) ⌝ }
-    ensures { λ _. ⌜ Finished share (take count statements) (lent (now (lists .entry)) (now (ballots .entry)) (now (tapes .entry)) (now (wires .entry)) (now (boards .entry))) conditional (now (wires .exit)) (now (boards .exit)) ⌝ }
+    requires { ⌜ Ready (record {
+      count = count;
+      headers = headers;
+      quantum = quantum;
+      tables = lent (now lists) (now ballots) (now tapes) (now wires) (now boards);
+    }) conditional ⌝ }
+    ensures { λ _.
+        ⌜ Finished (record {
+          count = count;
+          headers = headers;
+          quantum = quantum;
+          tables = lent (now (lists .entry)) (now (ballots .entry)) (now (tapes .entry)) (now (wires .entry))
+              (now (boards .entry));
+        }) conditional (now (wires .exit)) (now (boards .exit)) ⌝ }
 {
-    let most = most_gates(count, statements);
+    let most = most_gates(count, headers);
     let mut shown = [0usize; 8];
     let mut done = 0;
-    while done * share < most {
+    while done * quantum < most {
         let after = round(
             count,
-            statements,
+            headers,
             conditional,
             done,
-            share,
+            quantum,
             shown,
             lists,
             ballots,
@@ -110,22 +125,34 @@ fn run_rounds(
     }
 }
 
-// Runs up to eight juries in rounds of up to share gates each. Their pieces lie one behind the other in the five tables, and statements
-// past the number of juries are not looked at. The wire tables are emptied after the last round.
+// Runs up to eight juries in rounds, in each of which a jury gets a quantum of gates at most. Their pieces lie one
+// behind the other in the five tables, and headers past the number of juries are not looked at. The wires are emptied
+// in the end.
 pub fn dispatch(
     count: usize,
-    statements: [Statement; 8],
-    share: usize,
+    headers: [JuryHeader; 8],
+    quantum: usize,
     lists: &[u32],
     ballots: &[u8],
     tapes: &[u8],
     wires: &mut [u8],
     boards: &mut [u8],
 ) -> Dispatched
-    ensures { λ r. ⌜ verdictReason (r .verdict) ≡ (dispatched count statements share (lent (now (lists .entry)) (now (ballots .entry)) (now (tapes .entry)) (now (wires .entry)) (now (boards .entry)))) .reason ⌝ }
-    ensures { λ r. ⌜ r .rounds ≡ (dispatched count statements share (lent (now (lists .entry)) (now (ballots .entry)) (now (tapes .entry)) (now (wires .entry)) (now (boards .entry)))) .rounds ⌝ }
-    ensures { λ _. ⌜ now (wires .exit) ≡ (dispatched count statements share (lent (now (lists .entry)) (now (ballots .entry)) (now (tapes .entry)) (now (wires .entry)) (now (boards .entry)))) .wires ⌝ }
-    ensures { λ _. ⌜ now (boards .exit) ≡ (dispatched count statements share (lent (now (lists .entry)) (now (ballots .entry)) (now (tapes .entry)) (now (wires .entry)) (now (boards .entry)))) .boards ⌝ }
+    ensures { λ r.
+        ⌜ _≡_ {A = DispatchResult}
+        (record {
+          reason = verdictReason (r .verdict);
+          rounds = r .rounds;
+          wires = now (wires .exit);
+          boards = now (boards .exit);
+        })
+        (dispatchResult (record {
+          count = count;
+          headers = headers;
+          quantum = quantum;
+          tables = lent (now (lists .entry)) (now (ballots .entry)) (now (tapes .entry)) (now (wires .entry))
+              (now (boards .entry));
+        })) ⌝ }
 {
     if !is_between(LEAST_JURIES, count, MOST_JURIES) {
         return Dispatched {
@@ -136,7 +163,7 @@ pub fn dispatch(
             rounds: [0usize; 8],
         };
     }
-    if !is_between(LEAST_SHARE, share, MOST_SHARE) {
+    if !is_between(LEAST_QUANTUM, quantum, MOST_QUANTUM) {
         return Dispatched {
             verdict: JuriesVerdict::Refused {
                 reason: Refusal::GatesPerRound,
@@ -145,7 +172,7 @@ pub fn dispatch(
             rounds: [0usize; 8],
         };
     }
-    let tests = test_juries(count, statements, lists, ballots, tapes, wires, boards);
+    let tests = test_juries(count, headers, lists, ballots, tapes, wires, boards);
     let verdict = tests.verdict;
     let JuriesVerdict::Accepted = verdict else {
         return Dispatched {
@@ -157,9 +184,9 @@ pub fn dispatch(
     let end = tests.wires;
     run_rounds(
         count,
-        statements,
+        headers,
         conditional,
-        share,
+        quantum,
         lists,
         ballots,
         tapes,
@@ -169,6 +196,6 @@ pub fn dispatch(
     basics::table::empty(&mut wires[..end]);
     Dispatched {
         verdict,
-        rounds: rounds_of(count, statements, share),
+        rounds: rounds_of(count, headers, quantum),
     }
 }

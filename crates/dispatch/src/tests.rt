@@ -1,23 +1,22 @@
 // The tests of all juries, before the first gate.
 use crate::verdict::JuriesVerdict;
 use crate::verdict::Tests;
-use dispatch_rounds::statement::Places;
-use dispatch_rounds::statement::Statement;
+use dispatch_rounds::header::JuryHeader;
+use dispatch_rounds::header::Places;
 use jury::reason::Verdict;
 use jury::shape::Shape;
 use tally::answer::Answer;
 ghost use mathlib.Core.Path.{_≡_};
 ghost use Prim.Native.Nat.{_+_, _*_, _≤_};
 ghost use lib.ListN.{take};
-ghost use Rattle.gates.specs.Gate.{gatesOf};
-ghost use Rattle.jury.specs.Reason.{firstOf};
-ghost use Rattle.tally.specs.Answer.{outcomeOf, outcome, sizeOf};
-ghost use Rattle.dispatch_rounds.specs.Tables.{lent, fitting, listOf};
-ghost use Rattle.dispatch_rounds.specs.Reasons.{reasonsOf, atJury};
+ghost use Rattle.tally.specs.Answer.{outcomeOf};
+ghost use Rattle.dispatch_rounds.specs.Tables.{lent, fitting};
+ghost use Rattle.dispatch_rounds.specs.Reasons.{atJury};
 ghost use Rattle.dispatch.specs.Reasons.{verdictReason};
-ghost use Rattle.dispatch.specs.Inner.{refusalIn, TestsFound};
+ghost use Rattle.dispatch.specs.inner.Rounds.{refusalIn, JuryTested, TestsFound};
 
-// The length of a piece of first and second bytes together, where so many are left. The sum is formed only where it fits.
+// The length of a piece of first and second bytes together, where so many are left. The sum is formed only where it
+// fits.
 fn bytes_fitting(first: usize, second: usize, left: usize) -> usize
     ensures { λ r. ⌜ r ≡ fitting (first + second) left ⌝ }
 {
@@ -39,21 +38,23 @@ fn numbers_fitting(gates: usize, left: usize) -> usize
 
 // All reasons of one jury, on what is left of the tables.
 fn test_jury(
-    statement: Statement,
+    header: JuryHeader,
     lists: &[u32],
     ballots: &[u8],
     tapes: &[u8],
     wires: &[u8],
     boards: &[u8],
 ) -> Answer
-    ensures { λ r. ⌜ outcomeOf r ≡ outcome (firstOf (reasonsOf statement (lent (now (lists .entry)) (now (ballots .entry)) (now (tapes .entry)) (now (wires .entry)) (now (boards .entry))))) (sizeOf (gatesOf (listOf statement (lent (now (lists .entry)) (now (ballots .entry)) (now (tapes .entry)) (now (wires .entry)) (now (boards .entry)))))) ⌝ }
+    ensures { λ r.
+        ⌜ JuryTested header (lent (now (lists .entry)) (now (ballots .entry)) (now (tapes .entry)) (now (wires .entry))
+        (now (boards .entry))) (outcomeOf r) ⌝ }
 {
     let shape = Shape {
-        candidates: statement.candidates,
-        grades: statement.grades,
-        ballots: statement.ballots,
+        candidates: header.candidates,
+        grades: header.grades,
+        ballots: header.ballots,
     };
-    let numbers = numbers_fitting(statement.gates, lists.len());
+    let numbers = numbers_fitting(header.gates, lists.len());
     let answer = tally::test::test(shape, &lists[..numbers]);
     let Answer::Accepted { gates, conditional } = answer else {
         return answer;
@@ -81,7 +82,7 @@ fn test_jury(
 }
 
 // The verdict of a call whose first bad jury, if there is one, is this.
-fn outcome_of(answer: Answer, jury: usize) -> JuriesVerdict
+fn verdict_of(answer: Answer, jury: usize) -> JuriesVerdict
     ensures { λ r. ⌜ verdictReason r ≡ atJury jury (refusalIn answer) ⌝ }
 {
     match answer {
@@ -96,7 +97,7 @@ fn outcome_of(answer: Answer, jury: usize) -> JuriesVerdict
 // Tests jury after jury, each to its end before the next is looked at.
 pub(crate) fn test_juries(
     count: usize,
-    statements: [Statement; 8],
+    headers: [JuryHeader; 8],
     lists: &[u32],
     ballots: &[u8],
     tapes: &[u8],
@@ -104,7 +105,9 @@ pub(crate) fn test_juries(
     boards: &[u8],
 ) -> Tests
     requires { ⌜ count ≤ 8 ⌝ }
-    ensures { λ r. ⌜ TestsFound (take count statements) (lent (now (lists .entry)) (now (ballots .entry)) (now (tapes .entry)) (now (wires .entry)) (now (boards .entry))) r ⌝ }
+    ensures { λ r.
+        ⌜ TestsFound (take count headers) (lent (now (lists .entry)) (now (ballots .entry)) (now (tapes .entry))
+        (now (wires .entry)) (now (boards .entry))) r ⌝ }
 {
     let mut conditional = [0usize; 8];
     let mut at = Places {
@@ -116,14 +119,14 @@ pub(crate) fn test_juries(
     };
     let mut j = 0;
     while j < count {
-        let statement = statements[j];
+        let header = headers[j];
         let l = at.lists;
         let b = at.ballots;
         let t = at.tapes;
         let w = at.wires;
         let o = at.boards;
         let answer = test_jury(
-            statement,
+            header,
             &lists[l..],
             &ballots[b..],
             &tapes[t..],
@@ -136,13 +139,13 @@ pub(crate) fn test_juries(
         } = answer
         else {
             return Tests {
-                verdict: outcome_of(answer, j),
+                verdict: verdict_of(answer, j),
                 conditional,
                 wires: w,
             };
         };
         conditional[j] = marked;
-        at = at.after(statement, marked);
+        at = at.after(header, marked);
         j += 1;
     }
     Tests {

@@ -1,4 +1,4 @@
 pub mod Pieces
 pub mod Passed
-pub mod Turning
-pub mod Rounding
+pub mod JuryStates
+pub mod MidRound

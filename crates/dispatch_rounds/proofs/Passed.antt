@@ -1,9 +1,9 @@
 -- What is known of a jury that is not turned away: its pieces fit.
 -- Assumes nothing.
-use mathlib.Core.Path.{_≡_, _∙_, refl, sym, ap, subst}
+use mathlib.Core.Path.{_≡_, refl, ap}
 use mathlib.Core.Option.{Option, none, some}
-use mathlib.Core.List.{List, [], _∷_}
-use Prim.Native.Nat.{ℕ, suc, _+_, _*_, _/_, _≤_, _<_}
+use mathlib.Core.List.{List, _∷_}
+use Prim.Native.Nat.{ℕ, suc, _+_, _*_, _≤_}
 use native.Mathlib.Omega.{arith}
 use lib.Dec.{T}
 use lib.ListN.{length, take}
@@ -18,15 +18,14 @@ use Rattle.jury.specs.Reason.{Reason, firstOf}
 use Rattle.jury.proofs.Limits.{bounds}
 use Rattle.basics.proofs.Flags.{true-T}
 use Rattle.tally.specs.Answer.{sizeOf}
-use Rattle.tally.specs.Run.{runReasons}
 use Rattle.tally.proofs.RunReasons.{RunPassed, run-passed, run-ready}
-use Rattle.dispatch_rounds.specs.declared.statement.Statement.{Statement}
-use Rattle.dispatch_rounds.specs.Tables.{Tables, lent, shapeOf, pieceOf, listOf, conditionalIn, piecesOf, behind}
+use Rattle.dispatch_rounds.specs.declared.header.JuryHeader.{JuryHeader}
+use Rattle.dispatch_rounds.specs.Tables.{Tables, shapeOf, pieceOf, listOf, conditionalIn, piecesOf, behind}
 use Rattle.dispatch_rounds.specs.Reasons.{reasonsOf, atJury, juryReasons}
 use Rattle.dispatch_rounds.proofs.Pieces.{piece-fits, full-fits, some-fits}
 
 -- no jury is bad: not the first, and none behind it
-pub first-accepted : (j : ℕ) (s : Statement) (ss : List Statement) (t : Tables) → firstOf (juryReasons j (s ∷ ss) t) ≡ none
+pub first-accepted : (j : ℕ) (s : JuryHeader) (ss : List JuryHeader) (t : Tables) → firstOf (juryReasons j (s ∷ ss) t) ≡ none
     → (firstOf (reasonsOf s t) ≡ none) × (firstOf (juryReasons (suc j) ss (behind s t)) ≡ none)
 unfolding juryReasons
 first-accepted j s ss t e = go (firstOf (reasonsOf s t)) refl e
@@ -36,7 +35,7 @@ first-accepted j s ss t e = go (firstOf (reasonsOf s t)) refl e
     go none p q = unfold atJury firstOf in (p, q)
     go (some r) p q = unfold atJury firstOf in (let z : _≡_ {A = ℕ} 0 1 = cc in absurd (omega arith))
 
-pub record Passed (s : Statement) (t : Tables) : Type 0 where
+pub record Passed (s : JuryHeader) (t : Tables) : Type 0 where
   pub passed : RunPassed (shapeOf s) (piecesOf s t .lists) (piecesOf s t .ballots) (piecesOf s t .tapes) (piecesOf s t .wires) (piecesOf s t .boards)
   pub run : RunReady (piecesOf s t .ballots) (piecesOf s t .lists) (s .candidates) (piecesOf s t .tapes) (piecesOf s t .wires) (piecesOf s t .boards)
   pub within-limits : T (withinLimits (shapeOf s))
@@ -59,7 +58,7 @@ pub record Passed (s : Statement) (t : Tables) : Type 0 where
   pub marked : conditionalCount (gatesOf (piecesOf s t .lists)) ≡ conditionalIn s t
 
 -- a list of gates that is not empty fits, and has the gates that were stated
-pub list-fits : (s : Statement) (t : Tables) → 1 ≤ length (gatesOf (listOf s t)) → (4 * s .gates ≤ length (t .lists)) × (length (gatesOf (listOf s t)) ≡ s .gates)
+pub list-fits : (s : JuryHeader) (t : Tables) → 1 ≤ length (gatesOf (listOf s t)) → (4 * s .gates ≤ length (t .lists)) × (length (gatesOf (listOf s t)) ≡ s .gates)
 unfolding listOf
 list-fits s t h =
     let n = 4 * s .gates in
@@ -68,7 +67,7 @@ list-fits s t h =
       omega (arith, length-gates (pieceOf n (t .lists)), ap length (piece-fits n (t .lists) room), length-take-le n (t .lists) room),
     )
 
-pub jury-passed : (s : Statement) (t : Tables) → firstOf (reasonsOf s t) ≡ none → Passed s t
+pub jury-passed : (s : JuryHeader) (t : Tables) → firstOf (reasonsOf s t) ≡ none → Passed s t
 unfolding reasonsOf piecesOf conditionalIn
 jury-passed s t e =
     let p = piecesOf s t in

@@ -2,14 +2,14 @@
 -- Assumes nothing.
 use mathlib.Core.Path.{_≡_, _∙_, refl, sym, ap}
 use mathlib.Core.Bool.{Bool, true, false, cond}
-use mathlib.Core.List.{List, [], _∷_, _++_, append-assoc, append-nil}
-use Prim.Native.Nat.{ℕ, suc, _+_, _-_, _≤_}
+use mathlib.Core.List.{List, [], _∷_, _++_, append-assoc}
+use Prim.Native.Nat.{ℕ, _+_, _-_, _≤_}
 use native.Mathlib.Omega.{arith}
 use lib.Dec.{leb}
 use lib.ListN.{length, getD, set, take, drop, replicate, length-append, replicate-append-replicate}
-use lib.Seq.{length-take-le, take-at, drop-at, getD-at, set-at, append-snoc}
+use lib.Seq.{take-at, drop-at, getD-at, set-at, append-snoc}
 use borrow.Author.Tests.{leb-true, le-leb}
-use Rattle.dispatch_rounds.specs.declared.statement.Statement.{Statement}
+use Rattle.dispatch_rounds.specs.declared.header.JuryHeader.{JuryHeader}
 use Rattle.dispatch_rounds.specs.Tables.{Tables, fitting, pieceOf, piecesOf, behind, through}
 use Rattle.dispatch_rounds.specs.Rounds.{eightOf}
 
@@ -36,21 +36,21 @@ some-fits n xs e = go (leb n (length xs)) refl e
     go false p q = absurd (omega arith)
 
 -- Of the table that is to be in the end, a front is there, and behind it the pieces that stood before.
-pub record Upto (f g : Statement → Tables → List ℕ) (rest : Tables → List ℕ) (ss : List Statement) (t : Tables) (at : ℕ) (here final : List ℕ) : Type 0 where
+pub record Upto (f g : JuryHeader → Tables → List ℕ) (rest : Tables → List ℕ) (ss : List JuryHeader) (t : Tables) (at : ℕ) (here final : List ℕ) : Type 0 where
   pub front : List ℕ
   pub long : length front ≡ at
   pub hereIs : here ≡ front ++ through f rest ss t
   pub finalIs : final ≡ front ++ through g rest ss t
 
-pub upto-start : (f g : Statement → Tables → List ℕ) (rest : Tables → List ℕ) (ss : List Statement) (t : Tables) (here : List ℕ) → here ≡ through f rest ss t
+pub upto-start : (f g : JuryHeader → Tables → List ℕ) (rest : Tables → List ℕ) (ss : List JuryHeader) (t : Tables) (here : List ℕ) → here ≡ through f rest ss t
     → Upto f g rest ss t 0 here (through g rest ss t)
 upto-start f g rest ss t here e = record { front = []; long = refl; hereIs = e; finalIs = refl }
 
-pub upto-end : (f g : Statement → Tables → List ℕ) (rest : Tables → List ℕ) (t : Tables) (at : ℕ) (here final : List ℕ) → Upto f g rest [] t at here final → here ≡ final
+pub upto-end : (f g : JuryHeader → Tables → List ℕ) (rest : Tables → List ℕ) (t : Tables) (at : ℕ) (here final : List ℕ) → Upto f g rest [] t at here final → here ≡ final
 unfolding through
 upto-end f g rest t at here final u = u .hereIs ∙ sym (u .finalIs)
 
-module _ (f g : Statement → Tables → List ℕ) (rest : Tables → List ℕ) (s : Statement) (ss : List Statement) (t : Tables) (at n : ℕ) (here final : List ℕ)
+module _ (f g : JuryHeader → Tables → List ℕ) (rest : Tables → List ℕ) (s : JuryHeader) (ss : List JuryHeader) (t : Tables) (at n : ℕ) (here final : List ℕ)
     (u : Upto f g rest (s ∷ ss) t at here final) (old : length (f s (piecesOf s t)) ≡ n) where
   rest-of : drop at here ≡ f s (piecesOf s t) ++ through f rest ss (behind s t)
   unfolding through
@@ -89,10 +89,10 @@ module _ (f g : Statement → Tables → List ℕ) (rest : Tables → List ℕ) 
       }
 
 -- Numbers, one for each jury.
-abbrev pub oneOf : (Statement → Tables → ℕ) → Statement → Tables → List ℕ
+abbrev pub oneOf : (JuryHeader → Tables → ℕ) → JuryHeader → Tables → List ℕ
 oneOf number s p = number s p ∷ []
 
-module _ (f g : Statement → Tables → ℕ) (rest : Tables → List ℕ) (s : Statement) (ss : List Statement) (t : Tables) (at : ℕ) (here final : List ℕ)
+module _ (f g : JuryHeader → Tables → ℕ) (rest : Tables → List ℕ) (s : JuryHeader) (ss : List JuryHeader) (t : Tables) (at : ℕ) (here final : List ℕ)
     (u : Upto (oneOf f) (oneOf g) rest (s ∷ ss) t at here final) where
   pub upto-read : (d : ℕ) → getD here at d ≡ f s (piecesOf s t)
   unfolding through
@@ -117,7 +117,7 @@ module _ (f g : Statement → Tables → ℕ) (rest : Tables → List ℕ) (s : 
       }
 
 -- pieces that are equal make equal tables
-pub through-same : (f g : Statement → Tables → List ℕ) (rest : Tables → List ℕ) → ((s : Statement) (p : Tables) → f s p ≡ g s p) → (ss : List Statement) (t : Tables)
+pub through-same : (f g : JuryHeader → Tables → List ℕ) (rest : Tables → List ℕ) → ((s : JuryHeader) (p : Tables) → f s p ≡ g s p) → (ss : List JuryHeader) (t : Tables)
     → through f rest ss t ≡ through g rest ss t
 unfolding through
 through-same f g rest e [] t = refl
@@ -126,17 +126,17 @@ through-same f g rest e (s ∷ ss) t =
     ∙ ap (λ (x : List ℕ). g s (piecesOf s t) ++ x) (through-same f g rest e ss (behind s t))
 
 -- eight zeros
-zeros-through : (pad : List ℕ) (ss : List Statement) (t : Tables) → through (oneOf (λ (s : Statement) (p : Tables). 0)) (λ (t : Tables). pad) ss t ≡ replicate (length ss) 0 ++ pad
+zeros-through : (pad : List ℕ) (ss : List JuryHeader) (t : Tables) → through (oneOf (λ (s : JuryHeader) (p : Tables). 0)) (λ (t : Tables). pad) ss t ≡ replicate (length ss) 0 ++ pad
 unfolding through
 zeros-through pad [] t = refl
 zeros-through pad (s ∷ ss) t = ap (λ (x : List ℕ). 0 ∷ x) (zeros-through pad ss (behind s t))
 
-pub eight-zeros : (number : Statement → Tables → ℕ) → ((s : Statement) (p : Tables) → number s p ≡ 0) → (ss : List Statement) (t : Tables) → length ss ≤ 8
+pub eight-zeros : (number : JuryHeader → Tables → ℕ) → ((s : JuryHeader) (p : Tables) → number s p ≡ 0) → (ss : List JuryHeader) (t : Tables) → length ss ≤ 8
     → eightOf number ss t ≡ replicate 8 0
 unfolding eightOf
 eight-zeros number e ss t few =
-    through-same (oneOf number) (oneOf (λ (s : Statement) (p : Tables). 0)) (λ (t : Tables). replicate (8 - length ss) 0)
-    (λ (s : Statement) (p : Tables). ap (λ (x : ℕ). x ∷ []) (e s p)) ss t
+    through-same (oneOf number) (oneOf (λ (s : JuryHeader) (p : Tables). 0)) (λ (t : Tables). replicate (8 - length ss) 0)
+    (λ (s : JuryHeader) (p : Tables). ap (λ (x : ℕ). x ∷ []) (e s p)) ss t
     ∙ zeros-through (replicate (8 - length ss) 0) ss t
     ∙ replicate-append-replicate (length ss) (8 - length ss) 0
     ∙ ap (λ (n : ℕ). replicate n 0) {x = length ss + (8 - length ss)} {y = 8} (omega arith)

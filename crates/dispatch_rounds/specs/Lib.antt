@@ -1,4 +1,4 @@
 pub mod Tables
 pub mod Reasons
 pub mod Rounds
-pub mod Inner
+pub mod inner

@@ -8,7 +8,7 @@ use Rattle.gates.specs.Gate.{gatesOf}
 use Rattle.gates.specs.Board.{conditionalCount}
 use Rattle.jury.specs.declared.shape.Shape.{Shape}
 use Rattle.jury.specs.Shape.{ballotBytes}
-use Rattle.dispatch_rounds.specs.declared.statement.Statement.{Statement}
+use Rattle.dispatch_rounds.specs.declared.header.JuryHeader.{JuryHeader}
 
 pub record Tables : Type 0 where
   pub lists : List ℕ
@@ -18,29 +18,36 @@ pub record Tables : Type 0 where
   pub boards : List ℕ
 
 abbrev pub lent : List ℕ → List ℕ → List ℕ → List ℕ → List ℕ → Tables
-lent lists ballots tapes wires boards = record { lists = lists; ballots = ballots; tapes = tapes; wires = wires; boards = boards }
+lent lists ballots tapes wires boards = record {
+  lists = lists;
+  ballots = ballots;
+  tapes = tapes;
+  wires = wires;
+  boards = boards;
+}
 
-abbrev pub shapeOf : Statement → Shape
+abbrev pub shapeOf : JuryHeader → Shape
 shapeOf s = record { candidates = s .candidates; grades = s .grades; ballots = s .ballots }
 
 -- A piece of n elements, where there are m: all n where they fit, and none where they do not.
 unfoldable pub fitting : ℕ → ℕ → ℕ
 fitting n m = cond (leb n m) n 0
 
--- The first n elements where there are so many. A piece without room is empty; it is too short then, since no jury has an empty piece but a tape for no conditional gate, which always fits.
+-- The first n elements where there are so many. A piece without room is empty; it is too short then, since no jury has
+-- an empty piece but a tape for no conditional gate, which always fits.
 unfoldable pub pieceOf : ℕ → List ℕ → List ℕ
 pieceOf n xs = take (fitting n (length xs)) xs
 
 -- The numbers of the first jury's list: four a gate.
-unfoldable pub listOf : Statement → Tables → List ℕ
+unfoldable pub listOf : JuryHeader → Tables → List ℕ
 listOf s t = pieceOf (4 * s .gates) (t .lists)
 
 -- C of the first jury, by the marks of its own list.
-unfoldable pub conditionalIn : Statement → Tables → ℕ
+unfoldable pub conditionalIn : JuryHeader → Tables → ℕ
 conditionalIn s t = conditionalCount (gatesOf (listOf s t))
 
 -- The first jury's pieces: 4G numbers, I ballot bytes, C tape bytes, I + G wires and C + k board bytes.
-unfoldable pub piecesOf : Statement → Tables → Tables
+unfoldable pub piecesOf : JuryHeader → Tables → Tables
 piecesOf s t =
     lent
     (listOf s t)
@@ -50,7 +57,7 @@ piecesOf s t =
     (pieceOf (conditionalIn s t + s .candidates) (t .boards))
 
 -- What is left of the tables behind these pieces, where the next jury's begin.
-unfoldable pub behind : Statement → Tables → Tables
+unfoldable pub behind : JuryHeader → Tables → Tables
 behind s t =
     lent
     (drop (4 * s .gates) (t .lists))
@@ -60,6 +67,6 @@ behind s t =
     (drop (conditionalIn s t + s .candidates) (t .boards))
 
 -- A table made of a piece for each jury, one after the other, and what lies behind the last.
-unfoldable pub through : (Statement → Tables → List ℕ) → (Tables → List ℕ) → List Statement → Tables → List ℕ
+unfoldable pub through : (JuryHeader → Tables → List ℕ) → (Tables → List ℕ) → List JuryHeader → Tables → List ℕ
 through piece rest [] t = rest t
 through piece rest (s ∷ ss) t = piece s (piecesOf s t) ++ through piece rest ss (behind s t)

@@ -22,7 +22,8 @@ pub record RunReady (t : ℕ) (pieces : Pieces) (inputs : ℕ) (table dealt wire
   pub published-length : length published ≡ t * pieces .published
 
 -- Besides: tables of exactly the lengths of request 2.7, and at least k gates.
-pub record EvaluateReady (t inputs : ℕ) (table : List ℕ) (conditional k : ℕ) (ballotParts dealt wires published : List ℕ) : Type 0 where
+pub record EvaluateReady (t inputs : ℕ) (table : List ℕ) (conditional k : ℕ)
+    (ballotParts dealt wires published : List ℕ) : Type 0 where
   pub some-input : 1 ≤ inputs
   pub few : inputs + length (gatesOf table) < 1073741824
   pub good : firstBad inputs 0 (gatesOf table) ≡ Nowhere

@@ -5,7 +5,6 @@ use crate::gate::Pieces;
 use crate::table;
 use gates::kind;
 ghost use mathlib.Core.Path.{_≡_};
-ghost use mathlib.Core.List.{_++_};
 ghost use Prim.Native.Nat.{_+_, _*_, _<_};
 ghost use lib.ListN.{length, take};
 ghost use lib.Seq.{sets};
@@ -41,8 +40,14 @@ fn run_gates(
     published: &mut [u8],
 )
     requires { ⌜ RunReady t pieces inputs (now table) (now dealt) (now wires) (now published) ⌝ }
-    ensures { λ _. ⌜ now (wires .exit) ≡ joined t (partsOf t (piece (pieces .dealt) (now (dealt .entry))) (λ p. take inputs (piece (pieces .wires) (now (wires .entry)) p)) 0 (gatesOf (now (table .entry)))) ⌝ }
-    ensures { λ _. ⌜ now (published .exit) ≡ joined t (λ p. sets (piece (pieces .published) (now (published .entry)) p) 0 (maskedFactors (partsOf t (piece (pieces .dealt) (now (dealt .entry))) (λ q. take inputs (piece (pieces .wires) (now (wires .entry)) q)) 0 (gatesOf (now (table .entry))) p) (piece (pieces .dealt) (now (dealt .entry)) p) 0 (gatesOf (now (table .entry))))) ⌝ }
+    ensures { λ _.
+        ⌜ now (wires .exit) ≡ joined t (partsOf t (piece (pieces .dealt) (now (dealt .entry)))
+        (λ p. take inputs (piece (pieces .wires) (now (wires .entry)) p)) 0 (gatesOf (now (table .entry)))) ⌝ }
+    ensures { λ _.
+        ⌜ now (published .exit) ≡ joined t (λ p. sets (piece (pieces .published) (now (published .entry)) p) 0
+        (maskedFactors (partsOf t (piece (pieces .dealt) (now (dealt .entry)))
+        (λ q. take inputs (piece (pieces .wires) (now (wires .entry)) q)) 0 (gatesOf (now (table .entry))) p)
+        (piece (pieces .dealt) (now (dealt .entry)) p) 0 (gatesOf (now (table .entry))))) ⌝ }
 {
     let marks = kind::CONDITIONAL;
     let gates = table.len() / 4;
@@ -78,9 +83,14 @@ pub fn evaluate(
     wires: &mut [u8],
     published: &mut [u8],
 )
-    requires { ⌜ EvaluateReady t inputs (now table) conditional k (now parts) (now dealt) (now wires) (now published) ⌝ }
-    ensures { λ _. ⌜ now (wires .exit) ≡ joined t (wirePartsOf t inputs (gatesOf (now (table .entry))) (record { ballotParts = now (parts .entry); dealerParts = now (dealt .entry) })) ⌝ }
-    ensures { λ _. ⌜ now (published .exit) ≡ joined t (publishedOf t inputs (gatesOf (now (table .entry))) k (record { ballotParts = now (parts .entry); dealerParts = now (dealt .entry) })) ⌝ }
+    requires { ⌜ EvaluateReady t inputs (now table) conditional k (now parts) (now dealt) (now wires)
+        (now published) ⌝ }
+    ensures { λ _.
+        ⌜ now (wires .exit) ≡ joined t (wirePartsOf t inputs (gatesOf (now (table .entry)))
+        (record { ballotParts = now (parts .entry); dealerParts = now (dealt .entry) })) ⌝ }
+    ensures { λ _.
+        ⌜ now (published .exit) ≡ joined t (publishedOf t inputs (gatesOf (now (table .entry))) k
+        (record { ballotParts = now (parts .entry); dealerParts = now (dealt .entry) })) ⌝ }
 {
     let size = inputs + table.len() / 4;
     let factors = 2 * conditional;

@@ -49,7 +49,9 @@ fn second_factor(size: usize, gate: Numbers, p: usize, wires: &[u8]) -> u8
 fn masked_first(pieces: Pieces, gate: Numbers, i: usize, p: usize, dealt: &[u8], wires: &[u8]) -> u8
     requires { ⌜ InWires (pieces .wires) gate p (now wires) ⌝ }
     requires { ⌜ InDealt (pieces .dealt) i p (now dealt) ⌝ }
-    ensures { λ r. ⌜ r ≡ maskedFirst (piece (pieces .wires) (now (wires .entry)) p) (piece (pieces .dealt) (now (dealt .entry)) p) i (gateOf gate) ⌝ }
+    ensures { λ r.
+        ⌜ r ≡ maskedFirst (piece (pieces .wires) (now (wires .entry)) p)
+        (piece (pieces .dealt) (now (dealt .entry)) p) i (gateOf gate) ⌝ }
 {
     let a = table::entry(wires, pieces.wires, p, gate.a);
     bits::plus(a, table::entry(dealt, pieces.dealt, p, 3 * i))
@@ -66,7 +68,9 @@ fn masked_second(
 ) -> u8
     requires { ⌜ InWires (pieces .wires) gate p (now wires) ⌝ }
     requires { ⌜ InDealt (pieces .dealt) i p (now dealt) ⌝ }
-    ensures { λ r. ⌜ r ≡ maskedSecond (piece (pieces .wires) (now (wires .entry)) p) (piece (pieces .dealt) (now (dealt .entry)) p) i (gateOf gate) ⌝ }
+    ensures { λ r.
+        ⌜ r ≡ maskedSecond (piece (pieces .wires) (now (wires .entry)) p)
+        (piece (pieces .dealt) (now (dealt .entry)) p) i (gateOf gate) ⌝ }
 {
     let factor = second_factor(pieces.wires, gate, p, wires);
     bits::plus(factor, table::entry(dealt, pieces.dealt, p, 3 * i + 1))
@@ -83,9 +87,18 @@ fn publish(
     published: &mut [u8],
 ) -> Opened
     requires { ⌜ PublishReady t pieces gate i (now dealt) (now wires) (now published) ⌝ }
-    ensures { λ r. ⌜ r .first ≡ openedFirst t (piece (pieces .dealt) (now (dealt .entry))) (piece (pieces .wires) (now (wires .entry))) i (gateOf gate) ⌝ }
-    ensures { λ r. ⌜ r .second ≡ openedSecond t (piece (pieces .dealt) (now (dealt .entry))) (piece (pieces .wires) (now (wires .entry))) i (gateOf gate) ⌝ }
-    ensures { λ _. ⌜ now (published .exit) ≡ eachPuts t (pieces .published) (2 * i) (λ p. maskedFirst (piece (pieces .wires) (now (wires .entry)) p) (piece (pieces .dealt) (now (dealt .entry)) p) i (gateOf gate) ∷ maskedSecond (piece (pieces .wires) (now (wires .entry)) p) (piece (pieces .dealt) (now (dealt .entry)) p) i (gateOf gate) ∷ []) (now (published .entry)) ⌝ }
+    ensures { λ r.
+        ⌜ r .first ≡ openedFirst t (piece (pieces .dealt) (now (dealt .entry)))
+        (piece (pieces .wires) (now (wires .entry))) i (gateOf gate) ⌝ }
+    ensures { λ r.
+        ⌜ r .second ≡ openedSecond t (piece (pieces .dealt) (now (dealt .entry)))
+        (piece (pieces .wires) (now (wires .entry))) i (gateOf gate) ⌝ }
+    ensures { λ _.
+        ⌜ now (published .exit) ≡ eachPuts t (pieces .published) (2 * i)
+        (λ p. maskedFirst (piece (pieces .wires) (now (wires .entry)) p)
+        (piece (pieces .dealt) (now (dealt .entry)) p) i (gateOf gate)
+        ∷ maskedSecond (piece (pieces .wires) (now (wires .entry)) p) (piece (pieces .dealt) (now (dealt .entry)) p) i
+        (gateOf gate) ∷ []) (now (published .entry)) ⌝ }
 {
     let size = pieces.published;
     let mut first = 0;
@@ -118,7 +131,9 @@ fn product_part(size: usize, i: usize, p: usize, opened: Opened, dealt: &[u8]) -
 // Trustee p's part of a gate's wire, from its bit z of the product.
 fn new_part(size: usize, gate: Numbers, p: usize, z: u8, wires: &[u8]) -> u8
     requires { ⌜ InWires size gate p (now wires) ⌝ }
-    ensures { λ r. ⌜ r ≡ partOfKind p (gate .kind) (part (piece size (now (wires .entry)) p) (gate .a)) (part (piece size (now (wires .entry)) p) (gate .b)) (part (piece size (now (wires .entry)) p) (gate .c)) z ⌝ }
+    ensures { λ r.
+        ⌜ r ≡ partOfKind p (gate .kind) (part (piece size (now (wires .entry)) p) (gate .a))
+        (part (piece size (now (wires .entry)) p) (gate .b)) (part (piece size (now (wires .entry)) p) (gate .c)) z ⌝ }
 {
     let a = table::entry(wires, size, p, gate.a);
     let b = table::entry(wires, size, p, gate.b);
@@ -138,7 +153,13 @@ fn enter_products(
     wires: &mut [u8],
 )
     requires { ⌜ ProductReady t pieces gate own i (now dealt) (now wires) ⌝ }
-    ensures { λ _. ⌜ now (wires .exit) ≡ eachPuts t (pieces .wires) own (λ p. partOfKind p (gate .kind) (part (piece (pieces .wires) (now (wires .entry)) p) (gate .a)) (part (piece (pieces .wires) (now (wires .entry)) p) (gate .b)) (part (piece (pieces .wires) (now (wires .entry)) p) (gate .c)) (productPart p (piece (pieces .dealt) (now (dealt .entry)) p) i (opened .first) (opened .second)) ∷ []) (now (wires .entry)) ⌝ }
+    ensures { λ _.
+        ⌜ now (wires .exit) ≡ eachPuts t (pieces .wires) own
+        (λ p. partOfKind p (gate .kind) (part (piece (pieces .wires) (now (wires .entry)) p) (gate .a))
+        (part (piece (pieces .wires) (now (wires .entry)) p) (gate .b))
+        (part (piece (pieces .wires) (now (wires .entry)) p) (gate .c))
+        (productPart p (piece (pieces .dealt) (now (dealt .entry)) p) i (opened .first) (opened .second))
+        ∷ []) (now (wires .entry)) ⌝ }
 {
     let size = pieces.wires;
     let mut p = 0;
@@ -152,7 +173,10 @@ fn enter_products(
 // Each trustee enters its part of a free gate's wire, for which no product is needed.
 fn enter_free(t: usize, size: usize, gate: Numbers, own: usize, wires: &mut [u8])
     requires { ⌜ FreeReady t size gate own (now wires) ⌝ }
-    ensures { λ _. ⌜ now (wires .exit) ≡ eachPuts t size own (λ p. partOfKind p (gate .kind) (part (piece size (now (wires .entry)) p) (gate .a)) (part (piece size (now (wires .entry)) p) (gate .b)) (part (piece size (now (wires .entry)) p) (gate .c)) 0 ∷ []) (now (wires .entry)) ⌝ }
+    ensures { λ _.
+        ⌜ now (wires .exit) ≡ eachPuts t size own (λ p. partOfKind p (gate .kind)
+        (part (piece size (now (wires .entry)) p) (gate .a)) (part (piece size (now (wires .entry)) p) (gate .b))
+        (part (piece size (now (wires .entry)) p) (gate .c)) 0 ∷ []) (now (wires .entry)) ⌝ }
 {
     let mut p = 0;
     while p < t {
@@ -176,8 +200,16 @@ pub(crate) fn run_gate(
     requires { ⌜ now marks ≡ conditionalMarks ⌝ }
     requires { ⌜ GateReady t pieces gate own i (now dealt) (now wires) (now published) ⌝ }
     ensures { λ r. ⌜ r ≡ i + markOf (gateOf gate) ⌝ }
-    ensures { λ _. ⌜ now (wires .exit) ≡ eachPuts t (pieces .wires) own (λ p. newPart t (piece (pieces .dealt) (now (dealt .entry))) (piece (pieces .wires) (now (wires .entry))) i (gateOf gate) p ∷ []) (now (wires .entry)) ⌝ }
-    ensures { λ _. ⌜ now (published .exit) ≡ cond (conditionalOf (gate .kind)) (eachPuts t (pieces .published) (2 * i) (λ p. maskedFirst (piece (pieces .wires) (now (wires .entry)) p) (piece (pieces .dealt) (now (dealt .entry)) p) i (gateOf gate) ∷ maskedSecond (piece (pieces .wires) (now (wires .entry)) p) (piece (pieces .dealt) (now (dealt .entry)) p) i (gateOf gate) ∷ []) (now (published .entry))) (now (published .entry)) ⌝ }
+    ensures { λ _.
+        ⌜ now (wires .exit) ≡ eachPuts t (pieces .wires) own
+        (λ p. newPart t (piece (pieces .dealt) (now (dealt .entry))) (piece (pieces .wires) (now (wires .entry))) i
+        (gateOf gate) p ∷ []) (now (wires .entry)) ⌝ }
+    ensures { λ _.
+        ⌜ now (published .exit) ≡ cond (conditionalOf (gate .kind))
+        (eachPuts t (pieces .published) (2 * i) (λ p. maskedFirst (piece (pieces .wires) (now (wires .entry)) p)
+        (piece (pieces .dealt) (now (dealt .entry)) p) i (gateOf gate)
+        ∷ maskedSecond (piece (pieces .wires) (now (wires .entry)) p) (piece (pieces .dealt) (now (dealt .entry)) p) i
+        (gateOf gate) ∷ []) (now (published .entry))) (now (published .entry)) ⌝ }
 {
     if kind::conditional(marks, gate.kind) {
         let opened = publish(t, pieces, gate, i, dealt, wires, published);

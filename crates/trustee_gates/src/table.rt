@@ -54,7 +54,9 @@ pub(crate) fn copy_pieces(
     into: usize,
 )
     requires { ⌜ CopyReady t count (now from) size at (now to) room into ⌝ }
-    ensures { λ _. ⌜ now (to .exit) ≡ eachPuts t room into (λ p. take count (drop at (piece size (now (from .entry)) p))) (now (to .entry)) ⌝ }
+    ensures { λ _.
+        ⌜ now (to .exit) ≡ eachPuts t room into (λ p. take count (drop at (piece size (now (from .entry)) p)))
+        (now (to .entry)) ⌝ }
 {
     let mut p = 0;
     while p < t {

@@ -3,11 +3,11 @@
 use mathlib.Core.Path.{_≡_, _∙_, refl, sym, ap, subst}
 use mathlib.Core.Bool.{Bool, true, false, cond}
 use mathlib.Core.List.{List, [], _∷_, _++_}
-use Prim.Native.Nat.{ℕ, zero, suc, _+_, _-_, _*_, _%_, _≤_, _<_, min, max}
+use Prim.Native.Nat.{ℕ, suc, _+_, _-_, _*_, _%_, _≤_, _<_, min, max}
 use native.Mathlib.Nat.{add-zero}
 use native.Mathlib.Omega.{arith}
 use lib.Dec.{T, eqb, ltb}
-use lib.ListN.{length, getD, length-append, List·getD-append}
+use lib.ListN.{length, length-append, List·getD-append}
 use lib.Seq.{getD-append-seam}
 use borrow.Author.Tests.{ltb-true, ltb-false, eqb-true}
 use Rattle.gates.specs.Kind.{operandsOf, conditionalOf, valueOf}
@@ -18,7 +18,7 @@ use Rattle.gates.proofs.KindLaws.{each-kind}
 use Rattle.gates.proofs.Goodness.{GoodGate, good-gate}
 use Rattle.gates.proofs.Counting.{count-cons}
 use Rattle.gates.proofs.Laws.{AllGood, Holds, operand-counts, marks, zero-value, one-value, copy-value, not-value, and-value, or-value, xor-value, mux-zero, mux-one}
-use Rattle.trustee_shares.specs.Shares.{sumOf, opened, part, uOf, vOf, firstFactor, secondFactor, maskedFirst, maskedSecond, entered, productPart, partOfKind, Held, openedFirst, openedSecond, newPart, markOf, partsOf}
+use Rattle.trustee_shares.specs.Shares.{opened, part, uOf, vOf, firstFactor, secondFactor, maskedFirst, maskedSecond, entered, productPart, partOfKind, Held, openedFirst, openedSecond, newPart, markOf, partsOf}
 use Rattle.trustee_shares.proofs.SumLaws.{sum-same, sum-mod, sum-add, sum-zero, sum-entered}
 use Rattle.trustee_shares.proofs.Products.{two, Triple, product-opens}
 

@@ -9,7 +9,7 @@ use native.Mathlib.Nat.{add-zero}
 use native.Mathlib.Omega.{arith}
 use lib.Dec.{eqb}
 use lib.ListN.{length, getD, take, drop, length-append, length-drop}
-use lib.Seq.{ext-getD, getD-drop, getD-take, take-at, drop-at}
+use lib.Seq.{ext-getD, getD-drop, take-at}
 use borrow.Author.Tests.{eqb-true, eqb-false, eq-eqb, ne-eqb}
 use Rattle.gates.specs.Kind.{conditionalOf}
 use Rattle.gates.specs.Gate.{Gate}
@@ -21,8 +21,8 @@ use Rattle.gates.specs.declared.place.Place.the-variants.{Nowhere}
 use Rattle.gates.proofs.Goodness.{GoodGate}
 use Rattle.gates.proofs.WireLaws.{length-wires}
 use Rattle.gates.proofs.Laws.{AllGood, Holds, all-good, wires-hold, wires-start, wires-bits, wire-bit, output-is}
-use Rattle.trustee_shares.specs.Shares.{sumOf, opened, part, uOf, vOf, productOf, firstFactor, secondFactor, maskedFirst, maskedSecond, Held, partsOf}
-use Rattle.trustee_shares.specs.Views.{piece, joined, Dealing, ballotsOf, dealtOf, GoodDealing, wirePartsOf, maskedFactors, closingParts, publishedOf, othersOf, View, viewOf, ViewsHideInputs}
+use Rattle.trustee_shares.specs.Shares.{sumOf, opened, part, uOf, vOf, productOf, firstFactor, secondFactor, maskedFirst, maskedSecond, Held}
+use Rattle.trustee_shares.specs.Views.{piece, joined, Dealing, ballotsOf, dealtOf, GoodDealing, wirePartsOf, maskedFactors, closingParts, publishedOf, View, viewOf, ViewsHideInputs}
 use Rattle.trustee_shares.proofs.SumLaws.{sum-change}
 use Rattle.trustee_shares.proofs.Products.{Triple}
 use Rattle.trustee_shares.proofs.Accuracy.{Split, opened-same, parts-split, conditional-operands, choice-operands}

@@ -6,3 +6,4 @@ pub mod Lists
 pub mod Exchange
 pub mod Publishing
 pub mod Hiding
+pub mod Examples

@@ -1,11 +1,11 @@
 -- The product of two split bits, by a dealt triple.
 -- Assumes nothing.
-use mathlib.Core.Path.{_≡_, _∙_, refl, sym, ap}
+use mathlib.Core.Path.{_≡_, _∙_, refl}
 use mathlib.Core.List.{List}
-use Prim.Native.Nat.{ℕ, zero, suc, _+_, _*_, _%_, _≤_, _<_}
+use Prim.Native.Nat.{ℕ, zero, suc, _+_, _*_, _%_, _≤_}
 use native.Mathlib.Omega.{arith}
 use Rattle.trustee_shares.specs.Shares.{sumOf, opened, entered, uOf, vOf, productOf, productPart}
-use Rattle.trustee_shares.proofs.SumLaws.{sum-same, sum-mod, sum-add, sum-times, sum-entered}
+use Rattle.trustee_shares.proofs.SumLaws.{sum-mod, sum-add, sum-times, sum-entered}
 
 -- what holds of both bits holds of any
 pub two : (P : ℕ → Type 0) → P 0 → P 1 → (x : ℕ) → x ≤ 1 → P x

@@ -1,13 +1,13 @@
 -- Sums over trustees.
 -- Assumes nothing.
-use mathlib.Core.Path.{_≡_, _∙_, refl, sym, ap}
+use mathlib.Core.Path.{_≡_, refl}
 use mathlib.Core.Bool.{Bool, true, false}
 use mathlib.Core.Logic.{_≢_}
 use Prim.Native.Nat.{ℕ, zero, suc, _+_, _*_, _%_, _≤_, _<_}
 use native.Mathlib.Omega.{arith}
 use lib.Dec.{eqb}
 use borrow.Author.Tests.{eqb-true, eqb-false}
-use Rattle.trustee_shares.specs.Shares.{sumOf, opened, entered}
+use Rattle.trustee_shares.specs.Shares.{sumOf, entered}
 
 -- summands that are equal below t
 pub sum-same : (t : ℕ) (f g : ℕ → ℕ) → ((p : ℕ) → p < t → f p ≡ g p) → sumOf t f ≡ sumOf t g

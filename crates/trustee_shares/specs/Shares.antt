@@ -1,5 +1,6 @@
--- Wires split among trustees: request 2.7, gate by gate. Trustees are counted from 0, so trustee 1 of the request is number 0 here.
-use mathlib.Core.Bool.{Bool, true, false, cond}
+-- Wires split among trustees: request 2.7, gate by gate. Trustees are counted from 0, so trustee 1 of the request is
+-- number 0 here.
+use mathlib.Core.Bool.{cond}
 use mathlib.Core.List.{List, [], _∷_, _++_}
 use Prim.Native.Nat.{ℕ, zero, suc, _+_, _*_, _%_}
 use lib.Dec.{eqb}
@@ -19,7 +20,8 @@ opened t f = sumOf t f % 2
 unfoldable pub part : List ℕ → ℕ → ℕ
 part parts x = getD parts x 0
 
--- A trustee's bits of what is dealt for the i-th conditional gate: of u, of v and of their product. A dealt (u, v, u·v) is a Beaver triple. A trustee's dealer parts stand in this order, gate after gate.
+-- A trustee's bits of what is dealt for the i-th conditional gate: of u, of v and of their product. A dealt (u, v,
+-- u·v) is a Beaver triple. A trustee's dealer parts stand in this order, gate after gate.
 unfoldable pub uOf : List ℕ → ℕ → ℕ
 uOf dealt i = getD dealt (3 * i) 0
 
@@ -29,7 +31,8 @@ vOf dealt i = getD dealt (3 * i + 1) 0
 unfoldable pub productOf : List ℕ → ℕ → ℕ
 productOf dealt i = getD dealt (3 * i + 2) 0
 
--- The factors of a conditional gate: a; and b, or for a choice b plus c, modulo 2. A trustee computes its bit of them from its own parts of the wires.
+-- The factors of a conditional gate: a; and b, or for a choice b plus c, modulo 2. A trustee computes its bit of them
+-- from its own parts of the wires.
 unfoldable pub firstFactor : List ℕ → Gate → ℕ
 firstFactor ws g = part ws (g .a)
 
@@ -52,7 +55,8 @@ entered (suc p) x = 0
 unfoldable pub productPart : ℕ → List ℕ → ℕ → ℕ → ℕ → ℕ
 productPart p dealt i e f = (productOf dealt i + e * vOf dealt i + f * uOf dealt i + entered p (e * f)) % 2
 
--- Trustee p's bit of a gate's wire, by the gate's kind, from its parts a, b, c of the operands and its bit z of the product.
+-- Trustee p's bit of a gate's wire, by the gate's kind, from its parts a, b, c of the operands and its bit z of the
+-- product.
 unfoldable pub partOfKind : ℕ → ℕ → ℕ → ℕ → ℕ → ℕ → ℕ
 partOfKind p kind a b c z =
     getD (0 ∷ entered p 1 ∷ a ∷ (a + entered p 1) % 2 ∷ z ∷ (a + b + z) % 2 ∷ (a + b) % 2 ∷ (c + z) % 2 ∷ []) kind 0

@@ -18,7 +18,7 @@ use Rattle.jury.proofs.BallotLaws.{bad-end}
 use Rattle.batch_lanes.specs.Lane.{laneCount, lane, laneOf}
 use Rattle.batch_lanes.proofs.LaneLaws.{lane-none}
 use Rattle.batch_lanes.proofs.ListLaws.{lanes-take, lanes-drop}
-use Rattle.batch.specs.Ballots.{foundBit}
+use Rattle.batch.specs.inner.Found.{foundBit}
 use Rattle.batch.proofs.RowLaws.{rows-turn}
 use Rattle.batch.proofs.ballots.bad_rows.Statement.{statement}
 use Rattle.batch.proofs.ballots.bad_rows.Tie as tie

@@ -14,8 +14,8 @@ use Rattle.batch.proofs.Reasons.{clash, notWeakOrder}
 use Rattle.batch.proofs.ballots.test_rankings.Statement.{statement}
 use Rattle.batch.proofs.ballots.test_rankings.Tie as tie
 
-not_asymmetric-requires : tie.Need-not_asymmetric-requires
-not_asymmetric-requires c κs = search needs
+not-asymmetric-requires : tie.Need-not-asymmetric-requires
+not-asymmetric-requires c κs = search needs
 
 first-jury-requires : tie.Need-first-jury-requires
 first-jury-requires c κs = search needs
@@ -33,7 +33,7 @@ clash-found : (c : tie.After-first-jury) → let start = c .before .before .befo
 unfolding firstJury
 clash-found c =
     let start = c .before .before .before in
-    let b = c .before .not_asymmetric in
+    let b = c .before .not-asymmetric in
     c .first-jury .ensures ∙ first-by-bits (b .result) (λ j. clash (start .args .shape) (laneOf j (start .args .ballots .now))) (b .ensures)
 
 returns : tie.Need-returns
@@ -50,8 +50,8 @@ enum-told c = search needs
 no-clash : (c : tie.After-enum-told) → let a = c .before .before .before .before .before .args in firstJury (clash (a .shape)) (a .ballots .now) ≡ Nowhere
 no-clash c = sym (clash-found (c .before .before)) ∙ c .enum-told .given .1
 
-not_weak_order-requires : tie.Need-not_weak_order-requires
-not_weak_order-requires c κs = search needs
+not-weak-order-requires : tie.Need-not-weak-order-requires
+not-weak-order-requires c κs = search needs
 
 first-jury-requires-2 : tie.Need-first-jury-requires-2
 first-jury-requires-2 c κs = search needs
@@ -68,7 +68,7 @@ gap-found : (c : tie.After-first-jury2) → let start = c .before .before .befor
 unfolding firstJury
 gap-found c =
     let start = c .before .before .before .before .before .before .before in
-    let b = c .before .not_weak_order in
+    let b = c .before .not-weak-order in
     c .first-jury2 .ensures ∙ first-by-bits (b .result) (λ j. notWeakOrder (start .args .shape) (laneOf j (start .args .ballots .now))) (b .ensures)
 
 returns-2 : tie.Need-returns-2
@@ -91,12 +91,12 @@ pub test-rankings-spec : {M : Type 1} → statement M
 test-rankings-spec =
     tie.close
     (tie.spec
-    not_asymmetric-requires
+    not-asymmetric-requires
     first-jury-requires
     enum-known-j
     returns
     enum-told
-    not_weak_order-requires
+    not-weak-order-requires
     first-jury-requires-2
     enum-known-j-2
     enum-told-2

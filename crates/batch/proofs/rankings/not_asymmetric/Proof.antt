@@ -6,7 +6,7 @@ use native.Mathlib.Omega.{arith}
 use Rattle.jury.specs.Rankings.{before, firstOver, notAsymmetricInBallot, firstNotAsymmetric}
 use Rattle.jury.proofs.Searches.{ballot-within}
 use Rattle.batch_lanes.specs.Lane.{laneCount, lane, laneOf}
-use Rattle.batch.specs.Ballots.{foundBit}
+use Rattle.batch.specs.inner.Found.{foundBit}
 use Rattle.batch.proofs.RankLaws.{found-none, found-more}
 use Rattle.batch.proofs.rankings.not_asymmetric.Statement.{statement}
 use Rattle.batch.proofs.rankings.not_asymmetric.Tie as tie
@@ -60,5 +60,5 @@ returns c =
     let n = start .args .n in
     λ u h. at .loop .inv .1 u h ∙ ap (λ (m : ℕ). foundBit (firstOver m (notAsymmetricInBallot k (laneOf u words)))) {x = at .loop .b} {y = n} (omega arith)
 
-pub not_asymmetric-spec : {M : Type 1} → statement M
-not_asymmetric-spec = tie.close (tie.spec Inv-loop μ-loop loop-holds not-asymmetric-in-ballot-requires add-b loop-less loop-again returns)
+pub not-asymmetric-spec : {M : Type 1} → statement M
+not-asymmetric-spec = tie.close (tie.spec Inv-loop μ-loop loop-holds not-asymmetric-in-ballot-requires add-b loop-less loop-again returns)

@@ -6,7 +6,7 @@ use native.Mathlib.Omega.{arith}
 use borrow.Author.Needs.{needs}
 use Rattle.jury.specs.Rankings.{before, firstOver, notAsymmetricInRow, notAsymmetricInBallot}
 use Rattle.batch_lanes.specs.Lane.{laneCount, lane, laneOf}
-use Rattle.batch.specs.Ballots.{foundBit}
+use Rattle.batch.specs.inner.Found.{foundBit}
 use Rattle.batch.proofs.RankLaws.{found-none, found-more}
 use Rattle.batch.proofs.rankings.not_asymmetric_in_ballot.Statement.{statement}
 use Rattle.batch.proofs.rankings.not_asymmetric_in_ballot.Tie as tie

@@ -6,7 +6,7 @@ use native.Mathlib.Omega.{arith}
 use borrow.Author.Needs.{needs}
 use Rattle.jury.specs.Rankings.{before, firstOver, rankPlace, notAsymmetricAt, notAsymmetricInRow}
 use Rattle.batch_lanes.specs.Lane.{laneCount, lane, laneOf}
-use Rattle.batch.specs.Ballots.{foundBit}
+use Rattle.batch.specs.inner.Found.{foundBit}
 use Rattle.batch.proofs.RankLaws.{clash-lane, found-none, found-more}
 use Rattle.batch.proofs.rankings.not_asymmetric_in_row.Statement.{statement}
 use Rattle.batch.proofs.rankings.not_asymmetric_in_row.Tie as tie

@@ -8,7 +8,7 @@ use Rattle.gates.specs.declared.place.Place.the-variants.{At, Nowhere}
 use Rattle.jury.specs.Rankings.{before, firstOver, notWeakOrder, firstNotWeakOrder}
 use Rattle.jury.proofs.Searches.{ballot-within}
 use Rattle.batch_lanes.specs.Lane.{laneCount, lane, laneOf}
-use Rattle.batch.specs.Ballots.{foundBit}
+use Rattle.batch.specs.inner.Found.{foundBit}
 use Rattle.batch.proofs.RankLaws.{test-found, found-none, found-more}
 use Rattle.batch.proofs.rankings.not_weak_order.Statement.{statement}
 use Rattle.batch.proofs.rankings.not_weak_order.Tie as tie
@@ -62,5 +62,5 @@ returns c =
     let n = start .args .n in
     λ u h. at .loop .inv .1 u h ∙ ap (λ (m : ℕ). foundBit (firstOver m (λ b. cond (notWeakOrder k (laneOf u words) b) (At b) Nowhere))) {x = at .loop .b} {y = n} (omega arith)
 
-pub not_weak_order-spec : {M : Type 1} → statement M
-not_weak_order-spec = tie.close (tie.spec Inv-loop μ-loop loop-holds not-weak-order-in-ballot-requires add-b loop-less loop-again returns)
+pub not-weak-order-spec : {M : Type 1} → statement M
+not-weak-order-spec = tie.close (tie.spec Inv-loop μ-loop loop-holds not-weak-order-in-ballot-requires add-b loop-less loop-again returns)

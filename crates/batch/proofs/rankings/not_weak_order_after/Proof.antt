@@ -30,8 +30,8 @@ loop-holds c =
 puts-before-requires : tie.Need-puts-before-requires Inv-loop μ-loop
 puts-before-requires c κs = search needs
 
-apart-requires : tie.Need-apart-requires Inv-loop μ-loop
-apart-requires c κs = search needs
+neither-after-nor-before-requires : tie.Need-neither-after-nor-before-requires Inv-loop μ-loop
+neither-after-nor-before-requires c κs = search needs
 
 add-j : tie.Need-add-j Inv-loop μ-loop
 add-j c = omega arith
@@ -51,7 +51,7 @@ loop-again c =
     let i = start .args .i in
     let j = at .loop .j in (
       omega arith,
-      λ u h. some-more u j (λ j. before k (laneOf u words) b i j && neitherAfterNorBefore k (laneOf u words) b i j) (at .loop .faults) _ (at .loop .inv .1 u h) (both-lane u (first .puts-before .result) (second .neitherAfterNorBefore .result) (before k (laneOf u words) b i j) (neitherAfterNorBefore k (laneOf u words) b i j) (first .puts-before .ensures u h) (second .neitherAfterNorBefore .ensures u h)),
+      λ u h. some-more u j (λ j. before k (laneOf u words) b i j && neitherAfterNorBefore k (laneOf u words) b i j) (at .loop .faults) _ (at .loop .inv .1 u h) (both-lane u (first .puts-before .result) (second .neither-after-nor-before .result) (before k (laneOf u words) b i j) (neitherAfterNorBefore k (laneOf u words) b i j) (first .puts-before .ensures u h) (second .neither-after-nor-before .ensures u h)),
     )
 
 returns : tie.Need-returns Inv-loop μ-loop
@@ -66,4 +66,4 @@ returns c =
     λ u h. at .loop .inv .1 u h ∙ ap (λ (m : ℕ). bit (someBelow m (λ j. before k (laneOf u words) b i j && neitherAfterNorBefore k (laneOf u words) b i j))) {x = at .loop .j} {y = k} (omega arith)
 
 pub not-weak-order-after-spec : {M : Type 1} → statement M
-not-weak-order-after-spec = tie.close (tie.spec Inv-loop μ-loop loop-holds puts-before-requires apart-requires add-j loop-less loop-again returns)
+not-weak-order-after-spec = tie.close (tie.spec Inv-loop μ-loop loop-holds puts-before-requires neither-after-nor-before-requires add-j loop-less loop-again returns)

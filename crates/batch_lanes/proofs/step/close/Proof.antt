@@ -74,7 +74,7 @@ returns : tie.Need-returns
 unfolding from to
 returns c =
     let s = c .before .before .before .before .before .before .before in
-    closed (s .args .wires .now) (s .args .board .now) (c .before .before .copy .last .1 .0) (s .args .outputs) (s .args .shown) (s .pre .0) (s .pre .1) (c .before .before .copy .ensures)
+    closed (s .args .wires .now) (s .args .board .now) (c .before .before .copy .last .1 .0) (s .args .outputs) (s .args .shown) (s .pre .enough) (s .pre .room) (c .before .before .copy .ensures)
 
 pub close-spec : {M : Type 1} → statement M
 close-spec =

@@ -1,27 +1,36 @@
--- `batch_lanes::step::run` meets its contract: copying, stepping and closing, one after the other, leave in each lane the wires and the board of the whole list.
+-- `batch_lanes::step::run` meets its contract: copying, stepping and closing, one after the other, leave in each lane the
+-- wires and the board of the whole list.
 -- Assumes nothing.
 use borrow.Author.Needs.{needs}
-use Rattle.batch_lanes.proofs.Finishing.{step-ready, can-close, final-wires, final-board}
+use Rattle.batch_lanes.proofs.RunLaws.{step-ready, can-close, final-wires, final-board}
 use Rattle.batch_lanes.proofs.step.run.Statement.{statement}
 use Rattle.batch_lanes.proofs.step.run.Tie as tie
+
+-- The stages: the inputs are copied; the gates are done.
+abbrev copied-from : tie.After-copy → tie.Start
+copied-from c = c .before .before .before .before .before .before .before
+
+abbrev stepped-from : tie.After-step → tie.After-copy
+stepped-from c = c .before .before .before .before .before
 
 copy-requires : tie.Need-copy-requires
 copy-requires c κs = search needs
 
 step-requires : tie.Need-step-requires
 step-requires c κs =
-    let s = c .before .before .before .before .before .before .before .before .before .before .before in
+    let s = copied-from (c .before .before .before .before) in
     let a = s .args in
     step-ready (a .inputs .now) (a .table .now) (a .outputs) (a .tape .now) (a .wires .now) (a .board .now) (s .pre) _ (c .before .before .before .before .copy .ensures)
 
 close-requires : tie.Need-close-requires
 close-requires c κs =
-    let s = c .before .before .before .before .before .before .before .before .before .before .before .before .before .before .before .before .before .before in
+    let stepped = c .before .before .before .before .before .before in
+    let s = copied-from (stepped-from stepped) in
     let a = s .args in
-    let r = c .before .before .before .before .before .before .step in
-    let q = can-close (a .inputs .now) (a .table .now) (a .outputs) (a .tape .now) (a .wires .now) (a .board .now) (s .pre) _ (c .before .before .before .before .before .before .before .before .before .before .before .copy .ensures)
-    (r .result) (r .last .1 .1 .1 .1 .1 .1 .0) (r .last .1 .1 .1 .1 .1 .1 .1 .0) (r .ensures .0) (r .kept .1 .1 .1 .1 .1 .1 .0) (r .kept .1 .1 .1 .1 .1 .1 .1 .0) in
-    (q .0, q .1)
+    let r = stepped .step in
+    let q = can-close (a .inputs .now) (a .table .now) (a .outputs) (a .tape .now) (a .wires .now) (a .board .now) (s .pre) _ (stepped-from stepped .copy .ensures)
+    (r .result) (r .last .1 .1 .1 .1 .1 .1 .0) (r .last .1 .1 .1 .1 .1 .1 .1 .0) (r .ensures .shown-is) (r .kept .1 .1 .1 .1 .1 .1 .0) (r .kept .1 .1 .1 .1 .1 .1 .1 .0) in
+    record { enough = q .0; room = q .1 }
 
 same-length : tie.Need-same-length
 same-length c = search needs
@@ -31,13 +40,16 @@ same-length-2 c = search needs
 
 returns : tie.Need-returns
 returns c =
-    let s = c .before .before .before .before .before .before .before .before .before .before .before .before .before .before .before .before .before .before .before .before .before in
+    let closed = c .before .before in
+    let stepped = closed .before .before .before .before .before .before .before in
+    let s = copied-from (stepped-from stepped) in
     let a = s .args in
-    let r = c .before .before .before .before .before .before .before .before .before .step in
-    let f = c .before .before .before .before .before .before .before .before .before .before .before .before .before .before .copy .ensures in (
-      final-wires (a .inputs .now) (a .table .now) (a .outputs) (a .tape .now) (a .wires .now) (a .board .now) (s .pre) _ f (r .result) _ _ (r .ensures .0) (r .kept .1 .1 .1 .1 .1 .1 .0) (r .kept .1 .1 .1 .1 .1 .1 .1 .0) (r .ensures .1 .0) (r .ensures .1 .1),
-      final-board (a .inputs .now) (a .table .now) (a .outputs) (a .tape .now) (a .wires .now) (a .board .now) (s .pre) _ f (r .result) _ _ (r .ensures .0) (r .kept .1 .1 .1 .1 .1 .1 .0) (r .kept .1 .1 .1 .1 .1 .1 .1 .0) (r .ensures .1 .0) (r .ensures .1 .1) _ (c .before .before .close .ensures),
-    )
+    let r = stepped .step in
+    let f = stepped-from stepped .copy .ensures in
+    record {
+      wires-are = final-wires (a .inputs .now) (a .table .now) (a .outputs) (a .tape .now) (a .wires .now) (a .board .now) (s .pre) _ f (r .result) _ _ (r .ensures .shown-is) (r .kept .1 .1 .1 .1 .1 .1 .0) (r .kept .1 .1 .1 .1 .1 .1 .1 .0) (r .ensures .wires-are) (r .ensures .board-is);
+      board-is = final-board (a .inputs .now) (a .table .now) (a .outputs) (a .tape .now) (a .wires .now) (a .board .now) (s .pre) _ f (r .result) _ _ (r .ensures .shown-is) (r .kept .1 .1 .1 .1 .1 .1 .0) (r .kept .1 .1 .1 .1 .1 .1 .1 .0) (r .ensures .wires-are) (r .ensures .board-is) _ (closed .close .ensures);
+    }
 
 pub run-spec : {M : Type 1} → statement M
 run-spec = tie.close (tie.spec copy-requires step-requires close-requires same-length same-length-2 returns)

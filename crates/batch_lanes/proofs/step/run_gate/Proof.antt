@@ -16,7 +16,14 @@ use Rattle.batch_lanes.proofs.step.run_gate.Tie as tie
 
 good : (c : tie.Start) → let a = c .args in
     GoodGate (a .own) (gate (getD (a .table .now) (4 * a .g) 0) (getD (a .table .now) (4 * a .g + 1) 0) (getD (a .table .now) (4 * a .g + 2) 0) (getD (a .table .now) (4 * a .g + 3) 0))
-good c = good-numbers (c .args .table .now) (c .args .g) (c .args .own) (c .pre .1 .good)
+good c = good-numbers (c .args .table .now) (c .args .g) (c .args .own) (c .pre .ready .good)
+
+-- The stages: the value is computed; its mark is known, and the gate shows a word.
+abbrev valued-from : tie.After-value → tie.Start
+valued-from c = let read = c .before .before .before .before in read .before .before .before .before .before .before .before .before
+
+abbrev shown-from : tie.Then1 → tie.Start
+shown-from c = valued-from (c .before .before)
 
 mul-at : tie.Need-mul-at
 mul-at c = search needs
@@ -64,25 +71,25 @@ cast-c-wire : tie.Need-cast-c-wire
 cast-c-wire c = omega (arith, c .shared-slice-known6 .given (4 * c .before .before .before .before .before .before .before .before .args .g + 3))
 
 mul-a : tie.Need-mul-a
-mul-a c = let s = c .before .before .before .before .before .before .before .before in omega (arith, good s .a-most, s .pre .1 .inWires)
+mul-a c = let s = c .before .before .before .before .before .before .before .before in omega (arith, good s .a-most, s .pre .ready .inWires)
 
 slice-read-a : tie.Need-slice-read-a
-slice-read-a c = let s = c .before .before .before .before .before .before .before .before .before in omega (arith, good s .a-most, s .pre .1 .inWires)
+slice-read-a c = let read = c .before in let s = read .before .before .before .before .before .before .before .before in omega (arith, good s .a-most, s .pre .ready .inWires)
 
 mul-b : tie.Need-mul-b
-mul-b c = let s = c .before .before .before .before .before .before .before .before .before in omega (arith, good s .b-most, s .pre .1 .inWires)
+mul-b c = let read = c .before in let s = read .before .before .before .before .before .before .before .before in omega (arith, good s .b-most, s .pre .ready .inWires)
 
 slice-read-b : tie.Need-slice-read-b
-slice-read-b c = let s = c .before .before .before .before .before .before .before .before .before .before in omega (arith, good s .b-most, s .pre .1 .inWires)
+slice-read-b c = let read = c .before .before in let s = read .before .before .before .before .before .before .before .before in omega (arith, good s .b-most, s .pre .ready .inWires)
 
 mul-c : tie.Need-mul-c
-mul-c c = let s = c .before .before .before .before .before .before .before .before .before .before in omega (arith, good s .c-most, s .pre .1 .inWires)
+mul-c c = let read = c .before .before in let s = read .before .before .before .before .before .before .before .before in omega (arith, good s .c-most, s .pre .ready .inWires)
 
 slice-read-c : tie.Need-slice-read-c
-slice-read-c c = let s = c .before .before .before .before .before .before .before .before .before .before .before in omega (arith, good s .c-most, s .pre .1 .inWires)
+slice-read-c c = let read = c .before .before .before in let s = read .before .before .before .before .before .before .before .before in omega (arith, good s .c-most, s .pre .ready .inWires)
 
 value-requires : tie.Need-value-requires
-value-requires c κs = good (c .before .before .before .before .before .before .before .before .before .before .before) .known
+value-requires c κs = let read = c .before .before .before in good (read .before .before .before .before .before .before .before .before) .known
 
 mul-wires : tie.Need-mul-wires
 mul-wires c = search needs
@@ -94,22 +101,22 @@ conditional-requires : tie.Need-conditional-requires
 conditional-requires c κs = search needs
 
 -- in the branch that shows a word
-shows : (c : tie.Then1) → let a = c .before .before .before .before .before .before .before .before .before .before .before .before .before .before .args in conditionalCount (gateAt (a .table .now) (a .g) ∷ []) ≡ 1
+shows : (c : tie.Then1) → let a = shown-from c .args in conditionalCount (gateAt (a .table .now) (a .g) ∷ []) ≡ 1
 shows c =
-    let a = c .before .before .before .before .before .before .before .before .before .before .before .before .before .before .args in
+    let a = shown-from c .args in
     count-is (a .table .now) (a .g) (c .before .conditional .result) (c .before .conditional .ensures) ∙ ap (λ (b : Bool). cond {A = ℕ} b 1 0) (c .if1 .taken)
 
 mul-board : tie.Need-mul-board
-mul-board c = omega (arith, shows c, c .before .before .before .before .before .before .before .before .before .before .before .before .before .before .pre .1 .inTape)
+mul-board c = omega (arith, shows c, shown-from c .pre .ready .inTape)
 
 shared-slice-read-board : tie.Need-shared-slice-read-board
-shared-slice-read-board c = omega (arith, shows (c .before), c .before .before .before .before .before .before .before .before .before .before .before .before .before .before .before .pre .1 .inTape)
+shared-slice-read-board c = omega (arith, shows (c .before), shown-from (c .before) .pre .ready .inTape)
 
 mul-board-2 : tie.Need-mul-board-2
-mul-board-2 c = omega (arith, shows (c .before), c .before .before .before .before .before .before .before .before .before .before .before .before .before .before .before .pre .1 .inBoard)
+mul-board-2 c = omega (arith, shows (c .before), shown-from (c .before) .pre .ready .inBoard)
 
 slice-write-board : tie.Need-slice-write-board
-slice-write-board c = omega (arith, shows (c .before), c .before .before .before .before .before .before .before .before .before .before .before .before .before .before .before .pre .1 .inBoard)
+slice-write-board c = omega (arith, shows (c .before), shown-from (c .before) .pre .ready .inBoard)
 
 add-result : tie.Need-add-result
 add-result c = search needs
@@ -123,33 +130,31 @@ same-length-2 c = search needs
 returns : tie.Need-returns
 returns c =
     let t = c .before in
-    let s = t .before .before .before .before .before .before .before .before .before .before .before .before .before .before in
+    let s = shown-from t in
     let a = s .args in
     let m = t .before .conditional in
-    let v = t .before .before .value in (
-      omega (arith, shows t),
-      (
-        λ j h. gate-wires (a .table .now) (a .g) j (a .wires .now) (a .own) (v .result) (v .ensures j h),
-        λ j h. with-word (a .table .now) (a .g) (m .result) (m .ensures) (t .if1 .taken) j (a .wires .now) (a .tape .now) (a .board .now) (a .shown),
-      ),
-    )
+    let v = t .before .before .value in
+    record {
+      shown-is = omega (arith, shows t);
+      wires-are = λ j h. gate-wires (a .table .now) (a .g) j (a .wires .now) (a .own) (v .result) (v .ensures j h);
+      board-is = λ j h. with-word (a .table .now) (a .g) (m .result) (m .ensures) (t .if1 .taken) j (a .wires .now) (a .tape .now) (a .board .now) (a .shown);
+    }
 
 same-length-3 : tie.Need-same-length-3
 same-length-3 c = search needs
 
 returns-2 : tie.Need-returns-2
 returns-2 c =
-    let s = c .before .before .before .before .before .before .before .before .before .before .before .before .before .before in
+    let s = valued-from (c .before .before) in
     let a = s .args in
     let m = c .before .conditional in
     let v = c .before .before .value in
-    let n = count-is (a .table .now) (a .g) (m .result) (m .ensures) ∙ ap (λ (b : Bool). cond {A = ℕ} b 1 0) (c .if1 .left) in (
-      omega (arith, n),
-      (
-        λ j h. gate-wires (a .table .now) (a .g) j (a .wires .now) (a .own) (v .result) (v .ensures j h),
-        λ j h. without-word (a .table .now) (a .g) (m .result) (m .ensures) (c .if1 .left) j (a .wires .now) (a .tape .now) (a .board .now) (a .shown),
-      ),
-    )
+    let n = count-is (a .table .now) (a .g) (m .result) (m .ensures) ∙ ap (λ (b : Bool). cond {A = ℕ} b 1 0) (c .if1 .left) in
+    record {
+      shown-is = omega (arith, n);
+      wires-are = λ j h. gate-wires (a .table .now) (a .g) j (a .wires .now) (a .own) (v .result) (v .ensures j h);
+      board-is = λ j h. without-word (a .table .now) (a .g) (m .result) (m .ensures) (c .if1 .left) j (a .wires .now) (a .tape .now) (a .board .now) (a .shown);
+    }
 
 pub run-gate-spec : {M : Type 1} → statement M
 run-gate-spec =

@@ -4,7 +4,7 @@ use mathlib.Core.Path.{refl}
 use Prim.Native.Nat.{_-_}
 use native.Mathlib.Numerals.{add-one}
 use native.Mathlib.Omega.{arith}
-use Rattle.batch_lanes.proofs.Turning.{LanesLeft, lanes-start, gate-ready, lanes-turn, lanes-end}
+use Rattle.batch_lanes.proofs.StepLaws.{LanesLeft, lanes-start, gate-ready, lanes-turn, lanes-end}
 use Rattle.batch_lanes.proofs.step.step.Statement.{statement}
 use Rattle.batch_lanes.proofs.step.step.Tie as tie
 
@@ -13,6 +13,10 @@ Inv-loop inputs table from to tape shown wires₀ board₀ marks next₀ g₀ wi
 
 abbrev μ-loop : tie.MeasureT-loop
 μ-loop inputs table from to tape shown wires₀ board₀ marks next₀ g₀ wires board next g = to - g
+
+-- From a turn to where the function starts.
+abbrev begun : tie.In-loop Inv-loop μ-loop → tie.Start Inv-loop μ-loop
+begun c = c .before .before .before .before .before .before
 
 loop-holds : tie.Need-loop-holds Inv-loop μ-loop
 loop-holds c =
@@ -25,12 +29,13 @@ add-run-gate c = omega (arith, c .before .before .before .before .before .before
 
 run-gate-requires : tie.Need-run-gate-requires Inv-loop μ-loop
 run-gate-requires c κs =
-    let s = c .before .before .before .before .before .before .before .before .before in
+    let s = begun (c .before .before .before) in
     let a = s .args in
-    let l = c .before .before .before .before .loop in (
-      refl,
-      gate-ready (a .inputs) (a .table .now) (a .from) (a .to) (a .tape .now) (a .shown) (a .wires .now) (a .board .now) (s .pre) (l .wires) (l .board) (l .next) (l .g) (l .inv) (c .before .before .before .loop-test .taken),
-    )
+    let l = c .before .before .before .before .loop in
+    record {
+      marks-are = refl;
+      ready = gate-ready (a .inputs) (a .table .now) (a .from) (a .to) (a .tape .now) (a .shown) (a .wires .now) (a .board .now) (s .pre) (l .wires) (l .board) (l .next) (l .g) (l .inv) (c .before .before .before .loop-test .taken);
+    }
 
 add-g : tie.Need-add-g Inv-loop μ-loop
 add-g c = omega arith
@@ -40,12 +45,13 @@ loop-less c = omega arith
 
 loop-again : tie.Need-loop-again Inv-loop μ-loop
 loop-again c =
-    let s = c .before .before .before .before .before .before .before .before .before .before .before .before .before .before in
+    let turn = c .before .before .before .before .before .before .before .before in
+    let s = begun turn in
     let a = s .args in
-    let l = c .before .before .before .before .before .before .before .before .before .loop in
+    let l = turn .before .loop in
     let r = c .before .before .before .before .run-gate in
     lanes-turn (a .inputs) (a .table .now) (a .from) (a .to) (a .tape .now) (a .shown) (a .wires .now) (a .board .now) (s .pre) (l .wires) (l .board) (l .next) (l .g) (l .inv)
-    (c .before .before .before .before .before .before .before .before .loop-test .taken) _ _ _ _ (add-one (l .g)) (r .ensures .0) (r .kept .1 .1 .1 .1 .1 .1 .0) (r .kept .1 .1 .1 .1 .1 .1 .1 .0) (r .ensures .1 .0) (r .ensures .1 .1)
+    (turn .loop-test .taken) _ _ _ _ (add-one (l .g)) (r .ensures .shown-is) (r .kept .1 .1 .1 .1 .1 .1 .0) (r .kept .1 .1 .1 .1 .1 .1 .1 .0) (r .ensures .wires-are) (r .ensures .board-is)
 
 same-length : tie.Need-same-length Inv-loop μ-loop
 same-length c = c .before .loop .inv .wiresLength
@@ -59,7 +65,7 @@ returns c =
     let a = s .args in
     let l = c .before .loop in
     let e = lanes-end (a .inputs) (a .table .now) (a .from) (a .to) (a .tape .now) (a .shown) (a .wires .now) (a .board .now) (s .pre) (l .wires) (l .board) (l .next) (l .g) (l .inv) (c .loop-test .left) in
-    (e .0, (e .1, e .2))
+    record { shown-is = e .0; wires-are = e .1; board-is = e .2 }
 
 pub step-spec : {M : Type 1} → statement M
 step-spec =

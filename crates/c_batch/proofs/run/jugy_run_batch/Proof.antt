@@ -1,38 +1,43 @@
--- `c_batch::run::jugy_run_batch` meets its contract: where the answer array is long enough, it says what the entry point says.
+-- `c_batch::run::jugy_run_batch` meets its contract: where the answer array is long enough, it says what the entry point
+-- says.
 -- Assumes nothing.
-use mathlib.Core.Path.{_∙_, sym, ap}
-use mathlib.Core.List.{List, _++_}
-use Prim.Native.Nat.{ℕ}
-use lib.ListN.{drop}
+use mathlib.Core.Path.{ap}
+use mathlib.Core.List.{[], _∷_}
 use borrow.Author.Needs.{needs}
-use Rattle.tally.specs.Answer.{Outcome, Size}
 use Rattle.tally.specs.Run.{RunResult}
-use Rattle.c_answers.specs.Numbers.{shapeOf, statusOf, sizeNumbers}
-use Rattle.c_answers.proofs.Answering.{short-status, short-answered, short-altered, room-status, room-answered, room-altered}
+use Rattle.c_answers.specs.Numbers.{shapeOf, sizeAnswer, sizeNumbers}
+use Rattle.c_answers.proofs.Answering.{short-call, put-call}
+use Rattle.batch.specs.Call.{Call}
 use Rattle.batch.specs.Run.{batchResult}
 use Rattle.c_batch.proofs.run.jugy_run_batch.Statement.{statement}
 use Rattle.c_batch.proofs.run.jugy_run_batch.Tie as tie
 
--- what the entry point leaves
-left : tie.Start → RunResult
-left c = let a = c .args in batchResult (shapeOf (a .candidates) (a .grades) (a .ballots)) (a .table .now) (a .words .now) (a .tape .now) (a .wires .now) (a .board .now)
+-- The call that this is, from where the function starts.
+abbrev call : tie.Start → Call
+call s =
+    let a = s .args in
+    record {
+      shape = shapeOf (a .candidates) (a .grades) (a .ballots);
+      table = a .table .now;
+      ballots = a .words .now;
+      tape = a .tape .now;
+      wires = a .wires .now;
+      board = a .board .now;
+    }
+
+-- The stages: the answer array is too short; it is long enough; the entry point has run.
+abbrev started-short : tie.Then1 → tie.Start
+started-short c = c .before .before .before .before .before .before .before
+
+abbrev started : tie.Else1 → tie.Start
+started c = c .before .before .before .before .before .before .before
 
 returns : tie.Need-returns
-unfolding left
 returns c =
-    let start = c .before .before .before .before .before .before .before in
-    let a = start .args in
-    let all = left start in
-    let numbers = sizeNumbers (all .answer) in (
-      sym (short-status 4 (a .answer .now) (c .if1 .taken) numbers),
-      (
-        sym (short-answered 4 (a .answer .now) (c .if1 .taken) numbers),
-        (
-          sym (short-altered 4 (a .answer .now) (c .if1 .taken) (all .wires) (a .wires .now)),
-          sym (short-altered 4 (a .answer .now) (c .if1 .taken) (all .board) (a .board .now)),
-        ),
-      ),
-    )
+    let of = call (started-short c) in
+    let r = batchResult of in
+    short-call sizeAnswer (started-short c .args .answer .now) (c .if1 .taken) (sizeNumbers (r .answer))
+    (of .wires ∷ of .board ∷ []) (r .wires ∷ r .board ∷ [])
 
 run-requires : tie.Need-run-requires
 run-requires c κs = search needs
@@ -50,25 +55,16 @@ same-length-3 : tie.Need-same-length-3
 same-length-3 c = search needs
 
 returns-2 : tie.Need-returns-2
-unfolding left shapeOf
+unfolding shapeOf
 returns-2 c =
-    let start = c .before .before .before .before .before .before .before .before .before .before .before .before .before .before .before .before .before .before in
-    let a = start .args in
-    let all = left start in
-    let long = c .before .before .before .before .before .before .before .before .before .before .before .if1 .left in
-    let outcome = c .before .before .before .before .before .before .before .before .run in
-    let put = c .before .before .put-size in
-    let numbers = sizeNumbers (all .answer) in
-    let e = ap (λ (s : Outcome Size). sizeNumbers s) (outcome .ensures .0) in (
-      put .ensures .returns ∙ ap statusOf e ∙ sym (room-status 4 (a .answer .now) long numbers),
-      (
-        put .ensures .writes ∙ ap (λ (r : List ℕ). r ++ drop 4 (a .answer .now)) e ∙ sym (room-answered 4 (a .answer .now) long numbers),
-        (
-          outcome .ensures .1 .0 ∙ sym (room-altered 4 (a .answer .now) long (all .wires) (a .wires .now)),
-          outcome .ensures .1 .1 ∙ sym (room-altered 4 (a .answer .now) long (all .board) (a .board .now)),
-        ),
-      ),
-    )
+    let ran = c .before .before .before .before .before .before .before .before in
+    let long = ran .before .before .before in
+    let of = call (started long) in
+    let r = batchResult of in
+    let left = ran .run .ensures in
+    put-call sizeAnswer (started long .args .answer .now) (long .if1 .left) (sizeNumbers (r .answer)) _ _ _
+    (c .before .before .put-size .ensures) (ap (λ (z : RunResult). sizeNumbers (z .answer)) left)
+    (of .wires ∷ of .board ∷ []) (r .wires ∷ r .board ∷ []) _ (ap (λ (z : RunResult). z .wires ∷ z .board ∷ []) left)
 
 pub jugy-run-batch-spec : {M : Type 1} → statement M
 jugy-run-batch-spec =

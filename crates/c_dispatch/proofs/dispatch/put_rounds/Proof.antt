@@ -46,14 +46,20 @@ same-length c = search needs
 returns : tie.Need-returns
 unfolding statusOf answerNumbers verdictReason
 returns c =
-    let start = c .before .before .before .before .before .before .before .before .before .before in
+    let lending = c .before .before .before .before .before .before in
+    let start = lending .before .before .before .before in
     let a = start .args in
     let xs = a .outcome .rounds in
     let e = ap (λ (v : JuriesVerdict). answerNumbers (verdictReason v) xs) (c .before .before .before .before .before .before .enum-told .given .1) in
     let ten = c .before .before .before .before .before .ten in
     let f = ten .ensures ∙ sym e in
     let n : length (ten .result) ≡ 10 = omega (arith, ap length (ten .ensures), start .good) in
-    (sym (ap statusOf e), c .before .before .put .ensures ∙ ap (λ (r : List ℕ). r ++ drop (length (ten .result)) (a .answer .now)) f ∙ ap (λ (k : ℕ). answerNumbers (verdictReason (a .outcome .verdict)) xs ++ drop k (a .answer .now)) n)
+    record {
+      returns = sym (ap statusOf e);
+      writes =
+          c .before .before .put .ensures ∙ ap (λ (r : List ℕ). r ++ drop (length (ten .result)) (a .answer .now)) f
+          ∙ ap (λ (k : ℕ). answerNumbers (verdictReason (a .outcome .verdict)) xs ++ drop k (a .answer .now)) n;
+    }
 
 same-length-2 : tie.Need-same-length-2
 same-length-2 c = search needs
@@ -61,7 +67,8 @@ same-length-2 c = search needs
 returns-2 : tie.Need-returns-2
 unfolding statusOf answerNumbers verdictReason reasonAt
 returns-2 c =
-    let start = c .before .before .before .before .before .before .before .before .before .before .before .before in
+    let lending = c .before .before .before .before .before .before .before .before in
+    let start = lending .before .before .before .before in
     let a = start .args in
     let xs = a .outcome .rounds in
     let known = c .before .before .before .before .before .before .before .before .verdict .given in
@@ -70,7 +77,12 @@ returns-2 c =
     let ten = c .before .before .before .before .before .ten2 in
     let f = ten .ensures ∙ ap (λ (m : ℕ). m ∷ known .0 .1 .0 ∷ xs) (number .ensures) ∙ sym e in
     let n : length (ten .result) ≡ 10 = omega (arith, ap length (ten .ensures), start .good) in
-    (number .ensures ∙ sym (ap statusOf e), c .before .before .put2 .ensures ∙ ap (λ (r : List ℕ). r ++ drop (length (ten .result)) (a .answer .now)) f ∙ ap (λ (k : ℕ). answerNumbers (verdictReason (a .outcome .verdict)) xs ++ drop k (a .answer .now)) n)
+    record {
+      returns = number .ensures ∙ sym (ap statusOf e);
+      writes =
+          c .before .before .put2 .ensures ∙ ap (λ (r : List ℕ). r ++ drop (length (ten .result)) (a .answer .now)) f
+          ∙ ap (λ (k : ℕ). answerNumbers (verdictReason (a .outcome .verdict)) xs ++ drop k (a .answer .now)) n;
+    }
 
 pub put-rounds-spec : {M : Type 1} → statement M
 put-rounds-spec =

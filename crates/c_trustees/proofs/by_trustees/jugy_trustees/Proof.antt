@@ -1,26 +1,46 @@
--- `c_trustees::by_trustees::jugy_trustees` meets its contract: where the answer array is long enough, it says what the entry point says.
+-- `c_trustees::by_trustees::jugy_trustees` meets its contract: where the answer array is long enough, it says what the
+-- entry point says.
 -- Assumes nothing.
 use borrow.Author.Needs.{needs}
-use mathlib.Core.Path.{_≡_, _∙_, sym, ap}
-use mathlib.Core.List.{List, _++_}
-use Prim.Native.Nat.{ℕ}
-use lib.ListN.{drop}
-use Rattle.trustee_shares.specs.Views.{Dealing}
-use Rattle.trustees.specs.Shared.{Shared, shared}
-use Rattle.c_answers.specs.Numbers.{shapeOf, statusOf}
+use mathlib.Core.Path.{ap}
+use mathlib.Core.List.{[], _∷_}
+use Rattle.trustees.specs.Call.{Call}
+use Rattle.trustees.specs.Result.{TrusteesResult, trusteesResult}
+use Rattle.c_answers.specs.Numbers.{shapeOf}
 use Rattle.c_trustees.specs.Numbers.{tallyNumbers, tallyAnswer}
-use Rattle.c_answers.proofs.Answering.{short-status, short-answered, short-altered, room-status, room-answered, room-altered}
-use Rattle.c_trustees.proofs.Tallying.{tallied}
+use Rattle.c_answers.proofs.Answering.{short-call, put-call}
 use Rattle.c_trustees.proofs.by_trustees.jugy_trustees.Statement.{statement}
 use Rattle.c_trustees.proofs.by_trustees.jugy_trustees.Tie as tie
 
+-- The call that this is, from where the function starts.
+abbrev call : tie.Start → Call
+call s =
+    let a = s .args in
+    record {
+      shape = shapeOf (a .candidates) (a .grades) (a .ballots);
+      table = a .table .now;
+      ballots = a .bytes .now;
+      trustees = a .trustees;
+      lent = record {
+        dealing = record { ballotParts = a .shares .now; dealerParts = a .triples .now };
+        wireParts = a .wires .now;
+        published = a .published .now;
+      };
+    }
+
+-- The stages: the answer array is too short; it is long enough; the entry point has run.
+abbrev started-short : tie.Then1 → tie.Start
+started-short c = c .before .before .before .before .before .before .before .before
+
+abbrev started : tie.Else1 → tie.Start
+started c = c .before .before .before .before .before .before .before .before
+
 returns : tie.Need-returns
-unfolding shapeOf
 returns c =
-    let a = c .before .before .before .before .before .before .before .before .args in
-    let r : Shared = (shared (shapeOf (a .candidates) (a .grades) (a .ballots)) (a .table .now) (a .bytes .now) (a .trustees) (record { ballotParts = a .parts .now; dealerParts = a .dealt .now }) (a .wires .now) (a .published .now)) in
-    let numbers = tallyNumbers (r .answer) (r .closing) in
-    (sym (short-status tallyAnswer (a .answer .now) (c .if1 .taken) numbers), (sym (short-answered tallyAnswer (a .answer .now) (c .if1 .taken) numbers), (sym (short-altered tallyAnswer (a .answer .now) (c .if1 .taken) (r .wireParts) (a .wires .now)), sym (short-altered tallyAnswer (a .answer .now) (c .if1 .taken) (r .published) (a .published .now)))))
+    let of = call (started-short c) in
+    let r = trusteesResult of in
+    short-call tallyAnswer (started-short c .args .answer .now) (c .if1 .taken) (tallyNumbers (r .answer) (r .closing))
+    (of .lent .wireParts ∷ of .lent .published ∷ []) (r .wireParts ∷ r .published ∷ [])
 
 run-requires : tie.Need-run-requires
 run-requires c κs = search needs
@@ -43,11 +63,13 @@ returns-2 c =
     let put = c .before .before in
     let outcome = put .before .before .before .before .before .before in
     let long = outcome .before .before .before in
-    let a = long .before .before .before .before .before .before .before .before .args in
-    let r : Shared = (shared (shapeOf (a .candidates) (a .grades) (a .ballots)) (a .table .now) (a .bytes .now) (a .trustees) (record { ballotParts = a .parts .now; dealerParts = a .dealt .now }) (a .wires .now) (a .published .now)) in
-    let numbers = tallyNumbers (r .answer) (r .closing) in
-    let e = tallied _ _ _ _ (outcome .run .ensures .0) (outcome .run .ensures .1 .0) in
-    (put .put-tally .ensures .0 ∙ ap statusOf e ∙ sym (room-status tallyAnswer (a .answer .now) (long .if1 .left) numbers), (put .put-tally .ensures .1 ∙ ap (λ (l : List ℕ). l ++ drop tallyAnswer (a .answer .now)) e ∙ sym (room-answered tallyAnswer (a .answer .now) (long .if1 .left) numbers), (outcome .run .ensures .1 .1 .0 ∙ sym (room-altered tallyAnswer (a .answer .now) (long .if1 .left) (r .wireParts) (a .wires .now)), outcome .run .ensures .1 .1 .1 ∙ sym (room-altered tallyAnswer (a .answer .now) (long .if1 .left) (r .published) (a .published .now)))))
+    let of = call (started long) in
+    let r = trusteesResult of in
+    let left = outcome .run .ensures in
+    put-call tallyAnswer (started long .args .answer .now) (long .if1 .left) (tallyNumbers (r .answer) (r .closing)) _ _ _
+    (put .put-tally .ensures) (ap (λ (z : TrusteesResult). tallyNumbers (z .answer) (z .closing)) left)
+    (of .lent .wireParts ∷ of .lent .published ∷ []) (r .wireParts ∷ r .published ∷ []) _
+    (ap (λ (z : TrusteesResult). z .wireParts ∷ z .published ∷ []) left)
 
 pub jugy-trustees-spec : {M : Type 1} → statement M
 jugy-trustees-spec =

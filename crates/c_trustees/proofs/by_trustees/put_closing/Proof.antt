@@ -58,7 +58,10 @@ returns : tie.Need-returns Inv-loop μ-loop
 returns c =
     let l = c .before .loop in
     let s = c .before .before .before in
-    (sym (bytes-end (l .answer) (s .args .t1) (l .i) (omega (arith, s .good))) ∙ l .inv .2, omega (arith, s .good))
+    record {
+      bytes = sym (bytes-end (l .answer) (s .args .t1) (l .i) (omega (arith, s .good))) ∙ l .inv .2;
+      eight = omega (arith, s .good);
+    }
 
 pub put-closing-spec : {M : Type 1} → statement M
 put-closing-spec =

@@ -21,10 +21,14 @@ returns c =
     let bytes = c .before .before in
     let four = bytes .before .before .before .before in
     let s = four .before .before .before .before in
-    let a = s .args in (
-      four .put-size .ensures .returns ∙ tally-status (outcomeOf (a .outcome .answer)) (a .outcome .closing),
-      all-put (outcomeOf (a .outcome .answer)) (a .outcome .closing) (a .answer .now) _ _ (bytes .put-closing .ensures .1) (s .pre) (four .put-size .ensures .writes) (bytes .put-closing .ensures .0),
-    )
+    let a = s .args in
+    let outcome = outcomeOf (a .outcome .answer) in
+    let closing = a .outcome .closing in
+    record {
+      returns = four .put-size .ensures .returns ∙ tally-status outcome closing;
+      writes = all-put outcome closing (a .answer .now) _ _ (bytes .put-closing .ensures .eight) (s .pre)
+          (four .put-size .ensures .writes) (bytes .put-closing .ensures .bytes);
+    }
 
 pub put-tally-spec : {M : Type 1} → statement M
 put-tally-spec = tie.close (tie.spec put-size-requires put-closing-requires same-length returns)

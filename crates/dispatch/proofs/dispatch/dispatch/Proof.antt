@@ -1,82 +1,100 @@
--- `dispatch::dispatch::dispatch` meets its contract: the first reason decides, and where none applies the rounds leave every jury finished.
+-- `dispatch::dispatch::dispatch` meets its contract: the first reason decides, and where none applies the rounds leave
+-- every jury finished.
 -- Assumes nothing.
-use mathlib.Core.Path.{_≡_, _∙_, refl, sym, ap}
-use mathlib.Core.Bool.{Bool, true, false, _&&_}
+use mathlib.Core.Path.{_≡_, _∙_, sym, ap}
+use mathlib.Core.Bool.{true, _&&_}
 use mathlib.Core.Option.{Option, none, some}
-use mathlib.Core.List.{List, _++_}
-use Prim.Native.Nat.{ℕ, _*_, _≤_}
+use Prim.Native.Nat.{_*_, _≤_}
 use native.Mathlib.Omega.{arith}
 use lib.Dec.{leb}
-use lib.ListN.{length, take, drop, replicate}
+use lib.ListN.{length}
 use lib.Seq.{length-take-le}
 use borrow.Author.Needs.{needs}
 use borrow.Author.Tests.{leb-true, not-true, not-false}
 use Rattle.jury.specs.Reason.{Reason, reasonAt, reasonOf, firstOf}
-use Rattle.basics.proofs.Flags.{and-first, and-second}
-use Rattle.dispatch_rounds.specs.declared.statement.Statement.{Statement}
-use Rattle.dispatch.specs.declared.verdict.JuriesVerdict.{JuriesVerdict}
-use Rattle.dispatch_rounds.specs.Tables.{Tables, lent}
+use Rattle.jury.proofs.Flags.{and-first, and-second}
+use Rattle.dispatch_rounds.specs.Tables.{lent}
 use Rattle.dispatch_rounds.specs.Reasons.{juryReasons}
+use Rattle.dispatch.specs.Call.{Call, juriesIn}
 use Rattle.dispatch.specs.Reasons.{verdictReason}
-use Rattle.dispatch.specs.Dispatch.{Dispatch, dispatchedAfter, dispatched}
-use Rattle.dispatch.specs.Inner.{Ready, Finished, wireBytes}
-use Rattle.dispatch.proofs.Whole.{bad-count, bad-share, by-juries, dispatched-by, few-gates, wires-room, boards-end, emptied}
+use Rattle.dispatch.specs.Result.{DispatchResult, dispatchResultAfter, dispatchResult}
+use Rattle.dispatch.proofs.Whole.{bad-count, bad-quantum, by-juries, result-by, same-result, few-gates, wires-room, boards-end, emptied}
 use Rattle.dispatch.proofs.dispatch.dispatch.Statement.{statement}
 use Rattle.dispatch.proofs.dispatch.dispatch.Tie as tie
 
-abbrev all : tie.Start → Tables
-all s = lent (s .args .lists .now) (s .args .ballots .now) (s .args .tapes .now) (s .args .wires .now) (s .args .boards .now)
+-- The call that this is, from where the function starts.
+abbrev call : tie.Start → Call
+call s =
+    let a = s .args in
+    record {
+      count = a .count;
+      headers = a .headers;
+      quantum = a .quantum;
+      tables = lent (a .lists .now) (a .ballots .now) (a .tapes .now) (a .wires .now) (a .boards .now);
+    }
 
-abbrev juries : tie.Start → List Statement
-juries s = take (s .args .count) (s .args .statements)
+-- The stages: the number of juries is good; so is the quantum; the juries are tested; they pass; the rounds are done.
+abbrev started : tie.Else1 → tie.Start
+started c = c .before .before .before .before .before .before .before
 
-abbrev whole : tie.Start → Dispatch
-whole s = dispatched (s .args .count) (s .args .statements) (s .args .share) (all s)
+abbrev counted : tie.Else2 → tie.Else1
+counted c = c .before .before
 
--- the number of juries is good, and so is the share
-count-good : (c : tie.Else1) → let a = c .before .before .before .before .before .before .before .args in (leb 1 (a .count) && leb (a .count) 8) ≡ true
+abbrev limited : tie.After-test-juries → tie.Else2
+limited c = c .before .before .before
+
+abbrev begun : tie.After-test-juries → tie.Start
+begun c = started (counted (limited c))
+
+abbrev tested : tie.After-enum-told → tie.After-test-juries
+tested c = c .before .before
+
+abbrev passed : tie.After-run-rounds → tie.After-enum-told
+passed c = c .before .before .before .before
+
+count-good : (c : tie.Else1) → let of = call (started c) in (leb 1 (of .count) && leb (of .count) 8) ≡ true
 count-good c = sym (c .before .is-between .ensures) ∙ not-false (c .before .is-between .result) (c .if1 .left)
 
-share-good : (c : tie.Else2) → let a = c .before .before .before .before .before .before .before .before .before .args in (leb 1 (a .share) && leb (a .share) 65536) ≡ true
-share-good c = sym (c .before .is-between2 .ensures) ∙ not-false (c .before .is-between2 .result) (c .if2 .left)
+quantum-good : (c : tie.Else2) → let of = call (started (counted c)) in (leb 1 (of .quantum) && leb (of .quantum) 65536) ≡ true
+quantum-good c = sym (c .before .is-between2 .ensures) ∙ not-false (c .before .is-between2 .result) (c .if2 .left)
 
-few : (c : tie.Else1) → c .before .before .before .before .before .before .before .args .count ≤ 8
-few c = let n = c .before .before .before .before .before .before .before .args .count in leb-true n 8 (and-second (leb 1 n) (leb n 8) (count-good c))
+few : (c : tie.Else1) → call (started c) .count ≤ 8
+few c = let n = call (started c) .count in leb-true n 8 (and-second (leb 1 n) (leb n 8) (count-good c))
+
+least : (c : tie.Else2) → 1 ≤ call (started (counted c)) .quantum
+least c = let q = call (started (counted c)) .quantum in leb-true 1 q (and-first (leb 1 q) (leb q 65536) (quantum-good c))
+
+most : (c : tie.Else2) → call (started (counted c)) .quantum ≤ 65536
+most c = let q = call (started (counted c)) .quantum in leb-true q 65536 (and-second (leb 1 q) (leb q 65536) (quantum-good c))
 
 -- the reason of the tests is that of the call
-tested : (c : tie.After-test-juries) (o : Option Reason) → verdictReason (c .test-juries .result .verdict) ≡ o → let s = c .before .before .before .before .before .before .before .before .before .before .before .before in whole s ≡ dispatchedAfter o (juries s) (s .args .share) (all s)
-tested c o e =
-    let s = c .before .before .before .before .before .before .before .before .before .before .before .before in
-    let two = c .before .before .before in
-    let a = s .args in
-    dispatched-by (a .count) (a .statements) (a .share) (all s) o
-    (by-juries (a .count) (a .statements) (a .share) (all s) (count-good (two .before .before)) (share-good two) ∙ sym (c .test-juries .ensures .reason) ∙ e)
+by-tests : (c : tie.After-test-juries) (o : Option Reason) → verdictReason (c .test-juries .result .verdict) ≡ o
+    → dispatchResult (call (begun c)) ≡ dispatchResultAfter o (call (begun c))
+by-tests c o e =
+    let two = limited c in
+    result-by (call (begun c)) o
+    (by-juries (call (begun c)) (count-good (counted two)) (quantum-good two) ∙ sym (c .test-juries .ensures .reason) ∙ e)
 
 is-between-requires : tie.Need-is-between-requires
 is-between-requires c κs = search needs
 
 returns : tie.Need-returns
-unfolding verdictReason reasonOf reasonAt dispatchedAfter
+unfolding verdictReason reasonOf reasonAt dispatchResultAfter
 returns c =
-    let s = c .before .before .before .before .before .before .before in
-    let a = s .args in
+    let of = call (c .before .before .before .before .before .before .before) in
     let b = c .before .is-between in
-    let e = dispatched-by (a .count) (a .statements) (a .share) (all s) (some (reasonAt 19 0))
-    (bad-count (a .count) (a .statements) (a .share) (all s) (sym (b .ensures) ∙ not-true (b .result) (c .if1 .taken))) in
-    (sym (ap (λ (d : Dispatch). d .reason) e), (sym (ap (λ (d : Dispatch). d .rounds) e), (sym (ap (λ (d : Dispatch). d .wires) e), sym (ap (λ (d : Dispatch). d .boards) e))))
+    sym (result-by of (some (reasonAt 19 0)) (bad-count of (sym (b .ensures) ∙ not-true (b .result) (c .if1 .taken))))
 
 is-between-requires-2 : tie.Need-is-between-requires-2
 is-between-requires-2 c κs = search needs
 
 returns-2 : tie.Need-returns-2
-unfolding verdictReason reasonOf reasonAt dispatchedAfter
+unfolding verdictReason reasonOf reasonAt dispatchResultAfter
 returns-2 c =
-    let s = c .before .before .before .before .before .before .before .before .before in
-    let a = s .args in
+    let of = call (started (c .before .before)) in
     let b = c .before .is-between2 in
-    let e = dispatched-by (a .count) (a .statements) (a .share) (all s) (some (reasonAt 20 0))
-    (bad-share (a .count) (a .statements) (a .share) (all s) (count-good (c .before .before)) (sym (b .ensures) ∙ not-true (b .result) (c .if2 .taken))) in
-    (sym (ap (λ (d : Dispatch). d .reason) e), (sym (ap (λ (d : Dispatch). d .rounds) e), (sym (ap (λ (d : Dispatch). d .wires) e), sym (ap (λ (d : Dispatch). d .boards) e))))
+    sym (result-by of (some (reasonAt 20 0))
+    (bad-quantum of (count-good (c .before .before)) (sym (b .ensures) ∙ not-true (b .result) (c .if2 .taken))))
 
 test-juries-requires : tie.Need-test-juries-requires
 test-juries-requires c κs = few (c .before .before .before .before)
@@ -94,42 +112,43 @@ same-length-2 : tie.Need-same-length-2
 same-length-2 c = search needs
 
 returns-3 : tie.Need-returns-3
-unfolding verdictReason dispatchedAfter
+unfolding verdictReason dispatchResultAfter
 returns-3 c =
-    let t = c .before .before in
     let told = ap verdictReason (c .enum-told2 .given .1) in
     let r = reasonAt (reasonOf (c .enum-told2 .given .0 .0) .number) (c .enum-told2 .given .0 .1 .0) in
-    let e = tested t (some r) told in
-    (told ∙ sym (ap (λ (d : Dispatch). d .reason) e), (sym (ap (λ (d : Dispatch). d .rounds) e), (sym (ap (λ (d : Dispatch). d .wires) e), sym (ap (λ (d : Dispatch). d .boards) e))))
+    let e = by-tests (c .before .before) (some r) told in
+    same-result _ _ (told ∙ sym (ap (λ (d : DispatchResult). d .reason) e)) (sym (ap (λ (d : DispatchResult). d .rounds) e))
+    (sym (ap (λ (d : DispatchResult). d .wires) e)) (sym (ap (λ (d : DispatchResult). d .boards) e))
 
 -- past the tests
-passes : (c : tie.After-enum-told) → verdictReason (c .before .before .test-juries .result .verdict) ≡ none
+passes : (c : tie.After-enum-told) → verdictReason (tested c .test-juries .result .verdict) ≡ none
 unfolding verdictReason
 passes c = ap verdictReason (c .enum-told .given .1)
 
-no-reason : (c : tie.After-enum-told) → let s = c .before .before .before .before .before .before .before .before .before .before .before .before .before .before in firstOf (juryReasons 0 (juries s) (all s)) ≡ none
-no-reason c = sym (c .before .before .test-juries .ensures .reason) ∙ passes c
+no-reason : (c : tie.After-enum-told)
+    → let of = call (begun (tested c)) in firstOf (juryReasons 0 (juriesIn of) (of .tables)) ≡ none
+no-reason c = sym (tested c .test-juries .ensures .reason) ∙ passes c
 
 run-rounds-requires : tie.Need-run-rounds-requires
 run-rounds-requires c κs =
     let t = c .before .before .before in
-    let two = t .before .before .before .before .before in
-    let share = two .before .before .before .before .before .before .before .before .before .args .share in
+    let two = limited (tested t) in
     record {
-      few = few (two .before .before);
-      share-least = leb-true 1 share (and-first (leb 1 share) (leb share 65536) (share-good two));
-      share-most = leb-true share 65536 (and-second (leb 1 share) (leb share 65536) (share-good two));
+      few = few (counted two);
+      quantum-least = least two;
+      quantum-most = most two;
       accepted = no-reason t;
-      conditionalAre = t .before .before .test-juries .ensures .conditional (passes t);
+      conditionalAre = tested t .test-juries .ensures .conditional (passes t);
     }
 
 -- the wires of all juries lie in the table
-room : (c : tie.After-run-rounds) → c .before .before .before .before .before .before .test-juries .result .wires ≤ length (c .run-rounds .last .1 .1 .1 .1 .1 .1 .1 .0)
+room : (c : tie.After-run-rounds)
+    → tested (passed c) .test-juries .result .wires ≤ length (c .run-rounds .last .1 .1 .1 .1 .1 .1 .1 .0)
 room c =
-    let t = c .before .before .before .before in
-    let s = t .before .before .before .before .before .before .before .before .before .before .before .before .before .before in
+    let t = passed c in
+    let of = call (begun (tested t)) in
     let fin = c .run-rounds .ensures in
-    omega (arith, t .before .before .test-juries .ensures .wires (passes t), ap length (fin .state .wiresAre), wires-room (fin .done * s .args .share) 0 (juries s) (all s) (no-reason t))
+    omega (arith, tested t .test-juries .ensures .wires (passes t), ap length (fin .state .wiresAre), wires-room (fin .done * of .quantum) 0 (juriesIn of) (of .tables) (no-reason t))
 
 slice-relend-prefix-empty : tie.Need-slice-relend-prefix-empty
 slice-relend-prefix-empty c = omega (arith, room (c .before .before .before .before))
@@ -142,15 +161,15 @@ empty-requires c κs = search needs
 
 rounds-of-requires : tie.Need-rounds-of-requires
 rounds-of-requires c κs =
-    let t = c .before .before .before .before .before .before .before .before .before .before .before .before in
-    let s = t .before .before .before .before .before .before .before .before .before .before .before .before .before .before in
-    let two = t .before .before .before .before .before in
-    let share = s .args .share in (
-      few (two .before .before),
-      leb-true 1 share (and-first (leb 1 share) (leb share 65536) (share-good two)),
-      leb-true share 65536 (and-second (leb 1 share) (leb share 65536) (share-good two)),
-      few-gates 0 (juries s) (all s) (no-reason t),
-    )
+    let t = passed (c .before .before .before .before .before .before .before .before) in
+    let of = call (begun (tested t)) in
+    let two = limited (tested t) in
+    record {
+      few = few (counted two);
+      quantum-least = least two;
+      quantum-most = most two;
+      gates-most = few-gates 0 (juriesIn of) (of .tables) (no-reason t);
+    }
 
 same-length-3 : tie.Need-same-length-3
 same-length-3 c = search needs
@@ -159,24 +178,22 @@ same-length-4 : tie.Need-same-length-4
 same-length-4 c = search needs
 
 returns-4 : tie.Need-returns-4
-unfolding dispatchedAfter
+unfolding dispatchResultAfter
 returns-4 c =
-    let run = c .before .before .before .before .before .before .before .before .before in
-    let t = run .before .before .before .before in
-    let s = t .before .before .before .before .before .before .before .before .before .before .before .before .before .before in
+    let zeroed = c .before .before .before in
+    let run = zeroed .before .before .before .before .before .before in
+    let t = passed run in
+    let of = call (begun (tested t)) in
     let fin = run .run-rounds .ensures in
-    let e = tested (t .before .before) none (passes t) in (
-      passes t ∙ sym (ap (λ (d : Dispatch). d .reason) e),
-      (
-        c .rounds-of .ensures (all s) ∙ sym (ap (λ (d : Dispatch). d .rounds) e),
-        (
-          emptied (fin .done * s .args .share) (juries s) (all s) (no-reason t) (t .before .before .test-juries .result .wires) (run .run-rounds .last .1 .1 .1 .1 .1 .1 .1 .0) (c .before .before .before .empty .last .0)
-              (t .before .before .test-juries .ensures .wires (passes t)) (fin .state .wiresAre) (c .before .before .before .empty .ensures)
-              ∙ sym (ap (λ (d : Dispatch). d .wires) e),
-          fin .state .boardsAre ∙ boards-end (fin .done * s .args .share) 0 (juries s) (all s) (no-reason t) (fin .all) ∙ sym (ap (λ (d : Dispatch). d .boards) e),
-        ),
-      ),
-    )
+    let given = fin .done * of .quantum in
+    let e = by-tests (tested t) none (passes t) in
+    same-result _ _ (passes t ∙ sym (ap (λ (d : DispatchResult). d .reason) e))
+    (c .rounds-of .ensures (of .tables) ∙ sym (ap (λ (d : DispatchResult). d .rounds) e))
+    (emptied given (juriesIn of) (of .tables) (no-reason t) (tested t .test-juries .result .wires)
+    (run .run-rounds .last .1 .1 .1 .1 .1 .1 .1 .0) (zeroed .empty .last .0) (tested t .test-juries .ensures .wires (passes t))
+    (fin .state .wiresAre) (zeroed .empty .ensures) ∙ sym (ap (λ (d : DispatchResult). d .wires) e))
+    (fin .state .boardsAre ∙ boards-end given 0 (juriesIn of) (of .tables) (no-reason t) (fin .all)
+    ∙ sym (ap (λ (d : DispatchResult). d .boards) e))
 
 pub dispatch-spec : {M : Type 1} → statement M
 dispatch-spec =

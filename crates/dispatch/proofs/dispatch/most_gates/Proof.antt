@@ -1,28 +1,28 @@
 -- `dispatch::dispatch::most_gates` meets its contract: what was found so far and the most of the juries ahead make the most of all.
 -- Assumes nothing.
 use mathlib.Core.Path.{_≡_, _∙_, ap}
-use mathlib.Core.List.{List, []}
-use Prim.Native.Nat.{ℕ, suc, _+_, _-_, _≤_, max}
+use mathlib.Core.List.{[]}
+use Prim.Native.Nat.{ℕ, suc, _-_, _≤_, max}
 use native.Mathlib.Numerals.{add-one}
 use native.Mathlib.Omega.{arith}
 use lib.ListN.{length, getD, take, drop, drop-of-length-le}
 use lib.Seq.{length-take-le}
 use borrow.Author.Needs.{needs}
-use Rattle.dispatch_rounds.specs.declared.statement.Statement.{Statement}
-use Rattle.dispatch.specs.Inner.{mostGates}
-use Rattle.dispatch_rounds.proofs.Rounding.{left-cons}
+use Rattle.dispatch_rounds.specs.declared.header.JuryHeader.{JuryHeader}
+use Rattle.dispatch.specs.inner.Rounds.{mostGates}
+use Rattle.dispatch_rounds.proofs.MidRound.{left-cons}
 use Rattle.dispatch.proofs.Whole.{most-first, most-none}
 use Rattle.dispatch.proofs.dispatch.most_gates.Statement.{statement}
 use Rattle.dispatch.proofs.dispatch.most_gates.Tie as tie
 
 abbrev Inv-loop : tie.InvT-loop
-Inv-loop count statements most₀ j₀ most j =
-    (j ≤ count) × (max most (mostGates (drop j (take count statements))) ≡ mostGates (take count statements))
+Inv-loop count headers most₀ j₀ most j =
+    (j ≤ count) × (max most (mostGates (drop j (take count headers))) ≡ mostGates (take count headers))
 
 abbrev μ-loop : tie.MeasureT-loop
-μ-loop count statements most₀ j₀ most j = count - j
+μ-loop count headers most₀ j₀ most j = count - j
 
-abbrev blank : Statement
+abbrev blank : JuryHeader
 blank = record { candidates = 0; grades = 0; ballots = 0; gates = 0 }
 
 enough : (s : tie.Start Inv-loop μ-loop) → s .args .count ≤ length (s .args .t2)
@@ -31,11 +31,11 @@ enough s = omega (arith, s .pre, s .good .1 .0 .1 .0 .1)
 loop-holds : tie.Need-loop-holds Inv-loop μ-loop
 loop-holds c = (omega arith, omega arith)
 
-mul-statement : tie.Need-mul-statement Inv-loop μ-loop
-mul-statement c = omega arith
+mul-header : tie.Need-mul-header Inv-loop μ-loop
+mul-header c = omega arith
 
-array-copy-out-statement : tie.Need-array-copy-out-statement Inv-loop μ-loop
-array-copy-out-statement c = omega arith
+array-copy-out-header : tie.Need-array-copy-out-header Inv-loop μ-loop
+array-copy-out-header c = omega arith
 
 larger-requires : tie.Need-larger-requires Inv-loop μ-loop
 larger-requires c κs = search needs
@@ -70,8 +70,8 @@ most-gates-spec =
     Inv-loop
     μ-loop
     loop-holds
-    mul-statement
-    array-copy-out-statement
+    mul-header
+    array-copy-out-header
     larger-requires
     add-j
     loop-less

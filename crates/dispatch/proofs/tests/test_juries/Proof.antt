@@ -1,41 +1,39 @@
 -- `dispatch::tests::test_juries` meets its contract: while juries pass, the first reason is that of the juries ahead.
 -- Assumes nothing.
-use mathlib.Core.Path.{_≡_, _∙_, refl, sym, ap, subst}
-use mathlib.Core.Option.{Option, none, some}
+use mathlib.Core.Path.{_≡_, _∙_, sym, ap, subst}
+use mathlib.Core.Option.{none, some}
 use mathlib.Core.List.{List, [], _∷_}
-use Prim.Native.Nat.{ℕ, suc, _+_, _-_, _≤_, _<_}
+use Prim.Native.Nat.{ℕ, suc, _+_, _-_, _≤_}
 use native.Mathlib.Numerals.{add-one}
 use native.Mathlib.Omega.{arith}
-use lib.ListN.{length, getD, set, take, drop, drop-of-length-le}
+use lib.ListN.{length, getD, take, drop, drop-of-length-le}
 use lib.Seq.{length-take-le}
 use borrow.Author.Needs.{needs}
 use Rattle.gates.specs.Gate.{gatesOf}
-use Rattle.jury.specs.Reason.{Reason, reasonOf, firstOf}
+use Rattle.jury.specs.Reason.{reasonOf, firstOf}
 use Rattle.tally.specs.Answer.{outcome, outcomeOf, sizeOf}
-use Rattle.tally.specs.declared.answer.Answer.{Answer}
-use Rattle.dispatch_rounds.specs.declared.statement.Statement.{Statement}
-use Rattle.dispatch_rounds.specs.declared.statement.Places.{Places}
+use Rattle.dispatch_rounds.specs.declared.header.JuryHeader.{JuryHeader}
 use Rattle.dispatch_rounds.specs.Tables.{Tables, lent, listOf, conditionalIn}
 use Rattle.dispatch_rounds.specs.Reasons.{reasonsOf, atJury}
 use Rattle.dispatch.specs.Reasons.{verdictReason}
-use Rattle.dispatch_rounds.specs.Inner.{placesAfter}
-use Rattle.dispatch.specs.Inner.{refusalIn}
-use Rattle.dispatch_rounds.proofs.Passed.{Passed, jury-passed}
-use Rattle.dispatch_rounds.proofs.Rounding.{from, Inside, inside-next, left-cons}
-use Rattle.dispatch.proofs.Testing.{TestedSoFar, tested-start, tested-next, tested-end, tested-as, rest-is, lent-same, bad-jury, refusal-is, at-jury-some, accepted-mark}
+use Rattle.dispatch_rounds.specs.inner.State.{placesAfter}
+use Rattle.dispatch.specs.inner.Rounds.{refusalIn}
+use Rattle.dispatch_rounds.proofs.Passed.{jury-passed}
+use Rattle.dispatch_rounds.proofs.MidRound.{from, inside-next, left-cons}
+use Rattle.dispatch.proofs.JuryTests.{TestedSoFar, tested-start, tested-next, tested-end, tested-as, rest-is, lent-same, bad-jury, refusal-is, at-jury-some, accepted-mark}
 use Rattle.dispatch.proofs.tests.test_juries.Statement.{statement}
 use Rattle.dispatch.proofs.tests.test_juries.Tie as tie
 use Rattle.dispatch.proofs.tests.test_juries.Reads as reads
 use Rattle.dispatch.proofs.tests.test_juries.Lts as lts
 
 abbrev Inv-loop : tie.InvT-loop
-Inv-loop count lists ballots tapes wires boards statements conditional₀ at₀ j₀ conditional at j =
-    (j ≤ count) × TestedSoFar (take count statements) (lent lists ballots tapes wires boards) j (drop j (take count statements)) at conditional
+Inv-loop count lists ballots tapes wires boards headers conditional₀ at₀ j₀ conditional at j =
+    (j ≤ count) × TestedSoFar (take count headers) (lent lists ballots tapes wires boards) j (drop j (take count headers)) at conditional
 
 abbrev μ-loop : tie.MeasureT-loop
-μ-loop count lists ballots tapes wires boards statements conditional₀ at₀ j₀ conditional at j = count - j
+μ-loop count lists ballots tapes wires boards headers conditional₀ at₀ j₀ conditional at j = count - j
 
-abbrev blank : Statement
+abbrev blank : JuryHeader
 blank = record { candidates = 0; grades = 0; ballots = 0; gates = 0 }
 
 abbrev all : tie.Start Inv-loop μ-loop → Tables
@@ -44,7 +42,7 @@ all s = lent (s .args .lists .now) (s .args .ballots .now) (s .args .tapes .now)
 enough : (s : tie.Start Inv-loop μ-loop) → s .args .count ≤ length (s .args .t2)
 enough s = omega (arith, s .pre, s .good .1 .0 .1 .0 .1)
 
-abbrev jury : (c : tie.In-loop Inv-loop μ-loop) → Statement
+abbrev jury : (c : tie.In-loop Inv-loop μ-loop) → JuryHeader
 jury c = getD (c .before .before .before .before .before .before .before .args .t2) (c .before .loop .j) blank
 
 abbrev here : (c : tie.In-loop Inv-loop μ-loop) → Tables
@@ -56,7 +54,7 @@ ahead : (c : tie.In-loop Inv-loop μ-loop) → let s = c .before .before .before
 ahead c =
     let s = c .before .before .before .before .before .before .before in
     let l = c .before .loop in
-    subst (λ (left : List Statement). TestedSoFar (take (s .args .count) (s .args .t2)) (all s) (l .j) left (l .at) (l .conditional))
+    subst (λ (left : List JuryHeader). TestedSoFar (take (s .args .count) (s .args .t2)) (all s) (l .j) left (l .at) (l .conditional))
     (left-cons (s .args .count) (l .j) (s .args .t2) blank (c .loop-test .taken) (enough s)) (l .inv .1)
 
 -- what its tests answer
@@ -71,12 +69,16 @@ found c =
     (lent-same _ _ _ _ _ _ _ _ _ _ (rest-is (at .lists) (s .args .lists .now)) (rest-is (at .ballots) (s .args .ballots .now)) (rest-is (at .tapes) (s .args .tapes .now))
     (rest-is (at .wires) (s .args .wires .now)) (rest-is (at .boards) (s .args .boards .now)))
 
+-- From where a jury was tested to the begin of its turn.
+abbrev in-turn : tie.After-test-jury Inv-loop μ-loop → tie.In-loop Inv-loop μ-loop
+in-turn c = c .before .before .before .before .before .before .before
+
 -- it passed
-well : (c : tie.After-known-told Inv-loop μ-loop) → let i = c .before .before .before .before .before .before .before .before .before .before in
+well : (c : tie.After-known-told Inv-loop μ-loop) → let i = in-turn (c .before .before .before) in
     (firstOf (reasonsOf (jury i) (here i)) ≡ none) × (c .before .answer .given .0 .1 .0 ≡ conditionalIn (jury i) (here i))
 unfolding conditionalIn
 well c =
-    let i = c .before .before .before .before .before .before .before .before .before .before in
+    let i = in-turn (c .before .before .before) in
     accepted-mark (c .before .before .before .test-jury .result) (firstOf (reasonsOf (jury i) (here i))) (gatesOf (listOf (jury i) (here i))) (c .before .answer .given .0 .0) (c .before .answer .given .0 .1 .0)
     (found (c .before .before .before)) (c .before .answer .given .1)
 
@@ -86,11 +88,11 @@ loop-holds c =
     let a = s .args in
     (omega arith, tested-start (take (a .count) (a .t2)) (a .lists .now) (a .ballots .now) (a .tapes .now) (a .wires .now) (a .boards .now) (omega (arith, length-take-le (a .count) (a .t2) (enough s), s .pre)))
 
-mul-statement : tie.Need-mul-statement Inv-loop μ-loop
-mul-statement c = omega arith
+mul-header : tie.Need-mul-header Inv-loop μ-loop
+mul-header c = omega arith
 
-array-copy-out-statement : tie.Need-array-copy-out-statement Inv-loop μ-loop
-array-copy-out-statement c = omega arith
+array-copy-out-header : tie.Need-array-copy-out-header Inv-loop μ-loop
+array-copy-out-header c = omega arith
 
 mul-test-jury : tie.Need-mul-test-jury Inv-loop μ-loop
 mul-test-jury c = omega (arith, c .before .before .loop .inv .1 .inside .lists)
@@ -164,11 +166,11 @@ returns c =
     let r = reasonOf (told .enum-told .given .0 .0) in
     let is : refusalIn (t .test-jury .result) ≡ o = refusal-is (t .test-jury .result) o (sizeOf (gatesOf (listOf (jury i) (here i)))) (found t) in
     let bad : o ≡ some r = sym is ∙ ap refusalIn (told .enum-told .given .1) in
-    let outcome-so = c .verdict-of .ensures ∙ ap (atJury (l .j)) is ∙ ap (atJury (l .j)) bad in
+    let named-so = c .verdict-of .ensures ∙ ap (atJury (l .j)) is ∙ ap (atJury (l .j)) bad in
     record {
-      reason = outcome-so ∙ sym (bad-jury (jury i) (here i) (l .j) (drop (suc (l .j)) (take (s .args .count) (s .args .t2))) r bad) ∙ ahead i .reasons;
-      conditional = λ e. at-jury-some (l .j) r (sym outcome-so ∙ e);
-      wires = λ e. at-jury-some (l .j) r (sym outcome-so ∙ e);
+      reason = named-so ∙ sym (bad-jury (jury i) (here i) (l .j) (drop (suc (l .j)) (take (s .args .count) (s .args .t2))) r bad) ∙ ahead i .reasons;
+      conditional = λ e. at-jury-some (l .j) r (sym named-so ∙ e);
+      wires = λ e. at-jury-some (l .j) r (sym named-so ∙ e);
     }
 
 mul-conditional : tie.Need-mul-conditional Inv-loop μ-loop
@@ -179,7 +181,7 @@ array-write-conditional c = omega arith
 
 after-requires : tie.Need-after-requires Inv-loop μ-loop
 after-requires c κs =
-    let i = c .before .before .before .before .before .before .before .before .before .before in
+    let i = in-turn (c .before .before .before) in
     let s = i .before .before .before .before .before .before .before in
     let l = i .before .loop in
     let w = well c in
@@ -204,7 +206,7 @@ loop-less c = omega arith
 loop-again : tie.Need-loop-again Inv-loop μ-loop
 loop-again c =
     let k = c .before in
-    let i = k .before .before .before .before .before .before .before .before .before .before in
+    let i = in-turn (k .before .before .before) in
     let s = i .before .before .before .before .before .before .before in
     let l = i .before .loop in
     let w = well k in
@@ -223,7 +225,7 @@ returns-2 c =
     let l = c .before .loop in
     let ss = take (s .args .count) (s .args .t2) in
     let none-left : drop (l .j) ss ≡ [] = drop-of-length-le ss {i = l .j} (omega (arith, length-take-le (s .args .count) (s .args .t2) (enough s), c .loop-test .left)) in
-    let e = tested-end ss (all s) (l .j) (l .at) (l .conditional) (subst (λ (left : List Statement). TestedSoFar ss (all s) (l .j) left (l .at) (l .conditional)) none-left (l .inv .1)) in
+    let e = tested-end ss (all s) (l .j) (l .at) (l .conditional) (subst (λ (left : List JuryHeader). TestedSoFar ss (all s) (l .j) left (l .at) (l .conditional)) none-left (l .inv .1)) in
     record { reason = e .0; conditional = λ x. e .1; wires = λ x. e .2 }
 
 pub test-juries-spec : {M : Type 1} → statement M
@@ -233,8 +235,8 @@ test-juries-spec =
     Inv-loop
     μ-loop
     loop-holds
-    mul-statement
-    array-copy-out-statement
+    mul-header
+    array-copy-out-header
     mul-test-jury
     sub-test-jury
     part-test-jury-start
