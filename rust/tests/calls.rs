@@ -1,12 +1,8 @@
-//! The wrapper's five functions, accepted and refused.
-use jugyvaros::*;
+//! The five entry points on slices, accepted and refused, and the words of a refusal.
+mod common;
 
-const SHAPE: Shape = Shape {
-    candidates: 2,
-    grades: 3,
-    ballots: 3,
-};
-const BALLOTS: [u8; 18] = [1, 0, 0, 0, 1, 0, 0, 1, 0, 0, 1, 0, 0, 1, 0, 0, 0, 1];
+use common::{BALLOTS, SHAPE};
+use jugyvaros::*;
 
 fn refusal(number: usize, place: usize) -> Refusal {
     let reason = Reason::of(number).unwrap();
@@ -51,17 +47,34 @@ fn refusals_have_number_and_place_and_alter_nothing() {
     assert_eq!(run(SHAPE, &list, &BALLOTS, &[2], &mut wires, &mut board), Err(refusal(8, 0)));
     assert_eq!(run(SHAPE, &list, &BALLOTS, &[1], &mut wires[..19], &mut board), Err(refusal(9, 0)));
     assert_eq!((wires, board), ([7; 20], [7; 3]));
-    assert_eq!(
-        run(SHAPE, &list, &BALLOTS, &[1], &mut wires, &mut board),
-        Ok(Size { gates: 2, conditional: 1 })
-    );
+    assert_eq!(run(SHAPE, &list, &BALLOTS, &[1], &mut wires, &mut board), Ok(Size { gates: 2, conditional: 1 }));
     assert_eq!(board, [0, 1, 0]);
+}
+
+#[test]
+fn texts_have_number_and_place_and_alter_nothing() {
+    let refused = |text: &str| read_text(SHAPE, text.as_bytes(), &mut [9; 8]).unwrap_err();
+    assert_eq!(refused(""), refusal(2, 0));
+    assert_eq!(refused("2 18\n02 1\n"), refusal(23, 1));
+    assert_eq!(refused("2 17\n2 19\n"), refusal(3, 1));
+    assert_eq!(refused("0\n1"), refusal(23, 1));
+    let mut short = [9; 7];
+    assert_eq!(read_text(SHAPE, b"0\n1\n", &mut short), Err(refusal(24, 0)));
+    assert_eq!(short, [9; 7]);
+    let list = [2, 17, 0, 0, 7, 18, 0, 5];
+    assert_eq!(text(SHAPE, &list).unwrap(), "2 17\n7 18 0 5\n");
+    let mut short = [9; 13];
+    assert_eq!(write_text(SHAPE, &list, &mut short), Err(refusal(24, 0)));
+    assert_eq!(short, [9; 13]);
 }
 
 #[test]
 fn a_refusal_says_what_is_wrong() {
     assert_eq!(refusal(3, 7).to_string(), "refused 3 7: bad kind or operand in gate 7");
     assert_eq!(refusal(1, 0).to_string(), "refused 1 0: candidates, grades or ballots are outside their limits");
-    assert_eq!(Reason::of(0), None);
-    assert_eq!(Reason::of(255), None);
+    assert_eq!([0, 21, 22, 25, 255].map(Reason::of), [None; 5]);
+    let mut words: Vec<String> = Reason::ALL.iter().map(|&reason| Refusal { reason, place: 0 }.to_string()).collect();
+    words.sort();
+    words.dedup();
+    assert_eq!(words.len(), 22);
 }
