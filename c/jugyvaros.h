@@ -75,7 +75,7 @@ extern "C" {
 #define JUGY_DEALING 18         /* a part is neither 0 nor 1, or parts do not add up to their ballot byte or product */
 #define JUGY_JURIES 19          /* there are no juries, or more than 8 */
 #define JUGY_GATES_PER_ROUND 20 /* a jury's gates of a round are 0 or above 65,536 */
-#define JUGY_LINE 23            /* no line of a gate: its form, its kind, or a number of 2^32 or more; place: the line */
+#define JUGY_LINE 23            /* not a line of a gate, by form, kind or a number of 2^32 or more; place: the line */
 #define JUGY_OUTPUT 24          /* what would be written has no room in the output */
 
 /* Earlier names of 11 and 12, kept for one release. */
