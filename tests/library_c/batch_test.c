@@ -30,7 +30,8 @@ static uint64_t *any_words(size_t count) {
 }
 
 static struct call good_call(void) {
-    struct call c = {.k = 1 + below(3), .d = below(3) ? 2 + below(3) : 0, .n = 1 + below(3), .answer_length = JUGY_RUN_ANSWER};
+    struct call c = {
+        .k = 1 + below(3), .d = below(3) ? 2 + below(3) : 0, .n = 1 + below(3), .answer_length = JUGY_RUN_ANSWER};
     size_t inputs = ballot_bytes(c.k, c.d, c.n), gates = c.k + below(30);
     c.table_length = 4 * gates, c.table = lent(16 * gates);
     random_list(c.table, inputs, gates);
@@ -97,8 +98,8 @@ static struct said expected(const struct call *c) {
     size_t inputs = ballot_bytes(c->k, c->d, c->n);
     if (fault.reason)
         return fault;
-    size_t reason = c->lengths[TAPE] != s.conditional          ? JUGY_TAPE_LENGTH
-                    : c->lengths[WIRES] != inputs + s.gates    ? JUGY_WIRES_LENGTH
+    size_t reason = c->lengths[TAPE] != s.conditional           ? JUGY_TAPE_LENGTH
+                    : c->lengths[WIRES] != inputs + s.gates     ? JUGY_WIRES_LENGTH
                     : c->lengths[BOARD] != s.conditional + c->k ? JUGY_BOARD_LENGTH
                                                                 : JUGY_ACCEPTED;
     return reason ? (struct said){reason, 0, 0, 0, {0}} : s;
@@ -111,8 +112,8 @@ static void run_juries(struct call *c) {
     for (int j = 0; j < JURIES; j++) {
         uint8_t *ballots = lane(c, BALLOTS, j), *tape = lane(c, TAPE, j);
         uint8_t *wires = lent(c->lengths[WIRES]), *board = lent(c->lengths[BOARD]);
-        if (reference_run(c->k, c->d, c->n, c->table, c->table_length, ballots, c->lengths[BALLOTS], tape, c->lengths[TAPE],
-                          wires, c->lengths[WIRES], board, c->lengths[BOARD])
+        if (reference_run(c->k, c->d, c->n, c->table, c->table_length, ballots, c->lengths[BALLOTS], tape,
+                          c->lengths[TAPE], wires, c->lengths[WIRES], board, c->lengths[BOARD])
                 .reason)
             fail("a single run is refused");
         for (size_t i = 0; i < c->lengths[BOARD]; i++)
@@ -125,10 +126,12 @@ static void one_call(size_t faults) {
     struct call c = good_call();
     for (; faults; faults--)
         damage(&c);
-    uint64_t *wires = copy_of(c.tables[WIRES], 8 * c.lengths[WIRES]), *board = copy_of(c.tables[BOARD], 8 * c.lengths[BOARD]);
+    uint64_t *wires = copy_of(c.tables[WIRES], 8 * c.lengths[WIRES]),
+             *board = copy_of(c.tables[BOARD], 8 * c.lengths[BOARD]);
     size_t size = c.answer_length * sizeof(size_t), *answer = filled(size, 9), *old = copy_of(answer, size);
-    size_t status = seen(jugy_run_batch(c.k, c.d, c.n, c.table, c.table_length, c.tables[BALLOTS], c.lengths[BALLOTS], c.tables[TAPE],
-                                        c.lengths[TAPE], wires, c.lengths[WIRES], board, c.lengths[BOARD], answer, c.answer_length));
+    size_t status = seen(jugy_run_batch(c.k, c.d, c.n, c.table, c.table_length, c.tables[BALLOTS], c.lengths[BALLOTS],
+                                        c.tables[TAPE], c.lengths[TAPE], wires, c.lengths[WIRES], board,
+                                        c.lengths[BOARD], answer, c.answer_length));
     if (c.answer_length < JUGY_RUN_ANSWER) {
         if (status != JUGY_SHORT_ANSWER || memcmp(answer, old, size))
             fail("a short answer array");

@@ -124,12 +124,13 @@ static struct said run_jury(const struct call *c, size_t jury, size_t *from) {
     struct said tested = reference_test(k, d, n, table, lengths[LISTS]);
     if (tested.reason)
         return tested;
-    lengths[TAPES] = tested.conditional, lengths[WIRES] = lengths[BALLOTS] + gates, lengths[BOARDS] = tested.conditional + k;
+    lengths[TAPES] = tested.conditional, lengths[WIRES] = lengths[BALLOTS] + gates,
+    lengths[BOARDS] = tested.conditional + k;
     uint8_t *pieces[TABLES];
     for (int i = BALLOTS; i < TABLES; i++)
         pieces[i] = piece(c, i, &from[i], &lengths[i]);
-    return reference_run(k, d, n, table, lengths[LISTS], pieces[BALLOTS], lengths[BALLOTS], pieces[TAPES], lengths[TAPES],
-                         pieces[WIRES], lengths[WIRES], pieces[BOARDS], lengths[BOARDS]);
+    return reference_run(k, d, n, table, lengths[LISTS], pieces[BALLOTS], lengths[BALLOTS], pieces[TAPES],
+                         lengths[TAPES], pieces[WIRES], lengths[WIRES], pieces[BOARDS], lengths[BOARDS]);
 }
 
 /* The whole answer array. A refused call's tables have been filled for the juries before the bad one: they are not
@@ -149,8 +150,9 @@ static void expect(const struct call *c, size_t *right) {
 
 static size_t answered(const struct call *c, uint8_t *wires, uint8_t *boards, size_t *answer) {
     return seen(jugy_dispatch(c->juries, c->gates_per_round, c->statements, c->statements_length, c->tables[LISTS],
-                              c->lengths[LISTS], c->tables[BALLOTS], c->lengths[BALLOTS], c->tables[TAPES], c->lengths[TAPES],
-                              wires, c->lengths[WIRES], boards, c->lengths[BOARDS], answer, c->answer_length));
+                              c->lengths[LISTS], c->tables[BALLOTS], c->lengths[BALLOTS], c->tables[TAPES],
+                              c->lengths[TAPES], wires, c->lengths[WIRES], boards, c->lengths[BOARDS], answer,
+                              c->answer_length));
 }
 
 static void one_call(size_t faults) {

@@ -43,8 +43,6 @@ static inline size_t marks_in(const uint32_t *table, size_t gates) {
 }
 
 /* Mostly this length, now and then one more or one less. */
-static inline size_t about(size_t length) {
-    return below(12) ? length : below(2) || !length ? length + 1 : length - 1;
-}
+static inline size_t about(size_t length) { return below(12) ? length : below(2) || !length ? length + 1 : length - 1; }
 
 #endif

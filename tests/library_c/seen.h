@@ -37,7 +37,7 @@ static inline void all_seen(const char *program, const size_t *expected, size_t 
     }
 }
 
-#define ALL_SEEN(program, ...)                                                                                        \
+#define ALL_SEEN(program, ...)                                                                                         \
     all_seen(program, (const size_t[]){__VA_ARGS__}, sizeof(const size_t[]){__VA_ARGS__} / sizeof(size_t))
 
 #endif

@@ -92,7 +92,8 @@ static void evaluate(struct trustee *trustees, size_t t, const uint32_t *table, 
         if (is_conditional)
             publish(trustees, t, gate, i, opened);
         for (size_t p = 0; p < t; p++)
-            trustees[p].held[inputs + g] = own_bit(&trustees[p], gate, is_conditional ? product(&trustees[p], i, opened) : 0);
+            trustees[p].held[inputs + g] =
+                own_bit(&trustees[p], gate, is_conditional ? product(&trustees[p], i, opened) : 0);
         i += is_conditional;
     }
 }
@@ -110,8 +111,8 @@ struct said reference_trustees(size_t k, size_t d, size_t n, const uint32_t *tab
     if (trustees < 2 || trustees > MOST_TRUSTEES)
         return refused(16);
     size_t inputs = ballots_length, all = inputs + s.gates, each = 2 * s.conditional + k;
-    if (parts_length != trustees * inputs || dealt_length != trustees * 3 * s.conditional || wires_length != trustees * all ||
-        published_length != trustees * each)
+    if (parts_length != trustees * inputs || dealt_length != trustees * 3 * s.conditional ||
+        wires_length != trustees * all || published_length != trustees * each)
         return refused(17);
     if (!deals(trustees, ballots, inputs, s.conditional, parts, dealt))
         return refused(18);

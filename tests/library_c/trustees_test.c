@@ -81,14 +81,14 @@ static void damage(struct call *c) {
 
 static size_t answered(const struct call *c, uint8_t *wires, uint8_t *published, size_t *answer) {
     return seen(jugy_trustees(c->k, c->d, c->n, c->table, c->table_length, c->ballots, c->ballots_length, c->trustees,
-                              c->tables[PARTS], c->lengths[PARTS], c->tables[DEALT], c->lengths[DEALT], wires, c->lengths[WIRES],
-                              published, c->lengths[PUBLISHED], answer, c->answer_length));
+                              c->tables[PARTS], c->lengths[PARTS], c->tables[DEALT], c->lengths[DEALT], wires,
+                              c->lengths[WIRES], published, c->lengths[PUBLISHED], answer, c->answer_length));
 }
 
 static struct said expected(const struct call *c) {
     return reference_trustees(c->k, c->d, c->n, c->table, c->table_length, c->ballots, c->ballots_length, c->trustees,
-                              c->tables[PARTS], c->lengths[PARTS], c->tables[DEALT], c->lengths[DEALT], c->tables[WIRES],
-                              c->lengths[WIRES], c->tables[PUBLISHED], c->lengths[PUBLISHED]);
+                              c->tables[PARTS], c->lengths[PARTS], c->tables[DEALT], c->lengths[DEALT],
+                              c->tables[WIRES], c->lengths[WIRES], c->tables[PUBLISHED], c->lengths[PUBLISHED]);
 }
 
 /* The answer array of what the reference says. */
@@ -109,8 +109,10 @@ static void one_call(size_t faults) {
     struct call c = good_call();
     for (; faults; faults--)
         damage(&c);
-    uint8_t *wires = copy_of(c.tables[WIRES], c.lengths[WIRES]), *published = copy_of(c.tables[PUBLISHED], c.lengths[PUBLISHED]);
-    size_t *answer = filled(c.answer_length * sizeof *answer, 9), *before = copy_of(answer, c.answer_length * sizeof *answer);
+    uint8_t *wires = copy_of(c.tables[WIRES], c.lengths[WIRES]),
+            *published = copy_of(c.tables[PUBLISHED], c.lengths[PUBLISHED]);
+    size_t *answer = filled(c.answer_length * sizeof *answer, 9),
+           *before = copy_of(answer, c.answer_length * sizeof *answer);
     size_t status = answered(&c, wires, published, answer);
     if (c.answer_length < JUGY_TRUSTEES_ANSWER) {
         if (status != JUGY_SHORT_ANSWER || memcmp(answer, before, c.answer_length * sizeof *answer))

@@ -54,8 +54,8 @@ static void one_call(size_t k, size_t d, size_t n, const uint8_t *urn, size_t le
     uint8_t *tape = filled(tape_length, (uint8_t)(below(30) ? below(2) : 2));
     uint8_t *wires = filled(wires_length, 7), *board = filled(board_length, 7), *before = copy_of(urn, length);
     size_t room = below(20) ? JUGY_RUN_ANSWER : below(JUGY_RUN_ANSWER);
-    said[0] = seen(jugy_run_urn(k, d, n, table, numbers, urn, length, tape, tape_length, wires, wires_length, board, board_length,
-                                said, room));
+    said[0] = seen(jugy_run_urn(k, d, n, table, numbers, urn, length, tape, tape_length, wires, wires_length, board,
+                                board_length, said, room));
     expect(!memcmp(before, urn, length), "the urn is altered");
     if (room < JUGY_RUN_ANSWER) {
         expect(said[0] == JUGY_SHORT_ANSWER, "a short answer array is taken");
@@ -89,7 +89,8 @@ static void one_call(size_t k, size_t d, size_t n, const uint8_t *urn, size_t le
 int main(int count, char **words) {
     int rounds = count > 1 ? atoi(words[1]) : 100;
     for (int r = 0; r < rounds; r++) {
-        size_t k = 1 + below(8), d = 2 + below(6), size = 2 + k * d, slots = below(9) ? 2 + below(8) : 1 + below(256), many;
+        size_t k = 1 + below(8), d = 2 + below(6), size = 2 + k * d, slots = below(9) ? 2 + below(8) : 1 + below(256),
+               many;
         size_t length = slots * size + (below(8) ? 0 : below(3));
         uint8_t *urn = filled(length, 0), *chain;
         urn[1] = 1;

@@ -12,8 +12,10 @@ static void fail(const char *what) {
 }
 
 /* Too short an answer array: nothing is altered, and no call answers. */
-static void short_answers(size_t k, size_t d, uint8_t *urn, size_t length, const uint8_t *ballot, size_t ballot_length) {
-    size_t room = below(JUGY_URN_ANSWER), *answer = filled(room * sizeof *answer, 9), *old = copy_of(answer, room * sizeof *answer);
+static void short_answers(size_t k, size_t d, uint8_t *urn, size_t length, const uint8_t *ballot,
+                          size_t ballot_length) {
+    size_t room = below(JUGY_URN_ANSWER), *answer = filled(room * sizeof *answer, 9),
+           *old = copy_of(answer, room * sizeof *answer);
     uint8_t *copy = copy_of(urn, length);
     size_t statuses[] = {jugy_empty_urn(k, d, urn, length, answer, room),
                          jugy_admit(k, d, urn, length, 1, ballot, ballot_length, answer, room),
