@@ -1,16 +1,18 @@
-//! Why a call is turned away: each reason once, with its number, its words and what its place counts.
+//! Why a call is turned away: each reason once, with its number, its words and what its place counts. The words
+//! are those of `c/jugyvaros.h`, and a test holds them to it, so that a reason reads the same in every
+//! language.
 
 use std::fmt;
 
 /// Makes the enum of the reasons and the table of their words from one row a reason.
 macro_rules! reasons {
-    ($($name:ident = $number:literal: $words:literal $(in $unit:literal)?;)*) => {
+    ($($name:ident = $number:literal: $words:literal $(at $unit:literal)?;)*) => {
         /// Why a call is turned away. The numbers are those of docs/REQUIREMENTS.md and `c/jugyvaros.h`.
         #[derive(Clone, Copy, Debug, PartialEq, Eq, Hash)]
         #[repr(usize)]
         pub enum Reason {
             $(
-                #[doc = concat!("Reason ", $number, ": ", $words, $(" in the ", $unit, " that is the place",)? ".")]
+                #[doc = concat!("Reason ", $number, ": ", $words, $("; the place is ", $unit,)? ".")]
                 $name = $number,
             )*
         }
@@ -39,27 +41,27 @@ macro_rules! reasons {
 }
 
 reasons! {
-    Shape = 1: "candidates, grades or ballots are outside their limits";
-    Table = 2: "the gate table has a length that no list of this shape has";
-    Gate = 3: "bad kind or operand" in "gate";
-    BallotsLength = 4: "the ballots have another length than the shape needs";
-    BallotByte = 5: "neither 0 nor 1" in "ballot byte";
-    BallotRow = 6: "not exactly one 1" in "row";
-    TapeLength = 7: "the tape is not as long as the list has conditional gates";
-    TapeByte = 8: "neither 0 nor 1" in "tape byte";
-    WiresLength = 9: "the wire table has another length than ballots and gates together";
-    BoardLength = 10: "the board has another length than conditional gates and candidates together";
-    NotAsymmetric = 11: "a candidate before itself, or two before each other," in "ballot byte";
-    NotWeakOrder = 12: "one before another and a third beside both" in "ballot";
+    Shape = 1: "k, d or n is outside its limits";
+    Table = 2: "no room in the gate table to write, or no list of k to 1,048,576 whole gates";
+    Gate = 3: "a bad kind or operand" at "the gate";
+    BallotsLength = 4: "there are not I ballot bytes";
+    BallotByte = 5: "a byte of a ballot is neither 0 nor 1" at "the byte";
+    BallotRow = 6: "graded: a row with no 1 or several" at "the row, b k + c";
+    TapeLength = 7: "the tape's length is not C";
+    TapeByte = 8: "a byte of the tape is neither 0 nor 1" at "the byte";
+    WiresLength = 9: "the wire table's length is not I + G";
+    BoardLength = 10: "the board's length is not C + k";
+    NotAsymmetric = 11: "ranked: two before each other, or one before itself" at "the first such byte";
+    NotWeakOrder = 12: "ranked: i is before j, a third is neither behind i nor before j" at "the ballot";
     Urn = 13: "the urn is not sound";
-    Juror = 14: "the juror's number is not 1 to 255, or is in already, or is not in";
+    Juror = 14: "the juror is not 1 to 255, or is in already (admission), or not in (withdrawal)";
     FullUrn = 15: "no slot of the urn is free";
     Trustees = 16: "there are fewer than 2 or more than 5 trustees";
-    PartTables = 17: "a table of the trustees is too long or too short for the list and the shape";
-    Dealing = 18: "a part is neither 0 nor 1, or parts have a wrong sum";
+    PartTables = 17: "one of the trustees' four tables has a wrong length";
+    Dealing = 18: "a part is neither 0 nor 1, or parts do not add up to their ballot byte or product";
     Juries = 19: "there are no juries, or more than 8";
-    GatesPerRound = 20: "the gates of a round are outside 1 to 65,536";
-    Line = 23: "another form than a gate's, or a number that is too large," in "line";
+    GatesPerRound = 20: "a jury's gates of a round are 0 or above 65,536";
+    Line = 23: "not a line of a gate, by form, kind or a number of 2^32 or more" at "the line";
     Output = 24: "what would be written has no room in the output";
 }
 
@@ -84,19 +86,13 @@ pub struct Refusal {
     pub place: usize,
 }
 
-impl Refusal {
-    /// What is wrong, and where.
-    fn words(self) -> String {
-        match self.reason.unit() {
-            Some(unit) => format!("{} in {unit} {}", self.reason.words(), self.place),
-            None => self.reason.words().to_string(),
-        }
-    }
-}
-
 impl fmt::Display for Refusal {
     fn fmt(&self, f: &mut fmt::Formatter<'_>) -> fmt::Result {
-        write!(f, "refused {} {}: {}", self.reason.number(), self.place, self.words())
+        write!(f, "refused {} {}: {}", self.reason.number(), self.place, self.reason.words())?;
+        match self.reason.unit() {
+            Some(unit) => write!(f, "; place {}, counted from 0, is {unit}", self.place),
+            None => Ok(()),
+        }
     }
 }
 
@@ -131,11 +127,12 @@ impl From<Refusal> for JuryRefusal {
 
 impl fmt::Display for JuryRefusal {
     fn fmt(&self, f: &mut fmt::Formatter<'_>) -> fmt::Result {
-        write!(f, "refused {} {}: {}", self.reason().number(), self.place(), self.refusal.words())?;
-        match (self.jury, self.reason().unit()) {
-            (None, _) => Ok(()),
-            (Some(jury), Some(_)) => write!(f, " of jury {jury}"),
-            (Some(jury), None) => write!(f, ", jury {jury}"),
+        let Some(jury) = self.jury else { return self.refusal.fmt(f) };
+        let reason = self.reason();
+        write!(f, "refused {} {jury}: {}; place {jury}, counted from 0, is the jury", reason.number(), reason.words())?;
+        match reason.unit() {
+            Some(unit) => write!(f, "; in it, place {} is {unit}", self.refusal.place),
+            None => Ok(()),
         }
     }
 }

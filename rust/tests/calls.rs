@@ -70,11 +70,33 @@ fn texts_have_number_and_place_and_alter_nothing() {
 
 #[test]
 fn a_refusal_says_what_is_wrong() {
-    assert_eq!(refusal(3, 7).to_string(), "refused 3 7: bad kind or operand in gate 7");
-    assert_eq!(refusal(1, 0).to_string(), "refused 1 0: candidates, grades or ballots are outside their limits");
+    let gate = "refused 3 7: a bad kind or operand; place 7, counted from 0, is the gate";
+    assert_eq!(refusal(3, 7).to_string(), gate);
+    assert_eq!(refusal(1, 0).to_string(), "refused 1 0: k, d or n is outside its limits");
     assert_eq!([0, 21, 22, 25, 255].map(Reason::of), [None; 5]);
-    let mut words: Vec<String> = Reason::ALL.iter().map(|&reason| Refusal { reason, place: 0 }.to_string()).collect();
-    words.sort();
-    words.dedup();
-    assert_eq!(words.len(), 22);
+}
+
+/// A name in capitals, its words apart: as C has it.
+fn in_capitals(name: &str) -> String {
+    let apart =
+        |letter: char| if letter.is_uppercase() { format!("_{letter}") } else { letter.to_uppercase().to_string() };
+    name.chars().map(apart).collect::<String>().trim_start_matches('_').to_string()
+}
+
+#[test]
+fn reasons_are_those_of_the_header() {
+    let header = include_str!("../../c/jugyvaros.h");
+    let rows: Vec<(String, usize, String)> = header
+        .lines()
+        .filter_map(|line| line.strip_prefix("#define JUGY_")?.strip_suffix(" */")?.split_once("/* "))
+        .filter_map(|(name, words)| Some((name.trim().split_once(' ')?, words)))
+        .filter(|((name, _), _)| !name.ends_with("_ANSWER"))
+        .map(|((name, number), words)| (name.to_string(), number.trim().parse().unwrap(), words.to_string()))
+        .collect();
+    let own = |reason: &Reason| {
+        let place = reason.unit().map_or(String::new(), |unit| format!("; place: {unit}"));
+        (in_capitals(&format!("{reason:?}")), reason.number(), reason.words().to_string() + &place)
+    };
+    assert_eq!(Reason::ALL.iter().map(own).collect::<Vec<_>>(), rows);
+    assert_eq!(rows.len(), 22);
 }
