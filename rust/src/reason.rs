@@ -90,7 +90,7 @@ impl fmt::Display for Refusal {
     fn fmt(&self, f: &mut fmt::Formatter<'_>) -> fmt::Result {
         write!(f, "refused {} {}: {}", self.reason.number(), self.place, self.reason.words())?;
         match self.reason.unit() {
-            Some(unit) => write!(f, "; place {}, counted from 0, is {unit}", self.place),
+            Some(unit) => write!(f, " (place {}, counted from 0: {unit})", self.place),
             None => Ok(()),
         }
     }
@@ -129,10 +129,11 @@ impl fmt::Display for JuryRefusal {
     fn fmt(&self, f: &mut fmt::Formatter<'_>) -> fmt::Result {
         let Some(jury) = self.jury else { return self.refusal.fmt(f) };
         let reason = self.reason();
-        write!(f, "refused {} {jury}: {}; place {jury}, counted from 0, is the jury", reason.number(), reason.words())?;
+        let (number, words) = (reason.number(), reason.words());
+        write!(f, "refused {number} {jury}: {words} (place {jury}, counted from 0: the jury")?;
         match reason.unit() {
-            Some(unit) => write!(f, "; in it, place {} is {unit}", self.refusal.place),
-            None => Ok(()),
+            Some(unit) => write!(f, "; in it, place {}: {unit})", self.refusal.place),
+            None => write!(f, ")"),
         }
     }
 }

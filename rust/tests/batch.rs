@@ -45,8 +45,8 @@ fn a_refusal_says_which_jury_and_where_in_it() {
     let bad_row = said(shape, &table, &[u64::MAX, 0, u64::MAX, 1 << 63]);
     assert_eq!(bad_row, JuryRefusal { jury: Some(63), refusal: Refusal { reason: Reason::BallotRow, place: 1 } });
     assert_eq!((bad_row.reason(), bad_row.place()), (Reason::BallotRow, 63));
-    let jury = "place 63, counted from 0, is the jury; in it, place 1 is the row, b k + c";
-    assert_eq!(bad_row.to_string(), format!("refused 6 63: graded: a row with no 1 or several; {jury}"));
+    let jury = "(place 63, counted from 0: the jury; in it, place 1: the row, b k + c)";
+    assert_eq!(bad_row.to_string(), format!("refused 6 63: graded: a row with no 1 or several {jury}"));
     // rankings: a clash in jury 5, before a gap in jury 4
     let located = |jury, reason, place| JuryRefusal { jury, refusal: Refusal { reason, place } };
     let ranked = Shape::ranked(3, 1);
@@ -57,6 +57,6 @@ fn a_refusal_says_which_jury_and_where_in_it() {
     // faults of the list and of the lengths belong to no jury
     let gate = said(shape, &[2, 0, 0, 0, 2, 9, 0, 0], &[0; 4]);
     assert_eq!(gate, located(None, Reason::Gate, 1));
-    assert_eq!(gate.to_string(), "refused 3 1: a bad kind or operand; place 1, counted from 0, is the gate");
+    assert_eq!(gate.to_string(), "refused 3 1: a bad kind or operand (place 1, counted from 0: the gate)");
     assert_eq!(said(shape, &table, &[0; 5]), refusal(Reason::BallotsLength).into());
 }

@@ -70,7 +70,7 @@ fn texts_have_number_and_place_and_alter_nothing() {
 
 #[test]
 fn a_refusal_says_what_is_wrong() {
-    let gate = "refused 3 7: a bad kind or operand; place 7, counted from 0, is the gate";
+    let gate = "refused 3 7: a bad kind or operand (place 7, counted from 0: the gate)";
     assert_eq!(refusal(3, 7).to_string(), gate);
     assert_eq!(refusal(1, 0).to_string(), "refused 1 0: k, d or n is outside its limits");
     assert_eq!([0, 21, 22, 25, 255].map(Reason::of), [None; 5]);

@@ -126,14 +126,14 @@ fn refusals_name_the_first_bad_jury() {
     assert_eq!((said(&bad, 1).reason(), said(&bad, 1).place()), (Reason::BallotsLength, 2));
     assert_eq!(
         said(&bad, 1).to_string(),
-        "refused 4 2: there are not I ballot bytes; place 2, counted from 0, is the jury"
+        "refused 4 2: there are not I ballot bytes (place 2, counted from 0: the jury)"
     );
     let mut gates = of.lists[1].table().to_vec();
     gates[4] = 8;
     bad[1].table = &gates;
     assert_eq!(
         said(&bad, 1).to_string(),
-        "refused 3 1: a bad kind or operand; place 1, counted from 0, is the jury; in it, place 1 is the gate"
+        "refused 3 1: a bad kind or operand (place 1, counted from 0: the jury; in it, place 1: the gate)"
     );
     assert_eq!(said(&bad, 0).reason(), Reason::GatesPerRound);
 }
