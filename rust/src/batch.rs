@@ -5,6 +5,7 @@
 
 use crate::calls::{c, run_by};
 use crate::{count, winners, Board, GateList, JuryRefusal, Reason, Refusal, Secret, Shape, Size};
+use std::io;
 
 /// How many juries a call serves.
 pub const JURIES: usize = 64;
@@ -72,13 +73,14 @@ fn located(shape: Shape, ballots: &[u64], refusal: Refusal) -> JuryRefusal {
 ///
 /// ```
 /// use jugyvaros::batch::pack;
-/// use jugyvaros::{Batch, GateList, Secret, Shape};
+/// use jugyvaros::{Batch, GateList, Shape};
 ///
 /// let list = GateList::own(Shape::graded(2, 2, 1))?;
 /// // even juries like blend 0, odd ones blend 1
 /// let ballots: Vec<[u8; 4]> = (0..64).map(|j| if j % 2 == 0 { [1, 0, 0, 1] } else { [0, 1, 1, 0] }).collect();
 /// let mut batch = Batch::new(&list);
-/// let boards = batch.run(&pack(&ballots), &Secret::random_words(list.conditional())?)?;
+/// let tape = batch.fresh_tape()?;
+/// let boards = batch.run(&pack(&ballots), &tape)?;
 /// assert_eq!((boards.winners(0), boards.winners(63)), (vec![0], vec![1]));
 /// # Ok::<(), Box<dyn std::error::Error>>(())
 /// ```
@@ -93,6 +95,11 @@ impl<'a> Batch<'a> {
     /// Room for runs of this list.
     pub fn new(list: &'a GateList) -> Batch<'a> {
         Batch { list, wires: Secret::zeros(list.wires()), board: vec![0; list.board_length()] }
+    }
+
+    /// Fresh tapes for 64 juries from the system's random numbers, for one run.
+    pub fn fresh_tape(&self) -> io::Result<Secret<u64>> {
+        Secret::random_words(self.list.conditional())
     }
 
     /// Runs the list on I numbers of ballots with C numbers of tape.

@@ -53,50 +53,67 @@ fn number(name: &str, word: &str, from: u64, to: u64) -> Result<u64, Other> {
     }
 }
 
+/// The words of the command line, by what they are for.
+#[derive(Default)]
+struct Words {
+    plain: Vec<String>,
+    seed: Option<String>,
+    spread: Option<String>,
+    levels: Option<String>,
+    jobs: Option<String>,
+    svg: Option<String>,
+}
+
+impl Words {
+    fn read(words: impl IntoIterator<Item = String>) -> Result<Words, Other> {
+        let mut words = words.into_iter();
+        let mut found = Words::default();
+        while let Some(word) = words.next() {
+            let slot = match word.as_str() {
+                "--help" | "-h" => return Err(Other::Help),
+                "--seed" => &mut found.seed,
+                "--spread" => &mut found.spread,
+                "--levels" => &mut found.levels,
+                "--jobs" => &mut found.jobs,
+                "--svg" => &mut found.svg,
+                _ if word.starts_with('-') => return wrong(format!("no option {word}; --help lists them")),
+                _ => {
+                    found.plain.push(word);
+                    continue;
+                }
+            };
+            *slot = Some(words.next().map_or_else(|| wrong(format!("{word} is followed by a value")), Ok)?);
+        }
+        Ok(found)
+    }
+}
+
 /// Reads the words behind the program's name.
 pub fn read(words: impl IntoIterator<Item = String>) -> Result<Options, Other> {
-    let mut words = words.into_iter();
-    let mut plain = Vec::new();
-    let (mut seed, mut spread, mut levels, mut jobs, mut svg) = (None, None, None, None, None);
-    while let Some(word) = words.next() {
-        let slot = match word.as_str() {
-            "--help" | "-h" => return Err(Other::Help),
-            "--seed" => &mut seed,
-            "--spread" => &mut spread,
-            "--levels" => &mut levels,
-            "--jobs" => &mut jobs,
-            "--svg" => &mut svg,
-            _ if word.starts_with('-') => return wrong(format!("no option {word}; --help lists them")),
-            _ => {
-                plain.push(word);
-                continue;
-            }
-        };
-        match words.next() {
-            Some(value) => *slot = Some(value),
-            None => return wrong(format!("{word} is followed by a value")),
-        }
+    let words = Words::read(words)?;
+    let [k, d, n, batches @ ..] = words.plain.as_slice() else {
+        return wrong("K D N and perhaps BATCHES are asked for; --help says more");
+    };
+    if batches.len() > 1 {
+        return wrong("nothing is asked for behind BATCHES; --help says more");
     }
-    let [k, d, n] = match plain.len() {
-        3 | 4 => [("K", &plain[0]), ("D", &plain[1]), ("N", &plain[2])],
-        _ => return wrong("K D N and perhaps BATCHES are asked for; --help says more"),
-    }
-    .map(|(name, word)| number(name, word, 0, u64::MAX));
-    let shape = Shape { candidates: k? as usize, grades: d? as usize, ballots: n? as usize };
-    if levels.is_some() && !shape.is_ranked() {
+    let whole = |name, word| number(name, word, 0, u64::MAX).map(|number| number as usize);
+    let shape = Shape { candidates: whole("K", k)?, grades: whole("D", d)?, ballots: whole("N", n)? };
+    if words.levels.is_some() && !shape.is_ranked() {
         return wrong("--levels is for rankings, where D is 0: grades are levels already");
     }
     let given = |name, word: Option<String>, from, to| word.map(|word| number(name, &word, from, to)).transpose();
     let own = if shape.is_ranked() { shape.candidates } else { shape.grades };
-    let levels = given("--levels", levels, 1, 8)?.map_or(own, |levels| levels as usize);
-    let opinion = given("--spread", spread, 0, 64)?.map_or(Opinion::Uniform, |steps| Opinion::Spread(steps as usize));
-    let jobs = given("--jobs", jobs, 1, 1024)?;
+    let levels = given("--levels", words.levels, 1, 8)?.map_or(own, |levels| levels as usize);
+    let steps = given("--spread", words.spread, 0, 64)?;
+    let opinion = steps.map_or(Opinion::Uniform, |steps| Opinion::Spread(steps as usize));
+    let processors = || std::thread::available_parallelism().map_or(1, usize::from);
     Ok(Options {
         draw: Draw { shape, levels, opinion },
-        batches: plain.get(3).map_or(Ok(16), |word| number("BATCHES", word, 1, 1 << 40))?,
-        seed,
-        jobs: jobs.map_or_else(|| std::thread::available_parallelism().map_or(1, usize::from), |jobs| jobs as usize),
-        svg: svg.map(PathBuf::from),
+        batches: batches.first().map_or(Ok(16), |word| number("BATCHES", word, 1, 1 << 40))?,
+        seed: words.seed,
+        jobs: given("--jobs", words.jobs, 1, 1024)?.map_or_else(processors, |jobs| jobs as usize),
+        svg: words.svg.map(PathBuf::from),
     })
 }
 
@@ -132,6 +149,7 @@ mod tests {
     fn no_fair() {
         assert_eq!(of("--help 1").unwrap_err(), Other::Help);
         assert_eq!(fault("1 2"), "K D N and perhaps BATCHES are asked for; --help says more");
+        assert_eq!(fault("1 2 3 4 5"), "nothing is asked for behind BATCHES; --help says more");
         assert_eq!(fault("1 2 -3"), "no option -3; --help lists them");
         assert_eq!(fault("1 2 x"), "N is a number from 0 on, not \"x\"");
         assert_eq!(fault("1 2 3 0"), "BATCHES is a number from 1 to 1099511627776, not \"0\"");

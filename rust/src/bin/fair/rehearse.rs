@@ -3,6 +3,7 @@
 use crate::draw::{Draw, Random};
 use jugyvaros::batch::JURIES;
 use jugyvaros::{Batch, GateList, JuryRefusal};
+use std::ops::Range;
 use std::sync::atomic::{AtomicU64, Ordering::Relaxed};
 
 /// What came out of some juries.
@@ -73,36 +74,73 @@ impl<'a> Fair<'a> {
 
     /// What one thread does: takes blocks until there are none left. Any thread gets the same of a block.
     pub fn work(&self) -> Result<Outcome, JuryRefusal> {
-        let (inputs, marks) = (self.list.inputs(), self.list.conditional());
-        let some = (WORDS / (inputs + marks)).clamp(1, MOST_BLOCKS);
-        let mut batch = Batch::new(self.list);
-        let mut ballots = vec![0; some * inputs];
-        let mut tapes = vec![0; some * marks];
-        let mut best = [[0; 8]; MOST_BLOCKS];
-        let mut closing = [[0; 8]; MOST_BLOCKS];
+        let mut room = Room::new(self.list);
         let mut outcome = Outcome::of(self.draw.shape.candidates);
         loop {
-            let first = self.taken.fetch_add(some as u64, Relaxed);
-            let blocks = self.blocks.saturating_sub(first).min(some as u64) as usize;
+            let first = self.taken.fetch_add(room.blocks as u64, Relaxed);
+            let blocks = self.blocks.saturating_sub(first).min(room.blocks as u64) as usize;
             if blocks == 0 {
                 return Ok(outcome);
             }
-            for i in 0..blocks {
-                let mut random = Random::new(self.seed, first + i as u64);
-                best[i] = self.draw.ballots(&mut random, &mut ballots[i * inputs..(i + 1) * inputs]);
-                tapes[i * marks..(i + 1) * marks].iter_mut().for_each(|word| *word = random.word());
-            }
-            let began = seconds(Clock::Thread);
-            for i in 0..blocks {
-                let boards = batch.run(&ballots[i * inputs..(i + 1) * inputs], &tapes[i * marks..(i + 1) * marks])?;
-                closing[i][..outcome.won.len()].copy_from_slice(boards.closing());
-            }
-            outcome.core += seconds(Clock::Thread) - began;
-            for i in 0..blocks {
-                outcome.count(&closing[i], &best[i]);
+            room.draw(self, first, blocks);
+            outcome.core += room.run(blocks)?;
+            for (closing, best) in room.closing.iter().zip(&room.best).take(blocks) {
+                outcome.count(closing, best);
             }
             self.counted.fetch_add(blocks as u64, Relaxed);
         }
+    }
+}
+
+/// Room for some blocks at once, in one thread.
+struct Room<'a> {
+    list: &'a GateList,
+    batch: Batch<'a>,
+    blocks: usize,
+    ballots: Vec<u64>,
+    tapes: Vec<u64>,
+    /// Of each block: which blends are truly best, and which win.
+    best: [[u64; 8]; MOST_BLOCKS],
+    closing: [[u64; 8]; MOST_BLOCKS],
+}
+
+/// The piece of block i, where pieces have this size.
+fn piece(i: usize, size: usize) -> Range<usize> {
+    i * size..(i + 1) * size
+}
+
+impl<'a> Room<'a> {
+    fn new(list: &'a GateList) -> Room<'a> {
+        let blocks = (WORDS / (list.inputs() + list.conditional())).clamp(1, MOST_BLOCKS);
+        Room {
+            list,
+            batch: Batch::new(list),
+            blocks,
+            ballots: vec![0; blocks * list.inputs()],
+            tapes: vec![0; blocks * list.conditional()],
+            best: [[0; 8]; MOST_BLOCKS],
+            closing: [[0; 8]; MOST_BLOCKS],
+        }
+    }
+
+    /// Draws the blocks from the first one on.
+    fn draw(&mut self, fair: &Fair, first: u64, blocks: usize) {
+        for i in 0..blocks {
+            let mut random = Random::new(fair.seed, first + i as u64);
+            self.best[i] = fair.draw.ballots(&mut random, &mut self.ballots[piece(i, self.list.inputs())]);
+            self.tapes[piece(i, self.list.conditional())].iter_mut().for_each(|word| *word = random.word());
+        }
+    }
+
+    /// Runs the list on them, and answers the core's processor time.
+    fn run(&mut self, blocks: usize) -> Result<f64, JuryRefusal> {
+        let (inputs, marks) = (self.list.inputs(), self.list.conditional());
+        let began = seconds(Clock::Thread);
+        for i in 0..blocks {
+            let boards = self.batch.run(&self.ballots[piece(i, inputs)], &self.tapes[piece(i, marks)])?;
+            self.closing[i][..boards.closing().len()].copy_from_slice(boards.closing());
+        }
+        Ok(seconds(Clock::Thread) - began)
     }
 }
 
