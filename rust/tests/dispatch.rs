@@ -96,6 +96,12 @@ fn neither_do_ballots_or_gates() {
 }
 
 #[test]
+fn what_is_printed_of_a_jury_is_no_secret() {
+    let jury = Jury { shape: Shape::graded(1, 2, 1), table: &[2, 0, 0, 0], ballots: &[0, 1], tape: &[] };
+    assert_eq!(format!("{jury:?}"), "Jury(1 2 1: 4 numbers, 2 ballot bytes, 0 tape bits)");
+}
+
+#[test]
 fn any_numbers_may_stand_in_a_shape() {
     let of = Juries::new();
     let most = usize::MAX;
