@@ -21,8 +21,8 @@ Rehearses a fair: random juries of one shape, 64 at a time, and how often each b
 
 Prints, a line each: the shape, the number of juries, the seed; each blend's wins with their share of all juries and
 its standard error; shared wins; with --spread, how often a truly best blend is among the winners; the processor time
-of all, and the core's part of it. Levels and steps are drawn exactly, so no share is biased. Ballots and tapes come
-from a generator that keeps no secret: a rehearsal has none.";
+of all, and the core's part of it. Levels are equally likely but for less than one draw in 10^25. Ballots and tapes
+come from a generator that keeps no secret: a rehearsal has none.";
 
 /// A fair to rehearse.
 #[derive(Debug)]
