@@ -50,6 +50,13 @@ static struct call good_call(void) {
     return c;
 }
 
+/* The first ballot of a jury says that 0 is before 1, and no more. */
+static void put_gap(uint64_t *ballots, size_t k, uint64_t jury) {
+    for (size_t i = 0; i < k * k; i++)
+        ballots[i] &= ~jury;
+    ballots[1] |= jury;
+}
+
 static void damage(struct call *c) {
     int i = (int)below(TABLES);
     switch (below(6)) {
@@ -62,7 +69,9 @@ static void damage(struct call *c) {
         c->tables[i] = any_words(c->lengths[i]);
         break;
     case 4:
-        if (c->lengths[BALLOTS])
+        if (can_have_gap(c->k, c->d, c->lengths[BALLOTS]) && below(2))
+            put_gap(c->tables[BALLOTS], c->k, (uint64_t)1 << below(JURIES));
+        else if (c->lengths[BALLOTS])
             c->tables[BALLOTS][below((uint32_t)c->lengths[BALLOTS])] ^= (uint64_t)1 << below(JURIES);
         break;
     default: c->answer_length = below(JUGY_RUN_ANSWER); break;

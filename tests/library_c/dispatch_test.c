@@ -47,6 +47,8 @@ static void add_jury(struct call *c, size_t *statement) {
     size_t marks = marks_in(table, gates);
     uint8_t *ballots = lent(inputs), *tape = lent(marks), *rest = filled(inputs + gates + marks + k, 9);
     random_ballots(ballots, k, d, n);
+    if (!below(50) && can_have_gap(k, d, inputs))
+        memset(ballots, 0, k * k), ballots[1] = 1;
     random_bits(tape, marks);
     append(c, LISTS, table, 4 * gates);
     append(c, BALLOTS, ballots, inputs);
@@ -57,6 +59,7 @@ static void add_jury(struct call *c, size_t *statement) {
     free(table), free(ballots), free(tape), free(rest);
 }
 
+/* A good call, but for a rare gap in a ranking. */
 static struct call good_call(void) {
     struct call c = {.juries = 1 + below(MOST), .gates_per_round = 1 + below(below(2) ? 5 : 400)};
     c.statements_length = STATED * c.juries;

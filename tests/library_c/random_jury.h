@@ -20,6 +20,12 @@ static inline void random_ballots(uint8_t *ballots, size_t k, size_t d, size_t n
     }
 }
 
+/* Whether three candidates or more are ranked: then a ballot that says no more than that 0 is before 1 leaves a third
+ * beside both, which is reason 12. */
+static inline int can_have_gap(size_t k, size_t d, size_t ballots_length) {
+    return d == 0 && k > 2 && k <= 8 && ballots_length >= k * k;
+}
+
 static inline void random_bits(uint8_t *bits, size_t length) {
     for (size_t i = 0; i < length; i++)
         bits[i] = (uint8_t)below(2);

@@ -63,7 +63,12 @@ static void damage(struct call *c) {
     case 2: c->table[4 * below((uint32_t)gates)] = 8 + below(3); break;
     case 3: c->ballots = another_length(c->ballots, &c->ballots_length, 1); break;
     case 4: c->ballots[byte] = (uint8_t)(2 + below(254)); break;
-    case 5: c->ballots[byte] ^= 1; break;
+    case 5:
+        if (can_have_gap(c->k, c->d, c->ballots_length))
+            memset(c->ballots, 0, c->k * c->k), c->ballots[1] = 1;
+        else
+            c->ballots[byte] ^= 1;
+        break;
     case 6: c->trustees = below(2) ? 1 - below(2) : 6 + below(200); break;
     case 7: c->tables[i] = another_length(c->tables[i], &c->lengths[i], 1); break;
     case 8:
