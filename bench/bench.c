@@ -69,8 +69,10 @@ static void same(void) {
 
 static void times(void) {
     struct timing of[WAYS];
-    take_turns(call, WAYS, 201, 5e-4, of);
-    printf("%s %zu %zu %zu %zu %.1f %.1f %.3f\n", ops[op], j.k, j.d, j.n, j.gates, 1e9 * of[CORE].least, 1e9 * of[IN_C].least, of[CORE].ratio);
+    take_turns(call, WAYS, MOST_ROUNDS, 5e-4, of);
+    printf("%s ", ops[op]), print_shape(&j);
+    print_times(j.gates, of[CORE].least, of[IN_C].least, of[CORE].ratio);
+    printf("\n");
 }
 
 static void counts(void) {

@@ -427,16 +427,16 @@ static size_t first_above_one(const uint8_t *bytes, size_t length) {
 }
 
 /* Reasons 4 to 6; reason 0 where there is none. */
-static struct said test_ballots(size_t k, size_t d, size_t n, const uint8_t *bytes, size_t length) {
+static struct said test_ballots(size_t k, size_t d, size_t n, const uint8_t *ballots, size_t length) {
     if (length != n * k * d)
         return refused(4, 0);
-    size_t bad = first_above_one(bytes, length);
+    size_t bad = first_above_one(ballots, length);
     if (bad < length)
         return refused(5, bad);
     for (size_t row = 0; row < n * k; row++) {
         size_t ones = 0;
         for (size_t g = 0; g < d; g++)
-            ones += bytes[row * d + g] == 1;
+            ones += ballots[row * d + g] == 1;
         if (ones != 1)
             return refused(6, row);
     }
@@ -486,22 +486,22 @@ static void evaluate(struct said s, size_t k, size_t inputs, const uint32_t *tab
     memset(wires, 0, inputs + s.gates);
 }
 
-size_t core_run(size_t k, size_t d, size_t n, const uint32_t *table, size_t table_length, const uint8_t *bytes,
-                size_t bytes_length, const uint8_t *tape, size_t tape_length, uint8_t *wires, size_t wires_length,
+size_t core_run(size_t k, size_t d, size_t n, const uint32_t *table, size_t table_length, const uint8_t *ballots,
+                size_t ballots_length, const uint8_t *tape, size_t tape_length, uint8_t *wires, size_t wires_length,
                 uint8_t *board, size_t board_length, size_t *answer, size_t answer_length) {
     if (answer_length < 4)
         return 255;
     struct said s = test(k, d, n, table, table_length);
     if (s.reason)
         return put(s, answer);
-    struct said b = test_ballots(k, d, n, bytes, bytes_length);
+    struct said b = test_ballots(k, d, n, ballots, ballots_length);
     if (b.reason)
         return put(b, answer);
-    s = test_lent(s, k, bytes_length, tape, tape_length, wires_length, board_length);
+    s = test_lent(s, k, ballots_length, tape, tape_length, wires_length, board_length);
     if (s.reason)
         return put(s, answer);
-    memcpy(wires, bytes, bytes_length);
-    evaluate(s, k, bytes_length, table, tape, wires, board);
+    memcpy(wires, ballots, ballots_length);
+    evaluate(s, k, ballots_length, table, tape, wires, board);
     return put(s, answer);
 }
 
@@ -529,11 +529,11 @@ static int comes_before(const uint16_t *a, const uint16_t *b, size_t d, size_t n
     return lower_x > lower_y;
 }
 
-size_t core_count(size_t k, size_t d, size_t n, const uint8_t *bytes, size_t bytes_length, size_t *answer,
+size_t core_count(size_t k, size_t d, size_t n, const uint8_t *ballots, size_t ballots_length, size_t *answer,
                   size_t answer_length) {
     if (answer_length < 10)
         return 255;
-    struct said s = within(k, d, n) ? test_ballots(k, d, n, bytes, bytes_length) : refused(1, 0);
+    struct said s = within(k, d, n) ? test_ballots(k, d, n, ballots, ballots_length) : refused(1, 0);
     answer[0] = s.reason;
     answer[1] = s.place;
     for (size_t i = 0; i < 8; i++)
@@ -544,7 +544,7 @@ size_t core_count(size_t k, size_t d, size_t n, const uint8_t *bytes, size_t byt
     for (size_t b = 0; b < n; b++)
         for (size_t c = 0; c < k; c++)
             for (size_t g = 0; g < d; g++)
-                counts[c][g] += bytes[(b * k + c) * d + g];
+                counts[c][g] += ballots[(b * k + c) * d + g];
     size_t first = 0;
     for (size_t c = 1; c < k; c++)
         if (comes_before(counts[c], counts[first], d, n))
