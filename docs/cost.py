@@ -1,31 +1,28 @@
 """Makes the cost sheet, docs/COST.md, and its plot, docs/cost.svg, from the lists that the core writes.
 
-python3 docs/cost.py          builds the library (tools/library) and writes both
-python3 docs/cost.py --check  takes the library as it stands, and fails where the two files are not what it makes
-
-Needs gcc and the standard library only.
+    python3 docs/cost.py          builds the library where a source is newer, and writes both
+    python3 docs/cost.py --check  fails where the two files are not what the library makes
 """
 import math
 import pathlib
-import subprocess
 import sys
 
 ROOT = pathlib.Path(__file__).resolve().parent.parent
+sys.path.insert(0, str(ROOT / "python"))
+
+from jugyvaros import GateList, Shape  # noqa: E402  (the line above is what finds it)
+
 SHEET, PLOT = ROOT / "docs/COST.md", ROOT / "docs/cost.svg"
 SHAPES = [(1, 2, 1), (2, 2, 1), (2, 3, 3), (3, 4, 10), (3, 5, 15), (5, 5, 31), (5, 6, 100), (5, 6, 255), (8, 7, 31), (8, 7, 127), (8, 7, 255)]
 RANKED = [(1, 0, 1), (2, 0, 3), (3, 0, 15), (5, 0, 100), (8, 0, 127), (8, 0, 255)]
 CURVES = [(3, 5), (5, 6), (8, 7)]
 
 
-def measure(shapes):
-    """(G, C, I, rounds) of each shape's own list."""
-    program = ROOT / "target/cost"
-    subprocess.run(["gcc", "-std=c11", "-O2", "-Wall", "-Wextra", "-Werror", "-o", program, ROOT / "docs/cost.c", ROOT / "target/staticlib/libjugyvaros.a"], check=True)
-    lines = "".join("%d %d %d\n" % shape for shape in shapes)
-    done = subprocess.run([program], input=lines, stdout=subprocess.PIPE, text=True, check=True).stdout
-    rows = [tuple(map(int, line.split())) for line in done.splitlines()]
-    assert [row[:3] for row in rows] == list(shapes)
-    return {row[:3]: row[3:] for row in rows}
+def measure(shape):
+    """(G, C, I, rounds) of a shape's own list, as it is written."""
+    gates = GateList.own(Shape(*shape))
+    assert Shape(*shape).measure() == (len(gates), gates.conditional, gates.shape.inputs)
+    return len(gates), gates.conditional, gates.shape.inputs, gates.levels
 
 
 def bound(k, d, n):
@@ -109,7 +106,7 @@ def sheet(costs):
     return "\n".join(lines)
 
 
-def plot(costs):
+def plot():
     left, top, width, height = 70, 40, 620, 360
     most = max(source_gates(k, d, 255) for k, d in CURVES) * 1.05
     x = lambda n: left + width * n / 255
@@ -130,7 +127,7 @@ def plot(costs):
     out.append(f'<text transform="translate(16 {top + height / 2:.1f}) rotate(-90)" text-anchor="middle">conditional gates C</text>')
     out.append(f'<line x1="{left}" x2="{left + width}" y1="{y(0):.1f}" y2="{y(0):.1f}" stroke="#333"/>')
     for i, (k, d) in enumerate(CURVES):
-        own = " ".join(f"{x(n):.1f},{y(costs[k, d, n][1]):.1f}" for n in range(1, 256))
+        own = " ".join(f"{x(n):.1f},{y(Shape(k, d, n).measure().conditional):.1f}" for n in range(1, 256))
         theirs = " ".join(f"{x(n):.1f},{y(source_gates(k, d, n)):.1f}" for n in range(1, 256))
         out.append(f'<polyline points="{own}" fill="none" stroke="{colours[i]}" stroke-width="2"/>')
         out.append(f'<polyline points="{theirs}" fill="none" stroke="{colours[i]}" stroke-dasharray="5 4"/>')
@@ -144,14 +141,12 @@ def plot(costs):
 
 def main():
     check = sys.argv[1:] == ["--check"]
-    if not check:
-        subprocess.run([ROOT / "tools/library"], check=True, stdout=subprocess.DEVNULL)
-    shapes = SHAPES + RANKED + [(k, d, n) for k, d in CURVES for n in range(1, 256) if (k, d, n) not in SHAPES]
-    costs = measure(shapes)
-    over = [shape for shape in shapes if costs[shape][0] > bound(*shape)]
+    costs = {shape: measure(shape) for shape in SHAPES + RANKED}
+    shapes = SHAPES + RANKED + [(k, d, n) for k, d in CURVES for n in range(1, 256)]
+    over = [shape for shape in shapes if Shape(*shape).measure().gates > bound(*shape)]
     if over:
         sys.exit(f"docs/cost.py: above the bound: {over}")
-    made = {SHEET: sheet(costs), PLOT: plot(costs)}
+    made = {SHEET: sheet(costs), PLOT: plot()}
     for path, text in made.items():
         if not check:
             path.write_text(text)
@@ -159,4 +154,5 @@ def main():
             sys.exit(f"docs/cost.py: {path.relative_to(ROOT)} is not what the core's lists cost; make it anew: python3 docs/cost.py")
 
 
-main()
+if __name__ == "__main__":
+    main()

@@ -1,17 +1,16 @@
 """Counting plainly, through the library: accepted and refused juries against the requirements, written apart.
 
-    python3 tests/counting.py    prints how many calls there were, by answer
+    python3 tests/counting.py    prints how many calls there were, by reason
 
 Shapes at their limits, each reason at its edges, all pairs of faults, the panels, random and damaged juries.
 """
 
-import collections
 import itertools
 import random
 
-import document01 as doc
+import reference as doc
 import juries
-from core import Core
+from core import Core, bytes_of
 from juries import level, peaked, row, tied, uniform
 
 # The least and the largest n of each width, and 254.
@@ -172,14 +171,13 @@ def cases():
 
 def main():
     core = Core()
-    answers = collections.Counter()
     for case in cases():
         expected = case.expected()
         found = core.count(case.shape(), case.ballots)
         assert found == expected, (case.shape(), case.ballots, expected, found)
-        answers["accepted" if found[0] == "accepted" else f"refused for {found[1]}"] += 1
-        answers["accepted, and nobody wins"] += found[0] == "accepted" and sum(found[1:]) == 0
-    print(f"counting: {core.calls} calls agree:", ", ".join(f"{name} {many}" for name, many in sorted(answers.items())))
+        assert found[0] == "refused" or any(found[1:]), case.shape()      # somebody always wins
+    core.ignores_short_answers("jugy_count", 1, 2, 1, bytes_of([1, 0]), answers=10)
+    print(f"tests/counting.py: {core.calls} calls agree:", core.saw(count={1, 4, 5, 6}))
 
 
 if __name__ == "__main__":

@@ -1,40 +1,23 @@
 #!/usr/bin/env python3
 """The dispatcher, through the library, against a model written apart: up to eight juries whose pieces follow each other.
 
-    python3 tests/dispatch.py    prints how many calls there were, by answer
+    python3 tests/dispatch.py    prints how many calls there were, by reason
 
 Shares of 1, of a divisor of G, of G and above it; one long jury beside seven short ones; tables longer by 0, 1 and many;
 pieces that are one too short in the first, a middle and the last jury; a stated G of 2 ^ 62; each fault in two juries at
 once; numbers of juries and shares outside their limits; statements that are missing. Every table has guards on both sides.
 """
 
-import collections
-import ctypes
 import itertools
 import random
 
-import document01 as doc
-from core import Core, Lent, bytes_of, numbers
+import reference as doc
+from core import Core, bytes_of, numbers, output, sizes
+from random_juries import random_ballots
+from running import flat, random_gates
 
 MOST_SIZE = 2 ** 64 - 1
 OLD = 9                                                      # what wire tables and boards hold before a call
-
-
-def random_gates(rng, inputs, count):
-    """Well-formed gates of every kind over any earlier wires."""
-    gates = []
-    for own in range(inputs, inputs + count):
-        kind = rng.randrange(8)
-        gates.append([kind] + [rng.randrange(own) if i < doc.OPERANDS[kind] else 0 for i in range(3)])
-    return gates
-
-
-def random_ballots(rng, k, d, n):
-    """Rows with one 1, or rankings with ties where there are no grades."""
-    if d:
-        return [int(g == best) for best in (rng.randrange(d) for _ in range(n * k)) for g in range(d)]
-    ranks = [[rng.randrange(k) for _ in range(k)] for _ in range(n)]
-    return [int(of[i] < of[j]) for of in ranks for i in range(k) for j in range(k)]
 
 
 class Jury:
@@ -45,7 +28,7 @@ class Jury:
         self.stated = gates
         inputs = doc.ballot_bytes(k, d, n)
         made = random_gates(rng, inputs, gates)
-        self.list = [x for gate in made for x in gate]
+        self.list = flat(made)
         self.ballots = random_ballots(rng, k, d, n)
         count = doc.conditional_count(doc.gates_of(self.list))
         self.tape = [rng.randrange(2) for _ in range(count)]
@@ -125,25 +108,18 @@ def model(call):
     return (0, 0, rounds + [0] * (8 - len(rounds)), wires, boards)
 
 
-class Dispatcher(Core):
-    NAMES = (*Core.NAMES, "jugy_dispatch")
+def lent_to(call):
+    """The arguments of a call."""
+    read = [sizes(call.statements), numbers(call.lists), bytes_of(call.ballots), bytes_of(call.tapes)]
+    return [call.count, call.share, *read, output(call.wires), output(call.boards)]
 
-    def dispatch(self, call):
-        """The same of the library."""
-        self.calls += 1
-        statements = Lent("L", call.statements)
-        read = [statements, numbers(call.lists), bytes_of(call.ballots), bytes_of(call.tapes)]
-        written = [bytes_of(call.wires), bytes_of(call.boards)]
-        answer = Lent("L", [OLD] * 10)
-        arguments = [ctypes.c_size_t(call.count), ctypes.c_size_t(call.share)]
-        for lent in (*read, *written, answer):
-            arguments += lent.arguments()
-        status = self.library.jugy_dispatch(*arguments)
-        assert all(lent.is_as_before() for lent in read)
-        assert all(lent.has_its_guards() for lent in (*written, answer))
-        reason, place, *rounds = answer.items()
-        assert status == reason
-        return (reason, place, rounds, written[0].items(), written[1].items())
+
+def dispatch(core, call):
+    """The same of the library."""
+    arguments = lent_to(call)
+    said, *values = core.call("jugy_dispatch", *arguments, answers=10)
+    reason, place, rounds = (*values, [0] * 8) if said == "refused" else (0, 0, values)
+    return (reason, place, rounds, arguments[-2].items(), arguments[-1].items())
 
 
 def bad_juries(jury):
@@ -170,13 +146,11 @@ def bad_juries(jury):
 
 def main():
     rng = random.Random(28)
-    core = Dispatcher()
-    answers = collections.Counter()
+    core = Core()
 
     def check(call):
-        expected, found = model(call), core.dispatch(call)
+        expected, found = model(call), dispatch(core, call)
         assert found == expected, (expected[:3], found[:3], call.__dict__)
-        answers[expected[0]] += 1
         return expected
 
     def jury(gates=None, d=None):
@@ -232,9 +206,9 @@ def main():
         said, _, board = core.run((one.k, one.d, one.n), one.list, one.ballots, one.tape, [OLD] * one.wires, [OLD] * one.board)
         assert said[0] == "accepted" and board == alone[4]
 
-    told = ", ".join(f"{reason}: {answers[reason]}" for reason in sorted(answers))
-    assert set(answers) == {0, 1, 2, 3, 4, 5, 6, 7, 8, 9, 10, 11, 12, 19, 20}, told
-    print(f"tests/dispatch.py: {core.calls} calls as expected, by reason {told}")
+    for call in (good, good.but(count=0), good.but(boards=[])):
+        core.ignores_short_answers("jugy_dispatch", *lent_to(call), answers=10)
+    print(f"tests/dispatch.py: {core.calls} calls as expected:", core.saw(dispatch={*range(1, 13), 19, 20}))
 
 
 if __name__ == "__main__":

@@ -3,7 +3,7 @@
 Most random ones have candidates that are nearly equal: these tell a wrong rule, or a wrong gate, soonest.
 """
 
-import document01 as doc
+import reference as doc
 import sorted_judgment
 
 # The panels P1 to P11, as request 2.1 has them: counts, best grade first, and the closing bytes. P1 has too many ballots for a shape.

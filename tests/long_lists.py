@@ -5,7 +5,7 @@
 
 import random
 
-import document01 as doc
+import reference as doc
 from core import Core
 from running import OLD, flat, random_gates
 

@@ -3,7 +3,7 @@
     python3 tests/own_lists.py    prints how many lists were evaluated, and on how many juries
 
 A list is taken as the library writes it, evaluated here on many juries at once, and its closing bytes are compared with the
-rule, read plainly (document01.py) and in another way (sorted_judgment.py): random juries of all k and d and 16 sizes of all
+rule, read plainly (reference.py) and in another way (sorted_judgment.py): random juries of all k and d and 16 sizes of all
 widths, all ballots of the small shapes, all pairs of grade counts of two candidates for ten shapes, and the
 panels. `library_test shapes` in C has every shape there is, on a jury each.
 """
@@ -11,9 +11,9 @@ panels. `library_test shapes` in C has every shape there is, on a jury each.
 import itertools
 import random
 
-import document01 as doc
+import reference as doc
 import juries
-from core import Core
+from core import Core, output
 
 SIZES = [1, 2, 3, 4, 7, 8, 15, 16, 31, 32, 63, 64, 100, 127, 128, 255]
 MOST_NUMBER = 2 ** 32 - 1
@@ -179,8 +179,11 @@ def main():
     core = Core()
     write_at_edges(core)
     write_outside(core)
+    core.ignores_short_answers("jugy_measure", 2, 3, 3, answers=5)
+    core.ignores_short_answers("jugy_write", 2, 3, 3, output([7] * len(core.own_list((2, 3, 3))), "I"), answers=4)
     lists, many = evaluate_lists(core)
-    print(f"own_lists: {core.calls} calls agree, {lists} lists evaluated on {many} juries")
+    told = core.saw(measure={1}, write={1, 2})
+    print(f"tests/own_lists.py: {core.calls} calls agree: {told}; {lists} lists evaluated on {many} juries")
 
 
 if __name__ == "__main__":

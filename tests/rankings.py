@@ -3,14 +3,14 @@
     python3 tests/rankings.py    prints how many calls and juries there were
 
 A ranking is given by ranks, one a candidate: a smaller rank is better, equal ones are a tie. The rule is read in two ways: by
-all simple paths (document01.py) and by asking who reaches whom over links of some strength or more (below).
+all simple paths (reference.py) and by asking who reaches whom over links of some strength or more (below).
 """
 
 import collections
 import itertools
 import random
 
-import document01 as doc
+import reference as doc
 from core import Core
 from own_lists import closing
 
@@ -88,12 +88,8 @@ def bound(k, n):
 class Rankings:
     def __init__(self):
         self.core = Core()
-        self.answers = collections.Counter()
         self.lists = {}
         self.juries = 0
-
-    def note(self, said):
-        self.answers["accepted" if said[0] == "accepted" else f"refused for {said[1]}"] += 1
 
     def count(self, k, n, ballots, d=0):
         """Counts plainly, and compares."""
@@ -105,7 +101,6 @@ class Rankings:
         else:
             expected = ["refused", *fault]
         assert found == expected, (k, n, ballots, expected, found)
-        self.note(found)
 
     def run(self, k, d, n, table, ballots, tape, wires, board):
         """Runs a list, and compares answer, wire table and board."""
@@ -113,7 +108,6 @@ class Rankings:
         expected = doc.run_list(k, d, n, table, ballots, tape, *old)
         found = self.core.run((k, d, n), table, ballots, tape, *old)
         assert list(found) == list(expected), (k, d, n, expected[0], found[0])
-        self.note(found[0])
 
     def own_list(self, k, n):
         """The list of a shape as the library writes it; tested, measured and within the bound."""
@@ -137,7 +131,6 @@ class Rankings:
             assert said == expected, (jury, said, expected)
             found = self.core.count((k, 0, n), ballots)
             assert found == ["accepted", *expected, *[0] * (8 - k)], (jury, found)
-            self.note(found)
         self.juries += len(juries)
 
 
@@ -227,7 +220,7 @@ def small_shapes(tests):
 
 
 def runs(tests, rng):
-    """Runs of own lists and of strangers', with random tapes, and all pairs of faults."""
+    """Runs of own lists and of random ones, with random tapes, and all pairs of faults."""
     for k, n in [(1, 1), (2, 3), (3, 4), (4, 5), (8, 2)]:
         gates = tests.own_list(k, n)
         table = [x for gate in gates for x in gate]
@@ -276,8 +269,8 @@ def main():
     small_shapes(tests)
     random_juries(tests, rng)
     runs(tests, rng)
-    answers = ", ".join(f"{name} {many}" for name, many in sorted(tests.answers.items()))
-    print(f"rankings: {len(tests.lists)} lists on {tests.juries} juries, {tests.core.calls} calls agree: {answers}")
+    told = tests.core.saw(count={1, 4, 5, 11, 12}, run={1, 2, 3, 4, 5, 11, 12, 7, 8, 9, 10})
+    print(f"tests/rankings.py: {len(tests.lists)} lists on {tests.juries} juries, {tests.core.calls} calls agree: {told}")
 
 
 if __name__ == "__main__":

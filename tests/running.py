@@ -1,19 +1,19 @@
 """Testing and running lists, through the library: anyone's lists for juries, accepted and refused, against the
 requirements, written apart.
 
-    python3 tests/running.py    prints how many calls there were, by answer
+    python3 tests/running.py    prints how many calls there were, by reason
 
 Shapes at their limits, each reason at its edges for a test and for a run, every kind on all values, every tape of one list,
-empty slices, all pairs of faults, strangers' lists and damaged ones.
+empty slices, all pairs of faults, random lists and damaged ones.
 """
 
-import collections
 import itertools
 import random
 
-import document01 as doc
-from core import Core
+import reference as doc
+from core import Core, bytes_of, numbers, output
 from juries import row
+from random_juries import random_ballots
 
 MOST_NUMBER = 2 ** 32 - 1
 MOST_SIZE = 2 ** 64 - 1
@@ -288,15 +288,11 @@ def pairs_of_faults():
             yield case.but(call=TEST)
 
 
-def random_ballots(rng, k, d, n):
-    return [x for _ in range(k * n) for x in row(d, rng.randrange(d))]
-
-
 def random_shape(rng):
     return rng.randrange(1, 9), rng.randrange(2, 8), rng.choice([1, 1, 2, 3, 4])
 
 
-def strangers(rng, count, most):
+def random_lists(rng, count, most):
     """Well-formed lists that nobody meant anything by."""
     for _ in range(count):
         k, d, n = random_shape(rng)
@@ -306,8 +302,8 @@ def strangers(rng, count, most):
 
 
 def damaged(rng, count):
-    """Strangers' lists, ballots and tapes with one to three things changed anywhere."""
-    for case in strangers(rng, count, 12):
+    """Random lists, ballots and tapes with one to three things changed anywhere."""
+    for case in random_lists(rng, count, 12):
         for _ in range(rng.randrange(1, 4)):
             name = rng.choice(["table", "table", "ballots", "tape", "wires", "board"])
             value = getattr(case, name)
@@ -342,19 +338,20 @@ def long_lists(rng):
 def cases():
     rng = random.Random(4)
     fixed = [shapes(), list_lengths(), operands(), kinds(), each_kind(), every_tape(), ballots(), lent(), empty_slices()]
-    made = [strangers(rng, 150, 20), damaged(rng, 110), long_lists(rng)]
+    made = [random_lists(rng, 150, 20), damaged(rng, 110), long_lists(rng)]
     return itertools.chain(*fixed, pairs_of_faults(), *made)
 
 
 def main():
     core = Core()
-    answers = collections.Counter()
     for case in cases():
         expected, found = case.expected(), case.found(core)
         assert found == expected, (case.call, case.shape(), case.table, case.ballots, case.tape, expected, found)
-        reason = case.reason()
-        answers[f"{case.call} refused for {reason:2}" if reason else f"{case.call} accepted"] += 1
-    print(f"running: {core.calls} calls agree:", ", ".join(f"{name} {many}" for name, many in sorted(answers.items())))
+    table = [numbers(flat([(4, 0, 1, 0)]))]
+    core.ignores_short_answers("jugy_test", 1, 2, 1, *table, answers=4)
+    core.ignores_short_answers("jugy_run", 1, 2, 1, *table, bytes_of([1, 0]), bytes_of([1]), output([OLD] * 3), output([OLD] * 2), answers=4)
+    # 11 and 12 are of rankings: tests/rankings.py
+    print(f"tests/running.py: {core.calls} calls agree:", core.saw(test={1, 2, 3}, run=set(range(1, 11))))
 
 
 if __name__ == "__main__":

@@ -13,7 +13,7 @@ import subprocess
 import tempfile
 import xml.etree.ElementTree
 
-import document01 as doc
+import reference as doc
 from core import ROOT, Core
 from programs import Comparisons, Program
 

@@ -1,0 +1,112 @@
+"""The core's exported functions: where the library is, how each is called, and refusals as exceptions.
+
+The library is, in this order,
+  1. the shared object that the environment variable JUGYVAROS_LIBRARY names,
+  2. in a checkout of the repository, target/staticlib/libjugyvaros.so, built first where a source is newer,
+  3. the copy that `pip install` put beside this file.
+"""
+
+from __future__ import annotations
+
+import array
+import ctypes
+import functools
+import os
+import pathlib
+from collections.abc import Callable
+from typing import Any, Union
+
+from . import repository
+from .reasons import Refused
+
+Buffer = Union[bytes, bytearray, "array.array[int]"]
+BUNDLED = pathlib.Path(__file__).with_name("libjugyvaros.so")
+SHORT_ANSWER = 255
+MOST_SIZE = ctypes.c_size_t(-1).value
+
+# The parameters of each function as in c/jugyvaros.h: s is a number, p is a pointer with a length. The last p is the answer.
+SIGNATURES = {
+    "jugy_measure": "sssp",
+    "jugy_write": "ssspp",
+    "jugy_test": "ssspp",
+    "jugy_run": "ssspppppp",
+    "jugy_run_batch": "ssspppppp",
+    "jugy_run_urn": "ssspppppp",
+    "jugy_count": "ssspp",
+    "jugy_write_text": "sssppp",
+    "jugy_read_text": "sssppp",
+    "jugy_empty_urn": "sspp",
+    "jugy_admit": "sspspp",
+    "jugy_withdraw": "sspsp",
+    "jugy_preview_admit": "sspspp",
+    "jugy_preview_withdraw": "sspsp",
+    "jugy_trustees": "sssppsppppp",
+    "jugy_dispatch": "ssppppppp",
+}
+
+
+def path() -> pathlib.Path:
+    """The shared object, built first where it can be and has to be."""
+    given = os.environ.get("JUGYVAROS_LIBRARY")
+    if given:
+        if not pathlib.Path(given).is_file():
+            raise repository.NotBuilt(f"JUGYVAROS_LIBRARY names {given}, which is no file; name the core's shared object")
+        return pathlib.Path(given)
+    if repository.ROOT is not None:
+        return repository.shared_object()
+    if BUNDLED.exists():
+        return BUNDLED
+    raise repository.NotBuilt("the core's shared object is missing; set JUGYVAROS_LIBRARY to it, or install again from a checkout")
+
+
+@functools.lru_cache(maxsize=None)
+def _loaded() -> ctypes.CDLL:
+    return ctypes.CDLL(str(path()))
+
+
+@functools.lru_cache(maxsize=None)
+def function(name: str) -> Callable[..., int]:
+    """An exported function with its parameters declared. It is handed numbers, and for each buffer a pointer and a length."""
+    found = getattr(_loaded(), name)
+    found.restype = ctypes.c_size_t
+    found.argtypes = [kind for code in SIGNATURES[name] for kind in _PARAMETERS[code]]
+    return found  # type: ignore[no-any-return]
+
+
+_PARAMETERS: dict[str, tuple[Any, ...]] = {"s": (ctypes.c_size_t,), "p": (ctypes.c_void_p, ctypes.c_size_t)}
+# What an empty buffer points to: no pointer may be null.
+_NOTHING = ctypes.create_string_buffer(16)
+
+
+def size(number: int) -> int:
+    """A number as C takes it. What does not fit becomes the largest one, which is outside every limit of the core."""
+    return number if 0 <= number <= MOST_SIZE else MOST_SIZE
+
+
+def _lent(data: Buffer) -> tuple[Any, int]:
+    """Pointer and length of a buffer."""
+    if not len(data):
+        return _NOTHING, 0
+    if isinstance(data, array.array):
+        return data.buffer_info()
+    if isinstance(data, bytearray):
+        return (ctypes.c_ubyte * len(data)).from_buffer(data), len(data)
+    return data, len(data)
+
+
+def call(name: str, *arguments: int | Buffer, answers: int, place_of: str | None = None) -> list[int]:
+    """Calls a function with numbers and buffers: what its answer holds behind reason and place, `answers` numbers in all.
+
+    A refusal is raised; `place_of` says what its place counts where this call has its own way of counting.
+    """
+    answer = array.array("L", bytes(8 * answers))
+    prepared: list[Any] = []
+    for argument in (*arguments, answer):
+        if isinstance(argument, int):
+            prepared.append(size(argument))
+        else:
+            prepared.extend(_lent(argument))
+    reason = function(name)(*prepared)
+    if reason:
+        raise Refused(reason, answer[1], place_of)
+    return answer[2:].tolist()
