@@ -13,7 +13,8 @@ sys.path.insert(0, str(ROOT / "python"))
 from jugyvaros import GateList, Shape  # noqa: E402  (the line above is what finds it)
 
 SHEET, PLOT = ROOT / "docs/COST.md", ROOT / "docs/cost.svg"
-SHAPES = [(1, 2, 1), (2, 2, 1), (2, 3, 3), (3, 4, 10), (3, 5, 15), (5, 5, 31), (5, 6, 100), (5, 6, 255), (8, 7, 31), (8, 7, 127), (8, 7, 255)]
+SHAPES = [(1, 2, 1), (2, 2, 1), (2, 3, 3), (3, 4, 10), (3, 5, 15), (5, 5, 31), (5, 6, 100), (5, 6, 255), (8, 7, 31),
+          (8, 7, 127), (8, 7, 255)]
 RANKED = [(1, 0, 1), (2, 0, 3), (3, 0, 15), (5, 0, 100), (8, 0, 127), (8, 0, 255)]
 CURVES = [(3, 5), (5, 6), (8, 7)]
 
@@ -34,7 +35,8 @@ def bound(k, d, n):
 
 
 def source_gates(k, d, n):
-    """Cortier, Gaudry and Yang, figure 3, ElGamal: 60nkda + 40kmda(10 + d) exponentiations, at 20a for a conditional gate (figure 9)."""
+    """Cortier, Gaudry and Yang, figure 3, ElGamal: 60nkda + 40kmda(10 + d) exponentiations, at 20a for a conditional
+    gate (figure 9)."""
     m = n.bit_length()
     return 3 * n * k * d + 2 * k * m * d * (10 + d)
 
@@ -51,59 +53,59 @@ def lent(shape, costs):
     return 16 * gates + inputs + conditional + (inputs + gates) + (conditional + shape[0])
 
 
-def number(x):
-    return f"{x:,}"
+HEAD = """# What a jury costs
+
+Made by `python3 docs/cost.py` from the lists that the core writes; `tests/library` fails where this page is another.
+Each conditional gate costs the sealing layer one opening, so C is the price of a jury, and the rounds, the longest
+chain of conditional gates, say how often its openings wait for each other.
+"""
+NOTES = """
+- **Bound on G**: 2kdnw + kd(30w + 20) + k²(20w + 6d + 20) + 2 + kd(400w + 400).
+- **CGY's gates**: Cortier, Gaudry and Yang (A toolbox for verifiable tally-hiding e-voting systems, 2021), figure 3,
+  price their majority judgment under ElGamal at 60nkda + 40kmda(10 + d) exponentiations with a authorities, and a
+  conditional gate at 20a (figure 9): 3nkd + 2kmd(10 + d) conditional gates, m being the width w. These are the leading
+  terms.
+- **CGY's rounds**: the same row's communications, read as the sum m(m + 1) + d(6m + 2 log k log m); the first term is
+  the aggregation's.
+- **A run is lent**: 16 G bytes of list, I of ballots, C of tape, I + G of wires, C + k of board.
+
+Rankings, d = 0, by Schulze's rule:
+"""
+END = """
+- **Bound on G**: 2k²nw + k³(12w + 4) + k²(20w + 20) + 2.
+
+![C against n](cost.svg)
+"""
+COLUMNS = ["k d n", "G", "C", "rounds", "I", "list, bytes", "a run is lent, bytes", "bound on G", "G of the bound"]
+SOURCE_COLUMNS = ["CGY's gates", "C of CGY's", "CGY's rounds"]
 
 
-def ranked_row(shape, cost):
+def row(cells):
+    return "| " + " | ".join(cells) + " |"
+
+
+def head(columns):
+    return [row(columns), "|---|" + "--:|" * (len(columns) - 1)]
+
+
+def own_cells(shape, cost):
+    """What the own list of a shape costs, beside the bound on its gates."""
     gates, conditional, inputs, rounds = cost
     numbers = [gates, conditional, rounds, inputs, 16 * gates, lent(shape, cost), bound(*shape)]
-    return "| " + " | ".join([" ".join(map(str, shape)), *map(number, numbers), f"{100 * gates / bound(*shape):.0f} %"]) + " |"
+    return [" ".join(map(str, shape)), *(f"{x:,}" for x in numbers), f"{100 * gates / bound(*shape):.0f} %"]
+
+
+def source_cells(shape, cost):
+    """What the source's formulas give for the shape."""
+    theirs = source_gates(*shape)
+    return [f"{theirs:,}", f"{100 * cost[1] / theirs:.0f} %", f"{source_rounds(*shape):.0f}"]
 
 
 def sheet(costs):
-    lines = [
-        "# What a jury costs",
-        "",
-        "Made by `python3 docs/cost.py` from the lists that the core writes; `tests/library` fails where this page is another.",
-        "Each conditional gate costs the sealing layer one opening, so C is the price of a jury, and the rounds, the longest",
-        "chain of conditional gates, say how often its openings wait for each other.",
-        "",
-        "| k d n | G | C | rounds | I | list, bytes | a run is lent, bytes | bound on G | G of the bound | CGY's gates | C of CGY's | CGY's rounds |",
-        "|---|--:|--:|--:|--:|--:|--:|--:|--:|--:|--:|--:|",
-    ]
-    for shape in SHAPES:
-        gates, conditional, inputs, rounds = costs[shape]
-        lines.append(
-            "| " + " ".join(map(str, shape)) + " | " + " | ".join([
-                number(gates), number(conditional), number(rounds), number(inputs), number(16 * gates), number(lent(shape, costs[shape])),
-                number(bound(*shape)), f"{100 * gates / bound(*shape):.0f} %",
-                number(source_gates(*shape)), f"{100 * conditional / source_gates(*shape):.0f} %", f"{source_rounds(*shape):.0f}",
-            ]) + " |"
-        )
-    lines += [
-        "",
-        "- **Bound on G**: 2kdnw + kd(30w + 20) + k²(20w + 6d + 20) + 2 + kd(400w + 400).",
-        "- **CGY's gates**: Cortier, Gaudry and Yang (A toolbox for verifiable tally-hiding e-voting systems, 2021), figure 3,",
-        "  price their majority judgment under ElGamal at 60nkda + 40kmda(10 + d) exponentiations with a authorities, and a",
-        "  conditional gate at 20a (figure 9): 3nkd + 2kmd(10 + d) conditional gates, m being the width w. These are the leading",
-        "  terms.",
-        "- **CGY's rounds**: the same row's communications, read as the sum m(m + 1) + d(6m + 2 log k log m); the first term is",
-        "  the aggregation's.",
-        "- **A run is lent**: 16 G bytes of list, I of ballots, C of tape, I + G of wires, C + k of board.",
-        "",
-        "Rankings, d = 0, by Schulze's rule:",
-        "",
-        "| k d n | G | C | rounds | I | list, bytes | a run is lent, bytes | bound on G | G of the bound |",
-        "|---|--:|--:|--:|--:|--:|--:|--:|--:|",
-        *(ranked_row(shape, costs[shape]) for shape in RANKED),
-        "",
-        "- **Bound on G**: 2k²nw + k³(12w + 4) + k²(20w + 20) + 2.",
-        "",
-        "![C against n](cost.svg)",
-        "",
-    ]
-    return "\n".join(lines)
+    """The page, docs/COST.md."""
+    graded = [row(own_cells(shape, costs[shape]) + source_cells(shape, costs[shape])) for shape in SHAPES]
+    ranked = [row(own_cells(shape, costs[shape])) for shape in RANKED]
+    return "\n".join([HEAD, *head(COLUMNS + SOURCE_COLUMNS), *graded, NOTES, *head(COLUMNS), *ranked, END])
 
 
 def plot():
@@ -113,7 +115,8 @@ def plot():
     y = lambda c: top + height * (1 - c / most)
     colours = ["#3182bd", "#31a354", "#d7301f"]
     out = [
-        f'<svg xmlns="http://www.w3.org/2000/svg" width="{left + width + 190}" height="{top + height + 60}" font-family="sans-serif" font-size="12">',
+        f'<svg xmlns="http://www.w3.org/2000/svg" width="{left + width + 190}" height="{top + height + 60}" '
+        'font-family="sans-serif" font-size="12">',
         '<rect width="100%" height="100%" fill="white"/>',
         f'<text x="{left}" y="22" font-size="14">Conditional gates C of the own list against the ballots n</text>',
     ]
@@ -124,16 +127,19 @@ def plot():
         out.append(f'<line x1="{x(tick):.1f}" x2="{x(tick):.1f}" y1="{y(0):.1f}" y2="{y(0) + 5:.1f}" stroke="#333"/>')
         out.append(f'<text x="{x(tick):.1f}" y="{y(0) + 20:.1f}" text-anchor="middle">{tick}</text>')
     out.append(f'<text x="{left + width / 2}" y="{y(0) + 42:.1f}" text-anchor="middle">ballots n</text>')
-    out.append(f'<text transform="translate(16 {top + height / 2:.1f}) rotate(-90)" text-anchor="middle">conditional gates C</text>')
+    middle = f'transform="translate(16 {top + height / 2:.1f}) rotate(-90)" text-anchor="middle"'
+    out.append(f"<text {middle}>conditional gates C</text>")
     out.append(f'<line x1="{left}" x2="{left + width}" y1="{y(0):.1f}" y2="{y(0):.1f}" stroke="#333"/>')
     for i, (k, d) in enumerate(CURVES):
         own = " ".join(f"{x(n):.1f},{y(Shape(k, d, n).measure().conditional):.1f}" for n in range(1, 256))
         theirs = " ".join(f"{x(n):.1f},{y(source_gates(k, d, n)):.1f}" for n in range(1, 256))
         out.append(f'<polyline points="{own}" fill="none" stroke="{colours[i]}" stroke-width="2"/>')
         out.append(f'<polyline points="{theirs}" fill="none" stroke="{colours[i]}" stroke-dasharray="5 4"/>')
-        for j, (text, dash) in enumerate(((f"k {k}, d {d}", ' stroke-width="2"'), ("CGY's formula", ' stroke-dasharray="5 4"'))):
+        for j, (text, dash) in enumerate(((f"k {k}, d {d}", ' stroke-width="2"'),
+                                          ("CGY's formula", ' stroke-dasharray="5 4"'))):
             at = top + 20 + 50 * i + 18 * j
-            out.append(f'<line x1="{left + width + 15}" x2="{left + width + 40}" y1="{at}" y2="{at}" stroke="{colours[i]}"{dash}/>')
+            ends = f'x1="{left + width + 15}" x2="{left + width + 40}" y1="{at}" y2="{at}"'
+            out.append(f'<line {ends} stroke="{colours[i]}"{dash}/>')
             out.append(f'<text x="{left + width + 46}" y="{at + 4}">{text}</text>')
     out.append("</svg>")
     return "\n".join(out) + "\n"
@@ -151,7 +157,8 @@ def main():
         if not check:
             path.write_text(text)
         elif not path.exists() or path.read_text() != text:
-            sys.exit(f"docs/cost.py: {path.relative_to(ROOT)} is not what the core's lists cost; make it anew: python3 docs/cost.py")
+            name = path.relative_to(ROOT)
+            sys.exit(f"docs/cost.py: {name} is not what the core's lists cost; make it anew: python3 docs/cost.py")
 
 
 if __name__ == "__main__":

@@ -50,7 +50,8 @@ def main():
     text = made(HEADER.read_text())
     if sys.argv[1:] == ["--check"]:
         if MADE.read_text() != text:
-            sys.exit("python/jugyvaros/_reasons.py is not what c/jugyvaros.h says; make it anew: python3 python/make_reasons.py")
+            sys.exit("python/jugyvaros/_reasons.py is not what c/jugyvaros.h says; "
+                     "make it anew: python3 python/make_reasons.py")
     else:
         MADE.write_text(text)
 

@@ -1,4 +1,5 @@
-"""Runs for 64 juries at once, through the library: each jury against its single run and against the requirements, written apart.
+"""Runs for 64 juries at once, through the library: each jury against its single run and against the requirements,
+written apart.
 
     python3 tests/batch.py    prints how many calls there were, by reason
 
@@ -76,7 +77,8 @@ class Tester:
         return [self.rng.getrandbits(JURIES) for _ in range(doc.conditional_count(doc.gates_of(table)))]
 
     def own_lists(self):
-        for shape in [(1, 2, 1), (2, 3, 3), (3, 4, 5), (8, 2, 2), (1, 7, 9), (4, 3, 7), (1, 0, 1), (2, 0, 3), (3, 0, 5), (4, 0, 7)]:
+        for shape in [(1, 2, 1), (2, 3, 3), (3, 4, 5), (8, 2, 2), (1, 7, 9), (4, 3, 7), (1, 0, 1), (2, 0, 3),
+                      (3, 0, 5), (4, 0, 7)]:
             table = self.core.own_list(shape)
             self.check(shape, table, words_of(self.juries(shape)), self.tape(table))
 
@@ -100,7 +102,7 @@ class Tester:
             self.check(shape, table, ballot, [0] * 3)
 
     def bad_rows(self):
-        """An empty row, and rows with two and three ones, in each jury alone, first row and last; then in two juries."""
+        """An empty row, and rows with two and three ones, in each jury alone, first row and last; then in two."""
         shape, table = (2, 3, 2), flat([(4, 0, 1, 0)] * 2)
         good, tape = self.juries(shape), self.tape(table)
         for j in range(JURIES):
@@ -116,7 +118,7 @@ class Tester:
         self.check(shape, table, [ALL] * 12, tape, single=False)
 
     def bad_rankings(self):
-        """A clash, on the diagonal and off it, and a gap, in each jury alone, first ballot and last; then of two juries."""
+        """A clash, on the diagonal and off it, and a gap, in each jury alone, first ballot and last; then in two."""
         shape, table = (3, 0, 2), flat([(4, 0, 1, 0)] * 3)
         good, tape = self.juries(shape), self.tape(table)
         clashes, gap = ([1] + [0] * 8, [0, 1, 0, 1, 0, 0, 0, 0, 0]), [0, 1, 0] + [0] * 6
@@ -125,7 +127,8 @@ class Tester:
                 bad = list(good)
                 bad[j] = good[j][:9 * ballot] + bits + good[j][9 * ballot + 9:]
                 self.check(shape, table, words_of(bad), tape, single=False)
-        for (first, a), (second, b) in itertools.product(zip((0, 31, 62), (gap, clashes[0], gap)), zip((1, 32, 63), (clashes[1], gap, gap))):
+        for (first, a), (second, b) in itertools.product(zip((0, 31, 62), (gap, clashes[0], gap)),
+                                                         zip((1, 32, 63), (clashes[1], gap, gap))):
             bad = list(good)
             bad[first], bad[second] = a + good[first][9:], good[second][:9] + b
             self.check(shape, table, words_of(bad), tape, single=False)
@@ -137,9 +140,11 @@ class Tester:
         shape, table = (2, 2, 2), flat([(4, 0, 1, 0), (1, 0, 0, 0), (7, 0, 2, 3)])
         words, tape = words_of(self.juries(shape)), self.tape(table)
         ways = [
-            [("shape", s) for s in [(0, 2, 2), (9, 2, 2), (2, 1, 2), (2, 8, 2), (2, 2, 0), (2, 2, 256), (2, 2, 2 ** 64 - 1)]],
+            [("shape", s) for s in [(0, 2, 2), (9, 2, 2), (2, 1, 2), (2, 8, 2), (2, 2, 0), (2, 2, 256),
+                                    (2, 2, 2 ** 64 - 1)]],
             [("table", t) for t in [table[:4], table[:-1], table + [0], []]],
-            [("table", t) for t in [flat([(8, 0, 0, 0)]) + table[4:], table[:4] + flat([(2, 9, 0, 0)]) + table[8:], table[:8] + [7, 10, 0, 0]]],
+            [("table", t) for t in [flat([(8, 0, 0, 0)]) + table[4:], table[:4] + flat([(2, 9, 0, 0)]) + table[8:],
+                                    table[:8] + [7, 10, 0, 0]]],
             [("words", w) for w in [words[:-1], words + [0], []]],
             [("words", [0] + words[1:]), ("words", words[:-1] + [ALL])],
             [("tape", t) for t in [tape[:-1], tape + [1], []]],
@@ -171,7 +176,8 @@ class Tester:
 
 def main():
     tester = Tester()
-    for part in (tester.own_lists, tester.random_lists, tester.free_lists, tester.all_ones, tester.bad_rows, tester.bad_rankings,
+    for part in (tester.own_lists, tester.random_lists, tester.free_lists, tester.all_ones, tester.bad_rows,
+                 tester.bad_rankings,
                  tester.faults, tester.shapes, tester.short_answers):
         part()
     print("tests/batch.py: ok,", tester.core.saw(run_batch={1, 2, 3, 4, 6, 11, 12, 7, 9, 10}))

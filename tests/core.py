@@ -1,7 +1,7 @@
 """The exported functions, for tests in Python, through the package that everybody else uses (python/jugyvaros).
 
-The package finds, builds and declares them. What it would lend is replaced here by buffers with guards on both sides, and
-every call is held to leaving the guards, and what is lent for reading, as they were.
+The package finds, builds and declares them. What it would lend is replaced here by buffers with guards on both sides,
+and every call is held to leaving the guards, and what is lent for reading, as they were.
 """
 
 import array
@@ -73,7 +73,7 @@ class Core:
         self.answers = collections.defaultdict(collections.Counter)
 
     def raw(self, name, *arguments, answers):
-        """The status with the whole answer array, of any length. What is lent for reading, and all guards, have to stay."""
+        """The status with the whole answer array, of any length. Guards, and what is lent for reading, have to stay."""
         self.calls += 1
         answer = output([OLD] * answers, "L")
         prepared = []
@@ -84,7 +84,7 @@ class Core:
         return status, answer.items()
 
     def call(self, name, *arguments, answers):
-        """A call with an answer array as long as the function needs: on a refusal nothing else that is lent is altered."""
+        """A call with an answer array as long as the function needs. A refusal alters nothing else that is lent."""
         status, (reason, place, *values) = self.raw(name, *arguments, answers=answers)
         assert status == reason and (reason == 0 or reason in WORDS), (name, status, reason)
         self.answers[name][reason] += 1
@@ -99,8 +99,10 @@ class Core:
         for name, wanted in reasons.items():
             found = set(self.answers[f"jugy_{name}"])
             assert found == {0, *wanted}, (name, sorted(found), sorted(wanted))
-        told = {name: self.answers[f"jugy_{name}"] for name in reasons}
-        return "; ".join(f"{name} " + ", ".join(f"{reason}: {many}" for reason, many in sorted(seen.items())) for name, seen in told.items())
+        return "; ".join(f"{name} {self.told(name)}" for name in reasons)
+
+    def told(self, name):
+        return ", ".join(f"{reason}: {many}" for reason, many in sorted(self.answers[f"jugy_{name}"].items()))
 
     def ignores_short_answers(self, name, *arguments, answers):
         """With an answer array that is shorter than it needs, a function returns 255 and alters nothing at all."""

@@ -65,14 +65,16 @@ def shapes():
     """Limits from both sides. What lies outside has ballots that would fit, so that nothing else turns it away."""
     for k, d, n in itertools.product((1, 8), (2, 7), (1, 255)):
         yield with_any_grades(k, d, n)
-    for k, d, n in [(9, 2, 1), (9, 7, 3), (1, 1, 1), (8, 1, 2), (1, 8, 1), (3, 8, 2), (1, 2, 256), (2, 3, 256), (9, 7, 256)]:
+    for k, d, n in [(9, 2, 1), (9, 7, 3), (1, 1, 1), (8, 1, 2), (1, 8, 1), (3, 8, 2), (1, 2, 256), (2, 3, 256),
+                    (9, 7, 256)]:
         yield with_any_grades(k, d, n)
     for k, d, n in [(0, 2, 1), (1, 0, 1), (1, 2, 0), (0, 7, 255), (8, 7, 0), (0, 0, 0)]:
         yield Case(k, d, n, ballots=[])
     for k, d, n in itertools.product((2, HUGE), (3, HUGE), (1, HUGE)):
         yield Case(k, d, n, ballots=[0, 1, 0, 1, 0, 0])
     # Shapes that are within limits modulo 2 ^ 8, 2 ^ 16 or 2 ^ 32, with the ballots of those.
-    for k, d, n in [(257, 2, 1), (1, 258, 1), (1, 2, 257), (65_537, 3, 1), (2, 65_539, 1), (2, 3, 65_537), (2 ** 32 + 1, 2, 1), (1, 2 ** 32 + 2, 1), (1, 2, 2 ** 32 + 1)]:
+    for k, d, n in [(257, 2, 1), (1, 258, 1), (1, 2, 257), (65_537, 3, 1), (2, 65_539, 1), (2, 3, 65_537),
+                    (2 ** 32 + 1, 2, 1), (1, 2 ** 32 + 2, 1), (1, 2, 2 ** 32 + 1)]:
         yield Case(k, d, n, ballots=with_any_grades(k % 256, d % 256, n % 256).ballots)
 
 

@@ -1,11 +1,13 @@
 #!/usr/bin/env python3
-"""The dispatcher, through the library, against a model written apart: up to eight juries whose pieces follow each other.
+"""The dispatcher, through the library, against a model written apart: up to eight juries whose pieces follow each
+other.
 
     python3 tests/dispatch.py    prints how many calls there were, by reason
 
-Shares of 1, of a divisor of G, of G and above it; one long jury beside seven short ones; tables longer by 0, 1 and many;
-pieces that are one too short in the first, a middle and the last jury; a stated G of 2 ^ 62; each fault in two juries at
-once; numbers of juries and shares outside their limits; statements that are missing. Every table has guards on both sides.
+Shares of 1, of a divisor of G, of G and above it; one long jury beside seven short ones; tables longer by 0, 1 and
+many; pieces that are one too short in the first, a middle and the last jury; a stated G of 2 ^ 62; each fault in two
+juries at once; numbers of juries and shares outside their limits; statements that are missing. Every table has guards
+on both sides.
 """
 
 import itertools
@@ -203,7 +205,8 @@ def main():
         start = sum(other.board for other in others[:place])
         assert all_of[2][place] == alone[2][0]
         assert all_of[4][start:start + one.board] == alone[4]
-        said, _, board = core.run((one.k, one.d, one.n), one.list, one.ballots, one.tape, [OLD] * one.wires, [OLD] * one.board)
+        said, _, board = core.run((one.k, one.d, one.n), one.list, one.ballots, one.tape, [OLD] * one.wires,
+                                  [OLD] * one.board)
         assert said[0] == "accepted" and board == alone[4]
 
     for call in (good, good.but(count=0), good.but(boards=[])):

@@ -3,9 +3,9 @@
 
     python3 tests/python.py    prints what was tried; needs no network
 
-Examples in docstrings, annotations and docstrings of all that is public, words of reasons against the header; lists, boards,
-tapes and texts; urns; trustees; dispatched calls with pieces of wrong lengths; batches; numbers outside what C can hold;
-`pip install` into an empty folder, and where the library is looked for.
+Examples in docstrings, annotations and docstrings of all that is public, words of reasons against the header; lists,
+boards, tapes and texts; urns; trustees; dispatched calls with pieces of wrong lengths; batches; numbers outside what
+C can hold; `pip install` into an empty folder, and where the library is looked for.
 """
 
 import doctest
@@ -26,7 +26,8 @@ from random_juries import random_ballots
 from running import flat, random_gates
 
 import jugyvaros
-from jugyvaros import Dealing, GateList, Jury, Refused, Shape, Urn, batch, count, deal, dispatch, fresh_tape, library, tally
+from jugyvaros import (Dealing, GateList, Jury, Refused, Shape, Urn, batch, count, deal, dispatch, fresh_tape, library,
+                       tally)
 from jugyvaros.reasons import ADVICE, REASONS
 
 HUGE = 2 ** 64
@@ -61,6 +62,16 @@ def modules():
     return [importlib.import_module(f"jugyvaros.{found.name}") for found in pkgutil.iter_modules(jugyvaros.__path__)]
 
 
+def functions_of(item):
+    """A function, or a class's own public methods and properties."""
+    members = [item] if inspect.isfunction(item) else vars(item).values()
+    for member in members:
+        function = getattr(member, "fget", None) or inspect.unwrap(member)
+        if inspect.isfunction(function) and function.__module__.startswith("jugyvaros"):
+            if not function.__name__.startswith("_"):
+                yield function
+
+
 def documented():
     """All that is public has a docstring and annotations, and the examples in docstrings hold."""
     examples = 0
@@ -71,13 +82,10 @@ def documented():
     for name in jugyvaros.__all__:
         item = getattr(jugyvaros, name)
         assert item.__doc__ and not item.__doc__.startswith(f"{name}("), name
-        members = [item] if inspect.isfunction(item) else [getattr(each, "fget", None) or inspect.unwrap(each) for each in vars(item).values()
-                                                           if isinstance(each, (classmethod, property)) or inspect.isfunction(each)]
-        for function in members:
-            if function.__module__.startswith("jugyvaros") and not function.__qualname__.split(".")[-1].startswith("_"):
-                assert function.__doc__, function
-                missing = set(inspect.signature(function).parameters) - set(function.__annotations__) - {"self", "cls"}
-                assert not missing and "return" in function.__annotations__, (function, missing)
+        for function in functions_of(item):
+            assert function.__doc__, function
+            missing = set(inspect.signature(function).parameters) - set(function.__annotations__) - {"self", "cls"}
+            assert not missing and "return" in function.__annotations__, (function, missing)
     assert set(ADVICE) == set(REASONS)
     subprocess.run([sys.executable, ROOT / "python/make_reasons.py", "--check"], check=True)
 
@@ -92,7 +100,8 @@ def shapes(rng):
             ballots = bytes(random_ballots(rng, *shape))
             winners = [i for i, bit in enumerate(doc.winners(*shape, ballots)) if bit]
             assert list(count(shape, ballots)) == winners
-    for bad in ((0, 2, 1), (9, 2, 1), (1, 1, 1), (1, 8, 1), (1, 2, 0), (1, 2, 256), (HUGE + 1, 2, 1), (1, HUGE, 1), (1, 2, HUGE + 1), (-1, 2, 1)):
+    for bad in ((0, 2, 1), (9, 2, 1), (1, 1, 1), (1, 8, 1), (1, 2, 0), (1, 2, 256), (HUGE + 1, 2, 1), (1, HUGE, 1),
+                (1, 2, HUGE + 1), (-1, 2, 1)):
         for function in (Shape(*bad).measure, lambda: GateList.own(Shape(*bad)), lambda: count(Shape(*bad), b"")):
             refused(1, 0, function)
     assert Shape(2, 3, 2).encode([[1, 3], [2, 2]]) == bytes([1, 0, 0, 0, 0, 1, 0, 1, 0, 0, 1, 0])
@@ -107,7 +116,7 @@ def shapes(rng):
 
 
 def lists(rng):
-    """Random lists run as the reference runs them; own lists name the winners; each tape serves once and is not changed."""
+    """Random lists run as the reference runs them; own lists name the winners; a tape that is lent is not changed."""
     for shape in SHAPES * 6:
         gates = random_gates(rng, shape.inputs, rng.randrange(shape.candidates, 40))
         made, ballots = GateList(shape, flat(gates)), bytes(random_ballots(rng, *shape))
@@ -116,7 +125,8 @@ def lists(rng):
         tape = bytearray(rng.randrange(2) for _ in range(made.conditional))
         kept = bytes(tape)
         board = made.run(ballots, tape)
-        _, _, wanted = doc.run_list(*shape, flat(gates), ballots, tape, [9] * (shape.inputs + len(gates)), [9] * (len(tape) + shape.candidates))
+        wires, shown = doc.run_gates(ballots, gates, tape)
+        wanted = shown + wires[len(wires) - shape.candidates:]
         assert list(bytes(board)) == wanted and tape == kept
         assert board.winners == tuple(i for i, bit in enumerate(board.closing) if bit)
         assert GateList.from_text(shape, made.to_text()) == made == GateList.from_text(shape, made.to_text().decode())
@@ -193,10 +203,12 @@ def urns(rng):
             juror, ballot = rng.randrange(1, slots + 2), bytes(random_ballots(rng, candidates, grades, 1))
             if rng.random() < 0.6:
                 number = 14 if juror in inside or juror > 255 else 15 if len(inside) == slots - 1 else 0
-                calls, after = [(urn.preview_admit, juror, ballot), (urn.admit, juror, ballot)], {juror: ballot, **inside}
+                calls = [(urn.preview_admit, juror, ballot), (urn.admit, juror, ballot)]
+                after = {juror: ballot, **inside}
             else:
                 number = 0 if juror in inside else 14
-                calls, after = [(urn.preview_withdraw, juror), (urn.withdraw, juror)], {j: b for j, b in inside.items() if j != juror}
+                calls = [(urn.preview_withdraw, juror), (urn.withdraw, juror)]
+                after = {other: ballot for other, ballot in inside.items() if other != juror}
             for function, *given in calls:
                 before = bytes(urn)
                 if number:
@@ -211,7 +223,8 @@ def urns(rng):
         if inside:
             own = GateList.own(urn.shape)
             tape = bytes(own.conditional)
-            assert urn.run(own, tape) == own.run(b"".join(inside.values()), tape) and urn.run().winners == again.run().winners
+            assert urn.run(own, tape) == own.run(b"".join(inside.values()), tape)
+            assert urn.run().winners == again.run().winners
     bad_urns()
 
 
@@ -264,14 +277,15 @@ def trustees(rng):
 
 
 def dispatched(rng):
-    """Each jury's board is its own, and a piece of another length is that jury's fault, whatever the next one makes up."""
+    """Each jury's board is its own. A piece of another length is that jury's fault, whatever the next one has."""
     for many, share in itertools.product(range(1, 9), (1, 7, 4096, 65536)):
         juries = []
         for shape in rng.choices(SHAPES, k=many):
             gates = GateList(shape, flat(random_gates(rng, shape.inputs, rng.randrange(shape.candidates, 60))))
             juries.append(Jury(gates, bytes(random_ballots(rng, *shape)), bytes(fresh_tape(gates.conditional))))
         for jury, found in zip(juries, dispatch(juries, share)):
-            assert found.board == jury.gates.run(jury.ballots, jury.tape) and found.rounds == -(-len(jury.gates) // share)
+            assert found.board == jury.gates.run(jury.ballots, jury.tape)
+            assert found.rounds == -(-len(jury.gates) // share)
     shape = Shape(2, 3, 3)
     gates = GateList.own(shape)
     good = Jury(gates, bytes(random_ballots(rng, *shape)))
@@ -288,6 +302,7 @@ def dispatched(rng):
     refused(5, 1, dispatch, [good, good._replace(ballots=b"\2" + good.ballots[1:], tape=tape + b"\0")])
     free = Jury(GateList(Shape(1, 2, 1), [1, 0, 0, 0]), b"\1\0", b"\0")
     assert refused(7, 1, dispatch, [good, free]).place_of == "the jury"
+    refused(7, 1, dispatch, [good, free, good, masked])
     refused(6, 0, dispatch, [free._replace(ballots=b"\1\1")])
     refused(19, 0, dispatch, [])
     refused(19, 0, dispatch, [good] * 9)
@@ -323,14 +338,16 @@ def installed():
     """pip installs the package without a network; the copy beside it is used, or what JUGYVAROS_LIBRARY names."""
     program = "import jugyvaros as j; s = j.Shape(2, 2, 1); print(j.count(s, s.encode([[2, 1]])), j.library.path())"
     with tempfile.TemporaryDirectory() as folder:
-        pip = [sys.executable, "-m", "pip", "install", "--quiet", "--no-index", "--disable-pip-version-check", "--root-user-action=ignore"]
+        quiet = ["--quiet", "--disable-pip-version-check", "--root-user-action=ignore"]
+        pip = [sys.executable, "-m", "pip", "install", "--no-index", *quiet]
         subprocess.run([*pip, "--target", folder, ROOT / "python"], check=True, cwd=folder)
         bundled = pathlib.Path(folder) / "jugyvaros/libjugyvaros.so"
 
         def said(**variables):
             plain = {name: value for name, value in os.environ.items() if name != "JUGYVAROS_LIBRARY"}
             environment = {**plain, "PYTHONPATH": folder, "PYTHONDONTWRITEBYTECODE": "1", **variables}
-            return subprocess.run([sys.executable, "-c", program], env=environment, cwd=folder, capture_output=True, text=True)
+            command = [sys.executable, "-c", program]
+            return subprocess.run(command, env=environment, cwd=folder, capture_output=True, text=True)
 
         assert said().stdout == f"(1,) {bundled}\n", said()
         moved = bundled.rename(pathlib.Path(folder) / "elsewhere.so")
@@ -349,7 +366,8 @@ def main():
     # 9, 10 and 24 are about lengths that the package sees to itself; 21 and 22 are of the season sheet
     assert SEEN == set(REASONS) - {9, 10, 24, 21, 22}, sorted(set(REASONS) - SEEN)
     installed()
-    print(f"tests/python.py: ok, with {library.path().relative_to(ROOT)}; reasons raised: {', '.join(map(str, sorted(SEEN)))}")
+    raised = ", ".join(map(str, sorted(SEEN)))
+    print(f"tests/python.py: ok, with {library.path().relative_to(ROOT)}; reasons raised: {raised}")
 
 
 if __name__ == "__main__":

@@ -2,8 +2,8 @@
 
     python3 tests/rankings.py    prints how many calls and juries there were
 
-A ranking is given by ranks, one a candidate: a smaller rank is better, equal ones are a tie. The rule is read in two ways: by
-all simple paths (reference.py) and by asking who reaches whom over links of some strength or more (below).
+A ranking is given by ranks, one a candidate: a smaller rank is better, equal ones are a tie. The rule is read in two
+ways: by all simple paths (reference.py) and by asking who reaches whom over links of some strength or more (below).
 """
 
 import collections
@@ -215,7 +215,8 @@ def random_juries(tests, rng):
 
 def small_shapes(tests):
     """All ranked juries of the shapes that have few."""
-    for k, n in [(1, 1), (1, 2), (1, 3), (2, 1), (2, 2), (2, 3), (2, 4), (2, 5), (2, 6), (3, 1), (3, 2), (3, 3), (4, 1), (4, 2)]:
+    for k, n in [(1, 1), (1, 2), (1, 3), (2, 1), (2, 2), (2, 3), (2, 4), (2, 5), (2, 6), (3, 1), (3, 2), (3, 3),
+                 (4, 1), (4, 2)]:
         tests.evaluate(k, n, list(itertools.product(weak_orders(k), repeat=n)))
 
 
@@ -250,7 +251,8 @@ def runs(tests, rng):
     ]
     gates = tests.own_list(3, 2)
     for first, second in itertools.combinations_with_replacement(faults, 2):
-        case = {"k": 3, "d": 0, "n": 2, "table": [x for gate in gates for x in gate], "ballots": ballots_of([[0, 1, 1], [2, 0, 1]])}
+        case = {"k": 3, "d": 0, "n": 2, "table": [x for gate in gates for x in gate],
+                "ballots": ballots_of([[0, 1, 1], [2, 0, 1]])}
         case["tape"] = [i % 2 for i in range(doc.conditional_count(gates))]
         case["wires"], case["board"] = 18 + len(gates), len(case["tape"]) + 3
         first(case)
@@ -270,7 +272,8 @@ def main():
     random_juries(tests, rng)
     runs(tests, rng)
     told = tests.core.saw(count={1, 4, 5, 11, 12}, run={1, 2, 3, 4, 5, 11, 12, 7, 8, 9, 10})
-    print(f"tests/rankings.py: {len(tests.lists)} lists on {tests.juries} juries, {tests.core.calls} calls agree: {told}")
+    lists, calls = len(tests.lists), tests.core.calls
+    print(f"tests/rankings.py: {lists} lists on {tests.juries} juries, {calls} calls agree: {told}")
 
 
 if __name__ == "__main__":

@@ -1,4 +1,5 @@
-"""The requirements in Python: a second program, written apart from the Rattle code, that says what the core must answer.
+"""The requirements in Python: a second program, written apart from the Rattle code, that says what the core must
+answer.
 
 It is written for plainness and not for speed. Nothing here is shared with the crates.
 """

@@ -1,11 +1,11 @@
 #!/usr/bin/env python3
 """Runs the rehearsal program on many inputs and compares what it prints with the requirements, written apart.
 
-    python3 tests/rehearsal.py    needs target/bin/rehearsal (rt check rehearsal builds it), and the library for the size of a list
+    python3 tests/rehearsal.py    needs target/bin/rehearsal (rt check rehearsal builds it) and the library
 
-Inputs: the example in [rehearsal], the examples of the repository with what they are said to show, empty and short inputs,
-inputs that come in pieces, the longest good input, inputs about and longer than what is kept, faults in shape and
-ballots, lists too large for the table beside faulty ballots, and random juries.
+Inputs: the example in [rehearsal], the examples of the repository with what they are said to show, empty and short
+inputs, inputs that come in pieces, the longest good input, inputs about and longer than what is kept, faults in shape
+and ballots, lists too large for the table beside faulty ballots, and random juries.
 """
 
 import random
@@ -123,7 +123,8 @@ def long_inputs(rng):
     """The longest good input, shorter and longer by one, and lengths about the bytes that are kept."""
     good = jury(rng, *longest_shape())
     assert doc.ballots_fault(*good[:3], good[3:]) is None and len(good) > 2_500
-    for data in (good, good + b"\0", good + b"\1", good[:-1], good[:-1] + b"\2", good + bytes(KEPT), good[:-1] + b"\2" + bytes(KEPT)):
+    for data in (good, good + b"\0", good + b"\1", good[:-1], good[:-1] + b"\2", good + bytes(KEPT),
+                 good[:-1] + b"\2" + bytes(KEPT)):
         yield data
     for length in (KEPT - 1, KEPT, KEPT + 1, 2 * KEPT, 65_536):
         yield bytes(length)
@@ -140,7 +141,8 @@ def inputs(rng):
         yield example[:size]
     yield example + b"\0"
     yield from long_inputs(rng)
-    for k, d, n in [(0, 2, 1), (9, 2, 1), (1, 1, 1), (1, 8, 1), (1, 2, 0), (8, 7, 255), (5, 6, 100), (1, 0, 0), (0, 0, 1), (9, 0, 1), (8, 0, 255)]:
+    for k, d, n in [(0, 2, 1), (9, 2, 1), (1, 1, 1), (1, 8, 1), (1, 2, 0), (8, 7, 255), (5, 6, 100), (1, 0, 0),
+                    (0, 0, 1), (9, 0, 1), (8, 0, 255)]:
         yield bytes([k, d, n])
         yield bytes([k, d, n]) + b"\2" * doc.ballot_bytes(k, d, n)
     # rankings that say both ways, and that leave a third out, in the last ballot
@@ -173,10 +175,12 @@ def main():
     compare("every answer that there is", seen, {"accepted", *"1 2 4 5 6 11 12".split()})
     for data in [jury(rng, 2, 3, 3), jury(rng, 3, 5, 15), jury(rng, 8, 7, 3), jury(rng, 4, 0, 6)]:
         cut = rng.randrange(len(data))
-        for pieces in [[data[:cut], data[cut:]], [data[:1], data[1:2], data[2:4], data[4:]], [data[i : i + 1] for i in range(min(40, len(data)))] + [data[40:]]]:
+        for pieces in [[data[:cut], data[cut:]], [data[:1], data[1:2], data[2:4], data[4:]],
+                       [data[i : i + 1] for i in range(min(40, len(data)))] + [data[40:]]]:
             compare("in pieces", PROGRAM.said_in_pieces(pieces), expected(data))
     for name, wanted in EXAMPLES.items():
-        data = subprocess.run([ROOT / "tools" / "jury", ROOT / "examples" / f"{name}.txt"], stdout=subprocess.PIPE, check=True).stdout
+        data = subprocess.run([ROOT / "tools" / "jury", ROOT / "examples" / f"{name}.txt"], stdout=subprocess.PIPE,
+                              check=True).stdout
         compare(name, PROGRAM.said(data), wanted)
         compare(name, expected(data), wanted)
     for text, wanted in TEXTS:

@@ -31,7 +31,7 @@ def evaluate(circuit, bits):
         used, made, kind = [int(x) for x in fields[2:-2]], int(fields[-2]), fields[-1]
         assert len(used) == int(fields[0]) and made not in wires
         values = [wires[wire] for wire in used]
-        wires[made] = {"XOR": lambda v: v[0] ^ v[1], "AND": lambda v: v[0] & v[1], "INV": lambda v: 1 - v[0]}[kind](values)
+        wires[made] = {"XOR": sum(values) % 2, "AND": min(values), "INV": 1 - values[0]}[kind]
     assert len(wires) == total
     return [wires[total - int(outs.split()[1]) + i] for i in range(int(outs.split()[1]))]
 
@@ -44,7 +44,7 @@ def circuits(rng):
             bits = random_ballots(rng, *shape)
             assert evaluate(circuit, bits) == [int(i in count(shape, bytes(bits))) for i in range(shape.candidates)]
     shape = Shape(2, 2, 1)
-    every_kind = GateList(shape, [0, 0, 0, 0, 1, 0, 0, 0, 2, 1, 0, 0, 3, 2, 0, 0, 4, 6, 7, 0, 5, 8, 3, 0, 6, 9, 0, 0, 7, 1, 9, 10])
+    every_kind = GateList.from_text(shape, "0\n1\n2 1\n3 2\n4 6 7\n5 8 3\n6 9 0\n7 1 9 10\n")
     for bits in ([a, 1 - a, b, 1 - b] for a in (0, 1) for b in (0, 1)):
         assert evaluate(list_tool.bristol(every_kind), bits) == list(every_kind.run(bytes(bits)).closing)
 
@@ -70,7 +70,8 @@ def main():
     assert written == own.to_text()
     size = f"{len(own)} gates, {own.conditional} conditional, {own.levels} rounds\n"
     assert tool("read", "2", "3", "3", "-", text=written).stdout.decode() == f"accepted: {size}"
-    assert tool("size", "2", "3", "3").stdout.decode() == tool("size", "2", "3", "3", "-", text=written).stdout.decode() == size
+    for of in (tool("size", "2", "3", "3"), tool("size", "2", "3", "3", "-", text=written)):
+        assert of.stdout.decode() == size
     assert tool("bristol", "2", "3", "3").stdout == tool("bristol", "2", "3", "3", "-", text=written).stdout
     print("tests/text_tools.py: ok")
 

@@ -2,9 +2,9 @@
 
     python3 tests/texts.py    prints how many calls there were, by reason
 
-Own lists and random lists, graded and ranked, both ways; every fault alone and with every other one, in both directions;
-numbers about the largest one; lines of another form; outputs that are just too short, just long enough and longer.
-`tests/text` has every short text and many edits of good ones, in C.
+Own lists and random lists, graded and ranked, both ways; every fault alone and with every other one, in both
+directions; numbers about the largest one; lines of another form; outputs that are just too short, just long enough
+and longer. `tests/text` has every short text and many edits of good ones, in C.
 """
 
 import itertools
@@ -106,7 +106,8 @@ def good_lists(tests, rng):
         tests.both_ways(shape, flat(random_gates(rng, doc.ballot_bytes(*shape), rng.randrange(shape[0], 40))))
 
 
-BAD_SHAPES = [(0, 3, 2), (9, 3, 2), (2, 1, 2), (2, 8, 2), (2, 3, 0), (2, 3, 256), (2 ** 32 + 2, 3, 2), (2 ** 63, 2 ** 63, 2 ** 63)]
+BAD_SHAPES = [(0, 3, 2), (9, 3, 2), (2, 1, 2), (2, 8, 2), (2, 3, 0), (2, 3, 256), (2 ** 32 + 2, 3, 2),
+              (2 ** 63, 2 ** 63, 2 ** 63)]
 
 
 def pairs(ways):
@@ -123,7 +124,8 @@ def faults_of_writing(tests, shape):
     ways = [
         [("shape", bad) for bad in BAD_SHAPES],
         [("table", bad) for bad in ([], table[:4], table[:-1], table + [0])],
-        [("table", bad) for bad in ([8] + table[1:], table[:1] + [1] + table[2:], table[:-3] + [inputs + 3] + table[-2:], table[:-1] + [1],
+        [("table", bad) for bad in ([8] + table[1:], table[:1] + [1] + table[2:], table[:-1] + [1],
+                                    table[:-3] + [inputs + 3] + table[-2:],
                                     table[:4] + [4, LARGEST, 0, 0] + table[8:])],
         [("room", bad) for bad in (length - 1, 1, 0)],
     ]
@@ -140,19 +142,21 @@ def faults_of_reading(tests, shape):
     def but(place, line):
         return "".join([*lines[:place], line, *lines[place + 1:]])
 
-    forms = ["\n", "1 \n", " 1\n", "01\n", "8\n", "2  0\n", "2 00\n", "2\t0\n", "2 -1\n", "2 4294967296\n", "4 0\n", "4 0 1 2\n", "1\r\n", "x\n", "2 0,\n"]
+    forms = ["\n", "1 \n", " 1\n", "01\n", "8\n", "2  0\n", "2 00\n", "2\t0\n", "2 -1\n", "2 4294967296\n", "4 0\n",
+             "4 0 1 2\n", "1\r\n", "x\n", "2 0,\n"]
     ways = [
         [("shape", bad) for bad in BAD_SHAPES],
         [("text", bad) for bad in ("", lines[0], "1")],
-        [("text", but(place, form)) for place in (0, 2) for form in forms] + [("text", good[:-1]), ("text", good + "1")],
-        [("text", but(0, f"2 {inputs}\n")), ("text", but(3, f"6 0 {inputs + 3}\n")), ("text", but(1, f"3 {LARGEST}\n"))],
+        [("text", bad) for bad in (*(but(place, form) for place in (0, 2) for form in forms), good[:-1], good + "1")],
+        [("text", bad) for bad in (but(0, f"2 {inputs}\n"), but(3, f"6 0 {inputs + 3}\n"), but(1, f"3 {LARGEST}\n"))],
         [("room", bad) for bad in (15, 1, 0)],
     ]
     for changes in pairs(ways):
         tests.read(**{"shape": shape, "text": good, "room": 16, **dict(changes)})
     # a line of another form is said before a bad gate, wherever the two stand
     for first, second in itertools.permutations(range(4), 2):
-        two = [f"2 {LARGEST}\n" if place == first else "9\n" if place == second else line for place, line in enumerate(lines)]
+        two = list(lines)
+        two[first], two[second] = f"2 {LARGEST}\n", "9\n"
         assert tests.read(shape, "".join(two), 16)[0] == ["refused", 23, second]
 
 
@@ -161,7 +165,8 @@ def largest_numbers(tests):
     for shape in ((1, 2, 1), (1, 0, 1)):
         for kind, operands in doc.OPERANDS.items():
             for place in range(operands):
-                for number, reason in ((LARGEST, 3), (LARGEST + 1, 23), (10 * LARGEST, 23), (2 ** 64, 23), (2 ** 64 + 1, 23)):
+                for number in (LARGEST, LARGEST + 1, 10 * LARGEST, 2 ** 64, 2 ** 64 + 1):
+                    reason = 3 if number == LARGEST else 23
                     words = [kind, *[0] * operands]
                     words[1 + place] = number
                     said, _ = tests.read(shape, " ".join(map(str, words)) + "\n", 4)

@@ -2,9 +2,9 @@
 
     python3 tests/trustees.py    prints how many calls there were, by reason
 
-Small lists with every dealing counted: for whichever trustee is left out, each dealing of one election has exactly one
-counterpart in another with the same closing bytes. Random elections, graded and ranked, on own and on random lists, every
-reason at its edges, all pairs of faults, and old contents of both tables that are written.
+Small lists with every dealing counted: for whichever trustee is left out, each dealing of one election has exactly
+one counterpart in another with the same closing bytes. Random elections, graded and ranked, on own and on random
+lists, every reason at its edges, all pairs of faults, and old contents of both tables that are written.
 """
 
 import collections
@@ -71,7 +71,8 @@ def parity(bits):
 def protocol(gates, inputs, k, t, parts, dealt):
     """The trustees after a run of the list."""
     count = doc.conditional_count(gates)
-    trustees = [Trustee(p, parts[p * inputs : (p + 1) * inputs], dealt[3 * count * p : 3 * count * (p + 1)]) for p in range(t)]
+    trustees = [Trustee(p, parts[p * inputs : (p + 1) * inputs],
+                        dealt[3 * count * p : 3 * count * (p + 1)]) for p in range(t)]
     i = 0
     for gate in gates:
         if gate[0] in CONDITIONAL:
@@ -181,7 +182,8 @@ def all_dealings(ballots, count, t):
         if any(parity(parts[x::inputs]) != ballots[x] for x in range(inputs)):
             continue
         for dealt in itertools.product((0, 1), repeat=3 * count * t):
-            if all(parity(dealt[3 * i + 2 :: 3 * count]) == parity(dealt[3 * i :: 3 * count]) * parity(dealt[3 * i + 1 :: 3 * count]) for i in range(count)):
+            sums = [parity(dealt[place :: 3 * count]) for place in range(3 * count)]
+            if all(w == u * v for u, v, w in zip(sums[::3], sums[1::3], sums[2::3])):
                 yield parts, dealt
 
 
@@ -238,7 +240,7 @@ def changed(items, place, value):
 
 
 def bad_ballots(call):
-    """Ballots of bits that are none: a row without a grade, or rankings that say both ways and that leave a third out."""
+    """Bits that are no ballots: a row without a grade, or rankings that say both ways and that leave a third out."""
     if call.shape[1]:
         return {"row": {"ballots": changed(call.ballots, call.ballots.index(1), 0)}}
     rest = call.ballots[9:]
@@ -279,7 +281,8 @@ def faults(call):
         "ballot part": {"parts": changed(call.parts, 0, 1 - call.parts[0])},
         "dealer part": {"dealt": changed(call.dealt, 0, call.dealt[0] + 2)},
         "product": {"dealt": changed(call.dealt, last, 1 - call.dealt[last])},
-        "two parts exchanged": {"parts": changed(changed(call.parts, two[0], 3), two[1], call.parts[two[0]] ^ call.parts[two[1]] ^ 1)},
+        "two parts exchanged": {"parts": changed(changed(call.parts, two[0], 3), two[1],
+                                                 call.parts[two[0]] ^ call.parts[two[1]] ^ 1)},
     }
 
 
@@ -301,7 +304,8 @@ def main():
     assert pairs
 
     # random elections: own lists and random ones
-    for shape in ((1, 2, 1), (2, 3, 3), (3, 2, 4), (8, 7, 2), (2, 2, 9), (1, 0, 1), (2, 0, 3), (3, 0, 5), (5, 0, 4), (8, 0, 2)):
+    for shape in ((1, 2, 1), (2, 3, 3), (3, 2, 4), (8, 7, 2), (2, 2, 9), (1, 0, 1), (2, 0, 3), (3, 0, 5), (5, 0, 4),
+                  (8, 0, 2)):
         for t in range(2, 6):
             core.check(valid_call(rng, core, shape, t))
     for _ in range(300):

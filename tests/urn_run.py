@@ -1,7 +1,7 @@
 #!/usr/bin/env python3
-"""The run on an urn against the program written apart, over the static library: chains in any order of slots, n that is not
-the number of ballots, damaged urns, every fault with every other, full urns, short answer arrays, and random calls.
-Needs a C compiler and target/staticlib/libjugyvaros.a."""
+"""The run on an urn against the program written apart, over the static library: chains in any order of slots, n that
+is not the number of ballots, damaged urns, every fault with every other, full urns, short answer arrays, and random
+calls. Needs a C compiler and target/staticlib/libjugyvaros.a."""
 import itertools
 import random
 import sys
@@ -20,7 +20,8 @@ def run_urn(*call):
     return CORE.run(*call, name="jugy_run_urn")
 
 
-# The model. An urn is a list of slots; it is sound where the slots of both chains, in order of their numbers, are 1, 2, and so on.
+# The model. An urn is a list of slots; it is sound where the slots of both chains, in order of their numbers, are 1,
+# 2, and so on.
 
 
 def chain_from(slots, first):
@@ -141,7 +142,8 @@ def faults():
     good = urn_of(k, d, 4, ballots[:2])
     table = random_list(n * k * d, 6) + [4, 0, 1, 0]
     tape, wires, board = buffers(k, d, n, table)
-    shapes = [(k, d, n), (0, d, n), (9, d, n), (k, 0, n), (k, 1, n), (k, 8, n), (k, d, 0), (k, d, 256), (2**63, 2**63, 2**63), (k, d, 1), (k, d, 3)]
+    shapes = [(k, d, n), (0, d, n), (9, d, n), (k, 0, n), (k, 1, n), (k, 8, n), (k, d, 0), (k, d, 256),
+              (2**63, 2**63, 2**63), (k, d, 1), (k, d, 3)]
     damaged = good[:1] + [good[0]] + good[2:]
     urns = [good, damaged, good[:-1], [], urn_of(k, d, 4, ballots), urn_of(k, d, 4, [])]
     tables = [table, table[:-1], [], table[:4], [8, 0, 0, 0] + table[4:], table[:-4] + [2, n * k * d + 6, 0, 0]]

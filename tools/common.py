@@ -1,7 +1,7 @@
 """What the tools share: the package on the path, one parser, and one way to end.
 
-A tool ends with status 0 when it did what was asked, 1 when the core or a file says no, and 2 when it was called wrongly.
-An error is one line on standard error that begins with the tool's name and says what to do.
+A tool ends with status 0 when it did what was asked, 1 when the core or a file says no, and 2 when it was called
+wrongly. An error is one line on standard error that begins with the tool's name and says what to do.
 """
 
 import argparse

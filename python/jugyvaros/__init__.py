@@ -8,8 +8,8 @@
     board.winners                                       # (0,)
 
 Grades are counted by majority judgment, rankings (grades=0) by Schulze's rule. A call that the core turns away raises
-`Refused`, with the reason's number, its place and words. The core itself is proved; this package lends it buffers of the
-right lengths. `jugyvaros.library` says where the core's shared object is looked for.
+`Refused`, with the reason's number, its place and words. The core itself is proved; this package lends it buffers of
+the right lengths. `jugyvaros.library` says where the core's shared object is looked for.
 """
 
 from .batch import batch
@@ -22,6 +22,6 @@ from .trustees import Dealing, Tally, deal, tally
 from .urn import Urn
 
 __all__ = [
-    "Board", "Dealing", "Dispatched", "Gate", "GateList", "Jury", "Measure", "NotBuilt", "Refused", "Shape", "Tally", "Urn",
-    "batch", "count", "deal", "dispatch", "fresh_tape", "tally",
+    "Board", "Dealing", "Dispatched", "Gate", "GateList", "Jury", "Measure", "NotBuilt", "Refused", "Shape", "Tally",
+    "Urn", "batch", "count", "deal", "dispatch", "fresh_tape", "tally",
 ]

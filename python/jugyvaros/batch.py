@@ -14,7 +14,7 @@ LANES = 64
 
 
 def batch(gates: GateList, juries: Sequence[bytes], tapes: Sequence[bytes] | None = None) -> list[Board]:
-    """Runs a list on 1 to 64 juries: the board of each is that of a run by itself. Without tapes all are fresh and secret.
+    """Runs a list on 1 to 64 juries: the board of each is that of a run by itself. Tapes that are not given are fresh.
 
     The place of a refusal is the first jury that has the fault.
     """
@@ -35,8 +35,8 @@ def batch(gates: GateList, juries: Sequence[bytes], tapes: Sequence[bytes] | Non
 
 
 def pack(rows: Sequence[bytes], length: int, other_length: int, other_byte: int) -> array.array[int]:
-    """Numbers whose bit j is row j's byte at that place; copies of the last row fill up the 64. A row of another length,
-    and a byte that is no bit, are refused for these reasons."""
+    """Numbers whose bit j is row j's byte at that place; copies of the last row fill up the 64. A row of another
+    length, and a byte that is no bit, are refused for these reasons."""
     for place, row in enumerate(rows):
         if len(row) != length:
             raise Refused(other_length, place, "the jury")

@@ -11,6 +11,7 @@ from .library import call
 from .reasons import Refused
 
 GATES_PER_ROUND = 4096
+MOST_JURIES = 8
 
 
 class Jury(NamedTuple):
@@ -29,7 +30,7 @@ class Dispatched(NamedTuple):
 
 
 def dispatch(juries: Sequence[Jury], gates_per_round: int = GATES_PER_ROUND) -> list[Dispatched]:
-    """Runs 1 to 8 juries, each round up to `gates_per_round` gates of each. Tapes that are not given are fresh and secret.
+    """Runs 1 to 8 juries, each round up to `gates_per_round` gates of each. Tapes that are not given are fresh.
 
     A refusal concerns the whole call: the first bad jury's first reason, with that jury as its place.
     """
@@ -46,8 +47,9 @@ def dispatch(juries: Sequence[Jury], gates_per_round: int = GATES_PER_ROUND) -> 
         table.extend(jury.gates.table)
     wires = bytearray(sum(jury.gates.shape.inputs + len(jury.gates) for jury in lent))
     boards = bytearray(sum(jury.gates.conditional + jury.gates.shape.candidates for jury in lent))
-    rounds = call("jugy_dispatch", len(juries) if bad is None or len(juries) > 8 else len(lent), gates_per_round, statements, table,
-                  b"".join(ballots), b"".join(pieces), wires, boards, answers=10, place_of="the jury")
+    number = len(juries) if len(juries) > MOST_JURIES else len(lent)
+    rounds = call("jugy_dispatch", number, gates_per_round, statements, table, b"".join(ballots), b"".join(pieces),
+                  wires, boards, answers=10, place_of="the jury")
     if bad is not None:
         # the core was content with an empty tape, and a longer one was given
         raise Refused(7, bad, "the jury")

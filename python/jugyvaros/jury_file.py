@@ -1,12 +1,12 @@
 """Juries written as text, one ballot a line.
 
-Of a jury that grades, the first line is `grades D`, D being the number of grades, or `grades D: NAME NAME ..` with the names
-of the candidates. Each further line is one ballot: for each candidate its grade, a number from 1 (the best) to D (the
-worst), with spaces between.
+Of a jury that grades, the first line is `grades D`, D being the number of grades, or `grades D: NAME NAME ..` with
+the names of the candidates. Each further line is one ballot: for each candidate its grade, a number from 1 (the best)
+to D (the worst), with spaces between.
 
-Of a jury that ranks, the first line is `ranking` and the names of the candidates. Each further line is one ballot, the best
-candidate first: `a > b = c` puts a before b and c, which share a place. Who is not named comes last, with all others who
-are not.
+Of a jury that ranks, the first line is `ranking` and the names of the candidates. Each further line is one ballot,
+the best candidate first: `a > b = c` puts a before b and c, which share a place. Who is not named comes last, with
+all others who are not.
 
 What follows a `#` is left out, and so are empty lines.
 """
@@ -29,7 +29,7 @@ class BadJury(ValueError):
 
 
 class JuryFile(NamedTuple):
-    """A jury: its shape, a row of numbers a juror (grades from 1, or places in a ranking), and names where the text has any."""
+    """A jury: its shape, a row of grades (from 1) or places in a ranking a juror, and names where the text has any."""
 
     shape: Shape
     rows: Sequence[Sequence[int]]
@@ -87,7 +87,8 @@ def _text(data: bytes) -> str:
         return data.decode("utf-8")
     except UnicodeDecodeError as error:
         number = data.count(b"\n", 0, error.start) + 1
-        raise BadJury(number, f"byte {data[error.start]:#04x} is not UTF-8 (Latin-1, perhaps?); save the file as UTF-8") from None
+        message = f"byte {data[error.start]:#04x} is not UTF-8 (Latin-1, perhaps?); save the file as UTF-8"
+        raise BadJury(number, message) from None
 
 
 def _numbers(number: int, words: Sequence[str]) -> list[int]:
@@ -112,7 +113,8 @@ def _head(number: int, words: Sequence[str]) -> tuple[int, list[str]]:
     said, colon, named = " ".join(words).partition(":")
     before, names = said.split(), named.split()
     if len(before) != 2 or before[0] != "grades":
-        raise BadJury(number, "the first line is to say 'grades' and how many grades there are, or 'ranking' and the candidates' names")
+        raise BadJury(number, "the first line is to say 'grades' and how many grades there are, "
+                              "or 'ranking' and the candidates' names")
     grades = _numbers(number, before[1:])[0]
     if not 2 <= grades <= MOST_GRADES:
         raise BadJury(number, f"there are 2 to {MOST_GRADES} grades, not {grades}")

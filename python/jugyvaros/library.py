@@ -18,13 +18,14 @@ from typing import Any, Union
 
 from . import repository
 from .reasons import Refused
+from .repository import NotBuilt
 
 Buffer = Union[bytes, bytearray, "array.array[int]"]
 BUNDLED = pathlib.Path(__file__).with_name("libjugyvaros.so")
 SHORT_ANSWER = 255
 MOST_SIZE = ctypes.c_size_t(-1).value
 
-# The parameters of each function as in c/jugyvaros.h: s is a number, p is a pointer with a length. The last p is the answer.
+# The parameters of each function as in c/jugyvaros.h: s is a number, p a pointer with a length. The last is the answer.
 SIGNATURES = {
     "jugy_measure": "sssp",
     "jugy_write": "ssspp",
@@ -50,13 +51,13 @@ def path() -> pathlib.Path:
     given = os.environ.get("JUGYVAROS_LIBRARY")
     if given:
         if not pathlib.Path(given).is_file():
-            raise repository.NotBuilt(f"JUGYVAROS_LIBRARY names {given}, which is no file; name the core's shared object")
+            raise NotBuilt(f"JUGYVAROS_LIBRARY names {given}, which is no file; name the core's shared object")
         return pathlib.Path(given)
     if repository.ROOT is not None:
         return repository.shared_object()
     if BUNDLED.exists():
         return BUNDLED
-    raise repository.NotBuilt("the core's shared object is missing; set JUGYVAROS_LIBRARY to it, or install again from a checkout")
+    raise NotBuilt("the core's shared object is missing; set JUGYVAROS_LIBRARY to it, or install again from a checkout")
 
 
 @functools.lru_cache(maxsize=None)
@@ -66,7 +67,7 @@ def _loaded() -> ctypes.CDLL:
 
 @functools.lru_cache(maxsize=None)
 def function(name: str) -> Callable[..., int]:
-    """An exported function with its parameters declared. It is handed numbers, and for each buffer a pointer and a length."""
+    """An exported function with its parameters declared: numbers, and for each buffer a pointer and a length."""
     found = getattr(_loaded(), name)
     found.restype = ctypes.c_size_t
     found.argtypes = [kind for code in SIGNATURES[name] for kind in _PARAMETERS[code]]
@@ -95,7 +96,8 @@ def _lent(data: Buffer) -> tuple[Any, int]:
 
 
 def call(name: str, *arguments: int | Buffer, answers: int, place_of: str | None = None) -> list[int]:
-    """Calls a function with numbers and buffers: what its answer holds behind reason and place, `answers` numbers in all.
+    """Calls a function with numbers and buffers. `answers` is the length of its answer; what stands there behind reason
+    and place is returned.
 
     A refusal is raised; `place_of` says what its place counts where this call has its own way of counting.
     """

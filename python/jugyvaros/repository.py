@@ -13,7 +13,8 @@ from collections.abc import Sequence
 from typing import Union
 
 _PARENT = pathlib.Path(__file__).resolve().parents[2]
-ROOT: pathlib.Path | None = _PARENT if (_PARENT / "tools/library").exists() and (_PARENT / "crates.txt").exists() else None
+_IS_CHECKOUT = (_PARENT / "tools/library").exists() and (_PARENT / "crates.txt").exists()
+ROOT: pathlib.Path | None = _PARENT if _IS_CHECKOUT else None
 Word = Union[str, pathlib.Path]
 LAST_LINES = 20
 
@@ -41,7 +42,7 @@ def _is_older(made: pathlib.Path) -> bool:
 
 
 def _build(*command: Word) -> None:
-    """Runs a build command. Standard error gets a line for each crate as it is proved, and the last lines on a failure."""
+    """Runs a build command. Standard error gets a line for each crate that is proved, and the end of a failure."""
     seen = []
     try:
         process = subprocess.Popen(

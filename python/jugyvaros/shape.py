@@ -19,7 +19,7 @@ class Measure(NamedTuple):
 
 
 class Shape(NamedTuple):
-    """Candidates, grades (0 where the jury ranks) and ballots of a jury. Any numbers may stand here: the core refuses bad ones.
+    """Candidates, grades (0 where the jury ranks) and ballots of a jury. The core refuses numbers outside its limits.
 
     >>> Shape(2, 3, 3).inputs
     18
@@ -49,8 +49,8 @@ class Shape(NamedTuple):
         return Measure(*call("jugy_measure", *self, answers=5))
 
     def encode(self, ballots: Iterable[Sequence[int]]) -> bytes:
-        """The ballot bytes of a jury. A ballot has a number for each candidate: its grade from 1, the best, or its place in
-        a ranking, where smaller is better and equal numbers are a tie.
+        """The ballot bytes of a jury. A ballot has a number for each candidate: its grade from 1, the best, or its
+        place in a ranking, where smaller is better and equal numbers are a tie.
 
         >>> list(Shape(2, 3, 1).encode([[1, 3]]))
         [1, 0, 0, 0, 0, 1]

@@ -40,7 +40,8 @@ def _split(bits: bytes, trustees: int) -> list[bytes]:
 def deal(gates: GateList, ballots: bytes, trustees: int) -> Dealing:
     """Splits ballots among 2 to 5 trustees and deals a product for each conditional gate, with fresh secret bits.
 
-    Whoever calls this sees the ballots. In a real tally each juror splits its own ballot, and a dealer deals the products.
+    Whoever calls this sees the ballots. In a real tally each juror splits its own ballot, and a dealer deals the
+    products.
     """
     number = max(1, min(trustees, 6))
     first, second = (bytes(fresh_tape(gates.conditional)) for _ in range(2))
@@ -65,7 +66,8 @@ def tally(gates: GateList, ballots: bytes, dealing: Dealing) -> Tally:
     wires = bytearray(held * (inputs + len(gates)))
     said = 2 * gates.conditional + gates.shape.candidates
     published = bytearray(held * said)
-    answer = call("jugy_trustees", *gates.shape, gates.table, bytes(ballots), number, parts, dealt, wires, published, answers=12)
+    answer = call("jugy_trustees", *gates.shape, gates.table, bytes(ballots), number, parts, dealt, wires, published,
+                  answers=12)
     closing = bytes(answer[2:2 + gates.shape.candidates])
     return Tally([bytes(published[at:at + said]) for at in range(0, len(published), said)], closing)
 

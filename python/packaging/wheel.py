@@ -1,7 +1,8 @@
 """Builds the wheel for pip, with the standard library only: nothing is fetched, so it works without a network.
 
-The wheel holds the package and a copy of the core's shared object. That is linked from target/staticlib/libjugyvaros.a of
-the checkout, which is proved and built first where a source is newer; or it is the one that JUGYVAROS_LIBRARY names.
+The wheel holds the package and a copy of the core's shared object. That is linked from
+target/staticlib/libjugyvaros.a of the checkout, which is proved and built first where a source is newer; or it is the
+one that JUGYVAROS_LIBRARY names.
 """
 
 import base64
@@ -39,8 +40,8 @@ def _metadata():
 def _write(folder, files, tag):
     """A wheel of these files, with their hashes as its record."""
     about = f"{NAME}.dist-info"
-    files = {**files, f"{about}/METADATA": _metadata().encode(),
-             f"{about}/WHEEL": f"Wheel-Version: 1.0\nGenerator: jugyvaros\nRoot-Is-Purelib: false\nTag: {tag}\n".encode()}
+    kind = f"Wheel-Version: 1.0\nGenerator: jugyvaros\nRoot-Is-Purelib: false\nTag: {tag}\n"
+    files = {**files, f"{about}/METADATA": _metadata().encode(), f"{about}/WHEEL": kind.encode()}
     record = []
     for name, data in files.items():
         digest = base64.urlsafe_b64encode(hashlib.sha256(data).digest()).rstrip(b"=").decode()
@@ -66,4 +67,4 @@ def build_editable(wheel_directory, config_settings=None, metadata_directory=Non
 
 
 def build_sdist(sdist_directory, config_settings=None):
-    raise NotImplementedError("the core's sources stand outside this folder; build a wheel from a checkout of the repository")
+    raise NotImplementedError("the core's sources stand outside this folder; build a wheel from a checkout")
