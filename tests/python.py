@@ -5,7 +5,7 @@
 
 Examples in docstrings, annotations and docstrings of all that is public, words of reasons against the header; lists,
 boards, tapes and texts; urns; trustees; dispatched calls with pieces of wrong lengths; batches; numbers outside what
-C can hold; `pip install` into an empty folder, and where the library is looked for.
+C can hold; `pip install` into an empty folder, where the library is looked for, and when it is built.
 """
 
 import doctest
@@ -16,6 +16,7 @@ import os
 import pathlib
 import pkgutil
 import random
+import shutil
 import subprocess
 import sys
 import tempfile
@@ -334,6 +335,13 @@ def batches(rng):
     wrong(batch, gates, [good] * 2, [tape])
 
 
+def python(program, folder, **variables):
+    """Runs a program in Python elsewhere, with JUGYVAROS_LIBRARY set only where it is given."""
+    plain = {name: value for name, value in os.environ.items() if name != "JUGYVAROS_LIBRARY"}
+    environment = {**plain, "PYTHONDONTWRITEBYTECODE": "1", **variables}
+    return subprocess.run([sys.executable, "-c", program], env=environment, cwd=folder, capture_output=True, text=True)
+
+
 def installed():
     """pip installs the package without a network; the copy beside it is used, or what JUGYVAROS_LIBRARY names."""
     program = "import jugyvaros as j; s = j.Shape(2, 2, 1); print(j.count(s, s.encode([[2, 1]])), j.library.path())"
@@ -344,10 +352,7 @@ def installed():
         bundled = pathlib.Path(folder) / "jugyvaros/libjugyvaros.so"
 
         def said(**variables):
-            plain = {name: value for name, value in os.environ.items() if name != "JUGYVAROS_LIBRARY"}
-            environment = {**plain, "PYTHONPATH": folder, "PYTHONDONTWRITEBYTECODE": "1", **variables}
-            command = [sys.executable, "-c", program]
-            return subprocess.run(command, env=environment, cwd=folder, capture_output=True, text=True)
+            return python(program, folder, PYTHONPATH=folder, **variables)
 
         assert said().stdout == f"(1,) {bundled}\n", said()
         moved = bundled.rename(pathlib.Path(folder) / "elsewhere.so")
@@ -355,6 +360,57 @@ def installed():
         for variables in ({}, {"JUGYVAROS_LIBRARY": str(bundled)}):
             last = said(**variables).stderr.splitlines()[-1]
             assert last.startswith("jugyvaros.repository.NotBuilt: ") and "JUGYVAROS_LIBRARY" in last, last
+
+
+# A toolchain that proves nothing: it says what a true one would, or fails where a file named `fail` stands.
+FAKE_RT = """#!/bin/sh
+echo called >> calls
+test -e fail && echo 'error: a reason' && exit 1
+echo 'rt: gates proved (1 s)'
+echo 'fn gates::kind::apply: proved'
+echo 'rt: jury proved (unchanged since it was last proved)'
+echo 'rt: c_tally proved (2 s)'
+echo 'rt: ok, 3 crates proved'
+"""
+FAKE_LIBRARY = """#!/bin/sh
+mkdir -p target/staticlib && cp {archive} target/staticlib/
+echo 'rt: target/staticlib/libc_tally.a has its functions'
+"""
+PROGRESS = """rt: gates proved (1 s)
+rt: c_tally proved (2 s)
+rt: target/staticlib/libc_tally.a has its functions
+"""
+
+
+def built():
+    """In a checkout the library is built where a source is newer, with a line for each crate that is proved."""
+    with tempfile.TemporaryDirectory() as name:
+        folder = pathlib.Path(name)
+        shutil.copytree(ROOT / "python/jugyvaros", folder / "python/jugyvaros")
+        archive = ROOT / "target/staticlib/libjugyvaros.a"
+        scripts = {"tools/library": FAKE_LIBRARY.format(archive=archive), "bin/rt": FAKE_RT}
+        for path, text in {**scripts, "crates.txt": "gates:\nc_tally: gates\n", "crates/gates/src/lib.rt": ""}.items():
+            (folder / path).parent.mkdir(parents=True, exist_ok=True)
+            (folder / path).write_text(text)
+            (folder / path).chmod(0o755)
+
+        def said():
+            program = "import jugyvaros; print(jugyvaros.Shape(1, 2, 1).measure().inputs)"
+            return python(program, folder, PYTHONPATH=f"{folder}/python", PATH=f"{folder}/bin:{os.environ['PATH']}")
+
+        def calls():
+            return (folder / "calls").read_text().count("called")
+
+        first, again = said(), said()
+        assert (first.stdout, first.stderr) == ("2\n", PROGRESS), first
+        assert (again.stdout, again.stderr, calls()) == ("2\n", "", 1), again
+        later = (folder / "target/staticlib/libjugyvaros.a").stat().st_mtime + 5
+        os.utime(folder / "crates/gates/src/lib.rt", (later, later))
+        assert said().stdout == "2\n" and calls() == 2
+        (folder / "fail").touch()
+        os.utime(folder / "crates/gates/src/lib.rt", (later + 60, later + 60))
+        lines = said().stderr.splitlines()
+        assert "error: a reason" in lines and "NotBuilt: rt check c_tally failed" in lines[-1], lines
 
 
 def main():
@@ -366,6 +422,7 @@ def main():
     # 9, 10 and 24 are about lengths that the package sees to itself; 21 and 22 are of the season sheet
     assert SEEN == set(REASONS) - {9, 10, 24, 21, 22}, sorted(set(REASONS) - SEEN)
     installed()
+    built()
     raised = ", ".join(map(str, sorted(SEEN)))
     print(f"tests/python.py: ok, with {library.path().relative_to(ROOT)}; reasons raised: {raised}")
 

@@ -7,6 +7,7 @@ from __future__ import annotations
 
 import os
 import pathlib
+import re
 import subprocess
 import sys
 from collections.abc import Sequence
@@ -17,6 +18,8 @@ _IS_CHECKOUT = (_PARENT / "tools/library").exists() and (_PARENT / "crates.txt")
 ROOT: pathlib.Path | None = _PARENT if _IS_CHECKOUT else None
 Word = Union[str, pathlib.Path]
 LAST_LINES = 20
+# a crate that was proved just now, or its archive
+_PROGRESS = re.compile(r"rt: \w+ proved \(\d|rt: target/")
 
 
 class NotBuilt(Exception):
@@ -42,7 +45,7 @@ def _is_older(made: pathlib.Path) -> bool:
 
 
 def _build(*command: Word) -> None:
-    """Runs a build command. Standard error gets a line for each crate that is proved, and the end of a failure."""
+    """Runs a build command. Standard error gets a line for each crate that is done, and the end of a failure."""
     seen = []
     try:
         process = subprocess.Popen(
@@ -52,7 +55,7 @@ def _build(*command: Word) -> None:
     assert process.stdout is not None
     for line in process.stdout:
         seen.append(line)
-        if line.startswith("rt: ") and " proved" in line and "unchanged" not in line:
+        if _PROGRESS.match(line):
             print(line, end="", file=sys.stderr, flush=True)
     if process.wait():
         sys.stderr.write("".join(seen[-LAST_LINES:]))
