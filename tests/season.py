@@ -143,8 +143,12 @@ def main():
     rng = random.Random(29)
     compared = Comparisons()
     compare = compared.compare
+    seen = set()
     for data in inputs(rng):
-        compare(f"{len(data)} bytes, {data[:24].hex(' ')}", PROGRAM.said(data), expected(data))
+        wanted = expected(data)
+        compare(f"{len(data)} bytes, {data[:24].hex(' ')}", PROGRAM.said(data), wanted)
+        seen.add(" ".join(wanted.split()[:2]) if wanted.startswith("refused") else "accepted")
+    compare("every answer that there is", seen, {"accepted", "refused 21", "refused 22"})
     for data in [random_sheet(rng, 3), random_sheet(rng, 4096), random_sheet(rng, 4097)]:
         cut = rng.randrange(len(data))
         for pieces in [[data[:cut], data[cut:]], [data[:1], data[1:13], data[13:]],
