@@ -14,7 +14,7 @@ sys.path.insert(0, str(ROOT / "python"))
 
 from jugyvaros import library  # noqa: E402  (the line above is what finds it)
 from jugyvaros.library import SHORT_ANSWER  # noqa: E402
-from jugyvaros.reasons import WORDS  # noqa: E402
+from jugyvaros.reasons import REASONS  # noqa: E402
 
 OLD = 9                                                      # what an answer array holds before a call
 
@@ -86,7 +86,7 @@ class Core:
     def call(self, name, *arguments, answers):
         """A call with an answer array as long as the function needs. A refusal alters nothing else that is lent."""
         status, (reason, place, *values) = self.raw(name, *arguments, answers=answers)
-        assert status == reason and (reason == 0 or reason in WORDS), (name, status, reason)
+        assert status == reason and (reason == 0 or reason in REASONS), (name, status, reason)
         self.answers[name][reason] += 1
         if reason:
             assert not any(values) and all(lent.is_as_before() for lent in arguments if isinstance(lent, Lent)), name

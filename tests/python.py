@@ -8,6 +8,7 @@ boards, tapes and texts; urns; trustees; dispatched calls with pieces of wrong l
 C can hold; `pip install` into an empty folder, where the library is looked for, and when it is built.
 """
 
+import array
 import doctest
 import importlib
 import inspect
@@ -49,12 +50,12 @@ def refused(number, place, function, *arguments, **options):
     raise AssertionError(f"not refused for {number}: {function.__name__} {arguments}")
 
 
-def wrong(function, *arguments, **options):
+def wrong(function, *arguments, error=ValueError, **options):
     """The call is wrong in a way that the core never sees."""
     try:
         function(*arguments, **options)
-    except ValueError as error:
-        assert str(error), function
+    except error as found:
+        assert str(found), function
         return
     raise AssertionError(f"accepted: {function.__name__} {arguments}")
 
@@ -88,7 +89,7 @@ def documented():
             missing = set(inspect.signature(function).parameters) - set(function.__annotations__) - {"self", "cls"}
             assert not missing and "return" in function.__annotations__, (function, missing)
     assert set(ADVICE) == set(REASONS)
-    subprocess.run([sys.executable, ROOT / "python/make_reasons.py", "--check"], check=True)
+    subprocess.run([sys.executable, ROOT / "python/from_header.py", "--check"], check=True)
 
 
 def shapes(rng):
@@ -166,11 +167,11 @@ def bad_lists():
     refused(6, 0, good.run, bytes([1, 1, 0, 1]))
     refused(7, 0, good.run, ballots, b"\1")
     refused(8, 1, good.run, ballots, [0, 2])
-    try:
-        GateList(shape, [2 ** 32, 0, 0, 0] * 2)
-    except OverflowError:
-        return
-    raise AssertionError("a number of 33 bits was taken")
+    wrong(GateList, shape, [2 ** 32, 0, 0, 0] * 2, error=OverflowError)
+    # buffers of another type, and other parameters than the function has, never reach it
+    words = array.array("I", ballots)
+    for given in ((*shape, words), (*shape, 7), (*shape, ballots, ballots), (2, 2, ballots), (2, 2, ballots, 1)):
+        wrong(library.call, "jugy_count", *given, answers=10, error=TypeError)
 
 
 def counterparts(rng):
@@ -420,7 +421,7 @@ def main():
         part(rng)
     bad_lists()
     # 9, 10 and 24 are about lengths that the package sees to itself; 21 and 22 are of the season sheet
-    assert SEEN == set(REASONS) - {9, 10, 24, 21, 22}, sorted(set(REASONS) - SEEN)
+    assert SEEN == {*range(1, 9), *range(11, 21), 23}, sorted(SEEN)
     installed()
     built()
     raised = ", ".join(map(str, sorted(SEEN)))

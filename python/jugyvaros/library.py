@@ -17,6 +17,7 @@ from collections.abc import Callable
 from typing import Any, Union
 
 from . import repository
+from ._header import SIGNATURES
 from .reasons import Refused
 from .repository import NotBuilt
 
@@ -24,26 +25,6 @@ Buffer = Union[bytes, bytearray, "array.array[int]"]
 BUNDLED = pathlib.Path(__file__).with_name("libjugyvaros.so")
 SHORT_ANSWER = 255
 MOST_SIZE = ctypes.c_size_t(-1).value
-
-# The parameters of each function as in c/jugyvaros.h: s is a number, p a pointer with a length. The last is the answer.
-SIGNATURES = {
-    "jugy_measure": "sssp",
-    "jugy_write": "ssspp",
-    "jugy_test": "ssspp",
-    "jugy_run": "ssspppppp",
-    "jugy_run_batch": "ssspppppp",
-    "jugy_run_urn": "ssspppppp",
-    "jugy_count": "ssspp",
-    "jugy_write_text": "sssppp",
-    "jugy_read_text": "sssppp",
-    "jugy_empty_urn": "sspp",
-    "jugy_admit": "sspspp",
-    "jugy_withdraw": "sspsp",
-    "jugy_preview_admit": "sspspp",
-    "jugy_preview_withdraw": "sspsp",
-    "jugy_trustees": "sssppsppppp",
-    "jugy_dispatch": "ssppppppp",
-}
 
 
 def path() -> pathlib.Path:
@@ -70,11 +51,11 @@ def function(name: str) -> Callable[..., int]:
     """An exported function with its parameters declared: numbers, and for each buffer a pointer and a length."""
     found = getattr(_loaded(), name)
     found.restype = ctypes.c_size_t
-    found.argtypes = [kind for code in SIGNATURES[name] for kind in _PARAMETERS[code]]
+    pair: list[Any] = [ctypes.c_void_p, ctypes.c_size_t]
+    found.argtypes = [kind for code in SIGNATURES[name] for kind in ([ctypes.c_size_t] if code == "n" else pair)]
     return found  # type: ignore[no-any-return]
 
 
-_PARAMETERS: dict[str, tuple[Any, ...]] = {"s": (ctypes.c_size_t,), "p": (ctypes.c_void_p, ctypes.c_size_t)}
 # What an empty buffer points to: no pointer may be null.
 _NOTHING = ctypes.create_string_buffer(16)
 
@@ -82,6 +63,13 @@ _NOTHING = ctypes.create_string_buffer(16)
 def size(number: int) -> int:
     """A number as C takes it. What does not fit becomes the largest one, which is outside every limit of the core."""
     return number if 0 <= number <= MOST_SIZE else MOST_SIZE
+
+
+def _code(argument: int | Buffer) -> str:
+    """An argument's kind, as signatures have it."""
+    if isinstance(argument, int):
+        return "n"
+    return argument.typecode if isinstance(argument, array.array) else "B"
 
 
 def _lent(data: Buffer) -> tuple[Any, int]:
@@ -103,11 +91,12 @@ def call(name: str, *arguments: int | Buffer, answers: int, place_of: str | None
     """
     answer = array.array("L", bytes(8 * answers))
     prepared: list[Any] = []
-    for argument in (*arguments, answer):
-        if isinstance(argument, int):
-            prepared.append(size(argument))
-        else:
-            prepared.extend(_lent(argument))
+    given = (*arguments, answer)
+    codes = "".join(map(_code, given))
+    if codes != SIGNATURES[name]:
+        raise TypeError(f"{name} is handed {SIGNATURES[name]}, not {codes}")
+    for argument in given:
+        prepared.extend([size(argument)] if isinstance(argument, int) else _lent(argument))
     reason = function(name)(*prepared)
     if reason:
         raise Refused(reason, answer[1], place_of)

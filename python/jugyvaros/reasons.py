@@ -1,12 +1,12 @@
 """Why the core turns a call away: numbers, words, and the exception that carries them.
 
-The words are those of c/jugyvaros.h (`python/make_reasons.py` takes them from there, and a test holds them to it), so
+The words are those of c/jugyvaros.h (`python/from_header.py` takes them from there, and a test holds them to it), so
 that a reason reads the same in C, in Python and in every tool. What to do about it is said here.
 """
 
 from __future__ import annotations
 
-from ._reasons import WORDS
+from ._header import WORDS
 
 # Reasons of the season sheet, which is a program and has no exported function.
 SHEET = {

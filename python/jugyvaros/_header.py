@@ -1,5 +1,6 @@
-"""Made from c/jugyvaros.h by python/make_reasons.py: each reason's name, words, and what its place counts."""
+"""Made from c/jugyvaros.h by python/from_header.py; change that, not this."""
 
+# Each reason's name, its words, and what its place counts.
 WORDS: dict[int, tuple[str, str, str]] = {
     1: (
         "SHAPE",
@@ -111,4 +112,24 @@ WORDS: dict[int, tuple[str, str, str]] = {
         "what would be written has no room in the output",
         "",
     ),
+}
+
+# The parameters of each function: n for a number; for a pointer with a length the type of its items, as arrays name it.
+SIGNATURES: dict[str, str] = {
+    "jugy_measure": "nnnL",
+    "jugy_write": "nnnIL",
+    "jugy_test": "nnnIL",
+    "jugy_run": "nnnIBBBBL",
+    "jugy_run_batch": "nnnIQQQQL",
+    "jugy_count": "nnnBL",
+    "jugy_write_text": "nnnIBL",
+    "jugy_read_text": "nnnBIL",
+    "jugy_empty_urn": "nnBL",
+    "jugy_admit": "nnBnBL",
+    "jugy_withdraw": "nnBnL",
+    "jugy_preview_admit": "nnBnBL",
+    "jugy_preview_withdraw": "nnBnL",
+    "jugy_run_urn": "nnnIBBBBL",
+    "jugy_trustees": "nnnIBnBBBBL",
+    "jugy_dispatch": "nnLIBBBBL",
 }
