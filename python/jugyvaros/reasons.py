@@ -59,5 +59,5 @@ class Refused(Exception):
         self.advice = ADVICE.get(number, "")
 
     def __str__(self) -> str:
-        where = f"; place {self.place}, counted from 0, is {self.place_of}" if self.place_of else ""
+        where = f" (place {self.place}, counted from 0: {self.place_of})" if self.place_of else ""
         return f"refused {self.number} {self.place}: {self.words}{where}"
