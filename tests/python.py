@@ -343,6 +343,31 @@ def python(program, folder, **variables):
     return subprocess.run([sys.executable, "-c", program], env=environment, cwd=folder, capture_output=True, text=True)
 
 
+def emptied():
+    """Copies of ballots, tapes and shares that were lent are zeros after a call, whether it is accepted or refused."""
+    modules = [importlib.import_module(f"jugyvaros.{name}") for name in ("gates", "dispatch", "batch", "trustees")]
+    lent = []
+    for module in modules:
+        setattr(module, "wipe", lambda *buffers: (lent.extend(buffers), library.wipe(*buffers)))
+    shape = Shape(2, 2, 2)
+    gates, ballots = GateList.own(shape), bytes([1, 0, 0, 1] * 2)
+    bad, dealing, inputs = b"\1" * 8, deal(gates, ballots, 2), shape.inputs
+    calls = [
+        (gates.run, [(ballots,), (bad,)], [gates.conditional]),
+        (dispatch, [([Jury(gates, ballots)],), ([Jury(gates, bad)],)], [inputs, gates.conditional, gates.conditional]),
+        (batch, [(gates, [ballots]), (gates, [bad])], [inputs, gates.conditional]),
+        (tally, [(gates, ballots, dealing), (gates, bad, dealing)], [2 * inputs, 6 * gates.conditional]),
+    ]
+    for function, (accepted, other), lengths in calls:
+        lent.clear()
+        function(*accepted)
+        refused(6, 0, function, *other)
+        assert [len(data) for data in lent] == 2 * lengths and gates.conditional, (function, list(map(len, lent)))
+        assert not any(any(data) for data in lent), function
+    for module in modules:
+        setattr(module, "wipe", library.wipe)
+
+
 def installed():
     """pip installs the package without a network; the copy beside it is used, or what JUGYVAROS_LIBRARY names."""
     program = "import jugyvaros as j; s = j.Shape(2, 2, 1); print(j.count(s, s.encode([[2, 1]])), j.library.path())"
@@ -395,9 +420,9 @@ def built():
             (folder / path).write_text(text)
             (folder / path).chmod(0o755)
 
-        def said():
-            program = "import jugyvaros; print(jugyvaros.Shape(1, 2, 1).measure().inputs)"
-            return python(program, folder, PYTHONPATH=f"{folder}/python", PATH=f"{folder}/bin:{os.environ['PATH']}")
+        def said(program="print(jugyvaros.Shape(1, 2, 1).measure().inputs)"):
+            paths = {"PYTHONPATH": f"{folder}/python", "PATH": f"{folder}/bin:{os.environ['PATH']}"}
+            return python(f"import jugyvaros; {program}", folder, **paths)
 
         def calls():
             return (folder / "calls").read_text().count("called")
@@ -408,6 +433,14 @@ def built():
         later = (folder / "target/staticlib/libjugyvaros.a").stat().st_mtime + 5
         os.utime(folder / "crates/gates/src/lib.rt", (later, later))
         assert said().stdout == "2\n" and calls() == 2
+        program = folder / "target/bin/rehearsal"
+        program.parent.mkdir()
+        program.touch()
+        for path, when in ((program, 1), (folder / "crates.txt", 2), (folder / "crates/gates/src/lib.rt", 2)):
+            os.utime(path, (when, when))
+        for _ in range(2):
+            assert said("print(jugyvaros.repository.program('rehearsal').name)").stdout == "rehearsal\n"
+        assert calls() == 3                                  # once: the program is not older the second time
         (folder / "fail").touch()
         os.utime(folder / "crates/gates/src/lib.rt", (later + 60, later + 60))
         lines = said().stderr.splitlines()
@@ -422,6 +455,7 @@ def main():
     bad_lists()
     # 9, 10 and 24 are about lengths that the package sees to itself; 21 and 22 are of the season sheet
     assert SEEN == {*range(1, 9), *range(11, 21), 23}, sorted(SEEN)
+    emptied()
     installed()
     built()
     raised = ", ".join(map(str, sorted(SEEN)))

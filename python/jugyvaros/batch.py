@@ -7,7 +7,7 @@ import secrets
 from collections.abc import Sequence
 
 from .gates import Board, GateList
-from .library import call
+from .library import call, wipe
 from .reasons import Refused
 
 LANES = 64
@@ -29,7 +29,10 @@ def batch(gates: GateList, juries: Sequence[bytes], tapes: Sequence[bytes] | Non
         masks = pack(tapes, gates.conditional, 7, 8)
     wires = array.array("Q", bytes(8 * (gates.shape.inputs + len(gates))))
     board = array.array("Q", bytes(8 * (gates.conditional + gates.shape.candidates)))
-    call("jugy_run_batch", *gates.shape, gates.table, words, masks, wires, board, answers=4, place_of="the jury")
+    try:
+        call("jugy_run_batch", *gates.shape, gates.table, words, masks, wires, board, answers=4, place_of="the jury")
+    finally:
+        wipe(words, masks)
     lanes = unpack(board, len(juries))
     return [Board(lane[:gates.conditional], lane[gates.conditional:]) for lane in lanes]
 

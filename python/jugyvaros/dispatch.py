@@ -7,7 +7,7 @@ from collections.abc import Sequence
 from typing import NamedTuple
 
 from .gates import Board, GateList, fresh_tape
-from .library import call
+from .library import call, wipe
 from .reasons import Refused
 
 GATES_PER_ROUND = 4096
@@ -34,13 +34,13 @@ def dispatch(juries: Sequence[Jury], gates_per_round: int = GATES_PER_ROUND) -> 
 
     A refusal concerns the whole call: the first bad jury's first reason, with that jury as its place.
     """
-    tapes = [bytes(fresh_tape(jury.gates.conditional)) if jury.tape is None else bytes(jury.tape) for jury in juries]
+    tapes = [fresh_tape(jury.gates.conditional) if jury.tape is None else bytearray(jury.tape) for jury in juries]
     bad = _first_misfit(juries, tapes)
     # of a jury with a piece of another length the core is lent none of that piece, and no jury behind it: it then
     # tests all juries before in order, and this one up to that piece
     lent = list(juries) if bad is None else list(juries[:bad + 1])
-    ballots = [_whole(jury.ballots, jury.gates.shape.inputs) for jury in lent]
-    pieces = [_whole(tape, jury.gates.conditional) for tape, jury in zip(tapes, lent)]
+    ballots = bytearray().join(_whole(jury.ballots, jury.gates.shape.inputs) for jury in lent)
+    masks = bytearray().join(_whole(tape, jury.gates.conditional) for tape, jury in zip(tapes, lent))
     statements = array.array("L", [number for jury in lent for number in (*jury.gates.shape, len(jury.gates))])
     table = array.array("I")
     for jury in lent:
@@ -48,20 +48,23 @@ def dispatch(juries: Sequence[Jury], gates_per_round: int = GATES_PER_ROUND) -> 
     wires = bytearray(sum(jury.gates.shape.inputs + len(jury.gates) for jury in lent))
     boards = bytearray(sum(jury.gates.conditional + jury.gates.shape.candidates for jury in lent))
     number = len(juries) if len(juries) > MOST_JURIES else len(lent)
-    rounds = call("jugy_dispatch", number, gates_per_round, statements, table, b"".join(ballots), b"".join(pieces),
-                  wires, boards, answers=10, place_of="the jury")
+    try:
+        rounds = call("jugy_dispatch", number, gates_per_round, statements, table, ballots, masks, wires, boards,
+                      answers=10, place_of="the jury")
+    finally:
+        wipe(ballots, masks, *tapes)
     if bad is not None:
         # the core was content with an empty tape, and a longer one was given
         raise Refused(7, bad, "the jury")
     return _cut(juries, boards, rounds)
 
 
-def _whole(piece: bytes, length: int) -> bytes:
+def _whole(piece: bytes | bytearray, length: int) -> bytes | bytearray:
     """A piece of its right length, or none of it."""
-    return bytes(piece) if len(piece) == length else b""
+    return piece if len(piece) == length else b""
 
 
-def _first_misfit(juries: Sequence[Jury], tapes: Sequence[bytes]) -> int | None:
+def _first_misfit(juries: Sequence[Jury], tapes: Sequence[bytearray]) -> int | None:
     """The first jury whose ballots or tape have another length than its list needs."""
     for place, (jury, tape) in enumerate(zip(juries, tapes)):
         if (len(jury.ballots), len(tape)) != (jury.gates.shape.inputs, jury.gates.conditional):

@@ -7,7 +7,7 @@ import secrets
 from collections.abc import Iterable, Iterator
 from typing import NamedTuple, Union
 
-from .library import Buffer, call
+from .library import Buffer, call, wipe
 from .shape import Shape
 
 # By kind: operands in use, and whether the gate is conditional, that is, takes a tape byte and shows a bit.
@@ -136,7 +136,7 @@ class GateList:
         try:
             call(name, *self.shape, self._table, ballots, masks, wires, board, answers=4)
         finally:
-            masks[:] = bytes(len(masks))
+            wipe(masks)
         return Board(bytes(board[:self.conditional]), bytes(board[self.conditional:]))
 
     def counterpart(self, ballots: bytes, tape: bytes, others: bytes) -> bytes | None:

@@ -83,6 +83,13 @@ def _lent(data: Buffer) -> tuple[Any, int]:
     return data, len(data)
 
 
+def wipe(*buffers: bytearray | array.array[int]) -> None:
+    """Fills buffers with zeros, where they held ballots or tapes."""
+    for data in buffers:
+        pointer, length = _lent(data)
+        ctypes.memset(pointer, 0, length * (data.itemsize if isinstance(data, array.array) else 1))
+
+
 def call(name: str, *arguments: int | Buffer, answers: int, place_of: str | None = None) -> list[int]:
     """Calls a function with numbers and buffers. `answers` is the length of its answer; what stands there behind reason
     and place is returned.

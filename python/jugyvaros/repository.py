@@ -75,7 +75,6 @@ def archive() -> pathlib.Path:
         # proving by itself says when each crate is done; tools/library then finds all of it proved
         _build("rt", "check", *_export_crates())
         _build(root() / "tools/library")
-        made.touch()
     return made
 
 
@@ -100,5 +99,6 @@ def program(name: str) -> pathlib.Path:
     made = root() / "target/bin" / name
     if _is_older(made):
         _build("rt", "check", name)
+        # a source that was only touched leaves the program as it was, and it is not to be looked at again
         made.touch()
     return made

@@ -6,7 +6,7 @@ from collections.abc import Sequence
 from typing import NamedTuple
 
 from .gates import GateList, fresh_tape
-from .library import call
+from .library import call, wipe
 
 
 class Dealing(NamedTuple):
@@ -66,12 +66,15 @@ def tally(gates: GateList, ballots: bytes, dealing: Dealing) -> Tally:
     wires = bytearray(held * (inputs + len(gates)))
     said = 2 * gates.conditional + gates.shape.candidates
     published = bytearray(held * said)
-    answer = call("jugy_trustees", *gates.shape, gates.table, bytes(ballots), number, parts, dealt, wires, published,
-                  answers=12)
+    try:
+        answer = call("jugy_trustees", *gates.shape, gates.table, bytes(ballots), number, parts, dealt, wires,
+                      published, answers=12)
+    finally:
+        wipe(parts, dealt)
     closing = bytes(answer[2:2 + gates.shape.candidates])
     return Tally([bytes(published[at:at + said]) for at in range(0, len(published), said)], closing)
 
 
-def _joined(pieces: Sequence[bytes], length: int) -> bytes:
-    """The pieces one after another. Where one has a wrong length, nothing: the core then refuses the table's length."""
-    return b"".join(pieces) if all(len(piece) == length for piece in pieces) else b"\0"
+def _joined(pieces: Sequence[bytes], length: int) -> bytearray:
+    """The pieces one after another. Where one has another length, one byte: the core then refuses the length."""
+    return bytearray().join(pieces) if all(len(piece) == length for piece in pieces) else bytearray(1)
