@@ -257,8 +257,8 @@ def trustees(rng):
     for shape, number in itertools.product(SHAPES, range(2, 6)):
         gates, ballots = GateList.own(shape), bytes(random_ballots(rng, *shape))
         dealing = deal(gates, ballots, number)
-        assert len(dealing.ballots) == len(dealing.products) == number
-        assert bytes(sum(bits) % 2 for bits in zip(*dealing.ballots)) == ballots
+        assert len(dealing.ballot_shares) == len(dealing.triples) == number
+        assert bytes(sum(bits) % 2 for bits in zip(*dealing.ballot_shares)) == ballots
         found = tally(gates, ballots, dealing)
         assert found.winners == count(shape, ballots) == tuple(i for i, bit in enumerate(found.closing) if bit)
         assert {len(said) for said in found.published} == {2 * gates.conditional + shape.candidates}
@@ -270,11 +270,12 @@ def trustees(rng):
         refused(16, 0, tally, gates, ballots, deal(gates, ballots, number))
     refused(16, 0, tally, gates, ballots, Dealing([], []))
     good = deal(gates, ballots, 3)
-    for bad in (good._replace(ballots=[good.ballots[0] + b"\0", *good.ballots[1:2], good.ballots[2][:-1]]),
-                good._replace(products=[b"", *good.products[1:]]), good._replace(products=good.products[:2])):
+    shares, triples = good
+    for bad in (Dealing([shares[0] + b"\0", shares[1], shares[2][:-1]], triples), Dealing(shares, [b"", *triples[1:]]),
+                Dealing(shares, triples[:2])):
         refused(17, 0, tally, gates, ballots, bad)
-    for byte in (bytes([1 - good.ballots[0][0]]), b"\2"):
-        refused(18, 0, tally, gates, ballots, good._replace(ballots=[byte + good.ballots[0][1:], *good.ballots[1:]]))
+    for byte in (bytes([1 - shares[0][0]]), b"\2"):
+        refused(18, 0, tally, gates, ballots, Dealing([byte + shares[0][1:], *shares[1:]], triples))
     refused(5, 0, tally, gates, b"\2\0\0\1", good)
 
 

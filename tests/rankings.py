@@ -220,8 +220,30 @@ def small_shapes(tests):
         tests.evaluate(k, n, list(itertools.product(weak_orders(k), repeat=n)))
 
 
+# Faults of a call for three candidates and two ballots, with the reason of each.
+FAULTS = [
+    lambda c: c["ballots"].__setitem__(slice(0, 9), [0, 1, 0, 0, 0, 0, 0, 0, 0]),   # 12
+    lambda c: c["ballots"].__setitem__(slice(9, 18), [0, 1, 0, 0, 0, 1, 1, 0, 0]),  # 12
+    lambda c: c["ballots"].__setitem__(4, 1),            # 11
+    lambda c: c["ballots"].__setitem__(17, 1),
+    lambda c: c["ballots"].__setitem__(0, 2),            # 5
+    lambda c: c["ballots"].__setitem__(17, 255),
+    lambda c: c["ballots"].pop(),                        # 4
+    lambda c: c["tape"].append(0),                       # 7
+    lambda c: c["tape"].__setitem__(0, 2),               # 8
+    lambda c: c.__setitem__("wires", c["wires"] + 1),    # 9
+    lambda c: c.__setitem__("board", c["board"] - 1),    # 10
+    lambda c: c["table"].pop(),                          # 2
+    lambda c: c["table"].__setitem__(0, 8),              # 3
+    lambda c: c["table"].__setitem__(1, 18),
+    lambda c: c.__setitem__("d", 1),                     # 1
+    lambda c: c.__setitem__("n", 256),
+    lambda c: c.__setitem__("k", 0),
+]
+
+
 def runs(tests, rng):
-    """Runs of own lists and of random ones, with random tapes, and all pairs of faults."""
+    """Runs of own lists with random tapes."""
     for k, n in [(1, 1), (2, 3), (3, 4), (4, 5), (8, 2)]:
         gates = tests.own_list(k, n)
         table = [x for gate in gates for x in gate]
@@ -230,27 +252,12 @@ def runs(tests, rng):
             ballots = ballots_of(random_jury(rng, k, n))
             tape = [rng.randrange(2) for _ in range(conditional)]
             tests.run(k, 0, n, table, ballots, tape, n * k * k + len(gates), conditional + k)
-    faults = [
-        lambda c: c["ballots"].__setitem__(slice(0, 9), [0, 1, 0, 0, 0, 0, 0, 0, 0]),   # 12
-        lambda c: c["ballots"].__setitem__(slice(9, 18), [0, 1, 0, 0, 0, 1, 1, 0, 0]),  # 12
-        lambda c: c["ballots"].__setitem__(4, 1),            # 11
-        lambda c: c["ballots"].__setitem__(17, 1),
-        lambda c: c["ballots"].__setitem__(0, 2),            # 5
-        lambda c: c["ballots"].__setitem__(17, 255),
-        lambda c: c["ballots"].pop(),                        # 4
-        lambda c: c["tape"].append(0),                       # 7
-        lambda c: c["tape"].__setitem__(0, 2),               # 8
-        lambda c: c.__setitem__("wires", c["wires"] + 1),    # 9
-        lambda c: c.__setitem__("board", c["board"] - 1),    # 10
-        lambda c: c["table"].pop(),                          # 2
-        lambda c: c["table"].__setitem__(0, 8),              # 3
-        lambda c: c["table"].__setitem__(1, 18),
-        lambda c: c.__setitem__("d", 1),                     # 1
-        lambda c: c.__setitem__("n", 256),
-        lambda c: c.__setitem__("k", 0),
-    ]
+
+
+def pairs_of_faults(tests):
+    """Every fault alone and every two at once, run and counted."""
     gates = tests.own_list(3, 2)
-    for first, second in itertools.combinations_with_replacement(faults, 2):
+    for first, second in itertools.combinations_with_replacement(FAULTS, 2):
         case = {"k": 3, "d": 0, "n": 2, "table": [x for gate in gates for x in gate],
                 "ballots": ballots_of([[0, 1, 1], [2, 0, 1]])}
         case["tape"] = [i % 2 for i in range(doc.conditional_count(gates))]
@@ -271,6 +278,7 @@ def main():
     small_shapes(tests)
     random_juries(tests, rng)
     runs(tests, rng)
+    pairs_of_faults(tests)
     told = tests.core.saw(count={1, 4, 5, 11, 12}, run={1, 2, 3, 4, 5, 11, 12, 7, 8, 9, 10})
     lists, calls = len(tests.lists), tests.core.calls
     print(f"tests/rankings.py: {lists} lists on {tests.juries} juries, {calls} calls agree: {told}")

@@ -286,56 +286,69 @@ def faults(call):
     }
 
 
-def main():
-    rng = random.Random(7)
-    core = Trustees()
+# Tiny lists, and numbers of trustees, of which every dealing is tried: free gates, each conditional kind, operands that
+# coincide.
+TINY = [
+    ([(2, 0, 0, 0)], (2, 3)),
+    ([(3, 1, 0, 0), (6, 0, 2, 0)], (2, 3)),
+    ([(AND, 0, 1, 0)], (2,)),
+    ([(OR, 0, 1, 0)], (2,)),
+    ([(CHOICE, 0, 1, 0)], (2,)),
+    ([(CHOICE, 1, 1, 1)], (2,)),
+]
+SHAPES = [(1, 2, 1), (2, 3, 3), (3, 2, 4), (8, 7, 2), (2, 2, 9), (1, 0, 1), (2, 0, 3), (3, 0, 5), (5, 0, 4), (8, 0, 2)]
 
-    # every dealing of tiny lists: free gates, each conditional kind, operands that coincide
-    tiny = (1, 2, 1)
-    lists = [
-        ([(2, 0, 0, 0)], (2, 3)),
-        ([(3, 1, 0, 0), (6, 0, 2, 0)], (2, 3)),
-        ([(AND, 0, 1, 0)], (2,)),
-        ([(OR, 0, 1, 0)], (2,)),
-        ([(CHOICE, 0, 1, 0)], (2,)),
-        ([(CHOICE, 1, 1, 1)], (2,)),
-    ]
-    pairs = sum(count_counterparts(core, tiny, gates, t) for gates, counts in lists for t in counts)
-    assert pairs
 
-    # random elections: own lists and random ones
-    for shape in ((1, 2, 1), (2, 3, 3), (3, 2, 4), (8, 7, 2), (2, 2, 9), (1, 0, 1), (2, 0, 3), (3, 0, 5), (5, 0, 4),
-                  (8, 0, 2)):
-        for t in range(2, 6):
-            core.check(valid_call(rng, core, shape, t))
+def elections(rng, core):
+    """Random elections, graded and ranked: own lists and random ones."""
+    for shape, t in itertools.product(SHAPES, range(2, 6)):
+        core.check(valid_call(rng, core, shape, t))
     for _ in range(300):
         shape = rng.randrange(1, 5), rng.choice((0, 2, 3, 4)), rng.randrange(1, 4)
         gates = random_gates(rng, doc.ballot_bytes(*shape), rng.randrange(shape[0], 40))
         core.check(valid_call(rng, core, shape, rng.randrange(2, 6), gates))
 
-    # each fault, and all pairs
-    for shape in ((2, 3, 2), (3, 0, 2)):
-        call = valid_call(rng, core, shape, 3)
-        single = faults(call)
-        for one in single.values():
-            assert core.check(call.but(**one)) is None
-        for one, other in itertools.combinations(single.values(), 2):
-            if not set(one) & set(other):
-                assert core.check(call.but(**one, **other)) is None
-    # every part is looked at
+
+def refusals(core, call):
+    """Each fault of a call, and all pairs."""
+    single = faults(call)
+    for one in single.values():
+        assert core.check(call.but(**one)) is None
+    for one, other in itertools.combinations(single.values(), 2):
+        if not set(one) & set(other):
+            assert core.check(call.but(**one, **other)) is None
+
+
+def every_part(rng, core, call):
+    """Every part is looked at."""
     for place in range(len(call.parts)):
         assert core.check(call.but(parts=changed(call.parts, place, call.parts[place] + 2))) is None
         assert core.check(call.but(parts=changed(call.parts, place, 1 - call.parts[place]))) is None
-    for place in rng.sample(range(len(call.dealt)), 60):
+    for place in rng.sample(range(len(call.dealt)), min(60, len(call.dealt))):
         assert core.check(call.but(dealt=changed(call.dealt, place, call.dealt[place] + 2))) is None
-    core.ignores_short_answers("jugy_trustees", *lent_to(call), answers=ANSWER)
-    # C = 0, and old contents of both tables
-    gates = [(XOR, 0, 1, 0), (ONE, 0, 0, 0), (3, 4, 0, 0)]
-    free = valid_call(rng, core, (2, 2, 1), 5, gates)
+
+
+def old_contents(rng, core, call):
+    """Whatever both tables held, with conditional gates and without."""
+    free = valid_call(rng, core, (2, 2, 1), 5, [(XOR, 0, 1, 0), (ONE, 0, 0, 0), (3, 4, 0, 0)])
     assert not free.dealt
     for old in (0, 1, 255):
         core.check(free.but(old=old))
         core.check(call.but(old=old))
+
+
+def main():
+    rng = random.Random(7)
+    core = Trustees()
+    pairs = sum(count_counterparts(core, (1, 2, 1), gates, t) for gates, counts in TINY for t in counts)
+    assert pairs
+    elections(rng, core)
+    for shape in ((2, 3, 2), (3, 0, 2)):
+        call = valid_call(rng, core, shape, 3)
+        refusals(core, call)
+        every_part(rng, core, call)
+        old_contents(rng, core, call)
+    core.ignores_short_answers("jugy_trustees", *lent_to(call), answers=ANSWER)
     told = core.saw(trustees={1, 2, 3, 4, 5, 6, 11, 12, 16, 17, 18})
     print(f"tests/trustees.py: ok, {core.calls} calls, {pairs} pairs of elections: {told}")
 

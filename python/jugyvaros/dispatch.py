@@ -41,7 +41,7 @@ def dispatch(juries: Sequence[Jury], gates_per_round: int = GATES_PER_ROUND) -> 
     lent = list(juries) if bad is None else list(juries[:bad + 1])
     ballots = bytearray().join(_whole(jury.ballots, jury.gates.shape.inputs) for jury in lent)
     masks = bytearray().join(_whole(tape, jury.gates.conditional) for tape, jury in zip(tapes, lent))
-    statements = array.array("L", [number for jury in lent for number in (*jury.gates.shape, len(jury.gates))])
+    headers = array.array("L", [number for jury in lent for number in (*jury.gates.shape, len(jury.gates))])
     table = array.array("I")
     for jury in lent:
         table.extend(jury.gates.table)
@@ -49,7 +49,7 @@ def dispatch(juries: Sequence[Jury], gates_per_round: int = GATES_PER_ROUND) -> 
     boards = bytearray(sum(jury.gates.conditional + jury.gates.shape.candidates for jury in lent))
     number = len(juries) if len(juries) > MOST_JURIES else len(lent)
     try:
-        rounds = call("jugy_dispatch", number, gates_per_round, statements, table, ballots, masks, wires, boards,
+        rounds = call("jugy_dispatch", number, gates_per_round, headers, table, ballots, masks, wires, boards,
                       answers=10, place_of="the jury")
     finally:
         wipe(ballots, masks, *tapes)

@@ -10,10 +10,13 @@ from .library import call, wipe
 
 
 class Dealing(NamedTuple):
-    """What each trustee is given, for one tally only: its share of the ballots, and of the dealer's products."""
+    """What each trustee is given, for one tally only: its share of the ballots, and of the dealer's triples.
 
-    ballots: Sequence[bytes]
-    products: Sequence[bytes]
+    A triple is two random bits and their product, for one conditional gate.
+    """
+
+    ballot_shares: Sequence[bytes]
+    triples: Sequence[bytes]
 
 
 class Tally(NamedTuple):
@@ -38,17 +41,17 @@ def _split(bits: bytes, trustees: int) -> list[bytes]:
 
 
 def deal(gates: GateList, ballots: bytes, trustees: int) -> Dealing:
-    """Splits ballots among 2 to 5 trustees and deals a product for each conditional gate, with fresh secret bits.
+    """Splits ballots among 2 to 5 trustees and deals a triple for each conditional gate, with fresh secret bits.
 
     Whoever calls this sees the ballots. In a real tally each juror splits its own ballot, and a dealer deals the
-    products.
+    triples.
     """
     number = max(1, min(trustees, 6))
     first, second = (bytes(fresh_tape(gates.conditional)) for _ in range(2))
     product = bytes(u & v for u, v in zip(first, second))
     columns = [_split(bits, number) for bits in (first, second, product)]
-    products = [bytes(bit for gate in zip(*shares) for bit in gate) for shares in zip(*columns)]
-    return Dealing(_split(bytes(ballots), number), products)
+    triples = [bytes(bit for gate in zip(*shares) for bit in gate) for shares in zip(*columns)]
+    return Dealing(_split(bytes(ballots), number), triples)
 
 
 def tally(gates: GateList, ballots: bytes, dealing: Dealing) -> Tally:
@@ -60,17 +63,17 @@ def tally(gates: GateList, ballots: bytes, dealing: Dealing) -> Tally:
     >>> tally(gates, ballots, deal(gates, ballots, 3)).winners
     (1,)
     """
-    number, inputs = len(dealing.ballots), gates.shape.inputs
-    parts, dealt = _joined(dealing.ballots, inputs), _joined(dealing.products, 3 * gates.conditional)
+    number, inputs = len(dealing.ballot_shares), gates.shape.inputs
+    shares, triples = _joined(dealing.ballot_shares, inputs), _joined(dealing.triples, 3 * gates.conditional)
     held = max(1, min(number, 5))
     wires = bytearray(held * (inputs + len(gates)))
     said = 2 * gates.conditional + gates.shape.candidates
     published = bytearray(held * said)
     try:
-        answer = call("jugy_trustees", *gates.shape, gates.table, bytes(ballots), number, parts, dealt, wires,
+        answer = call("jugy_trustees", *gates.shape, gates.table, bytes(ballots), number, shares, triples, wires,
                       published, answers=12)
     finally:
-        wipe(parts, dealt)
+        wipe(shares, triples)
     closing = bytes(answer[2:2 + gates.shape.candidates])
     return Tally([bytes(published[at:at + said]) for at in range(0, len(published), said)], closing)
 
