@@ -80,7 +80,9 @@ def documented():
     for module in (jugyvaros, *modules()):
         assert module.__doc__, module
         examples += doctest.testmod(module, raise_on_error=True).attempted
-    assert examples >= 10
+    readme = ROOT / "python/README.md"
+    examples += doctest.testfile(str(readme), module_relative=False, raise_on_error=True, encoding="utf-8").attempted
+    assert examples >= 25, examples
     for name in jugyvaros.__all__:
         item = getattr(jugyvaros, name)
         assert item.__doc__ and not item.__doc__.startswith(f"{name}("), name
@@ -421,9 +423,8 @@ def built():
             (folder / path).write_text(text)
             (folder / path).chmod(0o755)
 
-        def said(program="print(jugyvaros.Shape(1, 2, 1).measure().inputs)"):
-            paths = {"PYTHONPATH": f"{folder}/python", "PATH": f"{folder}/bin:{os.environ['PATH']}"}
-            return python(f"import jugyvaros; {program}", folder, **paths)
+        def said(program="print(jugyvaros.Shape(1, 2, 1).measure().inputs)", PATH=f"{folder}/bin:{os.environ['PATH']}"):
+            return python(f"import jugyvaros; {program}", folder, PYTHONPATH=f"{folder}/python", PATH=PATH)
 
         def calls():
             return (folder / "calls").read_text().count("called")
@@ -446,6 +447,9 @@ def built():
         os.utime(folder / "crates/gates/src/lib.rt", (later + 60, later + 60))
         lines = said().stderr.splitlines()
         assert "error: a reason" in lines and "NotBuilt: rt check c_tally failed" in lines[-1], lines
+        (folder / "bin/rt").unlink()
+        last = said(PATH=f"{folder}/bin").stderr.splitlines()[-1]
+        assert "NotBuilt: rt is not installed" in last, last
 
 
 def main():

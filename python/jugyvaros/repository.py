@@ -51,7 +51,8 @@ def _build(*command: Word) -> None:
         process = subprocess.Popen(
             command, cwd=root(), stdin=subprocess.DEVNULL, stdout=subprocess.PIPE, stderr=subprocess.STDOUT, text=True)
     except FileNotFoundError:
-        raise NotBuilt(f"{command[0]} is not installed, and the core has to be built: put it on PATH") from None
+        missing = f"{command[0]} is not installed, and the core has to be built"
+        raise NotBuilt(f"{missing}; put it on PATH, or set JUGYVAROS_LIBRARY") from None
     assert process.stdout is not None
     for line in process.stdout:
         seen.append(line)
