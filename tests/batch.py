@@ -1,5 +1,4 @@
-"""Runs for 64 juries at once, through the library: each jury against its single run and against the requirements,
-written apart.
+"""Runs for 64 juries at once, through the library: each jury against its single run and the reference.
 
     python3 tests/batch.py    prints how many calls there were, by reason
 

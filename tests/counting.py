@@ -1,4 +1,4 @@
-"""Counting plainly, through the library: accepted and refused juries against the requirements, written apart.
+"""Counting plainly, through the library: accepted and refused juries against the reference.
 
     python3 tests/counting.py    prints how many calls there were, by reason
 

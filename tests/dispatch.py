@@ -1,5 +1,5 @@
 #!/usr/bin/env python3
-"""The dispatcher, through the library, against a model written apart: up to eight juries in rounds.
+"""The dispatcher, through the library, against an independent model: up to eight juries in rounds.
 
     python3 tests/dispatch.py    prints how many calls there were, by reason
 

@@ -1,4 +1,4 @@
-"""Ranked juries, through the library: tested, counted, run and written for, against the requirements, written apart.
+"""Ranked juries, through the library: tested, counted, run and written for, against the reference.
 
     python3 tests/rankings.py    prints how many calls and juries there were
 

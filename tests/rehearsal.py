@@ -1,5 +1,5 @@
 #!/usr/bin/env python3
-"""Runs the rehearsal program on many inputs and compares what it prints with the requirements, written apart.
+"""Runs the rehearsal program on many inputs and compares what it prints with the reference.
 
     python3 tests/rehearsal.py    needs target/bin/rehearsal (rt check rehearsal builds it) and the library
 

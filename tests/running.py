@@ -1,5 +1,5 @@
 """Testing and running lists, through the library: anyone's lists for juries, accepted and refused, against the
-requirements, written apart.
+reference.
 
     python3 tests/running.py    prints how many calls there were, by reason
 

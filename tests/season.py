@@ -1,5 +1,5 @@
 #!/usr/bin/env python3
-"""Runs the season sheet on many inputs and compares what it prints with request 2.9, written apart; tries tools/season.
+"""Runs the season sheet on many inputs and compares what it prints with an independent sum; tries tools/season.
 
     python3 tests/season.py    needs target/bin/season_sheet and target/bin/rehearsal (rt check), and the library
 

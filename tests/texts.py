@@ -1,4 +1,4 @@
-"""Gate lists as text, through the library: written and read, against the requirements, written apart.
+"""Gate lists as text, through the library: written and read, against an independent reading of the format.
 
     python3 tests/texts.py    prints how many calls there were, by reason
 

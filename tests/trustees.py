@@ -1,4 +1,4 @@
-"""The tally by trustees, through the library, against a model written apart.
+"""The tally by trustees, through the library, against an independent model.
 
     python3 tests/trustees.py    prints how many calls there were, by reason
 

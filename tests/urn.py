@@ -1,5 +1,5 @@
 #!/usr/bin/env python3
-"""The exported calls on an urn against a model written apart, over the static library: soundness of every urn of two
+"""The exported calls on an urn against an independent model, over the static library: soundness of every urn of two
 and three slots over small bytes, every kind of damage, urns of 256 slots, pairs of faults, long random sequences of
 calls, tables of every length made empty, and previews of different urns that have the same told of them. Needs a C
 compiler and target/staticlib/libjugyvaros.a. All buffers have guards on both sides (core.py)."""

@@ -1,5 +1,5 @@
 #!/usr/bin/env python3
-"""The run on an urn against the program written apart, over the static library: chains in any order of slots, n that
+"""The run on an urn against the reference, over the static library: chains in any order of slots, n that
 is not the number of ballots, damaged urns, every fault with every other, full urns, short answer arrays, and random
 calls. Needs a C compiler and target/staticlib/libjugyvaros.a."""
 import itertools

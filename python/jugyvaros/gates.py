@@ -8,7 +8,7 @@ from collections.abc import Iterable, Iterator
 from typing import NamedTuple, Union
 
 from .library import Buffer, call, wipe
-from .shape import Shape
+from .shape import Shape, winners_of
 
 # By kind: operands in use, and whether the gate is conditional, that is, takes a tape byte and shows a bit.
 OPERANDS = (0, 0, 1, 1, 2, 2, 2, 3)
@@ -35,7 +35,7 @@ class Board(NamedTuple):
     @property
     def winners(self) -> tuple[int, ...]:
         """The winners: candidates from 0, in order."""
-        return tuple(candidate for candidate, bit in enumerate(self.closing) if bit)
+        return winners_of(self.closing)
 
     def __bytes__(self) -> bytes:
         return self.shown + self.closing

@@ -73,6 +73,11 @@ class Shape(NamedTuple):
         return bytes(rows)
 
 
+def winners_of(closing: Iterable[int]) -> tuple[int, ...]:
+    """The winners that closing bytes name: candidates from 0, in order."""
+    return tuple(candidate for candidate, bit in enumerate(closing) if bit)
+
+
 def count(shape: Shape, ballots: bytes) -> tuple[int, ...]:
     """The winners, counted plainly without a gate list: candidates from 0, in order.
 
@@ -80,5 +85,4 @@ def count(shape: Shape, ballots: bytes) -> tuple[int, ...]:
     >>> count(shape, shape.encode([[1, 2], [2, 2], [2, 3]]))
     (0,)
     """
-    closing = call("jugy_count", *shape, bytes(ballots), answers=10)
-    return tuple(candidate for candidate, bit in enumerate(closing) if bit)
+    return winners_of(call("jugy_count", *shape, bytes(ballots), answers=10))

@@ -7,6 +7,7 @@ from typing import NamedTuple
 
 from .gates import GateList, fresh_tape
 from .library import call, wipe
+from .shape import winners_of
 
 
 class Dealing(NamedTuple):
@@ -28,7 +29,7 @@ class Tally(NamedTuple):
     @property
     def winners(self) -> tuple[int, ...]:
         """The winners: candidates from 0, in order."""
-        return tuple(candidate for candidate, bit in enumerate(self.closing) if bit)
+        return winners_of(self.closing)
 
 
 def _split(bits: bytes, trustees: int) -> list[bytes]:
