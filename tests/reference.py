@@ -1,4 +1,4 @@
-"""The requirements in Python: a second program, written apart from the Rattle code, that says what the core must answer.
+"""An independent reference implementation: the requirements in Python, which say what the core must answer.
 
 It is written for plainness and not for speed. Nothing here is shared with the crates.
 """
