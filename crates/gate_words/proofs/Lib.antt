@@ -13,4 +13,6 @@ pub mod ChoiceLaws
 pub mod ComparisonLaws
 pub mod PointsBack
 pub mod Ends
+pub mod HalvesLaws
+pub mod Standing
 pub mod Laws

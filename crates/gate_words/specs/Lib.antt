@@ -5,5 +5,6 @@ pub mod Adder
 pub mod Counter
 pub mod Choice
 pub mod Comparison
+pub mod Halves
 pub mod Writing
 pub mod Emitted

@@ -19,4 +19,3 @@ pub mod RuleLaws
 pub mod Accuracy
 pub mod BoundLaws
 pub mod OwnListLaws
-pub mod Writers

@@ -17,7 +17,7 @@ use Rattle.graded_circuit.specs.Contest.{lower, lowerSpan, lowerUnequal, lowerF
 use Rattle.graded_circuit.proofs.MedianLaws.{median-block}
 use Rattle.graded_circuit.proofs.VersusLaws.{versus-block}
 use Rattle.graded_circuit.proofs.ContestLaws.{grade-fits, lower-block, key-words, flags-end}
-use Rattle.graded_circuit.proofs.Writers.{Stands, stands, stands-after, room-of, wrote-then}
+use Rattle.gate_words.proofs.Standing.{Stands, stands, stands-after, room-of, wrote-then}
 use Rattle.graded_contest.proofs.contest.contest.Statement.{statement}
 use Rattle.graded_contest.proofs.contest.contest.Tie as tie
 

@@ -11,7 +11,7 @@ use Rattle.gate_words.proofs.Writing.{wrote-both, wrote-as, room-less}
 use Rattle.gate_words.proofs.Emitting.{or-wrote, mux-wrote}
 use Rattle.graded_circuit.specs.Versus.{unequalAt, aboveAt}
 use Rattle.graded_circuit.specs.Contest.{lowerUnequal, lowerFirst}
-use Rattle.graded_circuit.proofs.Writers.{Stands, stands, stands-after}
+use Rattle.gate_words.proofs.Standing.{Stands, stands, stands-after}
 use Rattle.graded_contest.proofs.contest.join.Statement.{statement}
 use Rattle.graded_contest.proofs.contest.join.Tie as tie
 

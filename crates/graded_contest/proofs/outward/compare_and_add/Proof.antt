@@ -11,7 +11,7 @@ use Rattle.gate_words.proofs.Writing.{room-less}
 use Rattle.graded_circuit.specs.Versus.{versus, versusSpan}
 use Rattle.graded_circuit.specs.Outward.{compareAndAdd}
 use Rattle.graded_circuit.proofs.VersusLaws.{versus-block}
-use Rattle.graded_circuit.proofs.Writers.{Stands, stands, stands-after, room-of, wrote-then}
+use Rattle.gate_words.proofs.Standing.{Stands, stands, stands-after, room-of, wrote-then}
 use Rattle.graded_contest.proofs.outward.compare_and_add.Statement.{statement}
 use Rattle.graded_contest.proofs.outward.compare_and_add.Tie as tie
 

@@ -5,7 +5,7 @@ use Prim.Native.Nat.{_+_, _-_}
 use native.Mathlib.Omega.{arith}
 use Rattle.gate_words.proofs.Writing.{room-less, wrote-both, wrote-long}
 use Rattle.gate_words.proofs.Emitting.{and-wrote, xor-wrote, mux-wrote, wrote-three}
-use Rattle.graded_circuit.proofs.Writers.{Stands, stands, stands-after, room-of}
+use Rattle.gate_words.proofs.Standing.{Stands, stands, stands-after, room-of}
 use Rattle.graded_contest.proofs.outward.decide.Statement.{statement}
 use Rattle.graded_contest.proofs.outward.decide.Tie as tie
 

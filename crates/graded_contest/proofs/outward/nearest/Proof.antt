@@ -12,7 +12,7 @@ use Rattle.graded_circuit.specs.Nearest.{stride, sideSpan, belowAt, fromAt, eit
 use Rattle.graded_circuit.specs.Outward.{downAt, upAt, farAt, nearest}
 use Rattle.graded_circuit.proofs.NearestLaws.{sides-block, last-of-block}
 use Rattle.graded_keys.proofs.Steps.{product-most}
-use Rattle.graded_circuit.proofs.Writers.{Stands, stands, stands-after, room-of, wrote-then}
+use Rattle.gate_words.proofs.Standing.{Stands, stands, stands-after, room-of, wrote-then}
 use Rattle.graded_contest.proofs.outward.nearest.Statement.{statement}
 use Rattle.graded_contest.proofs.outward.nearest.Tie as tie
 

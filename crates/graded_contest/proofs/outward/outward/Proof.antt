@@ -14,7 +14,7 @@ use Rattle.graded_circuit.specs.Nearest.{stride, sideSpan, eitherSpan, leftEnd,
 use Rattle.graded_circuit.specs.Outward.{downAt, upAt, nearestEnd, farAt, downLeft, downRight, upLeft, upRight, compareAndAdd, compareAndAddSpan, leftCarry, rightCarry, resolve, resolveSpan, resolveAt, outward}
 use Rattle.graded_circuit.proofs.OutwardBlocks.{nearest-block, compare-and-add-block, down-left-below, down-right-below, up-left-below, up-right-below}
 use Rattle.graded_keys.proofs.Steps.{product-most}
-use Rattle.graded_circuit.proofs.Writers.{Stands, stands, stands-after, room-of, wrote-then}
+use Rattle.gate_words.proofs.Standing.{Stands, stands, stands-after, room-of, wrote-then}
 use Rattle.graded_contest.proofs.outward.outward.Statement.{statement}
 use Rattle.graded_contest.proofs.outward.outward.Tie as tie
 

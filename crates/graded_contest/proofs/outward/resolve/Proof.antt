@@ -12,7 +12,7 @@ use Rattle.gate_words.specs.Gates.{notOf, andOf, xorOf, muxOf}
 use Rattle.gate_words.proofs.Writing.{wrote-as, room-less}
 use Rattle.graded_circuit.specs.Versus.{versusSpan, unequalAt, aboveAt}
 use Rattle.graded_circuit.specs.Outward.{leftCarry, rightCarry, resolve}
-use Rattle.graded_circuit.proofs.Writers.{Stands, stands, stands-after, wrote-then}
+use Rattle.gate_words.proofs.Standing.{Stands, stands, stands-after, wrote-then}
 use Rattle.graded_contest.proofs.outward.resolve.Statement.{statement}
 use Rattle.graded_contest.proofs.outward.resolve.Tie as tie
 

@@ -6,7 +6,7 @@ use native.Mathlib.Omega.{arith}
 use borrow.Author.Needs.{needs}
 use Rattle.gate_words.proofs.Writing.{room-less}
 use Rattle.gate_words.proofs.Emitting.{not-wrote, xor-wrote, mux-wrote, wrote-four}
-use Rattle.graded_circuit.proofs.Writers.{Stands, stands, stands-after, room-of}
+use Rattle.gate_words.proofs.Standing.{Stands, stands, stands-after, room-of}
 use Rattle.graded_contest.proofs.outward.second.Statement.{statement}
 use Rattle.graded_contest.proofs.outward.second.Tie as tie
 

@@ -12,7 +12,7 @@ use Rattle.gate_words.proofs.Emitting.{and-wrote, xor-wrote}
 use Rattle.graded_circuit.specs.Versus.{unequalSpan, unequalAt}
 use Rattle.graded_circuit.specs.Nearest.{side}
 use Rattle.graded_circuit.proofs.VersusLaws.{length-unequal}
-use Rattle.graded_circuit.proofs.Writers.{Stands, stands, stands-after, room-of, wrote-then}
+use Rattle.gate_words.proofs.Standing.{Stands, stands, stands-after, room-of, wrote-then}
 use Rattle.graded_keys.proofs.nearest.side.Statement.{statement}
 use Rattle.graded_keys.proofs.nearest.side.Tie as tie
 

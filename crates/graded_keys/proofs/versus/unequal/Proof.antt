@@ -11,7 +11,7 @@ use Rattle.gate_words.proofs.Laws.{length-differences}
 use Rattle.gate_words.proofs.Writing.{wrote-as, room-less}
 use Rattle.graded_circuit.specs.Versus.{unequal}
 use Rattle.graded_circuit.proofs.PlanFacts.{all-below}
-use Rattle.graded_circuit.proofs.Writers.{Stands, stands, stands-after, wrote-then}
+use Rattle.gate_words.proofs.Standing.{Stands, stands, stands-after, wrote-then}
 use Rattle.graded_keys.proofs.versus.unequal.Statement.{statement}
 use Rattle.graded_keys.proofs.versus.unequal.Tie as tie
 

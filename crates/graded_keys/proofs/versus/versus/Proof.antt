@@ -8,7 +8,7 @@ use Rattle.gate_words.specs.Comparison.{above}
 use Rattle.gate_words.proofs.Writing.{room-less}
 use Rattle.graded_circuit.specs.Versus.{versus, unequalSpan}
 use Rattle.graded_circuit.proofs.VersusLaws.{length-unequal}
-use Rattle.graded_circuit.proofs.Writers.{Stands, stands, stands-after, wrote-then}
+use Rattle.gate_words.proofs.Standing.{Stands, stands, stands-after, wrote-then}
 use Rattle.graded_keys.proofs.versus.versus.Statement.{statement}
 use Rattle.graded_keys.proofs.versus.versus.Tie as tie
 

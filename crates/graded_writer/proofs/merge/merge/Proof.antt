@@ -8,7 +8,7 @@ use Rattle.graded_circuit.specs.Contest.{resultAt, contestSpan}
 use Rattle.graded_circuit.specs.Merge.{stillWon, verdict, merge}
 use Rattle.graded_circuit.proofs.ContestLaws.{contest-block}
 use Rattle.graded_circuit.proofs.MergeLaws.{verdict-block, still-won-block}
-use Rattle.graded_circuit.proofs.Writers.{Stands, stands, stands-after, room-of, wrote-then}
+use Rattle.gate_words.proofs.Standing.{Stands, stands, stands-after, room-of, wrote-then}
 use Rattle.graded_writer.proofs.merge.merge.Statement.{statement}
 use Rattle.graded_writer.proofs.merge.merge.Tie as tie
 
