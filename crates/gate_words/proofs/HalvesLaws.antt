@@ -13,7 +13,7 @@ use Rattle.gate_words.specs.Gates.{andOf, orOf, xorOf, muxOf}
 use Rattle.gate_words.specs.Word.{ones, number, Below}
 use Rattle.gate_words.specs.Choice.{anyOf, chainEnd}
 use Rattle.gate_words.specs.Comparison.{differences, above}
-use Rattle.gate_words.specs.Halves.{anyOfHalves, unequalHalves, unequalSpan, unequalAt, aboveHalves, highUnequalAt, compareHalves, compareSpan, aboveAt, compareBothWays}
+use Rattle.gate_words.specs.Halves.{anyOfHalves, unequalHalves, unequalSpan, unequalAt, aboveHalves, highUnequalAt, compareHalves, compareSpan, aboveAt, compareBothWays, unequalCut, compareCut}
 use Rattle.gate_words.proofs.Numbers.{Binary, bit-cases, number-none, number-more, number-split, number-less, ones-none, ones-more}
 use Rattle.gate_words.proofs.GateValues.{holds-first, holds-rest, and-is, or-is, xor-is}
 use Rattle.gate_words.proofs.ChoiceLaws.{any-one, any-zero}
@@ -418,3 +418,33 @@ module _ (W : ℕ → ℕ) (b : Binary W) where
     where
       unlike : {i j : ℕ} → i < j → i ≡ j → ⊥
       unlike q z = omega arith
+
+-- a word that is cut has all its digits
+whole-word : (w h : ℕ) → h ≤ w → w - h + h ≡ w
+whole-word w h q = omega arith
+
+module _ (n x y w h : ℕ) (q : h ≤ w) where
+  pub length-unequal-cut : length (unequalCut n x y w h) ≡ unequalSpan w
+  length-unequal-cut = length-unequal-halves n x y (w - h) h ∙ ap unequalSpan (whole-word w h q)
+
+  pub length-compare-cut : length (compareCut n x y w h) ≡ compareSpan w
+  length-compare-cut = length-compare-halves n x y (w - h) h ∙ ap compareSpan (whole-word w h q)
+
+  pub unequal-cut-good : x + suc w ≤ n → y + suc w ≤ n → AllGood n (unequalCut n x y w h)
+  unequal-cut-good hx hy = unequal-halves-good n x y (w - h) h (omega (arith, whole-word w h q)) (omega (arith, whole-word w h q))
+
+  pub compare-cut-good : x + suc w ≤ n → y + suc w ≤ n → AllGood n (compareCut n x y w h)
+  compare-cut-good hx hy = compare-halves-good n x y (w - h) h (omega (arith, whole-word w h q)) (omega (arith, whole-word w h q))
+
+  module _ (W : ℕ → ℕ) (b : Binary W) where
+    pub unequal-cut-zero : number W x 1 (suc w) ≡ number W y 1 (suc w) → Holds W n (unequalCut n x y w h) → W (unequalAt n w) ≡ 0
+    unequal-cut-zero =
+        subst (λ (i : ℕ). number W x 1 (suc i) ≡ number W y 1 (suc i) → Holds W n (unequalCut n x y w h) → W (unequalAt n i) ≡ 0) (whole-word w h q) (unequal-halves-zero W b n x y (w - h) h)
+
+    pub unequal-cut-one : number W x 1 (suc w) ≢ number W y 1 (suc w) → Holds W n (unequalCut n x y w h) → W (unequalAt n w) ≡ 1
+    unequal-cut-one =
+        subst (λ (i : ℕ). number W x 1 (suc i) ≢ number W y 1 (suc i) → Holds W n (unequalCut n x y w h) → W (unequalAt n i) ≡ 1) (whole-word w h q) (unequal-halves-one W b n x y (w - h) h)
+
+    pub compare-cut-law : Holds W n (compareCut n x y w h) → Tells (W (unequalAt n w)) (W (aboveAt n x w)) (number W x 1 (suc w)) (number W y 1 (suc w))
+    compare-cut-law g =
+        subst (λ (i : ℕ). Tells (W (unequalAt n i)) (W (aboveAt n x i)) (number W x 1 (suc i)) (number W y 1 (suc i))) (whole-word w h q) (compare-halves-law W b n x y (w - h) h g)

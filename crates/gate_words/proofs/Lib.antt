@@ -14,5 +14,6 @@ pub mod ComparisonLaws
 pub mod PointsBack
 pub mod Ends
 pub mod HalvesLaws
+pub mod ReachLaws
 pub mod Standing
 pub mod Laws

@@ -2,7 +2,7 @@
 -- lowest one, the high half h digits; where h is 0 there is one half. Neither the number of gates nor that of conditional
 -- gates depends on where a word is cut.
 use mathlib.Core.List.{List, [], _∷_, _++_}
-use Prim.Native.Nat.{ℕ, zero, suc, _+_}
+use Prim.Native.Nat.{ℕ, zero, suc, _+_, _-_}
 use Rattle.gates.specs.Gate.{Gate}
 use Rattle.gate_words.specs.Gates.{andOf, orOf, xorOf, muxOf}
 use Rattle.gate_words.specs.Choice.{anyOf, chainEnd}
@@ -59,3 +59,10 @@ compareBothWays n x y l h =
     ++ (andOf (unequalAt n (l + h)) (aboveAt n x (l + h))
     ∷ xorOf (unequalAt n (l + h)) (n + compareSpan (l + h))
     ∷ [])
+
+-- Words of w + 1 digits, of which the h highest are the high half. There are at most w.
+abbrev pub unequalCut : ℕ → ℕ → ℕ → ℕ → ℕ → List Gate
+unequalCut n x y w h = unequalHalves n x y (w - h) h
+
+abbrev pub compareCut : ℕ → ℕ → ℕ → ℕ → ℕ → List Gate
+compareCut n x y w h = compareHalves n x y (w - h) h

@@ -6,5 +6,6 @@ pub mod Counter
 pub mod Choice
 pub mod Comparison
 pub mod Halves
+pub mod Reach
 pub mod Writing
 pub mod Emitted
