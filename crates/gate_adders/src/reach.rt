@@ -79,7 +79,15 @@ fn high_reach(w: Writer, table: &mut [u32], x: u32, y: u32, carry: u32, high: u3
 }
 
 // Both halves, of low + 1 and high + 1 digits.
-fn reach_halves(w: Writer, table: &mut [u32], x: u32, y: u32, bit: u32, low: u32, high: u32) -> Writer
+fn reach_halves(
+    w: Writer,
+    table: &mut [u32],
+    x: u32,
+    y: u32,
+    bit: u32,
+    low: u32,
+    high: u32,
+) -> Writer
     requires { ⌜ Room w (2 * low + 3 * high + 3) ⌝ }
     requires { ⌜ (x + suc (suc (low + high)) ≤ w .wire) × (y + suc (suc (low + high)) ≤ w .wire) ⌝ }
     ensures { λ r. ⌜ Wrote w (now (table .entry)) (reachHalves (w .wire) x y bit low high) (now (table .exit)) r ⌝ }

@@ -99,6 +99,11 @@ reach-last-none r q = rw q
 pub reach-last-some : (r : ℕ) → 0 < r → reachLast r ≡ 2 * ((r - 1) / 2) + 3 * (r - 1 - (r - 1) / 2) + 2
 reach-last-some r q = let k : r ≡ suc (r - 1) = omega arith in ap reachLast k ∙ (unfold reachLast in refl)
 
+pub reach-last-most : (r : ℕ) → reachLast r ≤ 3 * r
+unfolding reachLast
+reach-last-most zero = omega arith
+reach-last-most (suc r) = omega arith
+
 -- well-formed
 
 pub carry-bit-good : (n x y e : ℕ) → x < n → y < n → AllGood n (carryBit x y e)
@@ -125,9 +130,9 @@ pub carries-by-good : (n f x c w : ℕ) → f + w ≤ n → x + w ≤ n → c < 
 unfolding carriesBy
 carries-by-good n f x c zero hf hx hc = tt
 carries-by-good n f x c (suc w) hf hx hc = (
-      good-mux n f c x (omega arith) hc (omega arith),
-      subst (λ (j : ℕ). AllGood j (carriesBy (n + 1) (f + 1) (x + 1) n w)) (add-one n) (carries-by-good (n + 1) (f + 1) (x + 1) n w (omega arith) (omega arith) (omega arith)),
-    )
+  good-mux n f c x (omega arith) hc (omega arith),
+  subst (λ (j : ℕ). AllGood j (carriesBy (n + 1) (f + 1) (x + 1) n w)) (add-one n) (carries-by-good (n + 1) (f + 1) (x + 1) n w (omega arith) (omega arith) (omega arith)),
+)
 
 pub high-reach-good : (n x y c h : ℕ) → x + suc h ≤ n → y + suc h ≤ n → c < n → AllGood n (highReach n x y c h)
 unfolding highReach

@@ -3,7 +3,6 @@ pub mod PlanFacts
 pub mod Cutting
 pub mod Planning
 pub mod Columns
-pub mod VersusLaws
 pub mod MedianLaws
 pub mod CandidateBlocks
 pub mod SumLaws
