@@ -4,3 +4,4 @@
 // that are wires already.
 pub mod adder;
 pub mod counter;
+pub mod reach;

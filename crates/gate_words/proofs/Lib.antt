@@ -13,4 +13,7 @@ pub mod ChoiceLaws
 pub mod ComparisonLaws
 pub mod PointsBack
 pub mod Ends
+pub mod HalvesLaws
+pub mod ReachLaws
+pub mod Standing
 pub mod Laws

@@ -33,20 +33,20 @@ good-copy n a h = good-one n 2 a (omega arith) (operand-counts .2) h
 good-not : (n a : ℕ) → a < n → T (goodGate n (notOf a))
 good-not n a h = good-one n 3 a (omega arith) (operand-counts .3) h
 
-good-and : (n x y : ℕ) → x < n → y < n → T (goodGate n (andOf x y))
+pub good-and : (n x y : ℕ) → x < n → y < n → T (goodGate n (andOf x y))
 good-and n x y h k = good-two n 4 x y (omega arith) (operand-counts .4) h k
 
-good-or : (n x y : ℕ) → x < n → y < n → T (goodGate n (orOf x y))
+pub good-or : (n x y : ℕ) → x < n → y < n → T (goodGate n (orOf x y))
 good-or n x y h k = good-two n 5 x y (omega arith) (operand-counts .5) h k
 
-good-xor : (n x y : ℕ) → x < n → y < n → T (goodGate n (xorOf x y))
+pub good-xor : (n x y : ℕ) → x < n → y < n → T (goodGate n (xorOf x y))
 good-xor n x y h k = good-two n 6 x y (omega arith) (operand-counts .6) h k
 
-good-mux : (n f x y : ℕ) → f < n → x < n → y < n → T (goodGate n (muxOf f x y))
+pub good-mux : (n f x y : ℕ) → f < n → x < n → y < n → T (goodGate n (muxOf f x y))
 good-mux n f x y l h k = good-three n 7 f x y (omega arith) (operand-counts .7) l h k
 
 -- what stands behind a block of so many gates
-behind : (n k : ℕ) (gs hs : List Gate) → length gs ≡ k → AllGood n gs → AllGood (n + k) hs → AllGood n (gs ++ hs)
+pub behind : (n k : ℕ) (gs hs : List Gate) → length gs ≡ k → AllGood n gs → AllGood (n + k) hs → AllGood n (gs ++ hs)
 behind n k gs hs e p q = good-append n gs hs p (subst (λ (j : ℕ). AllGood (n + j) hs) (sym e) q)
 
 next : (n : ℕ) (gs : List Gate) → AllGood (n + 1) gs → AllGood (suc n) gs

@@ -44,6 +44,10 @@ chainEnd n s (suc m) = n + m
 abbrev pub anyOf : ℕ → ℕ → ℕ → ℕ → ℕ → List Gate
 anyOf n s at d m = chain 5 n s at d m
 
+-- Whether the wire s and all of m wires are 1.
+abbrev pub allOf : ℕ → ℕ → ℕ → ℕ → ℕ → List Gate
+allOf n s at d m = chain 4 n s at d m
+
 -- The sum modulo 2 of the wire s and m wires.
 abbrev pub parity : ℕ → ℕ → ℕ → ℕ → ℕ → List Gate
 parity n s at d m = chain 6 n s at d m

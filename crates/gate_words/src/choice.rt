@@ -7,7 +7,7 @@ ghost use Rattle.gates.specs.Kind.{operandsOf};
 ghost use Rattle.gate_words.specs.Limits.{writerLimit};
 ghost use Rattle.gate_words.specs.Word.{Below};
 ghost use Rattle.gate_words.specs.Writing.{Room, Wrote};
-ghost use Rattle.gate_words.specs.Choice.{constants, each, copies, complements, choose, masked, chain, chainEnd, anyOf, parity};
+ghost use Rattle.gate_words.specs.Choice.{constants, each, copies, complements, choose, masked, chain, chainEnd, anyOf, allOf, parity};
 
 // The last wire of a chain of so many gates.
 pub fn chain_end(n: u32, s: u32, count: u32) -> u32
@@ -132,6 +132,16 @@ impl Writer {
         ensures { λ r. ⌜ Wrote self (now (table .entry)) (anyOf (self .wire) s first stride count) (now (table .exit)) r ⌝ }
     {
         self.chain(table, kind::OR, s, first, stride, count)
+    }
+
+    // Whether wire s and all of so many wires a stride apart are 1.
+    pub fn all_of(self, table: &mut [u32], s: u32, first: u32, stride: u32, count: u32) -> Writer
+        requires { ⌜ Room self count ⌝ }
+        requires { ⌜ Below (self .wire) first stride count ⌝ }
+        requires { ⌜ stride < writerLimit ⌝ }
+        ensures { λ r. ⌜ Wrote self (now (table .entry)) (allOf (self .wire) s first stride count) (now (table .exit)) r ⌝ }
+    {
+        self.chain(table, kind::AND, s, first, stride, count)
     }
 
     // The sum modulo 2 of wire s and so many wires a stride apart.

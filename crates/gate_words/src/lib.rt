@@ -5,4 +5,5 @@
 // in the table and for operands that are wires already.
 pub mod choice;
 pub mod comparison;
+pub mod halves;
 pub mod writer;

@@ -11,13 +11,15 @@ use Rattle.gates.specs.Test.{goodGate}
 use Rattle.gates.proofs.Laws.{AllGood, good-append, Holds, holds-append, operand-counts, good-one, good-two, good-three}
 use Rattle.gate_words.specs.Gates.{copyOf, notOf, andOf, orOf, xorOf, muxOf}
 use Rattle.gate_words.specs.Word.{Below}
-use Rattle.gate_words.specs.Adder.{addWithBit}
+use Rattle.gate_words.specs.Halves.{unequalCut, unequalSpan, compareCut, compareSpan}
+use Rattle.gate_words.specs.Reach.{reach, reachSpan}
 use Rattle.gate_words.specs.Choice.{constants, copies, complements, choose, anyOf, parity}
 use Rattle.gate_words.specs.Counter.{counter, countSize, accumulator, addSize, Countable}
 use Rattle.gate_words.proofs.ChoiceSteps.{length-constants, length-each, length-choose, length-chain}
-use Rattle.gate_words.proofs.WordSteps.{length-add-bit}
+use Rattle.gate_words.proofs.HalvesLaws.{length-unequal-cut, unequal-cut-good, length-compare-cut, compare-cut-good}
+use Rattle.gate_words.proofs.ReachLaws.{length-reach, reach-good}
 use Rattle.gate_words.proofs.CounterSteps.{length-counter, length-accumulator}
-use Rattle.gate_words.proofs.PointsBack.{constants-good, copies-good, complements-good, choose-good, any-good, chain-good, add-bit-good, counter-good, accumulator-good}
+use Rattle.gate_words.proofs.PointsBack.{constants-good, copies-good, complements-good, choose-good, any-good, chain-good, counter-good, accumulator-good}
 
 -- a block of m gates, well-formed where its first gate makes wire n
 pub record Block (n : ℕ) (gs : List Gate) (m : ℕ) : Type 0 where
@@ -63,8 +65,14 @@ choose-block n f x y w hf hx hy = record { long = length-choose f x y w; good = 
 pub any-block : (n s at d m : ℕ) → s < n → Below n at d m → Block n (anyOf n s at d m) m
 any-block n s at d m hs bl = record { long = length-chain 5 n s at d m; good = any-good n s at d m hs bl }
 
-pub add-bit-block : (n x y e w : ℕ) → x + w ≤ n → y + w ≤ n → Block n (addWithBit n x y e w) (3 * w)
-add-bit-block n x y e w hx hy = record { long = length-add-bit n x y e w; good = add-bit-good n x y e w hx hy }
+pub unequal-block : (n x y r h : ℕ) → h ≤ r → x + suc r ≤ n → y + suc r ≤ n → Block n (unequalCut n x y r h) (unequalSpan r)
+unequal-block n x y r h q hx hy = record { long = length-unequal-cut n x y r h q; good = unequal-cut-good n x y r h q hx hy }
+
+pub compare-block : (n x y r h : ℕ) → h ≤ r → x + suc r ≤ n → y + suc r ≤ n → Block n (compareCut n x y r h) (compareSpan r)
+compare-block n x y r h q hx hy = record { long = length-compare-cut n x y r h q; good = compare-cut-good n x y r h q hx hy }
+
+pub reach-block : (n x y e r : ℕ) → x + suc r ≤ n → y + suc r ≤ n → Block n (reach n x y e r) (reachSpan r)
+reach-block n x y e r hx hy = record { long = length-reach n x y e r; good = reach-good n x y e r hx hy }
 
 pub parity-block : (n s at d m : ℕ) → s < n → Below n at d m → Block n (parity n s at d m) m
 parity-block n s at d m hs bl = record { long = length-chain 6 n s at d m; good = chain-good n 6 s at d m (omega arith) (operand-counts .6) hs bl }

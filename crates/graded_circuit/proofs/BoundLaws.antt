@@ -16,7 +16,8 @@ use Rattle.graded_circuit.specs.Plan.{Planned}
 use Rattle.graded_circuit.specs.Bound.{boundOf}
 use Rattle.graded_circuit.specs.RunningSums.{wordSpan, middleSpan, lastSpan, laterSpan}
 use Rattle.graded_circuit.specs.Key.{keySpan, candidateSpan}
-use Rattle.graded_circuit.specs.Versus.{versusSpan}
+use Rattle.gate_words.specs.Reach.{reachLast}
+use Rattle.gate_words.proofs.ReachLaws.{reach-last-most}
 use Rattle.graded_circuit.specs.Median.{medianSize}
 use Rattle.graded_circuit.specs.Nearest.{sideSpan, eitherSpan}
 use Rattle.graded_circuit.specs.Outward.{outwardSpan}
@@ -119,7 +120,7 @@ module _ (p : Plan) (f : Planned p) where
   lower-most (suc r) zero h = omega arith
   lower-most (suc r) (suc t) h =
       let few : t ≤ 4 = omega arith in
-      omega (arith, mul-le-mul-right {m = t} {n = 4} (sideSpan r) few, mul-le-mul-right {m = t} {n = 4} (eitherSpan r) few)
+      omega (arith, reach-last-most r, mul-le-mul-right {m = t} {n = 4} (sideSpan r) few, mul-le-mul-right {m = t} {n = 4} (eitherSpan r) few)
 
   key-most : keySpan p ≤ 6 * w
   unfolding w

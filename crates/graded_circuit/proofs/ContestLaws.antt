@@ -8,30 +8,29 @@ use native.Mathlib.Nat.{pow-succ', suc-mul, zero-mul, add-zero}
 use native.Mathlib.Omega.{arith}
 use lib.ListN.{length}
 use Rattle.gates.proofs.Laws.{Holds, mux-zero, mux-one}
-use Rattle.basics.proofs.Cases.{below-or-not}
-use Rattle.gate_words.specs.Gates.{constant, orOf, muxOf}
+use Rattle.jury.proofs.Cases.{below-or-not}
+use Rattle.gate_words.specs.Gates.{copyOf, orOf, muxOf}
+use Rattle.gate_words.specs.Halves.{unequalSpan, unequalAt, compareCut, compareSpan, aboveAt}
 use Rattle.gate_words.specs.Word.{number}
 use Rattle.gate_words.proofs.Numbers.{Binary, bit-cases}
-use Rattle.gate_words.proofs.PointsBack.{good-constant}
-use Rattle.gate_words.proofs.GateValues.{holds-first, holds-rest, constant-is, or-is}
+use Rattle.gate_words.proofs.GateValues.{holds-first, holds-rest, copy-is, or-is}
 use Rattle.gate_words.proofs.Ends.{chain-below}
+use Rattle.gate_words.proofs.HalvesLaws.{Tells, compare-cut-law}
 use Rattle.graded_circuit.specs.declared.plan.Plan.{Plan}
 use Rattle.graded_circuit.specs.Plan.{Planned}
 use Rattle.graded_circuit.specs.RunningSums.{wordSpan}
 use Rattle.graded_circuit.specs.Key.{keySpan, lowAt, worseAt}
-use Rattle.graded_circuit.specs.Versus.{versus, versusSpan, unequalSpan, unequalAt, aboveAt}
 use Rattle.graded_circuit.specs.Median.{Fits, median, medianSize}
 use Rattle.graded_circuit.specs.Nearest.{stride}
 use Rattle.graded_circuit.specs.Outward.{resolveAt, outwardSpan}
-use Rattle.graded_circuit.specs.Contest.{lower, lowerSpan, lowerUnequal, lowerFirst, medianSpan, rightMedian, leftMedian, mediansAt, lowerAt, resultAt, contest, contestSpan}
-use Rattle.graded_circuit.proofs.Blocks.{Block, none-block, both-block, sized, gate-block, or-good, mux-good}
-use Rattle.graded_circuit.proofs.Cutting.{cut2, cut5}
-use Rattle.graded_circuit.proofs.VersusLaws.{Tells, versus-block, versus-law}
+use Rattle.graded_circuit.specs.Contest.{lower, lowerSpan, medianSpan, rightMedian, leftMedian, mediansAt, lowerAt, resultAt, contest, contestSpan}
+use Rattle.graded_circuit.proofs.Blocks.{Block, none-block, both-block, sized, gate-block, compare-block, copy-good, or-good, mux-good}
+use Rattle.graded_circuit.proofs.Cutting.{cut2, cut4}
 use Rattle.graded_circuit.proofs.MedianLaws.{Unary, median-block, median-law}
 use Rattle.graded_circuit.proofs.SumLaws.{Sums, Word, Spells}
 use Rattle.graded_circuit.proofs.Near.{Decides}
 use Rattle.graded_circuit.proofs.OutwardBlocks.{outward-block}
-use Rattle.graded_circuit.proofs.OutwardLaws.{Ahead, Outcome, three-ways, outward-law}
+use Rattle.graded_circuit.proofs.OutwardLaws.{Ahead, Outcome, three-ways, outward-medians, outward-law}
 
 -- a key of t + 2 words ends where words of a stride end
 strided : (x t r m : ℕ) → x + suc (suc t) * (suc r + 1) ≤ m → x + suc (suc t) * stride r ≤ m
@@ -40,23 +39,22 @@ strided x t r m h = let e : suc r + 1 ≡ stride r = omega arith in subst (λ (k
 single : (x r m : ℕ) → x + suc zero * (suc r + 1) ≤ m → x + suc r ≤ m
 single x r m h = omega (arith, suc-mul 0 (suc r + 1), zero-mul (suc r + 1))
 
-pub lower-block : (p : Plan) (n x y digits t : ℕ) → x + suc t * (digits + 1) ≤ n → y + suc t * (digits + 1) ≤ n → Block n (lower p n x y digits t) (lowerSpan digits t)
+-- a high half leaves a digit for the low one
+abbrev pub Leaves : ℕ → ℕ → Type 0
+Leaves digits h = h ≤ digits - 1
+
+pub lower-block : (p : Plan) (n x y e s digits h t : ℕ) → Leaves digits h → e < n → s < n → x + suc t * (digits + 1) ≤ n → y + suc t * (digits + 1) ≤ n
+    → Block n (lower p n x y e s digits h t) (lowerSpan digits t + 2)
 unfolding lower lowerSpan
-lower-block p n x y zero t hx hy = gate-block (good-constant n 0) (none-block (suc n))
-lower-block p n x y (suc r) zero hx hy = versus-block n x y r (single x r n hx) (single y r n hy)
-lower-block p n x y (suc r) (suc t) hx hy = outward-block n x y r t (strided x t r n hx) (strided y t r n hy) p
-
-pub lower-unequal-below : (n digits t : ℕ) → lowerUnequal n digits t < n + lowerSpan digits t
-unfolding lowerUnequal lowerSpan
-lower-unequal-below n zero t = omega arith
-lower-unequal-below n (suc r) zero = chain-below (n + suc r) n r (n + versusSpan r) (omega arith) (omega arith)
-lower-unequal-below n (suc r) (suc t) = omega arith
-
-pub lower-first-below : (n x digits t : ℕ) → x < n → lowerFirst n x digits t < n + lowerSpan digits t
-unfolding lowerFirst lowerSpan
-lower-first-below n x zero t h = omega arith
-lower-first-below n x (suc r) zero h = chain-below (n + unequalSpan r) x r (n + versusSpan r) (omega arith) (omega arith)
-lower-first-below n x (suc r) (suc t) h = omega arith
+lower-block p n x y e s zero h t hr he hs hx hy = gate-block (copy-good n e he) (gate-block (copy-good (suc n) s (omega arith)) (none-block (suc (suc n))))
+lower-block p n x y e s (suc r) h zero hr he hs hx hy =
+    let q = n + compareSpan r in
+    let fx = single x r n hx in
+    let em = chain-below (n + suc r) n r q (omega arith) (omega arith) in
+    let sm = chain-below (n + unequalSpan r) x r q (omega arith) (omega arith) in
+    both-block (compare-block n x y r h (omega arith) fx (single y r n hy)) refl
+    (gate-block (or-good q e (unequalAt n r) (omega arith) em) (gate-block (mux-good (suc q) e s (aboveAt n x r) (omega arith) (omega arith) (omega arith)) (none-block (suc (suc q)))))
+lower-block p n x y e s (suc r) h (suc t) hr he hs hx hy = sized (omega arith) (outward-block n x y r t (strided x t r n hx) (strided y t r n hy) (p .ballots % 2) h e s (omega arith) he hs)
 
 module _ (p : Plan) (f : Planned p) where
   grades-are : p .grades - 1 ≡ suc (p .grades - 2)
@@ -78,27 +76,22 @@ module _ (p : Plan) (f : Planned p) where
   pub key-some : wordSpan p ≤ keySpan p
   key-some = omega (arith, ap (λ (k : ℕ). k * wordSpan p) grades-are, suc-mul (p .grades - 2) (wordSpan p))
 
-  pub contest-block : (n x y : ℕ) → x + keySpan p ≤ n → y + keySpan p ≤ n → Block n (contest p n x y) (contestSpan p)
+  pub contest-block : (n x y h : ℕ) → Leaves (p .digits) h → x + keySpan p ≤ n → y + keySpan p ≤ n → Block n (contest p n x y h) (contestSpan p)
   unfolding contest
-  contest-block n x y hx hy =
+  contest-block n x y h hr hx hy =
       let d = p .grades - 1 in
       let r = p .places in
       let m = mediansAt p n in
       let l = lowerAt p n in
-      let q = resultAt p n in
       let some = key-some in
-      let size = lowerSpan (p .digits) (p .grades - 2) in
-      let em : unequalAt m r < q = chain-below (m + suc r) m r q (omega arith) (omega arith) in
-      let sm : aboveAt m (rightMedian p n) r < q = chain-below (m + unequalSpan r) (rightMedian p n) r q (omega arith) (omega arith) in
-      let el = lower-unequal-below l (p .digits) (p .grades - 2) in
-      let sl = lower-first-below l x (p .digits) (p .grades - 2) (omega arith) in
-      both-block (both-block (both-block (both-block
+      let em : unequalAt m r < l = chain-below (m + suc r) m r l (omega arith) (omega arith) in
+      let sm : aboveAt m (rightMedian p n) r < l = chain-below (m + unequalSpan r) (rightMedian p n) r l (omega arith) (omega arith) in
+      sized (omega arith)
+      (both-block (both-block (both-block
       (median-block n (y + p .digits) (wordSpan p) d (suc r) grade-fits (flags-end y n hy)) (omega arith)
       (median-block (n + medianSpan p) (x + p .digits) (wordSpan p) d (suc r) grade-fits (flags-end x (n + medianSpan p) (omega arith)))) (omega arith)
-      (versus-block m (rightMedian p n) (leftMedian p n) r (omega arith) (omega arith))) (omega arith)
-      (lower-block p l x y (p .digits) (p .grades - 2) (key-words x l (omega arith)) (key-words y l (omega arith)))) (omega arith)
-      (gate-block (or-good q (unequalAt m r) (lowerUnequal l (p .digits) (p .grades - 2)) em el)
-      (gate-block (mux-good (suc q) (unequalAt m r) (aboveAt m (rightMedian p n) r) (lowerFirst l x (p .digits) (p .grades - 2)) (omega arith) (omega arith) (omega arith)) (none-block (suc (suc q)))))
+      (compare-block m (rightMedian p n) (leftMedian p n) r 0 (omega arith) (omega arith) (omega arith))) (omega arith)
+      (lower-block p l x y (unequalAt m r) (aboveAt m (rightMedian p n) r) (p .digits) h (p .grades - 2) hr em sm (key-words x l (omega arith)) (key-words y l (omega arith))))
 
   module _ (W : ℕ → ℕ) (b : Binary W) where
     -- the wires that say which grades the median is worse than
@@ -113,6 +106,37 @@ module _ (p : Plan) (f : Planned p) where
         place : (i : ℕ) → x + p .digits + i * wordSpan p ≡ x + i * wordSpan p + p .digits
         place i = omega arith
 
+    -- a key has its words
+    key-bound : (r t n : ℕ) → p .digits ≡ suc r → p .grades - 2 ≡ suc t → (i : ℕ) → i + keySpan p ≤ n → i + suc (suc t) * stride r ≤ n
+    key-bound r t n e z i l =
+        let many : suc (suc t) ≡ p .grades - 1 = omega (arith, grades-are) in
+        strided i t r n (subst (λ (j : ℕ). i + suc (suc t) * (j + 1) ≤ n) e (subst (λ (j : ℕ). i + j * (p .digits + 1) ≤ n) (sym many) l))
+
+    -- keys whose medians differ: they decide
+    lower-medians : (x y digits t n k e s : ℕ) → Leaves digits k → p .digits ≡ digits → p .grades - 2 ≡ t → x + keySpan p ≤ n → y + keySpan p ≤ n → W e ≡ 1 → Holds W n (lower p n x y e s digits k t)
+        → (W (n + lowerSpan digits t) ≡ 1) × (W (n + lowerSpan digits t + 1) ≡ W s)
+    unfolding lower lowerSpan
+    lower-medians x y zero t n k e s hr q z hx hy one h =
+        let w₁ = holds-first W n (copyOf e) (copyOf s ∷ []) h ∙ copy-is W b e in
+        let w₂ = holds-first W (n + 1) (copyOf s) [] (holds-rest W n (copyOf e) (copyOf s ∷ []) h) ∙ copy-is W b s in
+        let at : n + 0 + 1 ≡ n + 1 = omega arith in
+        (ap W (add-zero n) ∙ w₁ ∙ one, ap W at ∙ w₂)
+    lower-medians x y (suc r) zero n k e s hr q z hx hy one h =
+        let m = n + compareSpan r in
+        let em = unequalAt n r in
+        let sm = aboveAt n x r in
+        let fx : x + suc r ≤ n = omega (arith, key-some) in
+        let fy : y + suc r ≤ n = omega (arith, key-some) in
+        let o = cut2 W n (compareCut n x y r k) (orOf e em ∷ muxOf e s sm ∷ []) m (omega (arith, compare-block n x y r k (omega arith) fx fy .long)) h in
+        let w₁ = holds-first W m (orOf e em) (muxOf e s sm ∷ []) (o .1) ∙ or-is W b e em in
+        let w₂ = holds-first W (m + 1) (muxOf e s sm) [] (holds-rest W m (orOf e em) (muxOf e s sm ∷ []) (o .1)) ∙ mux-one (W e) (W s) (W sm) one in
+        (omega (arith, b em), w₂)
+    lower-medians x y (suc r) (suc t) n k e s hr q z hx hy one h =
+        let at : n + (resolveAt 0 r t + 14) ≡ resolveAt n r t + 14 = omega arith in
+        let at′ : n + (resolveAt 0 r t + 14) + 1 ≡ resolveAt n r t + 15 = omega arith in
+        let o = outward-medians W b p r t n x y (key-bound r t n q z x hx) (key-bound r t n q z y hy) k (omega arith) e s h one in
+        (ap W at ∙ o .0, ap W at′ ∙ o .1)
+
     module _ (A C : ℕ → ℕ) (x y : ℕ) (kx : Spells W b p f x A) (ky : Spells W b p f y C) where
       -- keys with equal medians
       module _ (median : ℕ) (a : Sums (p .ballots) (p .grades) A median) (c : Sums (p .ballots) (p .grades) C median) where
@@ -126,8 +150,8 @@ module _ (p : Plan) (f : Planned p) where
             (below-or-not g median)
 
         -- one sum alone
-        alone : (r n : ℕ) → p .digits ≡ suc r → p .grades - 2 ≡ 0 → Holds W n (versus n x y r) → Outcome (W (unequalAt n r)) (W (aboveAt n x r)) (p .ballots) (p .grades - 1) A C
-        alone r n e z h =
+        alone : (r n h : ℕ) → h ≤ r → p .digits ≡ suc r → p .grades - 2 ≡ 0 → Holds W n (compareCut n x y r h) → Outcome (W (unequalAt n r)) (W (aboveAt n x r)) (p .ballots) (p .grades - 1) A C
+        alone r n k hr e z h =
             let d : 0 < p .grades - 1 = omega (arith, f .d-least) in
             let px : x + 0 * wordSpan p ≡ x = omega (arith, zero-mul (wordSpan p)) in
             let py : y + 0 * wordSpan p ≡ y = omega (arith, zero-mul (wordSpan p)) in
@@ -137,7 +161,7 @@ module _ (p : Plan) (f : Planned p) where
             (λ (m : 0 < median). omega (arith, wx .low-worse (a .passed 0 m), wy .low-worse (c .passed 0 m)))
             (λ (m : median ≤ 0). omega (arith, wx .low-better (a .reached 0 m), wy .low-better (c .reached 0 m)))
             (below-or-not 0 median) in
-            let t = versus-law W b n x y r h in
+            let t = compare-cut-law n x y r k hr W b h in
             ⊎-elim
             (λ (o : A 0 ≡ C 0). inl (t .same (omega arith), λ g l. let q : 0 ≡ g = omega arith in sym (ap A q) ∙ o ∙ ap C q))
             (⊎-elim
@@ -151,17 +175,33 @@ module _ (p : Plan) (f : Planned p) where
             first : (A C : ℕ → ℕ) → 0 < p .grades - 1 → C 0 < A 0 → p .grades - 2 ≡ 0 → Decides (p .ballots) (p .grades - 1) A C 0
             first A C d l z = record { inside = d; larger = l; worse-later = λ j h k m. absurd (omega arith); better-later = λ j h m. absurd (omega arith) }
 
-        lower-law : (digits t n : ℕ) → p .digits ≡ digits → p .grades - 2 ≡ t → x + keySpan p ≤ n → y + keySpan p ≤ n → Holds W n (lower p n x y digits t)
-            → Outcome (W (lowerUnequal n digits t)) (W (lowerFirst n x digits t)) (p .ballots) (p .grades - 1) A C
-        unfolding lower lowerUnequal lowerFirst
-        lower-law zero t n e z hx hy h = inl (holds-first W n (constant 0) [] h ∙ constant-is W b 0, λ g l. one-ballot e g)
-        lower-law (suc r) zero n e z hx hy h = alone r n e z h
-        lower-law (suc r) (suc t) n e z hx hy h =
+        lower-law : (digits t n k e′ s′ : ℕ) → Leaves digits k → p .digits ≡ digits → p .grades - 2 ≡ t → x + keySpan p ≤ n → y + keySpan p ≤ n → W e′ ≡ 0 → Holds W n (lower p n x y e′ s′ digits k t)
+            → Outcome (W (n + lowerSpan digits t)) (W (n + lowerSpan digits t + 1)) (p .ballots) (p .grades - 1) A C
+        unfolding lower lowerSpan
+        lower-law zero t n k e′ s′ hr e z hx hy even h =
+            inl (ap W (add-zero n) ∙ holds-first W n (copyOf e′) (copyOf s′ ∷ []) h ∙ copy-is W b e′ ∙ even, λ g l. one-ballot e g)
+        lower-law (suc r) zero n k e′ s′ hr e z hx hy even h =
+            let q = n + compareSpan r in
+            let em = unequalAt n r in
+            let sm = aboveAt n x r in
+            let o = cut2 W n (compareCut n x y r k) (orOf e′ em ∷ muxOf e′ s′ sm ∷ []) q (omega (arith, compare-block n x y r k (omega arith) (single-of r x n z hx e) (single-of r y n z hy e) .long)) h in
+            let w₁ = holds-first W q (orOf e′ em) (muxOf e′ s′ sm ∷ []) (o .1) ∙ or-is W b e′ em in
+            let w₂ = holds-first W (q + 1) (muxOf e′ s′ sm) [] (holds-rest W q (orOf e′ em) (muxOf e′ s′ sm ∷ []) (o .1)) ∙ mux-zero (W e′) (W s′) (W sm) even in
+            let w₁′ : W em ≡ W q = omega (arith, b em) in
+            subst (λ (u : ℕ). Outcome (W q) u (p .ballots) (p .grades - 1) A C) (sym w₂)
+            (subst (λ (u : ℕ). Outcome u (W sm) (p .ballots) (p .grades - 1) A C) w₁′ (alone r n k (omega arith) e z (o .0)))
+          where
+            single-of : (r v m : ℕ) → p .grades - 2 ≡ 0 → v + keySpan p ≤ m → p .digits ≡ suc r → v + suc r ≤ m
+            single-of r v m z q e = omega (arith, key-some)
+        lower-law (suc r) (suc t) n k e′ s′ hr e z hx hy even h =
             let many : suc (suc t) ≡ p .grades - 1 = omega (arith, grades-are) in
-            let bound : (k : ℕ) → k + keySpan p ≤ n → k + suc (suc t) * stride r ≤ n =
-            λ k l. strided k t r n (subst (λ (i : ℕ). k + suc (suc t) * (i + 1) ≤ n) e (subst (λ (i : ℕ). k + i * (p .digits + 1) ≤ n) (sym many) l)) in
-            subst (λ (i : ℕ). Outcome (W (resolveAt n r t + 8)) (W (resolveAt n r t + 9)) (p .ballots) i A C) many
-            (outward-law W b p f r t e z A C median a c n x y (bound x hx) (bound y hy) kx ky h)
+            let bound : (i : ℕ) → i + keySpan p ≤ n → i + suc (suc t) * stride r ≤ n = λ i l. key-bound r t n e z i l in
+            let at : resolveAt n r t + 14 ≡ n + (resolveAt 0 r t + 14) = omega arith in
+            let at′ : resolveAt n r t + 15 ≡ n + (resolveAt 0 r t + 14) + 1 = omega arith in
+            subst (λ (i : ℕ). Outcome (W (n + (resolveAt 0 r t + 14))) (W i) (p .ballots) (p .grades - 1) A C) at′
+            (subst (λ (i : ℕ). Outcome (W i) (W (resolveAt n r t + 15)) (p .ballots) (p .grades - 1) A C) at
+            (subst (λ (i : ℕ). Outcome (W (resolveAt n r t + 14)) (W (resolveAt n r t + 15)) (p .ballots) i A C) many
+            (outward-law W b p f r t e z A C median a c n x y (bound x hx) (bound y hy) kx ky k (omega arith) e′ s′ even h)))
 
       -- a better median comes first
       ahead : (A C : ℕ → ℕ) (i j : ℕ) → Sums (p .ballots) (p .grades) A i → Sums (p .ballots) (p .grades) C j → i < j → Ahead (p .ballots) (p .grades - 1) A C
@@ -178,43 +218,33 @@ module _ (p : Plan) (f : Planned p) where
             };
           }
 
-      pub contest-law : (i j n : ℕ) → Sums (p .ballots) (p .grades) A i → Sums (p .ballots) (p .grades) C j → x + keySpan p ≤ n → y + keySpan p ≤ n → Holds W n (contest p n x y)
+      pub contest-law : (i j n k : ℕ) → Leaves (p .digits) k → Sums (p .ballots) (p .grades) A i → Sums (p .ballots) (p .grades) C j → x + keySpan p ≤ n → y + keySpan p ≤ n → Holds W n (contest p n x y k)
           → Outcome (W (resultAt p n)) (W (resultAt p n + 1)) (p .ballots) (p .grades - 1) A C
       unfolding contest
-      contest-law i j n a c hx hy h =
+      contest-law i j n k hr a c hx hy h =
           let d = p .grades - 1 in
           let r = p .places in
           let m = mediansAt p n in
           let l = lowerAt p n in
-          let q = resultAt p n in
           let em = unequalAt m r in
           let sm = aboveAt m (rightMedian p n) r in
-          let el = lowerUnequal l (p .digits) (p .grades - 2) in
-          let sl = lowerFirst l x (p .digits) (p .grades - 2) in
           let my = median n (y + p .digits) (wordSpan p) d (suc r) in
           let mx = median (n + medianSpan p) (x + p .digits) (wordSpan p) d (suc r) in
           let by = median-block n (y + p .digits) (wordSpan p) d (suc r) grade-fits (flags-end y n hy) in
           let bx = median-block (n + medianSpan p) (x + p .digits) (wordSpan p) d (suc r) grade-fits (flags-end x (n + medianSpan p) (omega arith)) in
-          let o = cut5 W n my mx (versus m (rightMedian p n) (leftMedian p n) r) (lower p l x y (p .digits) (p .grades - 2)) (orOf em el ∷ muxOf em sm sl ∷ [])
-          (n + medianSpan p) m l q
-          (omega (arith, by .long)) (omega (arith, bx .long)) (omega (arith, versus-block m (rightMedian p n) (leftMedian p n) r (omega arith) (omega arith) .long))
-          (omega (arith, lower-block p l x y (p .digits) (p .grades - 2) (key-words x l (omega arith)) (key-words y l (omega arith)) .long)) h in
+          let o = cut4 W n my mx (compareCut m (rightMedian p n) (leftMedian p n) r 0) (lower p l x y em sm (p .digits) k (p .grades - 2)) (n + medianSpan p) m l
+          (omega (arith, by .long)) (omega (arith, bx .long)) (omega (arith, compare-block m (rightMedian p n) (leftMedian p n) r 0 (omega arith) (omega arith) (omega arith) .long)) h in
           let right = median-law W b n (y + p .digits) (wordSpan p) d (suc r) j grade-fits (flags-end y n hy) (unary y j C c ky) (o .0) in
           let left = median-law W b (n + medianSpan p) (x + p .digits) (wordSpan p) d (suc r) i grade-fits (flags-end x (n + medianSpan p) (omega arith)) (unary x i A a kx) (o .1) in
-          let t = versus-law W b m (rightMedian p n) (leftMedian p n) r (o .2) in
-          let e = holds-first W q (orOf em el) (muxOf em sm sl ∷ []) (o .4) ∙ or-is W b em el in
-          let s = holds-first W (q + 1) (muxOf em sm sl) [] (holds-rest W q (orOf em el) (muxOf em sm sl ∷ []) (o .4)) in
+          let t = compare-cut-law m (rightMedian p n) (leftMedian p n) r 0 (omega arith) W b (o .2) in
+          let decide : W em ≡ 1 → (W (resultAt p n) ≡ 1) × (W (resultAt p n + 1) ≡ W sm) =
+          λ z. lower-medians x y (p .digits) (p .grades - 2) l k em sm hr refl refl (omega arith) (omega arith) z (o .3) in
           ⊎-elim
-          (λ (k : i ≡ j).
-          let z = t .same (omega arith) in
-          let e′ : W el ≡ W q = omega (arith, b el) in
-          let s′ : W sl ≡ W (q + 1) = sym (s ∙ mux-zero (W em) (W sm) (W sl) z) in
-          subst (λ (u : ℕ). Outcome (W q) u (p .ballots) (p .grades - 1) A C) s′
-          (subst (λ (u : ℕ). Outcome u (W sl) (p .ballots) (p .grades - 1) A C) e′
-          (lower-law i a (subst (λ (u : ℕ). Sums (p .ballots) (p .grades) C u) (sym k) c) (p .digits) (p .grades - 2) l refl refl (omega arith) (omega arith) (o .3))))
+          (λ (q : i ≡ j).
+          lower-law i a (subst (λ (u : ℕ). Sums (p .ballots) (p .grades) C u) (sym q) c) (p .digits) (p .grades - 2) l k em sm hr refl refl (omega arith) (omega arith) (t .same (omega arith)) (o .3))
           (⊎-elim
-          (λ (k : j < i). let z = t .differ (λ u. unlike i j k (omega arith)) in inr (inr (omega (arith, b el), s ∙ mux-one (W em) (W sm) (W sl) z ∙ t .under (omega arith), ahead C A j i c a k)))
-          (λ (k : i < j). let z = t .differ (λ u. unlike j i k (omega arith)) in inr (inl (omega (arith, b el), s ∙ mux-one (W em) (W sm) (W sl) z ∙ t .over (omega arith), ahead A C i j a c k))))
+          (λ (q : j < i). let z = decide (t .differ (λ u. unlike i j q (omega arith))) in inr (inr (z .0, z .1 ∙ t .under (omega arith), ahead C A j i c a q)))
+          (λ (q : i < j). let z = decide (t .differ (λ u. unlike j i q (omega arith))) in inr (inl (z .0, z .1 ∙ t .over (omega arith), ahead A C i j a c q))))
           (three-ways i j)
         where
           unlike : (u v : ℕ) → v < u → u ≡ v → ⊥

@@ -3,7 +3,6 @@ pub mod PlanFacts
 pub mod Cutting
 pub mod Planning
 pub mod Columns
-pub mod VersusLaws
 pub mod MedianLaws
 pub mod CandidateBlocks
 pub mod SumLaws
@@ -19,4 +18,3 @@ pub mod RuleLaws
 pub mod Accuracy
 pub mod BoundLaws
 pub mod OwnListLaws
-pub mod Writers

@@ -2,10 +2,12 @@
 -- Assumes nothing.
 use mathlib.Core.Path.{_≡_, _∙_, refl, sym, ap, subst}
 use mathlib.Core.Logic.{_⊎_, inl, inr, ⊎-elim, _≢_}
+use mathlib.Core.Bool.{Bool, true, false, cond}
 use mathlib.Core.List.{List, [], _∷_, _++_}
-use Prim.Native.Nat.{ℕ, zero, suc, _+_, _-_, _*_, _%_, _≤_, _<_, min}
+use Prim.Native.Nat.{ℕ, zero, suc, _+_, _-_, _*_, _/_, _%_, _≤_, _<_, min}
 use native.Mathlib.Nat.{suc-mul, add-zero, mul-le-mul-right}
 use native.Mathlib.Omega.{arith}
+use lib.Dec.{leb}
 use lib.ListN.{length}
 use Rattle.gates.proofs.Laws.{Holds, mux-zero, mux-one}
 use Rattle.basics.proofs.Cases.{below-or-not}
@@ -19,12 +21,12 @@ use Rattle.graded_circuit.specs.Plan.{Planned}
 use Rattle.graded_circuit.specs.RunningSums.{wordSpan}
 use Rattle.graded_circuit.specs.Key.{keySpan, lowAt}
 use Rattle.graded_circuit.specs.Contest.{contest, contestSpan, resultAt}
-use Rattle.graded_circuit.specs.Merge.{bothOf, stillWon, verdict, verdictAt, leftStays, rightStays, wonAt, merge, mergeSpan, better}
+use Rattle.graded_circuit.specs.Merge.{bothOf, stillWon, verdict, verdictAt, highDigits, leftStays, rightStays, wonAt, merge, mergeSpan, better}
 use Rattle.graded_circuit.proofs.Blocks.{Block, none-block, both-block, sized, gate-block, choose-block, copy-good, not-good, and-good, xor-good}
 use Rattle.graded_circuit.proofs.Cutting.{cut4}
 use Rattle.graded_circuit.proofs.SumLaws.{Sums, Word, Spells}
 use Rattle.graded_circuit.proofs.OutwardLaws.{Ahead, Outcome}
-use Rattle.graded_circuit.proofs.ContestLaws.{contest-block, contest-law}
+use Rattle.graded_circuit.proofs.ContestLaws.{Leaves, contest-block, contest-law}
 
 pub both-of-block : (n at stays m : ℕ) → at + m ≤ n → stays < n → Block n (bothOf at stays m) m
 unfolding bothOf
@@ -45,12 +47,20 @@ verdict-block q =
     (gate-block (not-good (suc (suc (q + 2))) (q + 3) (omega arith))
     (gate-block (not-good (suc (suc (suc (q + 2)))) (q + 2) (omega arith)) (none-block (suc (suc (suc (suc (q + 2)))))))))
 
+pub high-leaves : (p : Plan) (both : ℕ) → Leaves (p .digits) (highDigits p both)
+unfolding highDigits
+high-leaves p both = go (leb both 2)
+  where
+    go : (one : Bool) → cond one 0 (p .digits / 2) ≤ p .digits - 1
+    go true = omega arith
+    go false = omega arith
+
 module _ (p : Plan) (f : Planned p) where
   pub merge-block : (n x y u v l m : ℕ) → x + keySpan p ≤ n → y + keySpan p ≤ n → (1 < l → u + l ≤ n) → (1 < m → v + m ≤ n) → Block n (merge p n x y u v l m) (mergeSpan p l m)
   unfolding merge
   merge-block n x y u v l m hx hy hu hv =
       let q = resultAt p n in
-      both-block (both-block (both-block (contest-block p f n x y hx hy) (omega arith)
+      both-block (both-block (both-block (contest-block p f n x y (highDigits p (l + m)) (high-leaves p (l + m)) hx hy) (omega arith)
       (verdict-block q)) (omega arith)
       (still-won-block (q + 6) u (leftStays p n) l (λ k. let h = hu k in omega arith) (omega arith))) (omega arith)
       (still-won-block (q + 6 + l) v (rightStays p n) m (λ k. let h = hv k in omega arith) (omega arith))
@@ -280,11 +290,11 @@ module _ (p : Plan) (f : Planned p) (S : ℕ → ℕ → ℕ) (Before : ℕ → 
     unfolding merge
     merge-law medians sums n c x y u v l m inside hx hy hu hv a d h =
         let q = resultAt p n in
-        let o = cut4 W n (contest p n x y) (verdict q) (stillWon u (leftStays p n) l) (stillWon v (rightStays p n) m) (q + 2) (q + 6) (q + 6 + l)
-        (omega (arith, contest-block p f n x y hx hy .long)) (omega (arith, verdict-block q .long))
+        let o = cut4 W n (contest p n x y (highDigits p (l + m))) (verdict q) (stillWon u (leftStays p n) l) (stillWon v (rightStays p n) m) (q + 2) (q + 6) (q + 6 + l)
+        (omega (arith, contest-block p f n x y (highDigits p (l + m)) (high-leaves p (l + m)) hx hy .long)) (omega (arith, verdict-block q .long))
         (omega (arith, still-won-block (q + 6) u (leftStays p n) l (λ k. let z = hu k in omega arith) (omega arith) .long)) h in
         let hi : a .best < p .candidates = omega (arith, a .most) in
         let hj : d .best < p .candidates = omega (arith, d .most) in
         joined n c x y u v l m inside a d
-        (met q (a .best) (d .best) hi hj (o .1) (contest-law p f W b (S (a .best)) (S (d .best)) x y (a .spells) (d .spells) (medians (a .best)) (medians (d .best)) n (sums (a .best) hi) (sums (d .best) hj) hx hy (o .0)))
+        (met q (a .best) (d .best) hi hj (o .1) (contest-law p f W b (S (a .best)) (S (d .best)) x y (a .spells) (d .spells) (medians (a .best)) (medians (d .best)) n (highDigits p (l + m)) (high-leaves p (l + m)) (sums (a .best) hi) (sums (d .best) hj) hx hy (o .0)))
         (o .2) (o .3)

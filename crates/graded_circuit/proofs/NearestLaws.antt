@@ -17,28 +17,28 @@ use Rattle.gate_words.proofs.GateValues.{holds-first, holds-rest, and-is, xor-i
 use Rattle.gate_words.proofs.ChoiceSteps.{length-choose}
 use Rattle.gate_words.proofs.ChoiceLaws.{choose-one, choose-zero}
 use Rattle.gate_words.proofs.Ends.{chain-below}
-use Rattle.graded_circuit.specs.Versus.{unequal, unequalSpan, unequalAt}
+use Rattle.gate_words.specs.Halves.{unequalCut, unequalSpan, unequalAt}
 use Rattle.graded_circuit.specs.Nearest.{stride, side, sideSpan, belowAt, fromAt, sides, either, eitherSpan, lastOf, firstOf, leftEnd, rightEnd}
-use Rattle.graded_circuit.proofs.Blocks.{Block, none-block, both-block, sized, gate-block, choose-block, and-good, xor-good}
-use Rattle.graded_circuit.proofs.VersusLaws.{length-unequal, unequal-block, unequal-zero, unequal-one}
+use Rattle.graded_circuit.proofs.Blocks.{Block, none-block, both-block, sized, gate-block, choose-block, unequal-block, and-good, xor-good}
+use Rattle.gate_words.proofs.HalvesLaws.{length-unequal-cut, unequal-cut-zero, unequal-cut-one}
 use Rattle.graded_circuit.proofs.Cutting.{cut2}
 
-pub side-block : (n x y r : ℕ) → x + suc (suc r) ≤ n → y + suc r ≤ n → Block n (side n x y r) (sideSpan r)
+pub side-block : (n x y r h : ℕ) → h ≤ r → x + suc (suc r) ≤ n → y + suc r ≤ n → Block n (side n x y r h) (sideSpan r)
 unfolding side
-side-block n x y r hx hy =
+side-block n x y r h hr hx hy =
     let q = n + unequalSpan r in
     let e = chain-below (n + suc r) n r q (omega arith) (omega arith) in
-    both-block (unequal-block n x y r (omega arith) (omega arith)) refl
+    both-block (unequal-block n x y r h hr (omega arith) (omega arith)) refl
     (gate-block (and-good q (unequalAt n r) (x + suc r) e (omega arith))
     (gate-block (xor-good (suc q) (unequalAt n r) q (omega arith) (omega arith)) (none-block (suc (suc q)))))
 
-pub sides-block : (n x y r t : ℕ) → x + t * stride r ≤ n → y + t * stride r ≤ n → Block n (sides n x y r t) (t * sideSpan r)
+pub sides-block : (n x y r h t : ℕ) → h ≤ r → x + t * stride r ≤ n → y + t * stride r ≤ n → Block n (sides n x y r h t) (t * sideSpan r)
 unfolding sides
-sides-block n x y r zero hx hy = sized (sym (zero-mul (sideSpan r))) (none-block n)
-sides-block n x y r (suc t) hx hy =
+sides-block n x y r h zero hr hx hy = sized (sym (zero-mul (sideSpan r))) (none-block n)
+sides-block n x y r h (suc t) hr hx hy =
     let e = suc-mul t (stride r) in
     sized (omega (arith, suc-mul t (sideSpan r)))
-    (both-block (side-block n x y r (omega arith) (omega arith)) refl (sides-block (n + sideSpan r) (x + stride r) (y + stride r) r t (omega arith) (omega arith)))
+    (both-block (side-block n x y r h hr (omega arith) (omega arith)) refl (sides-block (n + sideSpan r) (x + stride r) (y + stride r) r h t hr (omega arith) (omega arith)))
 
 pub either-block : (n f x y u v r : ℕ) → f < n → x + suc r ≤ n → y + suc r ≤ n → u + suc r ≤ n → v + suc r ≤ n → Block n (either f x y u v r) (eitherSpan r)
 unfolding either
@@ -129,40 +129,40 @@ module _ (W : ℕ → ℕ) (b : Binary W) where
     pub from-one : W (fromAt n r) ≡ 1 → (spelled r x ≢ spelled r y) × (W (x + suc r) ≡ 0)
     pub from-zero : W (fromAt n r) ≡ 0 → W (x + suc r) ≡ 0 → spelled r x ≡ spelled r y
 
-  side-law : (n x y r : ℕ) → Holds W n (side n x y r) → Side n x y r
+  side-law : (n x y r k : ℕ) → k ≤ r → Holds W n (side n x y r k) → Side n x y r
   unfolding side
-  side-law n x y r h =
+  side-law n x y r k hr h =
       let q = n + unequalSpan r in
       let e = unequalAt n r in
       let f = x + suc r in
       let tail = andOf e f ∷ xorOf e q ∷ [] in
-      let c = cut2 W n (unequal n x y r) tail q (omega (arith, length-unequal n x y r)) h in
+      let c = cut2 W n (unequalCut n x y r k) tail q (omega (arith, length-unequal-cut n x y r k hr)) h in
       let g₁ = holds-first W q (andOf e f) (xorOf e q ∷ []) (c .1) ∙ and-is W b e f in
       let g₂ = holds-first W (q + 1) (xorOf e q) [] (holds-rest W q (andOf e f) (xorOf e q ∷ []) (c .1)) ∙ xor-is W b e q in
       ⊎-elim
-      (λ (s : spelled r x ≡ spelled r y). let z = unequal-zero W b n x y r s (c .0) in
-      record { below-one = λ k. absurd (omega (arith, g₁, z)); below-zero = λ k l. s; from-one = λ k. absurd (omega (arith, g₁, g₂, z)); from-zero = λ k l. s })
-      (λ (s : spelled r x ≢ spelled r y). let z = unequal-one W b n x y r s (c .0) in
+      (λ (s : spelled r x ≡ spelled r y). let z = unequal-cut-zero n x y r k hr W b s (c .0) in
+      record { below-one = λ i. absurd (omega (arith, g₁, z)); below-zero = λ i l. s; from-one = λ i. absurd (omega (arith, g₁, g₂, z)); from-zero = λ i l. s })
+      (λ (s : spelled r x ≢ spelled r y). let z = unequal-cut-one n x y r k hr W b s (c .0) in
       record {
-        below-one = λ k. (s, omega (arith, g₁, z, b f));
-        below-zero = λ k l. absurd (omega (arith, g₁, z));
-        from-one = λ k. (s, omega (arith, g₁, g₂, z, b f));
-        from-zero = λ k l. absurd (omega (arith, g₁, g₂, z));
+        below-one = λ i. (s, omega (arith, g₁, z, b f));
+        below-zero = λ i l. absurd (omega (arith, g₁, z));
+        from-one = λ i. (s, omega (arith, g₁, g₂, z, b f));
+        from-zero = λ i l. absurd (omega (arith, g₁, g₂, z));
       })
       (same-or-not (spelled r x) (spelled r y))
 
-  pub sides-law : (n x y r t : ℕ) → x + t * stride r ≤ n → y + t * stride r ≤ n → Holds W n (sides n x y r t) → (i : ℕ) → i < t → Side (n + i * sideSpan r) (x + i * stride r) (y + i * stride r) r
+  pub sides-law : (n x y r k t : ℕ) → k ≤ r → x + t * stride r ≤ n → y + t * stride r ≤ n → Holds W n (sides n x y r k t) → (i : ℕ) → i < t → Side (n + i * sideSpan r) (x + i * stride r) (y + i * stride r) r
   unfolding sides
-  sides-law n x y r zero hx hy h i l = absurd (omega arith)
-  sides-law n x y r (suc t) hx hy h zero l =
+  sides-law n x y r k zero hr hx hy h i l = absurd (omega arith)
+  sides-law n x y r k (suc t) hr hx hy h zero l =
       let e = suc-mul t (stride r) in
-      let c = cut2 W n (side n x y r) (sides (n + sideSpan r) (x + stride r) (y + stride r) r t) (n + sideSpan r) (omega (arith, side-block n x y r (omega arith) (omega arith) .long)) h in
-      rw (first-place n (sideSpan r), first-place x (stride r), first-place y (stride r)) (side-law n x y r (c .0))
-  sides-law n x y r (suc t) hx hy h (suc i) l =
+      let c = cut2 W n (side n x y r k) (sides (n + sideSpan r) (x + stride r) (y + stride r) r k t) (n + sideSpan r) (omega (arith, side-block n x y r k hr (omega arith) (omega arith) .long)) h in
+      rw (first-place n (sideSpan r), first-place x (stride r), first-place y (stride r)) (side-law n x y r k hr (c .0))
+  sides-law n x y r k (suc t) hr hx hy h (suc i) l =
       let e = suc-mul t (stride r) in
-      let c = cut2 W n (side n x y r) (sides (n + sideSpan r) (x + stride r) (y + stride r) r t) (n + sideSpan r) (omega (arith, side-block n x y r (omega arith) (omega arith) .long)) h in
+      let c = cut2 W n (side n x y r k) (sides (n + sideSpan r) (x + stride r) (y + stride r) r k t) (n + sideSpan r) (omega (arith, side-block n x y r k hr (omega arith) (omega arith) .long)) h in
       rw (← next-place n (sideSpan r) i, ← next-place x (stride r) i, ← next-place y (stride r) i)
-      (sides-law (n + sideSpan r) (x + stride r) (y + stride r) r t (omega arith) (omega arith) (c .1) i (omega arith))
+      (sides-law (n + sideSpan r) (x + stride r) (y + stride r) r k t hr (omega arith) (omega arith) (c .1) i (omega arith))
 
   module _ (n f x y u v r : ℕ) (h : Holds W n (either f x y u v r)) where
     cut-either : Holds W n (choose f x u (suc r)) × Holds W (n + suc r) (choose f y v (suc r))

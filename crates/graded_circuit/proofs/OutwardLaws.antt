@@ -3,30 +3,30 @@
 use mathlib.Core.Path.{_≡_, _∙_, refl, sym, ap, subst}
 use mathlib.Core.Logic.{_⊎_, inl, inr, ⊎-elim, _≢_}
 use mathlib.Core.List.{List, [], _∷_, _++_}
-use Prim.Native.Nat.{ℕ, zero, suc, _+_, _-_, _*_, _/_, _%_, _^_, _≤_, _<_, min}
+use Prim.Native.Nat.{ℕ, zero, suc, _+_, _-_, _*_, _/_, _%_, _^_, _≤_, _<_, min, max}
 use native.Mathlib.Nat.{pow-succ', suc-mul, zero-mul, mul-assoc, mul-zero, mul-one, zero-add}
 use native.Mathlib.Omega.{arith}
 use lib.ListN.{length}
 use Rattle.gates.proofs.Laws.{Holds, holds-append, mux-zero, mux-one}
-use Rattle.basics.proofs.Cases.{below-or-not, same-or-not}
-use Rattle.gate_words.specs.Gates.{notOf, andOf, xorOf, muxOf}
+use Rattle.jury.proofs.Cases.{below-or-not, same-or-not}
+use Rattle.gate_words.specs.Gates.{notOf, andOf, orOf, xorOf, muxOf}
 use Rattle.gate_words.specs.Word.{number}
-use Rattle.gate_words.specs.Adder.{halfAdder, addWords, addWithBit, topCarry}
+use Rattle.gate_words.specs.Halves.{unequalSpan, unequalAt, compareCut, compareSpan, aboveAt}
+use Rattle.gate_words.specs.Reach.{reach, reachLast, reachSpan}
 use Rattle.gate_words.proofs.Numbers.{Binary, bit-cases, number-less, number-more}
-use Rattle.gate_words.proofs.GateValues.{valueOn, holds-first, holds-rest, holds-three, not-is, and-is, xor-is}
-use Rattle.gate_words.proofs.WordSteps.{length-half, length-add-bit}
-use Rattle.gate_words.proofs.AdderLaws.{half-law, add-law}
+use Rattle.gate_words.proofs.GateValues.{valueOn, holds-first, holds-rest, holds-three, not-is, and-is, or-is, xor-is}
+use Rattle.gate_words.proofs.HalvesLaws.{Tells, compare-cut-law}
+use Rattle.gate_words.proofs.ReachLaws.{Reaches, length-reach, reach-law}
 use Rattle.graded_circuit.specs.declared.plan.Plan.{Plan}
 use Rattle.graded_circuit.specs.Plan.{Planned}
-use Rattle.graded_circuit.specs.Versus.{versus, versusSpan, unequalSpan, unequalAt, aboveAt}
 use Rattle.graded_circuit.specs.Nearest.{stride, sides, sideSpan, belowAt, fromAt, lastOf, firstOf, eitherSpan, leftEnd, rightEnd}
-use Rattle.graded_circuit.specs.Outward.{downAt, upAt, nearestEnd, farAt, nearest, downLeft, downRight, upLeft, upRight, compareAndAdd, compareAndAddSpan, leftCarry, rightCarry, resolve, resolveSpan, resolveAt, outward, outwardSpan}
+use Rattle.graded_circuit.specs.Outward.{downAt, upAt, nearestEnd, farAt, nearest, downLeft, downRight, upLeft, upRight, chosenHigh, compareAndReach, compareAndReachSpan, leftCarry, rightCarry, resolve, resolveSpan, resolveAt, outward, outwardSpan}
 use Rattle.graded_circuit.proofs.Cutting.{cut2, cut3, cut4}
-use Rattle.graded_circuit.proofs.VersusLaws.{Tells, versus-block, versus-law}
-use Rattle.graded_circuit.proofs.SumLaws.{Sums, Word, Spells, top-zero, top-one}
+use Rattle.graded_circuit.proofs.Blocks.{compare-block}
+use Rattle.graded_circuit.proofs.SumLaws.{Sums, Word, Spells}
 use Rattle.graded_circuit.proofs.NearestLaws.{Side, sides-block, last-of-block, sides-law, spelled, flagAt, wordOf, Absent, LastAt, FirstAt, last-of-law, first-of-law}
 use Rattle.graded_circuit.proofs.Near.{Near, near-flip, Decides, lower-decides, upper-decides, all-same}
-use Rattle.graded_circuit.proofs.OutwardBlocks.{nearest-block, compare-and-add-block, down-left-below, down-right-below, up-left-below, up-right-below}
+use Rattle.graded_circuit.proofs.OutwardBlocks.{chosen-high, nearest-block, compare-and-reach-block, down-left-below, down-right-below, up-left-below, up-right-below}
 
 -- some grade decides for the row A
 pub record Ahead (n d : ℕ) (A C : ℕ → ℕ) : Type 0 where
@@ -41,97 +41,154 @@ Outcome e s n d A C = ((e ≡ 0) × ((g : ℕ) → g < d → A g ≡ C g)) ⊎ (
 pub three-ways : (a c : ℕ) → (a ≡ c) ⊎ ((c < a) ⊎ (a < c))
 three-ways a c = ⊎-elim (λ (l : a < c). inr (inr l)) (λ (l : c ≤ a). ⊎-elim (λ (k : c < a). inr (inl k)) (λ (k : a ≤ c). inl (omega arith)) (below-or-not c a)) (below-or-not a c)
 
--- the last carry of words with a digit or more
-last-carry : (n w : ℕ) → topCarry (n + 3) (n + 2) w ≡ n + 3 * w + 2
-unfolding topCarry
-last-carry n zero = omega arith
-last-carry n (suc w) = omega arith
+-- single gates, as numbers
+xor-one : (x y z : ℕ) → z ≡ (x + y) % 2 → x + y ≡ 1 → z ≡ 1
+xor-one x y z p q = omega arith
+
+xor-same : (x y z : ℕ) → z ≡ (x + y) % 2 → x ≡ y → z ≡ 0
+xor-same x y z p q = omega arith
+
+xor-none : (x y z v : ℕ) → z ≡ (x + y) % 2 → x ≡ v → v ≤ 1 → y ≡ 0 → z ≡ v
+xor-none x y z v p q l o = omega arith
+
+xor-back : (x y d u t z : ℕ) → x ≤ 1 → y ≤ 1 → d ≡ (x + y) % 2 → u ≡ y → t ≡ d → z ≡ (u + t) % 2 → z ≡ x
+xor-back x y d u t z hx hy p q o r = omega arith
+
+not-of : (x z : ℕ) → z ≡ 1 - x → x ≡ 1 → z ≡ 0
+not-of x z p q = omega arith
+
+not-of′ : (x z : ℕ) → z ≡ 1 - x → x ≡ 0 → z ≡ 1
+not-of′ x z p q = omega arith
+
+not-sum : (x z : ℕ) → x ≤ 1 → z ≡ 1 - x → z + x ≡ 1
+not-sum x z l p = omega arith
+
+or-left : (x y z : ℕ) → z ≡ max x y → x ≡ 1 → y ≤ 1 → z ≡ 1
+or-left x y z p q l = omega arith
+
+or-right : (x y z : ℕ) → z ≡ max x y → x ≡ 0 → z ≡ y
+or-right x y z p q = omega arith
+
+and-none : (x y z : ℕ) → z ≡ min x y → y ≡ 0 → z ≡ 0
+and-none x y z p q = omega arith
+
+and-none′ : (x y z : ℕ) → z ≡ min x y → x ≡ 0 → z ≡ 0
+and-none′ x y z p q = omega arith
+
+and-both : (x y z : ℕ) → z ≡ min x y → x ≡ 1 → y ≡ 1 → z ≡ 1
+and-both x y z p q r = omega arith
+
+-- one of two bits, by their "and" and their sum modulo 2
+either-of : (x y u v z : ℕ) → x ≤ 1 → y ≤ 1 → u ≡ min x y → v ≡ (x + y) % 2 → z ≡ (v + u) % 2 → (x ≡ 0 → y ≡ 0 → z ≡ 0) × (x ≡ 1 → z ≡ 1) × (y ≡ 1 → z ≡ 1)
+either-of x y u v z hx hy p q r = ((λ i k. omega arith), (λ i. omega arith), (λ i. omega arith))
+
+-- four bits, by three gates: a 0 among three of them, or all three 1
+turns : (c o t m u l v : ℕ) → c ≤ 1 → t ≡ min c o → u ≡ min m t → v ≡ min u l → (o ≡ 0 → v ≡ 0) × (m ≡ 0 → v ≡ 0) × (l ≡ 0 → v ≡ 0) × (o ≡ 1 → m ≡ 1 → l ≡ 1 → v ≡ c)
+turns c o t m u l v hc p q r = ((λ i. omega arith), (λ i. omega arith), (λ i. omega arith), (λ i k h. omega arith))
 
 module _ (W : ℕ → ℕ) (b : Binary W) where
-  -- two words of w + 1 digits and a public bit: the carry says that the sum has a digit more
-  sum-of : (n x y e w : ℕ) → e ≤ 1 → Holds W n (addWithBit n x y e (suc w))
-      → number W (n + 1) 3 (suc w) + 2 ^ suc w * W (n + 3 * w + 2) ≡ number W x 1 (suc w) + number W y 1 (suc w) + e
-  unfolding addWithBit
-  sum-of n x y e w l h =
-      let rest = addWords (n + 3) (x + 1) (y + 1) (n + 2) w in
-      let c = cut2 W n (halfAdder n x y e) rest (n + 3) (omega (arith, length-half n x y e)) h in
-      let low = half-law W b n x y e l (c .0) in
-      let high = add-law W b (n + 3) (x + 1) (y + 1) (n + 2) w (c .1) in
-      let k = W (n + 3 * w + 2) in
-      let top = ap (λ (z : ℕ). 2 ^ w * W z) (last-carry n w) in
-      let twice : 2 ^ suc w * k ≡ 2 * (2 ^ w * k) = ap (λ (z : ℕ). z * k) (pow-succ' 2 w) ∙ mul-assoc 2 (2 ^ w) k in
-      let place : n + 1 + 3 ≡ n + 3 + 1 = omega arith in
-      omega (arith, low, high, top, twice, number-more W (n + 1) 3 w, ap (λ (z : ℕ). number W z 3 w) place, number-more W x 1 w, number-more W y 1 w)
-
-  carry-one : (n x y e w : ℕ) → e ≤ 1 → Holds W n (addWithBit n x y e (suc w)) → 2 ^ suc w ≤ number W x 1 (suc w) + number W y 1 (suc w) + e → W (n + 3 * w + 2) ≡ 1
-  carry-one n x y e w l h m = ⊎-elim
-      (λ (z : W (n + 3 * w + 2) ≡ 0). absurd (omega (arith, top-zero _ _ _ _ (sym (sum-of n x y e w l h)) z, number-less W b (n + 1) 3 (suc w))))
-      (λ (z : W (n + 3 * w + 2) ≡ 1). z)
-      (bit-cases (W (n + 3 * w + 2)) (b (n + 3 * w + 2)))
-
-  carry-zero : (n x y e w : ℕ) → e ≤ 1 → Holds W n (addWithBit n x y e (suc w)) → number W x 1 (suc w) + number W y 1 (suc w) + e < 2 ^ suc w → W (n + 3 * w + 2) ≡ 0
-  carry-zero n x y e w l h m = ⊎-elim
-      (λ (z : W (n + 3 * w + 2) ≡ 0). z)
-      (λ (z : W (n + 3 * w + 2) ≡ 1). absurd (omega (arith, top-one _ _ _ _ (sym (sum-of n x y e w l h)) z)))
-      (bit-cases (W (n + 3 * w + 2)) (b (n + 3 * w + 2)))
-
   -- what is resolved, by the wires that it is resolved from
-  pub record Resolved (n e₁ s₁ e₂ s₂ j k f g : ℕ) : Type 0 where
-    pub left-sum : W f + W g ≡ 1 → W s₁ ≡ 1 → W (n + 3) + W j ≡ 1
-    pub right-sum : W f + W g ≡ 1 → W s₁ ≡ 0 → W (n + 3) + W k ≡ 1
-    pub one-side : W f ≡ W g → W (n + 3) ≡ W f
-    pub neither : W e₁ ≡ 0 → W e₂ ≡ 0 → W (n + 8) ≡ 0
-    pub lower-only : W e₁ ≡ 1 → W e₂ ≡ 0 → (W (n + 8) ≡ 1) × (W (n + 9) ≡ W s₁)
-    pub upper-only : W e₁ ≡ 0 → W e₂ ≡ 1 → (W (n + 8) ≡ 1) × (W (n + 9) ≡ W s₂)
-    pub lower-first : W e₁ ≡ 1 → W e₂ ≡ 1 → W (n + 3) ≡ 0 → (W (n + 8) ≡ 1) × (W (n + 9) ≡ W s₁)
-    pub upper-first : W e₁ ≡ 1 → W e₂ ≡ 1 → W (n + 3) ≡ 1 → (W (n + 8) ≡ 1) × (W (n + 9) ≡ W s₂)
+  pub record Resolved (n e s e₁ s₁ e₂ s₂ j k f g : ℕ) : Type 0 where
+    pub left-sum : W f + W g ≡ 1 → W s₁ ≡ 1 → W (n + 3) ≡ W j
+    pub right-sum : W f + W g ≡ 1 → W s₁ ≡ 0 → W (n + 3) ≡ W k
+    pub one-side : W f ≡ W g → W (n + 3) + W f ≡ 1
+    pub medians : W e ≡ 1 → (W (n + 14) ≡ 1) × (W (n + 15) ≡ W s)
+    pub neither : W e ≡ 0 → W e₁ ≡ 0 → W e₂ ≡ 0 → W (n + 14) ≡ 0
+    pub lower-only : W e ≡ 0 → W e₁ ≡ 1 → W e₂ ≡ 0 → (W (n + 14) ≡ 1) × (W (n + 15) ≡ W s₁)
+    pub upper-only : W e ≡ 0 → W e₁ ≡ 0 → W e₂ ≡ 1 → (W (n + 14) ≡ 1) × (W (n + 15) ≡ W s₂)
+    pub lower-first : W e ≡ 0 → W e₁ ≡ 1 → W e₂ ≡ 1 → W (n + 3) ≡ 1 → (W (n + 14) ≡ 1) × (W (n + 15) ≡ W s₁)
+    pub upper-first : W e ≡ 0 → W e₁ ≡ 1 → W e₂ ≡ 1 → W (n + 3) ≡ 0 → (W (n + 14) ≡ 1) × (W (n + 15) ≡ W s₂)
 
-  resolve-law : (n e₁ s₁ e₂ s₂ j k f g : ℕ) → Holds W n (resolve n e₁ s₁ e₂ s₂ j k f g) → Resolved n e₁ s₁ e₂ s₂ j k f g
+  pub resolve-law : (n e s e₁ s₁ e₂ s₂ j k f g : ℕ) → Holds W n (resolve n e s e₁ s₁ e₂ s₂ j k f g) → Resolved n e s e₁ s₁ e₂ s₂ j k f g
   unfolding resolve
-  resolve-law n e₁ s₁ e₂ s₂ j k f g h =
-      let g₃ = muxOf (n + 2) (n + 1) f in
+  resolve-law n e s e₁ s₁ e₂ s₂ j k f g h =
+      let g₃ = muxOf (n + 2) n (n + 1) in
       let g₄ = andOf e₁ e₂ in
-      let g₅ = andOf (n + 4) (n + 3) in
-      let g₆ = xorOf e₁ (n + 5) in
-      let g₇ = xorOf e₁ e₂ in
-      let g₈ = xorOf (n + 7) (n + 4) in
-      let g₉ = muxOf (n + 6) s₁ s₂ in
-      let a = holds-three W n (muxOf s₁ j k) (notOf n) (xorOf f g) (g₃ ∷ g₄ ∷ g₅ ∷ g₆ ∷ g₇ ∷ g₈ ∷ g₉ ∷ []) h in
-      let c = holds-three W (n + 3) g₃ g₄ g₅ (g₆ ∷ g₇ ∷ g₈ ∷ g₉ ∷ []) (a .3) in
-      let d = holds-three W (n + 3 + 3) g₆ g₇ g₈ (g₉ ∷ []) (c .3) in
-      let p₄ : n + 3 + 1 ≡ n + 4 = omega arith in
-      let p₅ : n + 3 + 2 ≡ n + 5 = omega arith in
-      let p₆ : n + 3 + 3 ≡ n + 6 = omega arith in
-      let p₇ : n + 3 + 3 + 1 ≡ n + 7 = omega arith in
-      let p₈ : n + 3 + 3 + 2 ≡ n + 8 = omega arith in
-      let p₉ : n + 3 + 3 + 3 ≡ n + 9 = omega arith in
-      let w₁ = a .1 ∙ not-is W b n in
+      let g₅ = xorOf e₁ e₂ in
+      let g₆ = xorOf (n + 5) (n + 4) in
+      let g₇ = muxOf e₂ s₂ s₁ in
+      let g₈ = xorOf s₁ s₂ in
+      let g₉ = notOf e in
+      let g₁₀ = andOf (n + 8) (n + 9) in
+      let g₁₁ = andOf (n + 4) (n + 10) in
+      let g₁₂ = andOf (n + 11) (n + 3) in
+      let g₁₃ = muxOf e s (n + 7) in
+      let g₁₄ = orOf e (n + 6) in
+      let g₁₅ = xorOf (n + 13) (n + 12) in
+      let a = holds-three W n (muxOf s₁ j k) (notOf f) (xorOf f g) (g₃ ∷ g₄ ∷ g₅ ∷ g₆ ∷ g₇ ∷ g₈ ∷ g₉ ∷ g₁₀ ∷ g₁₁ ∷ g₁₂ ∷ g₁₃ ∷ g₁₄ ∷ g₁₅ ∷ []) h in
+      let c = holds-three W (n + 3) g₃ g₄ g₅ (g₆ ∷ g₇ ∷ g₈ ∷ g₉ ∷ g₁₀ ∷ g₁₁ ∷ g₁₂ ∷ g₁₃ ∷ g₁₄ ∷ g₁₅ ∷ []) (a .3) in
+      let d = holds-three W (n + 3 + 3) g₆ g₇ g₈ (g₉ ∷ g₁₀ ∷ g₁₁ ∷ g₁₂ ∷ g₁₃ ∷ g₁₄ ∷ g₁₅ ∷ []) (c .3) in
+      let i = holds-three W (n + 3 + 3 + 3) g₉ g₁₀ g₁₁ (g₁₂ ∷ g₁₃ ∷ g₁₄ ∷ g₁₅ ∷ []) (d .3) in
+      let l = holds-three W (n + 3 + 3 + 3 + 3) g₁₂ g₁₃ g₁₄ (g₁₅ ∷ []) (i .3) in
+      let at : (x y : ℕ) → x ≡ y → W y ≡ W x = λ x y q. sym (ap W q) in
+      let w₁ = a .1 ∙ not-is W b f in
       let w₂ = a .2 ∙ xor-is W b f g in
       let w₃ = c .0 in
-      let w₄ : W (n + 4) ≡ min (W e₁) (W e₂) = sym (ap W p₄) ∙ c .1 ∙ and-is W b e₁ e₂ in
-      let w₅ : W (n + 5) ≡ min (W (n + 4)) (W (n + 3)) = sym (ap W p₅) ∙ c .2 ∙ and-is W b (n + 4) (n + 3) in
-      let w₆ : W (n + 6) ≡ (W e₁ + W (n + 5)) % 2 = sym (ap W p₆) ∙ d .0 ∙ xor-is W b e₁ (n + 5) in
-      let w₇ : W (n + 7) ≡ (W e₁ + W e₂) % 2 = sym (ap W p₇) ∙ d .1 ∙ xor-is W b e₁ e₂ in
-      let w₈ : W (n + 8) ≡ (W (n + 7) + W (n + 4)) % 2 = sym (ap W p₈) ∙ d .2 ∙ xor-is W b (n + 7) (n + 4) in
-      let w₉ : W (n + 9) ≡ valueOn W g₉ = sym (ap W p₉) ∙ holds-first W (n + 3 + 3 + 3) g₉ [] (d .3) in
-      let lower : W (n + 6) ≡ 1 → W (n + 9) ≡ W s₁ = λ z. w₉ ∙ mux-one (W (n + 6)) (W s₁) (W s₂) z in
-      let upper : W (n + 6) ≡ 0 → W (n + 9) ≡ W s₂ = λ z. w₉ ∙ mux-zero (W (n + 6)) (W s₁) (W s₂) z in
+      let w₄ : W (n + 4) ≡ min (W e₁) (W e₂) = at (n + 3 + 1) (n + 4) (omega arith) ∙ c .1 ∙ and-is W b e₁ e₂ in
+      let w₅ : W (n + 5) ≡ (W e₁ + W e₂) % 2 = at (n + 3 + 2) (n + 5) (omega arith) ∙ c .2 ∙ xor-is W b e₁ e₂ in
+      let w₆ : W (n + 6) ≡ (W (n + 5) + W (n + 4)) % 2 = at (n + 3 + 3) (n + 6) (omega arith) ∙ d .0 ∙ xor-is W b (n + 5) (n + 4) in
+      let w₇ : W (n + 7) ≡ valueOn W g₇ = at (n + 3 + 3 + 1) (n + 7) (omega arith) ∙ d .1 in
+      let w₈ : W (n + 8) ≡ (W s₁ + W s₂) % 2 = at (n + 3 + 3 + 2) (n + 8) (omega arith) ∙ d .2 ∙ xor-is W b s₁ s₂ in
+      let w₉ : W (n + 9) ≡ 1 - W e = at (n + 3 + 3 + 3) (n + 9) (omega arith) ∙ i .0 ∙ not-is W b e in
+      let w₁₀ : W (n + 10) ≡ min (W (n + 8)) (W (n + 9)) = at (n + 3 + 3 + 3 + 1) (n + 10) (omega arith) ∙ i .1 ∙ and-is W b (n + 8) (n + 9) in
+      let w₁₁ : W (n + 11) ≡ min (W (n + 4)) (W (n + 10)) = at (n + 3 + 3 + 3 + 2) (n + 11) (omega arith) ∙ i .2 ∙ and-is W b (n + 4) (n + 10) in
+      let w₁₂ : W (n + 12) ≡ min (W (n + 11)) (W (n + 3)) = at (n + 3 + 3 + 3 + 3) (n + 12) (omega arith) ∙ l .0 ∙ and-is W b (n + 11) (n + 3) in
+      let w₁₃ : W (n + 13) ≡ valueOn W g₁₃ = at (n + 3 + 3 + 3 + 3 + 1) (n + 13) (omega arith) ∙ l .1 in
+      let w₁₄ : W (n + 14) ≡ max (W e) (W (n + 6)) = at (n + 3 + 3 + 3 + 3 + 2) (n + 14) (omega arith) ∙ l .2 ∙ or-is W b e (n + 6) in
+      let w₁₅ : W (n + 15) ≡ (W (n + 13) + W (n + 12)) % 2 = at (n + 3 + 3 + 3 + 3 + 3) (n + 15) (omega arith) ∙ holds-first W (n + 3 + 3 + 3 + 3 + 3) g₁₅ [] (l .3) ∙ xor-is W b (n + 13) (n + 12) in
+      let equal : W e ≡ 0 → W (n + 13) ≡ W (n + 7) = λ z. w₁₃ ∙ mux-zero (W e) (W s) (W (n + 7)) z in
+      let upper : W e₂ ≡ 1 → W (n + 7) ≡ W s₂ = λ z. w₇ ∙ mux-one (W e₂) (W s₂) (W s₁) z in
+      let lower : W e₂ ≡ 0 → W (n + 7) ≡ W s₁ = λ z. w₇ ∙ mux-zero (W e₂) (W s₂) (W s₁) z in
+      let one = either-of (W e₁) (W e₂) (W (n + 4)) (W (n + 5)) (W (n + 6)) (b e₁) (b e₂) w₄ w₅ w₆ in
+      let turn = turns (W (n + 8)) (W (n + 9)) (W (n + 10)) (W (n + 4)) (W (n + 11)) (W (n + 3)) (W (n + 12)) (b (n + 8)) w₁₀ w₁₁ w₁₂ in
+      let stays : (v : ℕ) → W (n + 13) ≡ v → v ≤ 1 → W (n + 12) ≡ 0 → W (n + 15) ≡ v = λ v q l z. xor-none (W (n + 13)) (W (n + 12)) (W (n + 15)) v w₁₅ q l z in
+      let differs : W e ≡ 0 → W (n + 6) ≡ 1 → W (n + 14) ≡ 1 = λ z q. or-right (W e) (W (n + 6)) (W (n + 14)) w₁₄ z ∙ q in
       record {
-        left-sum = λ q z. let t : W (n + 2) ≡ 1 = omega arith in omega (arith, w₃ ∙ mux-one (W (n + 2)) (W (n + 1)) (W f) t, w₁, a .0 ∙ mux-one (W s₁) (W j) (W k) z, b j);
-        right-sum = λ q z. let t : W (n + 2) ≡ 1 = omega arith in omega (arith, w₃ ∙ mux-one (W (n + 2)) (W (n + 1)) (W f) t, w₁, a .0 ∙ mux-zero (W s₁) (W j) (W k) z, b k);
-        one-side = λ q. let t : W (n + 2) ≡ 0 = omega (arith, b f, b g) in w₃ ∙ mux-zero (W (n + 2)) (W (n + 1)) (W f) t;
-        neither = λ y z. let u : W (n + 4) ≡ 0 = omega arith in omega arith;
-        lower-only = λ y z. let u : W (n + 4) ≡ 0 = omega arith in let v : W (n + 5) ≡ 0 = omega arith in (omega arith, lower (omega arith));
-        upper-only = λ y z. let u : W (n + 4) ≡ 0 = omega arith in let v : W (n + 5) ≡ 0 = omega arith in (omega arith, upper (omega arith));
-        lower-first = λ y z q. let u : W (n + 4) ≡ 1 = omega arith in let v : W (n + 5) ≡ 0 = omega arith in (omega arith, lower (omega arith));
-        upper-first = λ y z q. let u : W (n + 4) ≡ 1 = omega arith in let v : W (n + 5) ≡ 1 = omega arith in (omega arith, upper (omega arith));
+        left-sum = λ q z. w₃ ∙ mux-one (W (n + 2)) (W n) (W (n + 1)) (xor-one (W f) (W g) (W (n + 2)) w₂ q) ∙ a .0 ∙ mux-one (W s₁) (W j) (W k) z;
+        right-sum = λ q z. w₃ ∙ mux-one (W (n + 2)) (W n) (W (n + 1)) (xor-one (W f) (W g) (W (n + 2)) w₂ q) ∙ a .0 ∙ mux-zero (W s₁) (W j) (W k) z;
+        one-side = λ q. not-sum (W f) (W (n + 3)) (b f) (w₃ ∙ mux-zero (W (n + 2)) (W n) (W (n + 1)) (xor-same (W f) (W g) (W (n + 2)) w₂ q) ∙ w₁);
+        medians = λ z. (or-left (W e) (W (n + 6)) (W (n + 14)) w₁₄ z (b (n + 6)), stays (W s) (w₁₃ ∙ mux-one (W e) (W s) (W (n + 7)) z) (b s) (turn .0 (not-of (W e) (W (n + 9)) w₉ z)));
+        neither = λ o y z. or-right (W e) (W (n + 6)) (W (n + 14)) w₁₄ o ∙ one .0 y z;
+        lower-only = λ o y z. (differs o (one .1 y), stays (W s₁) (equal o ∙ lower z) (b s₁) (turn .1 (and-none (W e₁) (W e₂) (W (n + 4)) w₄ z)));
+        upper-only = λ o y z. (differs o (one .2 z), stays (W s₂) (equal o ∙ upper z) (b s₂) (turn .1 (and-none′ (W e₁) (W e₂) (W (n + 4)) w₄ y)));
+        lower-first = λ o y z q. (
+          differs o (one .1 y),
+          xor-back (W s₁) (W s₂) (W (n + 8)) (W (n + 13)) (W (n + 12)) (W (n + 15)) (b s₁) (b s₂) w₈ (equal o ∙ upper z) (turn .3 (not-of′ (W e) (W (n + 9)) w₉ o) (and-both (W e₁) (W e₂) (W (n + 4)) w₄ y z) q) w₁₅,
+        );
+        upper-first = λ o y z q. (differs o (one .1 y), stays (W s₂) (equal o ∙ upper z) (b s₂) (turn .2 q));
       }
+
+  -- its three parts
+  outward-parts : (p : Plan) (r t n x y : ℕ) → x + suc (suc t) * stride r ≤ n → y + suc (suc t) * stride r ≤ n → (high : ℕ) → high ≤ r → (e s : ℕ) → Holds W n (outward (p .ballots % 2) n x y e s r high t)
+      → let m = nearestEnd n r t in Holds W n (nearest n x y r high t)
+      × Holds W m (compareAndReach m (downLeft n x r t) (downRight n y r t) (upLeft n x r t) (upRight n y r t) (p .ballots % 2) r (chosenHigh r high t))
+      × Holds W (resolveAt n r t) (resolve (resolveAt n r t) e s (unequalAt m r) (aboveAt m (downLeft n x r t) r) (unequalAt (m + compareSpan r) r) (aboveAt (m + compareSpan r) (upLeft n x r t) r) (leftCarry m r) (rightCarry m r) (x + suc r) (farAt x r t + suc r))
+  unfolding outward
+  outward-parts p r t n x y hx hy high hr e s h =
+      let m = nearestEnd n r t in
+      let dl = downLeft n x r t in
+      let dr = downRight n y r t in
+      let ul = upLeft n x r t in
+      let ur = upRight n y r t in
+      let ch = chosenHigh r high t in
+      cut3 W n (nearest n x y r high t) (compareAndReach m dl dr ul ur (p .ballots % 2) r ch)
+      (resolve (resolveAt n r t) e s (unequalAt m r) (aboveAt m dl r) (unequalAt (m + compareSpan r) r) (aboveAt (m + compareSpan r) ul r) (leftCarry m r) (rightCarry m r) (x + suc r) (farAt x r t + suc r)) m (resolveAt n r t)
+      (omega (arith, nearest-block n x y r high t hr hx hy .long))
+      (omega (arith, compare-and-reach-block m dl dr ul ur (p .ballots % 2) r ch (chosen-high r high t hr) (down-left-below n x y r t hx hy) (down-right-below n x y r t hx hy) (up-left-below n x y r t hx hy) (up-right-below n x y r t hx hy) .long)) h
+
+  -- keys whose medians differ: they decide
+  pub outward-medians : (p : Plan) (r t n x y : ℕ) → x + suc (suc t) * stride r ≤ n → y + suc (suc t) * stride r ≤ n → (high : ℕ) → high ≤ r → (e s : ℕ) → Holds W n (outward (p .ballots % 2) n x y e s r high t)
+      → W e ≡ 1 → (W (resolveAt n r t + 14) ≡ 1) × (W (resolveAt n r t + 15) ≡ W s)
+  outward-medians p r t n x y hx hy high hr e s h =
+      let m = nearestEnd n r t in
+      resolve-law (resolveAt n r t) e s (unequalAt m r) (aboveAt m (downLeft n x r t) r) (unequalAt (m + compareSpan r) r) (aboveAt (m + compareSpan r) (upLeft n x r t) r)
+      (leftCarry m r) (rightCarry m r) (x + suc r) (farAt x r t + suc r) (outward-parts p r t n x y hx hy high hr e s h .2) .medians
 
   -- two keys of sums with the same median, with r + 1 low digits and t + 2 grades
   module _ (p : Plan) (f : Planned p) (r t : ℕ) (er : p .digits ≡ suc r) (et : p .grades - 2 ≡ suc t)
       (A C : ℕ → ℕ) (median : ℕ) (a : Sums (p .ballots) (p .grades) A median) (c : Sums (p .ballots) (p .grades) C median)
       (n x y : ℕ) (hx : x + suc (suc t) * stride r ≤ n) (hy : y + suc (suc t) * stride r ≤ n)
-      (kx : Spells W b p f x A) (ky : Spells W b p f y C) where
+      (kx : Spells W b p f x A) (ky : Spells W b p f y C) (top : ℕ) (hr : top ≤ r) where
     -- a word of a key, at its place
     word : (z : ℕ) (S : ℕ → ℕ) → Spells W b p f z S → (g : ℕ) → g < suc (suc t) → Word W b p f (suc r) (z + g * stride r) (S g)
     word z S k g l =
@@ -158,20 +215,20 @@ module _ (W : ℕ → ℕ) (b : Binary W) where
     zero-worse : (g : ℕ) → g < suc (suc t) → W (x + g * stride r + suc r) ≡ 0 → median ≤ g
     zero-worse g l z = ⊎-elim (λ (m : g < median). absurd (omega (arith, worse-one g l m))) (λ (m : median ≤ g). m) (below-or-not g median)
 
-    parts : Holds W n (nearest n x y r t)
-        → Holds W n (sides n (x + stride r) (y + stride r) r t)
+    parts : Holds W n (nearest n x y r top t)
+        → Holds W n (sides n (x + stride r) (y + stride r) r top t)
         × Holds W (downAt n r t) (lastOf (downAt n r t) (belowAt n r) (x + stride r) (y + stride r) x y r t)
         × Holds W (upAt n r t) (firstOf (upAt n r t) (fromAt n r) (x + stride r) (y + stride r) (farAt x r t) (farAt y r t) r t)
     unfolding nearest
     parts h =
         let e = suc-mul (suc t) (stride r) in
         let e′ = suc-mul t (stride r) in
-        cut3 W n (sides n (x + stride r) (y + stride r) r t) (lastOf (downAt n r t) (belowAt n r) (x + stride r) (y + stride r) x y r t)
+        cut3 W n (sides n (x + stride r) (y + stride r) r top t) (lastOf (downAt n r t) (belowAt n r) (x + stride r) (y + stride r) x y r t)
         (firstOf (upAt n r t) (fromAt n r) (x + stride r) (y + stride r) (farAt x r t) (farAt y r t) r t) (downAt n r t) (upAt n r t)
-        (omega (arith, sides-block n (x + stride r) (y + stride r) r t (omega arith) (omega arith) .long))
+        (omega (arith, sides-block n (x + stride r) (y + stride r) r top t hr (omega arith) (omega arith) .long))
         (omega (arith, last-of-block (downAt n r t) (belowAt n r) (x + stride r) (y + stride r) x y r t (omega arith) (omega arith) (omega arith) (omega arith) (omega arith) .long)) h
 
-    module _ (h : Holds W n (nearest n x y r t)) where
+    module _ (h : Holds W n (nearest n x y r top t)) where
       sided : (i : ℕ) → i < t → Side W b (n + i * sideSpan r) (x + suc i * stride r) (y + suc i * stride r) r
       sided i l =
           let e = suc-mul (suc t) (stride r) in
@@ -180,7 +237,7 @@ module _ (W : ℕ → ℕ) (b : Binary W) where
           let py : y + stride r + i * stride r ≡ y + suc i * stride r = omega (arith, suc-mul i (stride r)) in
           subst (λ (k : ℕ). Side W b (n + i * sideSpan r) (x + suc i * stride r) k r) py
           (subst (λ (k : ℕ). Side W b (n + i * sideSpan r) k (y + stride r + i * stride r) r) px
-          (sides-law W b n (x + stride r) (y + stride r) r t (omega arith) (omega arith) (parts h .0) i l))
+          (sides-law W b n (x + stride r) (y + stride r) r top t hr (omega arith) (omega arith) (parts h .0) i l))
 
       below-place : (i : ℕ) → flagAt W b (belowAt n r) r i ≡ W (belowAt (n + i * sideSpan r) r)
       below-place i = let e : belowAt n r + i * sideSpan r ≡ belowAt (n + i * sideSpan r) r = omega arith in ap W e
@@ -288,52 +345,47 @@ module _ (W : ℕ → ℕ) (b : Binary W) where
 
     -- the sums of a row at both grades, and the carry that tells whether they reach n
     module _ (S : ℕ → ℕ) (s : Sums (p .ballots) (p .grades) S median) (z : ℕ) (k : Spells W b p f z S) (down up : ℕ) (hd : down < suc (suc t)) (hu : up < suc (suc t)) where
-      reach-one : (m u v : ℕ) → down < median → median ≤ up → spelled W b r u ≡ wordOf W b z r down → spelled W b r v ≡ wordOf W b z r up
-          → Holds W m (addWithBit m u v (p .ballots % 2) (suc r)) → p .ballots ≤ S down + S up → W (m + 3 * r + 2) ≡ 1
-      reach-one m u v l l′ eu ev h q =
-          carry-one m u v (p .ballots % 2) r (omega arith) h
-          (omega (arith, word z S k down hd .low-worse (s .passed down l), word z S k up hu .low-better (s .reached up l′), f .offset-is, ap (λ (i : ℕ). 2 ^ i) er, eu, ev))
-
-      reach-zero : (m u v : ℕ) → down < median → median ≤ up → spelled W b r u ≡ wordOf W b z r down → spelled W b r v ≡ wordOf W b z r up
-          → Holds W m (addWithBit m u v (p .ballots % 2) (suc r)) → S down + S up < p .ballots → W (m + 3 * r + 2) ≡ 0
-      reach-zero m u v l l′ eu ev h q =
-          carry-zero m u v (p .ballots % 2) r (omega arith) h
-          (omega (arith, word z S k down hd .low-worse (s .passed down l), word z S k up hu .low-better (s .reached up l′), f .offset-is, ap (λ (i : ℕ). 2 ^ i) er, eu, ev))
+      reach-is : (m u v : ℕ) → down < median → median ≤ up → spelled W b r u ≡ wordOf W b z r down → spelled W b r v ≡ wordOf W b z r up
+          → Holds W m (reach m u v (p .ballots % 2) r) → Reaches (W (m + reachLast r)) (p .ballots) (S down + S up)
+      reach-is m u v l l′ eu ev h =
+          let q = reach-law W b m u v (p .ballots % 2) r (omega arith) h in
+          let low = word z S k down hd .low-worse (s .passed down l) in
+          let up′ = word z S k up hu .low-better (s .reached up l′) in
+          let o = f .offset-is in
+          let power = ap (λ (i : ℕ). 2 ^ i) er in
+          record { reached = λ i. q .reached (omega arith); missed = λ i. q .missed (omega arith) }
 
     -- the wires that say on which side of the median the first and the last grade are
     first-wire : x + 0 * stride r + suc r ≡ x + suc r
     first-wire = omega (arith, zero-mul (stride r))
 
-    -- a wire `second` says that the two sums of the row S do not reach n
-    pub record Second (S : ℕ → ℕ) (down up second : ℕ) : Type 0 where
-      pub short : second ≡ 1 → S down + S up < p .ballots
-      pub long : second ≡ 0 → p .ballots ≤ S down + S up
+    -- a wire says that the two sums of the row S reach n: the lower grade is struck first
+    abbrev pub LowerFirst : (ℕ → ℕ) → ℕ → ℕ → ℕ → Type 0
+    LowerFirst S down up bit = Reaches bit (p .ballots) (S down + S up)
 
-    second-is : (S : ℕ → ℕ) → Sums (p .ballots) (p .grades) S median → (down up second carry : ℕ) → down < suc (suc t) → up < suc (suc t)
+    lower-first-is : (S : ℕ → ℕ) → Sums (p .ballots) (p .grades) S median → (down up bit carry : ℕ) → down < suc (suc t) → up < suc (suc t)
         → (0 < down → down < median) → (up < suc t → median ≤ up)
-        → (down < median → median ≤ up → p .ballots ≤ S down + S up → carry ≡ 1) → (down < median → median ≤ up → S down + S up < p .ballots → carry ≡ 0)
-        → (W (x + suc r) + W (farAt x r t + suc r) ≡ 1 → second + carry ≡ 1) → (W (x + suc r) ≡ W (farAt x r t + suc r) → second ≡ W (x + suc r))
-        → Second S down up second
-    second-is S s down up second carry hd hu far-down far-up reached missed apart one-side =
+        → (down < median → median ≤ up → LowerFirst S down up carry)
+        → (W (x + suc r) + W (farAt x r t + suc r) ≡ 1 → bit ≡ carry) → (W (x + suc r) ≡ W (farAt x r t + suc r) → bit + W (x + suc r) ≡ 1)
+        → LowerFirst S down up bit
+    lower-first-is S s down up bit carry hd hu far-down far-up carried apart one-side =
         ⊎-elim
         (λ (m : 0 < median). let w₀ = sym (ap W first-wire) ∙ worse-one 0 (omega arith) m in
         ⊎-elim
         (λ (m′ : suc t < median). let w₁ = worse-one (suc t) (omega arith) m′ in
-        let i = one-side (w₀ ∙ sym w₁) ∙ w₀ in
-        record { short = λ q. omega (arith, s .passed down (omega arith), s .passed up (omega arith)); long = λ q. absurd (omega arith) })
+        let i = one-side (w₀ ∙ sym w₁) in
+        record { reached = λ q. absurd (omega (arith, s .passed down (omega arith), s .passed up (omega arith))); missed = λ q. omega arith })
         (λ (m′ : median ≤ suc t). let w₁ = worse-zero (suc t) (omega arith) m′ in
         let i = apart (omega (arith, w₀, w₁)) in
         let l : down < median = ⊎-elim (λ (j : 0 < down). far-down j) (λ (j : down ≤ 0). omega arith) (below-or-not 0 down) in
         let l′ : median ≤ up = ⊎-elim (λ (j : up < suc t). far-up j) (λ (j : suc t ≤ up). omega arith) (below-or-not up (suc t)) in
-        record {
-          short = λ q. ⊎-elim (λ (j : S down + S up < p .ballots). j) (λ (j : p .ballots ≤ S down + S up). absurd (omega (arith, reached l l′ j))) (below-or-not (S down + S up) (p .ballots));
-          long = λ q. ⊎-elim (λ (j : S down + S up < p .ballots). absurd (omega (arith, missed l l′ j))) (λ (j : p .ballots ≤ S down + S up). j) (below-or-not (S down + S up) (p .ballots));
-        })
+        let k = carried l l′ in
+        record { reached = λ q. i ∙ k .reached q; missed = λ q. i ∙ k .missed q })
         (below-or-not (suc t) median))
         (λ (m : median ≤ 0). let w₀ = sym (ap W first-wire) ∙ worse-zero 0 (omega arith) m in
         let w₁ = worse-zero (suc t) (omega arith) (omega arith) in
-        let i = one-side (w₀ ∙ sym w₁) ∙ w₀ in
-        record { short = λ q. absurd (omega arith); long = λ q. omega (arith, s .reached down (omega arith), s .reached up (omega arith)) })
+        let i = one-side (w₀ ∙ sym w₁) in
+        record { reached = λ q. omega arith; missed = λ q. absurd (omega (arith, s .reached down (omega arith), s .reached up (omega arith))) })
         (below-or-not 0 median)
 
     -- words that differ just as sums do tell of the sums
@@ -341,17 +393,17 @@ module _ (W : ℕ → ℕ) (b : Binary W) where
     tells-sums q k = record { same = λ z. k .same (omega arith); differ = λ z. k .differ (λ y. z (omega arith)); over = λ l. k .over (omega arith); under = λ l. k .under (omega arith) }
 
     -- what the two grades decide
-    module _ (down up q e₁ s₁ e₂ s₂ j k i i′ : ℕ) (near : Near t median A C down up) (set : Resolved q e₁ s₁ e₂ s₂ j k i i′)
+    module _ (down up q e s e₁ s₁ e₂ s₂ j k i i′ : ℕ) (near : Near t median A C down up) (set : Resolved q e s e₁ s₁ e₂ s₂ j k i i′) (even : W e ≡ 0)
         (low : Tells (W e₁) (W s₁) (A down) (C down)) (high : Tells (W e₂) (W s₂) (A up) (C up))
-        (left : W s₁ ≡ 1 → Second A down up (W (q + 3))) (right : W s₁ ≡ 0 → Second C down up (W (q + 3))) where
+        (left : W s₁ ≡ 1 → LowerFirst A down up (W (q + 3))) (right : W s₁ ≡ 0 → LowerFirst C down up (W (q + 3))) where
       Result : Type 0
-      Result = Outcome (W (q + 8)) (W (q + 9)) (p .ballots) (suc (suc t)) A C
+      Result = Outcome (W (q + 14)) (W (q + 15)) (p .ballots) (suc (suc t)) A C
 
-      x-first : W (q + 8) ≡ 1 → W (q + 9) ≡ 1 → Decides (p .ballots) (suc (suc t)) A C down ⊎ Decides (p .ballots) (suc (suc t)) A C up → Result
+      x-first : W (q + 14) ≡ 1 → W (q + 15) ≡ 1 → Decides (p .ballots) (suc (suc t)) A C down ⊎ Decides (p .ballots) (suc (suc t)) A C up → Result
       unfolding Result
       x-first e s d = inr (inl (e, s, ⊎-elim (λ (g : Decides (p .ballots) (suc (suc t)) A C down). record { grade = down; decides = g }) (λ (g : Decides (p .ballots) (suc (suc t)) A C up). record { grade = up; decides = g }) d))
 
-      y-first : W (q + 8) ≡ 1 → W (q + 9) ≡ 0 → Decides (p .ballots) (suc (suc t)) C A down ⊎ Decides (p .ballots) (suc (suc t)) C A up → Result
+      y-first : W (q + 14) ≡ 1 → W (q + 15) ≡ 0 → Decides (p .ballots) (suc (suc t)) C A down ⊎ Decides (p .ballots) (suc (suc t)) C A up → Result
       unfolding Result
       y-first e s d = inr (inr (e, s, ⊎-elim (λ (g : Decides (p .ballots) (suc (suc t)) C A down). record { grade = down; decides = g }) (λ (g : Decides (p .ballots) (suc (suc t)) C A up). record { grade = up; decides = g }) d))
 
@@ -373,16 +425,23 @@ module _ (W : ℕ → ℕ) (b : Binary W) where
       unlike′ : (u v : ℕ) → v < u → u ≢ v
       unlike′ u v l e = omega arith
 
+      -- what the wire says, the other way round
+      long : {bit limit sum : ℕ} → Reaches bit limit sum → bit ≡ 1 → limit ≤ sum
+      long {bit} {limit} {sum} w z = let no : ¬ (sum < limit) = λ m. let y = w .missed m in omega arith in omega arith
+
+      short : {bit limit sum : ℕ} → Reaches bit limit sum → bit ≡ 0 → sum < limit
+      short {bit} {limit} {sum} w z = let no : ¬ (limit ≤ sum) = λ m. let y = w .reached m in omega arith in omega arith
+
       second-bit : (W (q + 3) ≡ 0) ⊎ (W (q + 3) ≡ 1)
       second-bit = bit-cases (W (q + 3)) (b (q + 3))
 
       tie-below : A down ≡ C down → Result
       unfolding Result
       tie-below e = ⊎-elim
-          (λ (o : A up ≡ C up). inl (set .neither (low .same e) (high .same o), all-same (p .ballots) (p .grades) t median A C a c down up near e o))
+          (λ (o : A up ≡ C up). inl (set .neither even (low .same e) (high .same o), all-same (p .ballots) (p .grades) t median A C a c down up near e o))
           (⊎-elim
-          (λ (o : C up < A up). let v = set .upper-only (low .same e) (high .differ (unlike′ (A up) (C up) o)) in x-first (v .0) (v .1 ∙ high .over o) (inr (x-upper o (inr e))))
-          (λ (o : A up < C up). let v = set .upper-only (low .same e) (high .differ (unlike (A up) (C up) o)) in y-first (v .0) (v .1 ∙ high .under o) (inr (y-upper o (inr (sym e))))))
+          (λ (o : C up < A up). let v = set .upper-only even (low .same e) (high .differ (unlike′ (A up) (C up) o)) in x-first (v .0) (v .1 ∙ high .over o) (inr (x-upper o (inr e))))
+          (λ (o : A up < C up). let v = set .upper-only even (low .same e) (high .differ (unlike (A up) (C up) o)) in y-first (v .0) (v .1 ∙ high .under o) (inr (y-upper o (inr (sym e))))))
           (three-ways (A up) (C up))
 
       x-above : C down < A down → Result
@@ -391,17 +450,17 @@ module _ (W : ℕ → ℕ) (b : Binary W) where
           let s = low .over l in
           let w = left s in
           ⊎-elim
-          (λ (o : A up ≡ C up). let v = set .lower-only e₁ (high .same o) in x-first (v .0) (v .1 ∙ s) (inl (x-lower l (inr o))))
+          (λ (o : A up ≡ C up). let v = set .lower-only even e₁ (high .same o) in x-first (v .0) (v .1 ∙ s) (inl (x-lower l (inr o))))
           (⊎-elim
           (λ (o : C up < A up). let e₂ = high .differ (unlike′ (A up) (C up) o) in
           ⊎-elim
-          (λ (z : W (q + 3) ≡ 0). let v = set .lower-first e₁ e₂ z in x-first (v .0) (v .1 ∙ s) (inl (x-lower l (inl (w .long z)))))
-          (λ (z : W (q + 3) ≡ 1). let v = set .upper-first e₁ e₂ z in x-first (v .0) (v .1 ∙ high .over o) (inr (x-upper o (inl (omega (arith, w .short z))))))
+          (λ (z : W (q + 3) ≡ 0). let v = set .upper-first even e₁ e₂ z in x-first (v .0) (v .1 ∙ high .over o) (inr (x-upper o (inl (omega (arith, short w z))))))
+          (λ (z : W (q + 3) ≡ 1). let v = set .lower-first even e₁ e₂ z in x-first (v .0) (v .1 ∙ s) (inl (x-lower l (inl (long w z)))))
           second-bit)
           (λ (o : A up < C up). let e₂ = high .differ (unlike (A up) (C up) o) in
           ⊎-elim
-          (λ (z : W (q + 3) ≡ 0). let v = set .lower-first e₁ e₂ z in x-first (v .0) (v .1 ∙ s) (inl (x-lower l (inl (w .long z)))))
-          (λ (z : W (q + 3) ≡ 1). let v = set .upper-first e₁ e₂ z in y-first (v .0) (v .1 ∙ high .under o) (inr (y-upper o (inl (w .short z)))))
+          (λ (z : W (q + 3) ≡ 0). let v = set .upper-first even e₁ e₂ z in y-first (v .0) (v .1 ∙ high .under o) (inr (y-upper o (inl (short w z)))))
+          (λ (z : W (q + 3) ≡ 1). let v = set .lower-first even e₁ e₂ z in x-first (v .0) (v .1 ∙ s) (inl (x-lower l (inl (long w z)))))
           second-bit))
           (three-ways (A up) (C up))
 
@@ -411,61 +470,59 @@ module _ (W : ℕ → ℕ) (b : Binary W) where
           let s = low .under l in
           let w = right s in
           ⊎-elim
-          (λ (o : A up ≡ C up). let v = set .lower-only e₁ (high .same o) in y-first (v .0) (v .1 ∙ s) (inl (y-lower l (inr (sym o)))))
+          (λ (o : A up ≡ C up). let v = set .lower-only even e₁ (high .same o) in y-first (v .0) (v .1 ∙ s) (inl (y-lower l (inr (sym o)))))
           (⊎-elim
           (λ (o : C up < A up). let e₂ = high .differ (unlike′ (A up) (C up) o) in
           ⊎-elim
-          (λ (z : W (q + 3) ≡ 0). let v = set .lower-first e₁ e₂ z in y-first (v .0) (v .1 ∙ s) (inl (y-lower l (inl (w .long z)))))
-          (λ (z : W (q + 3) ≡ 1). let v = set .upper-first e₁ e₂ z in x-first (v .0) (v .1 ∙ high .over o) (inr (x-upper o (inl (w .short z)))))
+          (λ (z : W (q + 3) ≡ 0). let v = set .upper-first even e₁ e₂ z in x-first (v .0) (v .1 ∙ high .over o) (inr (x-upper o (inl (short w z)))))
+          (λ (z : W (q + 3) ≡ 1). let v = set .lower-first even e₁ e₂ z in y-first (v .0) (v .1 ∙ s) (inl (y-lower l (inl (long w z)))))
           second-bit)
           (λ (o : A up < C up). let e₂ = high .differ (unlike (A up) (C up) o) in
           ⊎-elim
-          (λ (z : W (q + 3) ≡ 0). let v = set .lower-first e₁ e₂ z in y-first (v .0) (v .1 ∙ s) (inl (y-lower l (inl (w .long z)))))
-          (λ (z : W (q + 3) ≡ 1). let v = set .upper-first e₁ e₂ z in y-first (v .0) (v .1 ∙ high .under o) (inr (y-upper o (inl (omega (arith, w .short z))))))
+          (λ (z : W (q + 3) ≡ 0). let v = set .upper-first even e₁ e₂ z in y-first (v .0) (v .1 ∙ high .under o) (inr (y-upper o (inl (omega (arith, short w z))))))
+          (λ (z : W (q + 3) ≡ 1). let v = set .lower-first even e₁ e₂ z in y-first (v .0) (v .1 ∙ s) (inl (y-lower l (inl (long w z)))))
           second-bit))
           (three-ways (A up) (C up))
 
-      decided : Outcome (W (q + 8)) (W (q + 9)) (p .ballots) (suc (suc t)) A C
+      decided : Outcome (W (q + 14)) (W (q + 15)) (p .ballots) (suc (suc t)) A C
       unfolding Result
       decided = ⊎-elim tie-below (⊎-elim x-above y-above) (three-ways (A down) (C down))
 
-    pub outward-law : Holds W n (outward p n x y r t) → Outcome (W (resolveAt n r t + 8)) (W (resolveAt n r t + 9)) (p .ballots) (suc (suc t)) A C
-    unfolding outward compareAndAdd
-    outward-law h =
+    pub outward-law : (e s : ℕ) → W e ≡ 0 → Holds W n (outward (p .ballots % 2) n x y e s r top t) → Outcome (W (resolveAt n r t + 14)) (W (resolveAt n r t + 15)) (p .ballots) (suc (suc t)) A C
+    unfolding compareAndReach
+    outward-law e s even h =
         let m = nearestEnd n r t in
-        let m′ = m + versusSpan r in
+        let m′ = m + compareSpan r in
         let q = resolveAt n r t in
         let dl = downLeft n x r t in
         let dr = downRight n y r t in
         let ul = upLeft n x r t in
         let ur = upRight n y r t in
         let bit = p .ballots % 2 in
+        let ch = chosenHigh r top t in
+        let hc = chosen-high r top t hr in
         let hdl = down-left-below n x y r t hx hy in
         let hdr = down-right-below n x y r t hx hy in
         let hul = up-left-below n x y r t hx hy in
         let hur = up-right-below n x y r t hx hy in
-        let last = resolve q (unequalAt m r) (aboveAt m dl r) (unequalAt m′ r) (aboveAt m′ ul r) (leftCarry m r) (rightCarry m r) (x + suc r) (farAt x r t + suc r) in
-        let o = cut3 W n (nearest n x y r t) (compareAndAdd m dl dr ul ur bit r) last m q
-        (omega (arith, nearest-block n x y r t hx hy .long)) (omega (arith, compare-and-add-block m dl dr ul ur bit r hdl hdr hul hur .long)) h in
-        let v = cut4 W m (versus m dl dr r) (versus m′ ul ur r) (addWithBit (m + 2 * versusSpan r) dl ul bit (suc r)) (addWithBit (m + 2 * versusSpan r + 3 * suc r) dr ur bit (suc r))
-        m′ (m + 2 * versusSpan r) (m + 2 * versusSpan r + 3 * suc r)
-        (omega (arith, versus-block m dl dr r hdl hdr .long)) (omega (arith, versus-block m′ ul ur r (omega arith) (omega arith) .long)) (omega (arith, length-add-bit (m + 2 * versusSpan r) dl ul bit (suc r))) (o .1) in
+        let o = outward-parts p r t n x y hx hy top hr e s h in
+        let v = cut4 W m (compareCut m dl dr r ch) (compareCut m′ ul ur r ch) (reach (m + 2 * compareSpan r) dl ul bit r) (reach (m + 2 * compareSpan r + reachSpan r) dr ur bit r)
+        m′ (m + 2 * compareSpan r) (m + 2 * compareSpan r + reachSpan r)
+        (omega (arith, compare-block m dl dr r ch hc hdl hdr .long)) (omega (arith, compare-block m′ ul ur r ch hc (omega arith) (omega arith) .long)) (omega (arith, length-reach (m + 2 * compareSpan r) dl ul bit r)) (o .1) in
         let d = down-is (o .0) in
         let u = up-is (o .0) in
         let i = d .down in
         let i′ = u .up in
         let hd : i < suc (suc t) = omega (arith, d .down-in) in
-        let set = resolve-law q (unequalAt m r) (aboveAt m dl r) (unequalAt m′ r) (aboveAt m′ ul r) (leftCarry m r) (rightCarry m r) (x + suc r) (farAt x r t + suc r) (o .2) in
-        decided i i′ q (unequalAt m r) (aboveAt m dl r) (unequalAt m′ r) (aboveAt m′ ul r) (leftCarry m r) (rightCarry m r) (x + suc r) (farAt x r t + suc r)
+        let set = resolve-law q e s (unequalAt m r) (aboveAt m dl r) (unequalAt m′ r) (aboveAt m′ ul r) (leftCarry m r) (rightCarry m r) (x + suc r) (farAt x r t + suc r) (o .2) in
+        decided i i′ q e s (unequalAt m r) (aboveAt m dl r) (unequalAt m′ r) (aboveAt m′ ul r) (leftCarry m r) (rightCarry m r) (x + suc r) (farAt x r t + suc r)
         (record { down-in = hd; up-in = u .up-in; down-rest = d .down-rest; down-far = d .down-far; up-rest = u .up-rest; up-far = u .up-far })
-        set
-        (tells-sums (omega (arith, matched i hd, d .left, d .right)) (versus-law W b m dl dr r (v .0)))
-        (tells-sums (omega (arith, matched i′ (u .up-in), u .left, u .right)) (versus-law W b m′ ul ur r (v .1)))
-        (λ z. second-is A a i i′ (W (q + 3)) (W (leftCarry m r)) hd (u .up-in) (λ l. d .down-far l .0) (λ l. u .up-far l .0)
-        (λ l l′ k. reach-one A a x kx i i′ hd (u .up-in) (m + 2 * versusSpan r) dl ul l l′ (d .left) (u .left) (v .2) k)
-        (λ l l′ k. reach-zero A a x kx i i′ hd (u .up-in) (m + 2 * versusSpan r) dl ul l l′ (d .left) (u .left) (v .2) k)
+        set even
+        (tells-sums (omega (arith, matched i hd, d .left, d .right)) (compare-cut-law m dl dr r ch hc W b (v .0)))
+        (tells-sums (omega (arith, matched i′ (u .up-in), u .left, u .right)) (compare-cut-law m′ ul ur r ch hc W b (v .1)))
+        (λ z. lower-first-is A a i i′ (W (q + 3)) (W (leftCarry m r)) hd (u .up-in) (λ l. d .down-far l .0) (λ l. u .up-far l .0)
+        (λ l l′. reach-is A a x kx i i′ hd (u .up-in) (m + 2 * compareSpan r) dl ul l l′ (d .left) (u .left) (v .2))
         (λ k. set .left-sum k z) (set .one-side))
-        (λ z. second-is C c i i′ (W (q + 3)) (W (rightCarry m r)) hd (u .up-in) (λ l. d .down-far l .0) (λ l. u .up-far l .0)
-        (λ l l′ k. reach-one C c y ky i i′ hd (u .up-in) (m + 2 * versusSpan r + 3 * suc r) dr ur l l′ (d .right) (u .right) (v .3) k)
-        (λ l l′ k. reach-zero C c y ky i i′ hd (u .up-in) (m + 2 * versusSpan r + 3 * suc r) dr ur l l′ (d .right) (u .right) (v .3) k)
+        (λ z. lower-first-is C c i i′ (W (q + 3)) (W (rightCarry m r)) hd (u .up-in) (λ l. d .down-far l .0) (λ l. u .up-far l .0)
+        (λ l l′. reach-is C c y ky i i′ hd (u .up-in) (m + 2 * compareSpan r + reachSpan r) dr ur l l′ (d .right) (u .right) (v .3))
         (λ k. set .right-sum k z) (set .one-side))

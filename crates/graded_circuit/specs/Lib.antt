@@ -1,7 +1,6 @@
 pub mod Plan
 pub mod RunningSums
 pub mod Key
-pub mod Versus
 pub mod Median
 pub mod Nearest
 pub mod Outward

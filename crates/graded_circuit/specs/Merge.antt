@@ -1,6 +1,8 @@
 -- Two groups of candidates are merged, each with the key of its best candidate and, for more than one, a wire a candidate that says who is as good as that.
+use mathlib.Core.Bool.{cond}
 use mathlib.Core.List.{List, [], _∷_, _++_}
-use Prim.Native.Nat.{ℕ, zero, suc, _+_, _-_, _*_}
+use Prim.Native.Nat.{ℕ, zero, suc, _+_, _-_, _*_, _/_}
+use lib.Dec.{leb}
 use Rattle.gates.specs.Gate.{Gate}
 use Rattle.gate_words.specs.Gates.{copyOf, notOf, andOf, xorOf}
 use Rattle.gate_words.specs.Choice.{choose}
@@ -35,9 +37,14 @@ rightStays p n = resultAt p n + 5
 abbrev pub wonAt : Plan → ℕ → ℕ
 wonAt p n = resultAt p n + 6
 
+-- The digits of two single candidates' words come from the counters one after the other, and are compared as they come;
+-- a word that was chosen has all its digits at once, and is compared in halves.
+unfoldable pub highDigits : Plan → ℕ → ℕ
+highDigits p both = cond (leb both 2) 0 (p .digits / 2)
+
 unfoldable pub merge : Plan → ℕ → ℕ → ℕ → ℕ → ℕ → ℕ → ℕ → List Gate
 merge p n x y u v l m =
-    contest p n x y
+    contest p n x y (highDigits p (l + m))
     ++ verdict (resultAt p n)
     ++ stillWon u (leftStays p n) l
     ++ stillWon v (rightStays p n) m

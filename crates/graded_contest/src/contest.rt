@@ -1,86 +1,71 @@
 // The contest of two keys.
 use crate::outward::outward;
+use gate_words::halves::above_at;
+use gate_words::halves::unequal_at;
 use gate_words::writer::Writer;
 use gates::kind;
 use graded_circuit::plan::Plan;
 use graded_keys::median::median;
-use graded_keys::versus::above_at;
-use graded_keys::versus::unequal_at;
-use graded_keys::versus::versus;
-ghost use mathlib.Core.Path.{_≡_};
-ghost use mathlib.Core.List.{_∷_, []};
-ghost use Prim.Native.Nat.{suc, _+_, _-_, _≤_, _<_};
-ghost use Rattle.gate_words.specs.Limits.{writerLimit};
-ghost use Rattle.gate_words.specs.Gates.{orOf, muxOf};
+ghost use mathlib.Core.List.{_∷_, _++_, []};
+ghost use Prim.Native.Nat.{suc, _+_, _-_, _≤_};
+ghost use Rattle.gate_words.specs.Gates.{copyOf, orOf, muxOf};
+ghost use Rattle.gate_words.specs.Halves.{unequalAt, compareCut, compareSpan, aboveAt};
 ghost use Rattle.gate_words.specs.Writing.{Room, Wrote};
 ghost use Rattle.graded_circuit.specs.Plan.{Planned};
 ghost use Rattle.graded_circuit.specs.RunningSums.{wordSpan};
 ghost use Rattle.graded_circuit.specs.Key.{keySpan};
 ghost use Rattle.graded_circuit.specs.Median.{median};
-ghost use Rattle.graded_circuit.specs.Versus.{versusSpan, unequalAt, aboveAt};
-ghost use Rattle.graded_circuit.specs.Contest.{lower, lowerSpan, lowerUnequal, lowerFirst, medianSpan, contest, contestSpan};
+ghost use Rattle.graded_circuit.specs.Contest.{lower, lowerSpan, medianSpan, contest, contestSpan};
 
-// What is below the medians.
-fn lower(w: Writer, table: &mut [u32], p: Plan, x: u32, y: u32) -> Writer
-    requires { ⌜ Planned p ⌝ }
-    requires { ⌜ Room w (lowerSpan (p .digits) (p .grades - 2)) ⌝ }
-    requires { ⌜ (x + keySpan p ≤ w .wire) × (y + keySpan p ≤ w .wire) ⌝ }
-    ensures { λ r. ⌜ Wrote w (now (table .entry)) (lower p (w .wire) x y (p .digits) (p .grades - 2)) (now (table .exit)) r ⌝ }
-{
-    if p.digits == 0 {
-        return w.emit(table, kind::ZERO, 0, 0, 0);
-    }
-    if p.grades == 2 {
-        return versus(w, table, x, y, p.digits - 1);
-    }
-    outward(w, table, p, x, y, p.digits - 1, p.grades - 3)
-}
-
-// The wire that says that it differs, written from wire n to before wire `end`.
-fn lower_unequal(p: Plan, n: u32, end: u32) -> u32
-    requires { ⌜ Planned p ⌝ }
-    requires { ⌜ (end ≡ n + lowerSpan (p .digits) (p .grades - 2)) × (end < writerLimit) ⌝ }
-    ensures { λ r. ⌜ r ≡ lowerUnequal n (p .digits) (p .grades - 2) ⌝ }
-{
-    if p.digits == 0 {
-        return n;
-    }
-    if p.grades == 2 {
-        return unequal_at(n, p.digits - 1);
-    }
-    end - 2
-}
-
-// The wire that says that x comes first.
-fn lower_first(p: Plan, n: u32, x: u32, end: u32) -> u32
-    requires { ⌜ Planned p ⌝ }
-    requires { ⌜ (end ≡ n + lowerSpan (p .digits) (p .grades - 2)) × (end < writerLimit) ⌝ }
-    ensures { λ r. ⌜ r ≡ lowerFirst n x (p .digits) (p .grades - 2) ⌝ }
-{
-    if p.digits == 0 {
-        return n;
-    }
-    if p.grades == 2 {
-        return above_at(n, x, p.digits - 1);
-    }
-    end - 1
-}
-
-// Which of both decides: the medians' comparison from wire m on, of the second key's median at wire `right`, or what is
-// below them, from wire n on.
-fn join(w: Writer, table: &mut [u32], p: Plan, m: u32, right: u32, n: u32, x: u32) -> Writer
-    requires { ⌜ Planned p ⌝ }
+// What the medians say, as it is.
+fn medians_alone(w: Writer, table: &mut [u32], e: u32, s: u32) -> Writer
     requires { ⌜ Room w 2 ⌝ }
-    requires { ⌜ (w .wire ≡ n + lowerSpan (p .digits) (p .grades - 2)) × (n ≡ m + versusSpan (p .places)) ⌝ }
-    ensures { λ r. ⌜ Wrote w (now (table .entry)) (orOf (unequalAt m (p .places)) (lowerUnequal n (p .digits) (p .grades - 2)) ∷ muxOf (unequalAt m (p .places)) (aboveAt m right (p .places)) (lowerFirst n x (p .digits) (p .grades - 2)) ∷ []) (now (table .exit)) r ⌝ }
+    ensures { λ r. ⌜ Wrote w (now (table .entry)) (copyOf e ∷ copyOf s ∷ []) (now (table .exit)) r ⌝ }
 {
-    let end = w.wire;
-    let differ = unequal_at(m, p.places);
-    let better = above_at(m, right, p.places);
-    let low = lower_unequal(p, n, end);
-    let first = lower_first(p, n, x, end);
-    let either = w.emit(table, kind::OR, differ, low, 0);
-    either.emit(table, kind::CHOICE, differ, better, first)
+    let differ = w.emit(table, kind::COPY, e, 0, 0);
+    differ.emit(table, kind::COPY, s, 0, 0)
+}
+
+// One sum alone, of above + 1 digits.
+fn one_sum(
+    w: Writer,
+    table: &mut [u32],
+    x: u32,
+    y: u32,
+    e: u32,
+    s: u32,
+    above: u32,
+    high: u32,
+) -> Writer
+    requires { ⌜ Room w (compareSpan above + 2) ⌝ }
+    requires { ⌜ (x + suc above ≤ w .wire) × (y + suc above ≤ w .wire) × (high ≤ above) ⌝ }
+    ensures { λ r. ⌜ Wrote w (now (table .entry)) (compareCut (w .wire) x y above high ++ (orOf e (unequalAt (w .wire) above) ∷ muxOf e s (aboveAt (w .wire) x above) ∷ [])) (now (table .exit)) r ⌝ }
+{
+    let differ = unequal_at(w.wire, above);
+    let first = above_at(w.wire, x, above);
+    let compared = w.compare_halves(table, x, y, above - high, high);
+    let either = compared.emit(table, kind::OR, e, differ, 0);
+    either.emit(table, kind::CHOICE, e, s, first)
+}
+
+// What the medians, by wires e and s, and the sums say.
+fn lower(w: Writer, table: &mut [u32], p: Plan, x: u32, y: u32, e: u32, s: u32, high: u32) -> Writer
+    requires { ⌜ Planned p ⌝ }
+    requires { ⌜ Room w (lowerSpan (p .digits) (p .grades - 2) + 2) ⌝ }
+    requires { ⌜ (x + keySpan p ≤ w .wire) × (y + keySpan p ≤ w .wire) × (high ≤ p .digits - 1) ⌝ }
+    ensures { λ r. ⌜ Wrote w (now (table .entry)) (lower p (w .wire) x y e s (p .digits) high (p .grades - 2)) (now (table .exit)) r ⌝ }
+{
+    let digits = p.digits;
+    let grades = p.grades;
+    let bit = p.ballots % 2;
+    if digits == 0 {
+        return medians_alone(w, table, e, s);
+    }
+    let above = digits - 1;
+    if grades == 2 {
+        return one_sum(w, table, x, y, e, s, above, high);
+    }
+    outward(w, table, bit, x, y, e, s, above, high, grades - 3)
 }
 
 // The number of the median grade that a key tells of.
@@ -100,18 +85,20 @@ fn key_median(w: Writer, table: &mut [u32], p: Plan, x: u32) -> Writer
     )
 }
 
-// The contest of the keys at x and y.
-pub fn contest(w: Writer, table: &mut [u32], p: Plan, x: u32, y: u32) -> Writer
+// The contest of the keys at x and y, whose words' highest `high` digits are gone through by themselves.
+pub fn contest(w: Writer, table: &mut [u32], p: Plan, x: u32, y: u32, high: u32) -> Writer
     requires { ⌜ Planned p ⌝ }
     requires { ⌜ Room w (contestSpan p) ⌝ }
-    requires { ⌜ (x + keySpan p ≤ w .wire) × (y + keySpan p ≤ w .wire) ⌝ }
-    ensures { λ r. ⌜ Wrote w (now (table .entry)) (contest p (w .wire) x y) (now (table .exit)) r ⌝ }
+    requires { ⌜ (x + keySpan p ≤ w .wire) × (y + keySpan p ≤ w .wire) × (high ≤ p .digits - 1) ⌝ }
+    ensures { λ r. ⌜ Wrote w (now (table .entry)) (contest p (w .wire) x y high) (now (table .exit)) r ⌝ }
 {
-    let digits = p.places + 1;
+    let places = p.places;
     let second = key_median(w, table, p, y);
     let first = key_median(second, table, p, x);
-    let right = second.wire - digits;
-    let compared = versus(first, table, right, first.wire - digits, p.places);
-    let below = lower(compared, table, p, x, y);
-    join(below, table, p, first.wire, right, compared.wire, x)
+    let m = first.wire;
+    let right = second.wire - (places + 1);
+    let compared = first.compare_halves(table, right, m - (places + 1), places, 0);
+    let e = unequal_at(m, places);
+    let s = above_at(m, right, places);
+    lower(compared, table, p, x, y, e, s, high)
 }

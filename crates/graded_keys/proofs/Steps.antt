@@ -2,18 +2,18 @@
 -- Assumes nothing.
 use mathlib.Core.Path.{_≡_, _∙_, refl, sym, ap, subst}
 use mathlib.Core.List.{List, [], _∷_, _++_}
-use Prim.Native.Nat.{ℕ, zero, suc, _+_, _-_, _*_, _/_, _≤_, _<_}
+use Prim.Native.Nat.{ℕ, zero, suc, _+_, _-_, _*_, _/_, _%_, _≤_, _<_}
 use native.Mathlib.Nat.{suc-mul, mul-le-mul, mul-le-mul-right}
 use native.Mathlib.Omega.{arith}
 use Rattle.gates.specs.Gate.{Gate}
-use Rattle.gate_words.specs.Gates.{constant, copyOf}
+use Rattle.gate_words.specs.Gates.{copyOf, orOf, muxOf}
+use Rattle.gate_words.specs.Halves.{unequalAt, compareCut, compareSpan, aboveAt}
 use Rattle.gate_words.specs.Choice.{parity, chainEnd}
 use Rattle.graded_circuit.specs.Median.{Fits, medianLevels, medianDigits, medianSize}
 use Rattle.graded_circuit.proofs.MedianLaws.{fits-half, fits-some}
 use Rattle.graded_circuit.specs.declared.plan.Plan.{Plan}
-use Rattle.graded_circuit.specs.Versus.{versus, versusSpan, unequalAt, aboveAt}
-use Rattle.graded_circuit.specs.Outward.{resolveAt, outward, outwardSpan}
-use Rattle.graded_circuit.specs.Contest.{lower, lowerSpan, lowerUnequal, lowerFirst}
+use Rattle.graded_circuit.specs.Outward.{resolveAt, outward}
+use Rattle.graded_circuit.specs.Contest.{lower, lowerSpan}
 use Rattle.graded_circuit.specs.Nearest.{stride, side, sideSpan, sides, either, eitherSpan, lastOf, firstOf, leftEnd, rightEnd}
 
 -- a number above 0
@@ -24,12 +24,12 @@ above-zero t h = omega arith
 pub one-less : (t k : ℕ) → 0 < t → t * k ≡ k + (t - 1) * k
 one-less t k h = omega (arith, ap (λ (x : ℕ). x * k) (above-zero t h), suc-mul (t - 1) k)
 
-pub sides-step : (n x y r t : ℕ) → 0 < t → sides n x y r t ≡ side n x y r ++ sides (n + sideSpan r) (x + stride r) (y + stride r) r (t - 1)
-sides-step n x y r t h = ap (sides n x y r) (above-zero t h) ∙ (unfold sides in refl)
+pub sides-step : (n x y r k t : ℕ) → 0 < t → sides n x y r k t ≡ side n x y r k ++ sides (n + sideSpan r) (x + stride r) (y + stride r) r k (t - 1)
+sides-step n x y r k t h = ap (sides n x y r k) (above-zero t h) ∙ (unfold sides in refl)
 
-pub sides-none : (n x y r t : ℕ) → t ≤ 0 → sides n x y r t ≡ []
+pub sides-none : (n x y r k t : ℕ) → t ≤ 0 → sides n x y r k t ≡ []
 unfolding sides
-sides-none n x y r t h = let e : t ≡ 0 = omega arith in rw e
+sides-none n x y r k t h = let e : t ≡ 0 = omega arith in rw e
 
 pub last-step : (n f x y u v r t : ℕ) → 0 < t → lastOf n f x y u v r t ≡ either f x y u v r ++ lastOf (n + eitherSpan r) (f + sideSpan r) (x + stride r) (y + stride r) n (n + suc r) r (t - 1)
 last-step n f x y u v r t h = ap (lastOf n f x y u v r) (above-zero t h) ∙ (unfold lastOf in refl)
@@ -90,45 +90,20 @@ unfolding rightEnd
 right-none n v r t e = rw e
 
 -- the part below the medians, by its cases
-module _ (p : Plan) (n x y digits t : ℕ) where
-  pub lower-zero : digits ≡ 0 → constant 0 ∷ [] ≡ lower p n x y digits t
+module _ (p : Plan) (n x y e s digits h t : ℕ) where
+  pub lower-zero : digits ≡ 0 → copyOf e ∷ copyOf s ∷ [] ≡ lower p n x y e s digits h t
   unfolding lower
-  lower-zero e = rw e
+  lower-zero q = rw q
 
-  pub lower-one : 0 < digits → t ≡ 0 → versus n x y (digits - 1) ≡ lower p n x y digits t
-  lower-one h e = sym (ap (λ (d : ℕ). lower p n x y d t) (above-zero digits h) ∙ ap (lower p n x y (suc (digits - 1))) e ∙ (unfold lower in refl))
+  pub lower-one : 0 < digits → t ≡ 0 → compareCut n x y (digits - 1) h ++ (orOf e (unequalAt n (digits - 1)) ∷ muxOf e s (aboveAt n x (digits - 1)) ∷ []) ≡ lower p n x y e s digits h t
+  lower-one k q = sym (ap (λ (d : ℕ). lower p n x y e s d h t) (above-zero digits k) ∙ ap (lower p n x y e s (suc (digits - 1)) h) q ∙ (unfold lower in refl))
 
-  pub lower-more : 0 < digits → 0 < t → outward p n x y (digits - 1) (t - 1) ≡ lower p n x y digits t
-  lower-more h k = sym (ap (λ (d : ℕ). lower p n x y d t) (above-zero digits h) ∙ ap (lower p n x y (suc (digits - 1))) (above-zero t k) ∙ (unfold lower in refl))
+  pub lower-more : 0 < digits → 0 < t → outward (p .ballots % 2) n x y e s (digits - 1) h (t - 1) ≡ lower p n x y e s digits h t
+  lower-more k q = sym (ap (λ (d : ℕ). lower p n x y e s d h t) (above-zero digits k) ∙ ap (lower p n x y e s (suc (digits - 1)) h) (above-zero t q) ∙ (unfold lower in refl))
 
-module _ (n digits t : ℕ) where
-  pub lower-span-zero : digits ≡ 0 → lowerSpan digits t ≡ 1
-  unfolding lowerSpan
-  lower-span-zero e = rw e
-
-  pub lower-span-one : 0 < digits → t ≡ 0 → lowerSpan digits t ≡ versusSpan (digits - 1)
+module _ (digits t : ℕ) where
+  pub lower-span-one : 0 < digits → t ≡ 0 → lowerSpan digits t ≡ compareSpan (digits - 1)
   lower-span-one h e = ap (λ (d : ℕ). lowerSpan d t) (above-zero digits h) ∙ ap (lowerSpan (suc (digits - 1))) e ∙ (unfold lowerSpan in refl)
 
-  pub lower-span-more : 0 < digits → 0 < t → lowerSpan digits t ≡ outwardSpan (digits - 1) (t - 1)
+  pub lower-span-more : 0 < digits → 0 < t → lowerSpan digits t ≡ resolveAt 0 (digits - 1) (t - 1) + 14
   lower-span-more h k = ap (λ (d : ℕ). lowerSpan d t) (above-zero digits h) ∙ ap (lowerSpan (suc (digits - 1))) (above-zero t k) ∙ (unfold lowerSpan in refl)
-
-  pub unequal-zero-at : digits ≡ 0 → n ≡ lowerUnequal n digits t
-  unfolding lowerUnequal
-  unequal-zero-at e = rw e
-
-  pub unequal-one-at : 0 < digits → t ≡ 0 → lowerUnequal n digits t ≡ unequalAt n (digits - 1)
-  unequal-one-at h e = ap (λ (d : ℕ). lowerUnequal n d t) (above-zero digits h) ∙ ap (lowerUnequal n (suc (digits - 1))) e ∙ (unfold lowerUnequal in refl)
-
-  pub unequal-more-at : 0 < digits → 0 < t → lowerUnequal n digits t ≡ resolveAt n (digits - 1) (t - 1) + 8
-  unequal-more-at h k = ap (λ (d : ℕ). lowerUnequal n d t) (above-zero digits h) ∙ ap (lowerUnequal n (suc (digits - 1))) (above-zero t k) ∙ (unfold lowerUnequal in refl)
-
-  module _ (x : ℕ) where
-    pub first-zero-at : digits ≡ 0 → n ≡ lowerFirst n x digits t
-    unfolding lowerFirst
-    first-zero-at e = rw e
-
-    pub first-one-at : 0 < digits → t ≡ 0 → lowerFirst n x digits t ≡ aboveAt n x (digits - 1)
-    first-one-at h e = ap (λ (d : ℕ). lowerFirst n x d t) (above-zero digits h) ∙ ap (lowerFirst n x (suc (digits - 1))) e ∙ (unfold lowerFirst in refl)
-
-    pub first-more-at : 0 < digits → 0 < t → lowerFirst n x digits t ≡ resolveAt n (digits - 1) (t - 1) + 9
-    first-more-at h k = ap (λ (d : ℕ). lowerFirst n x d t) (above-zero digits h) ∙ ap (lowerFirst n x (suc (digits - 1))) (above-zero t k) ∙ (unfold lowerFirst in refl)

@@ -1,6 +1,5 @@
 // The words of two keys at the grades nearest to the median where they differ. Words have `above` digits above the lowest.
-use crate::versus::unequal;
-use crate::versus::unequal_at;
+use gate_words::halves::unequal_at;
 use gate_words::writer::Writer;
 use gates::kind;
 ghost use mathlib.Core.Path.{_≡_};
@@ -9,30 +8,39 @@ ghost use Rattle.gate_words.specs.Limits.{writerLimit};
 ghost use Rattle.gate_words.specs.Writing.{Room, Wrote};
 ghost use Rattle.graded_circuit.specs.Nearest.{stride, side, sideSpan, sides, either, eitherSpan, lastOf, firstOf, leftEnd, rightEnd};
 
-// Of one grade: whether the words differ on either side of the median.
-fn side(w: Writer, table: &mut [u32], x: u32, y: u32, above: u32) -> Writer
+// Of one grade: whether the words, of which the highest `high` digits are gone through by themselves, differ on either
+// side of the median.
+fn side(w: Writer, table: &mut [u32], x: u32, y: u32, above: u32, high: u32) -> Writer
     requires { ⌜ Room w (sideSpan above) ⌝ }
-    requires { ⌜ (x + stride above ≤ w .wire) × (y + stride above ≤ w .wire) ⌝ }
-    ensures { λ r. ⌜ Wrote w (now (table .entry)) (side (w .wire) x y above) (now (table .exit)) r ⌝ }
+    requires { ⌜ (x + stride above ≤ w .wire) × (y + stride above ≤ w .wire) × (high ≤ above) ⌝ }
+    ensures { λ r. ⌜ Wrote w (now (table .entry)) (side (w .wire) x y above high) (now (table .exit)) r ⌝ }
 {
     let differ = unequal_at(w.wire, above);
-    let compared = unequal(w, table, x, y, above);
+    let compared = w.unequal_halves(table, x, y, above - high, high);
     let below = compared.emit(table, kind::AND, differ, x + above + 1, 0);
     below.emit(table, kind::XOR, differ, compared.wire, 0)
 }
 
 // Of so many grades.
-pub fn sides(w: Writer, table: &mut [u32], x: u32, y: u32, above: u32, count: u32) -> Writer
+pub fn sides(
+    w: Writer,
+    table: &mut [u32],
+    x: u32,
+    y: u32,
+    above: u32,
+    high: u32,
+    count: u32,
+) -> Writer
     requires { ⌜ Room w (count * sideSpan above) ⌝ }
-    requires { ⌜ (x + count * stride above ≤ w .wire) × (y + count * stride above ≤ w .wire) × (above ≤ 7) ⌝ }
-    ensures { λ r. ⌜ Wrote w (now (table .entry)) (sides (w .wire) x y above count) (now (table .exit)) r ⌝ }
+    requires { ⌜ (x + count * stride above ≤ w .wire) × (y + count * stride above ≤ w .wire) × (above ≤ 7) × (high ≤ above) ⌝ }
+    ensures { λ r. ⌜ Wrote w (now (table .entry)) (sides (w .wire) x y above high count) (now (table .exit)) r ⌝ }
 {
     let mut next = w;
     let mut left = x;
     let mut right = y;
     let mut more = count;
     while 0 < more {
-        next = side(next, table, left, right, above);
+        next = side(next, table, left, right, above, high);
         left += above + 2;
         right += above + 2;
         more -= 1;

@@ -7,6 +7,7 @@ use native.Mathlib.Nat.{mul-add, mul-le-mul}
 use native.Mathlib.Omega.{arith}
 use Rattle.gate_words.specs.Counter.{adders, countSize, Countable}
 use Rattle.gate_words.proofs.CounterSteps.{count-size-step, countable-step}
+use Rattle.gate_words.specs.Reach.{reachLast, reachSpan}
 use Rattle.graded_circuit.specs.declared.plan.Plan.{Plan}
 use Rattle.graded_circuit.specs.RunningSums.{middleSpan, lastSpan, laterSpan}
 use Rattle.graded_circuit.specs.Median.{Fits, medianSize}
@@ -52,7 +53,7 @@ later-some p (suc t) h = more ∙ ap (λ (x : ℕ). x * middleSpan p + lastSpan 
     more = unfold laterSpan in refl
 
 -- below the medians
-pub lower-none : (r t : ℕ) → r ≡ 0 → lowerSpan r t ≡ 1
+pub lower-none : (r t : ℕ) → r ≡ 0 → lowerSpan r t ≡ 0
 unfolding lowerSpan
 lower-none r t e = rw e
 
@@ -62,14 +63,14 @@ lower-single zero t h e = absurd (h refl)
 lower-single (suc r) zero h e = omega arith
 lower-single (suc r) (suc t) h e = absurd (omega arith)
 
-pub lower-more : (r t : ℕ) → (r ≡ 0 → ⊥) → 0 < t → lowerSpan r t ≡ (t - 1) * (6 * r + 1) + 12 * r + 6
+pub lower-more : (r t : ℕ) → (r ≡ 0 → ⊥) → 0 < t → lowerSpan r t ≡ (t - 1) * (6 * r + 1) + 6 * r + 2 * reachSpan (r - 1) + 10
 lower-more zero t h z = absurd (h refl)
 lower-more (suc r) zero h z = absurd (omega arith)
 lower-more (suc r) (suc t) h z =
     let e : sideSpan r + eitherSpan r + eitherSpan r ≡ 6 * suc r + 1 = omega arith in
-    omega (arith, span, ap (λ (x : ℕ). t * x) e, mul-add t (sideSpan r + eitherSpan r) (eitherSpan r), mul-add t (sideSpan r) (eitherSpan r), ap (λ (x : ℕ). x * (6 * suc r + 1)) {x = suc t - 1} {y = t} (omega arith))
+    omega (arith, span, ap reachSpan {x = suc r - 1} {y = r} (omega arith), ap (λ (x : ℕ). t * x) e, mul-add t (sideSpan r + eitherSpan r) (eitherSpan r), mul-add t (sideSpan r) (eitherSpan r), ap (λ (x : ℕ). x * (6 * suc r + 1)) {x = suc t - 1} {y = t} (omega arith))
   where
-    span : lowerSpan (suc r) (suc t) ≡ t * sideSpan r + t * eitherSpan r + t * eitherSpan r + (12 * r + 8) + 10
+    span : lowerSpan (suc r) (suc t) ≡ t * sideSpan r + t * eitherSpan r + t * eitherSpan r + (6 * r + 2 + 2 * reachSpan r) + 14
     span = unfold lowerSpan in (omega arith)
 
 -- a digit of a median grade's number, and the digits left

@@ -9,7 +9,7 @@ ghost use Rattle.gate_words.specs.Writing.{Room, Wrote};
 ghost use Rattle.graded_circuit.specs.Plan.{Planned};
 ghost use Rattle.graded_circuit.specs.Key.{keySpan};
 ghost use Rattle.gate_words.specs.Choice.{choose};
-ghost use Rattle.graded_circuit.specs.Merge.{bothOf, stillWon, verdict, merge, mergeSpan};
+ghost use Rattle.graded_circuit.specs.Merge.{bothOf, stillWon, verdict, highDigits, merge, mergeSpan};
 
 // Each of so many wires from `at` on, and the wire `stays`.
 fn both_of(w: Writer, table: &mut [u32], at: u32, stays: u32, count: u32) -> Writer
@@ -50,6 +50,16 @@ fn verdict(w: Writer, table: &mut [u32], q: u32) -> Writer
     left.emit(table, kind::NOT, q + 2, 0, 0)
 }
 
+// How many digits of two keys' words are gone through by themselves: half of them, where a key was chosen.
+fn high_digits(p: Plan, both: u32) -> u32
+    ensures { λ r. ⌜ r ≡ highDigits p both ⌝ }
+{
+    if both <= 2 {
+        return 0;
+    }
+    p.digits / 2
+}
+
 // The merge of groups of l and m candidates with keys x and y and wires at u and v.
 pub(crate) fn merge(
     w: Writer,
@@ -68,7 +78,7 @@ pub(crate) fn merge(
     requires { ⌜ (1 < l → u + l ≤ w .wire) × (1 < m → v + m ≤ w .wire) ⌝ }
     ensures { λ r. ⌜ Wrote w (now (table .entry)) (merge p (w .wire) x y u v l m) (now (table .exit)) r ⌝ }
 {
-    let compared = contest(w, table, p, x, y);
+    let compared = contest(w, table, p, x, y, high_digits(p, l + m));
     let q = compared.wire - 2;
     let judged = verdict(compared, table, q);
     let first = still_won(judged, table, u, q + 4, l);

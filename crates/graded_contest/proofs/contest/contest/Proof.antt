@@ -1,121 +1,129 @@
--- `graded_contest::contest::contest` meets its contract: both medians, what is below them, and which decides.
+-- `graded_contest::contest::contest` meets its contract: the medians, their comparison, and what they and the sums say.
 -- Assumes nothing.
-use mathlib.Core.Path.{_≡_, _∙_, refl, ap}
-use mathlib.Core.List.{List, [], _∷_}
-use Prim.Native.Nat.{ℕ, suc, _+_, _-_, _*_, _≤_}
+use mathlib.Core.Path.{_≡_, _∙_, refl, sym, ap}
+use mathlib.Core.List.{List, [], _∷_, _++_}
+use Prim.Native.Nat.{ℕ, zero, suc, _+_, _-_, _*_, _/_, _%_, _≤_, _<_}
 use native.Mathlib.Omega.{arith}
-use Rattle.gates.specs.Gate.{Gate}
-use Rattle.gate_words.specs.Gates.{orOf, muxOf}
-use Rattle.gate_words.proofs.Writing.{room-less, wrote-long}
-use Rattle.graded_circuit.specs.declared.plan.Plan.{Plan}
-use Rattle.graded_circuit.specs.Plan.{Planned}
+use borrow.Author.Needs.{needs}
+use native.Mathlib.Nat.{sub-zero, add-zero}
+use Rattle.gate_words.specs.Halves.{unequalAt, compareHalves, compareCut, compareSpan, aboveAt}
+use Rattle.gate_words.proofs.Writing.{wrote-as, room-less}
+use Rattle.gate_words.proofs.Standing.{Stands, stands, stands-after, room-of, wrote-then, one-gate}
+use Rattle.gate_words.proofs.HalvesLaws.{length-compare-halves}
 use Rattle.graded_circuit.specs.RunningSums.{wordSpan}
-use Rattle.graded_circuit.specs.Key.{keySpan}
-use Rattle.graded_circuit.specs.Versus.{versus, versusSpan, unequalAt, aboveAt}
 use Rattle.graded_circuit.specs.Median.{median}
-use Rattle.graded_circuit.specs.Contest.{lower, lowerSpan, lowerUnequal, lowerFirst, medianSpan, rightMedian, leftMedian, mediansAt, lowerAt, contest}
+use Rattle.graded_circuit.specs.Contest.{lower, lowerSpan, medianSpan, rightMedian, leftMedian, mediansAt, lowerAt, contest}
 use Rattle.graded_circuit.proofs.MedianLaws.{median-block}
-use Rattle.graded_circuit.proofs.VersusLaws.{versus-block}
-use Rattle.graded_circuit.proofs.ContestLaws.{grade-fits, lower-block, key-words, flags-end}
-use Rattle.graded_circuit.proofs.Writers.{Stands, stands, stands-after, room-of, wrote-then}
+use Rattle.graded_circuit.proofs.BoundLaws.{places-most}
+use Rattle.graded_circuit.proofs.ContestLaws.{grade-fits, flags-end}
 use Rattle.graded_contest.proofs.contest.contest.Statement.{statement}
 use Rattle.graded_contest.proofs.contest.contest.Tie as tie
 
--- the last two gates, by their places
-joined : Plan → ℕ → ℕ → ℕ → ℕ → List Gate
-joined p m right n x = orOf (unequalAt m (p .places)) (lowerUnequal n (p .digits) (p .grades - 2)) ∷ muxOf (unequalAt m (p .places)) (aboveAt m right (p .places)) (lowerFirst n x (p .digits) (p .grades - 2)) ∷ []
-
-add-digits : tie.Need-add-digits
-add-digits c =
-    omega (arith, (c .before .before) .pre .1 .0 .small)
-
 key-median-requires : tie.Need-key-median-requires
 key-median-requires c κs =
-    ((c .before .before .before) .pre .0, (room-less ((c .before .before .before .args) .w) _ _ (omega arith) ((c .before .before .before) .pre .1 .0), (c .before .before .before) .pre .1 .1 .1))
+    ((c .before .before) .pre .0, (room-less ((c .before .before) .args .w) _ _ (omega arith) ((c .before .before) .pre .1 .0), (c .before .before) .pre .1 .1 .1))
 
-second : (c : tie.After-key-median) → Stands ((c .key-median) .result) ((c .before .before .before .before .args) .w .wire + medianSpan ((c .before .before .before .before .args) .p)) (medianSpan ((c .before .before .before .before .args) .p) + (versusSpan ((c .before .before .before .before .args) .p .places) + (lowerSpan ((c .before .before .before .before .args) .p .digits) ((c .before .before .before .before .args) .p .grades - 2) + 2)))
+-- behind each part
+
+second : (c : tie.After-key-median) → Stands (c .key-median .result) ((c .before .before .before) .args .w .wire + medianSpan ((c .before .before .before) .args .p)) (medianSpan ((c .before .before .before) .args .p) + (compareSpan (((c .before .before .before) .args .p) .places) + (lowerSpan (((c .before .before .before) .args .p) .digits) (((c .before .before .before) .args .p) .grades - 2) + 2)))
 second c =
-    let a = (c .before .before .before .before .args) in
-    stands-after (a .w) (a .table .now) _ ((c .key-median) .last .1 .0) ((c .key-median) .result) _ _ _ ((c .key-median) .ensures)
-    (median-block (a .w .wire) (a .y + a .p .digits) (wordSpan (a .p)) (a .p .grades - 1) (suc (a .p .places)) (grade-fits (a .p) ((c .before .before .before .before) .pre .0)) (flags-end (a .p) ((c .before .before .before .before) .pre .0) (a .y) (a .w .wire) ((c .before .before .before .before) .pre .1 .1 .1)) .long)
-    (stands (a .w) (a .w .wire) _ _ refl (omega arith) ((c .before .before .before .before) .pre .1 .0))
+    let s = (c .before .before .before) in
+    let a = s .args in
+    stands-after (a .w) (a .table .now) _ (c .key-median .last .1 .0) (c .key-median .result) _ _ _ (c .key-median .ensures)
+    (median-block (a .w .wire) (a .y + a .p .digits) (wordSpan (a .p)) (a .p .grades - 1) (suc (a .p .places)) (grade-fits (a .p) (s .pre .0)) (flags-end (a .p) (s .pre .0) (a .y) (a .w .wire) (s .pre .1 .1 .1)) .long)
+    (stands (a .w) (a .w .wire) _ _ refl (omega arith) (s .pre .1 .0))
 
 key-median-requires-2 : tie.Need-key-median-requires-2
 key-median-requires-2 c κs =
-    ((c .before .before .before .before .before .before .before) .pre .0, (room-of ((c .before .before .before .key-median) .result) _ _ _ (second (c .before .before .before)) (omega arith), omega (arith, second (c .before .before .before) .place, (c .before .before .before .before .before .before .before) .pre .1 .1 .0)))
+    ((c .before .before .before .before .before .before) .pre .0, (room-of ((c .before .before .before .key-median) .result) _ _ _ (second (c .before .before .before)) (omega arith), omega (arith, second (c .before .before .before) .place, (c .before .before .before .before .before .before) .pre .1 .1 .0)))
 
-first : (c : tie.After-key-median2) → Stands ((c .key-median2) .result) ((c .before .before .before .before .before .before .before .before .args) .w .wire + medianSpan ((c .before .before .before .before .before .before .before .before .args) .p) + medianSpan ((c .before .before .before .before .before .before .before .before .args) .p)) (versusSpan ((c .before .before .before .before .before .before .before .before .args) .p .places) + (lowerSpan ((c .before .before .before .before .before .before .before .before .args) .p .digits) ((c .before .before .before .before .before .before .before .before .args) .p .grades - 2) + 2))
+first : (c : tie.After-key-median2) → Stands (c .key-median2 .result) ((c .before .before .before .before .before .before .before) .args .w .wire + medianSpan ((c .before .before .before .before .before .before .before) .args .p) + medianSpan ((c .before .before .before .before .before .before .before) .args .p)) (compareSpan (((c .before .before .before .before .before .before .before) .args .p) .places) + (lowerSpan (((c .before .before .before .before .before .before .before) .args .p) .digits) (((c .before .before .before .before .before .before .before) .args .p) .grades - 2) + 2))
 first c =
-    let a = (c .before .before .before .before .before .before .before .before .args) in
-    stands-after ((c .before .before .before .before .key-median) .result) ((c .before .before .before .before .key-median) .last .1 .0) _ ((c .key-median2) .last .1 .0) ((c .key-median2) .result) _ _ _ ((c .key-median2) .ensures)
-    (median-block ((c .before .before .before .before .key-median) .result .wire) (a .x + a .p .digits) (wordSpan (a .p)) (a .p .grades - 1) (suc (a .p .places)) (grade-fits (a .p) ((c .before .before .before .before .before .before .before .before) .pre .0)) (flags-end (a .p) ((c .before .before .before .before .before .before .before .before) .pre .0) (a .x) ((c .before .before .before .before .key-median) .result .wire) (omega (arith, second (c .before .before .before .before) .place, (c .before .before .before .before .before .before .before .before) .pre .1 .1 .0))) .long)
+    let s = (c .before .before .before .before .before .before .before) in
+    let a = s .args in
+    stands-after ((c .before .before .before .before .key-median) .result) ((c .before .before .before .before .key-median) .last .1 .0) _ (c .key-median2 .last .1 .0) (c .key-median2 .result) _ _ _ (c .key-median2 .ensures)
+    (median-block ((c .before .before .before .before .key-median) .result .wire) (a .x + a .p .digits) (wordSpan (a .p)) (a .p .grades - 1) (suc (a .p .places)) (grade-fits (a .p) (s .pre .0)) (flags-end (a .p) (s .pre .0) (a .x) ((c .before .before .before .before .key-median) .result .wire) (omega (arith, second (c .before .before .before .before) .place, s .pre .1 .1 .0))) .long)
     (second (c .before .before .before .before))
+
+compare-halves-requires : tie.Need-compare-halves-requires
+compare-halves-requires c κs =
+    let f = first (c .before .before .before .before) in
+    let o = second (c .before .before .before .before .before .before .before .before) in
+    (room-of ((c .before .before .before .before .key-median2) .result) _ _ _ f (omega arith), (omega (arith, f .place, o .place), omega (arith, f .place, o .place)))
+
+compared : (c : tie.After-compare-halves) → Stands (c .compare-halves .result) ((c .before .before .before .before .before .before .before .before .before .before .before .before) .args .w .wire + medianSpan ((c .before .before .before .before .before .before .before .before .before .before .before .before) .args .p) + medianSpan ((c .before .before .before .before .before .before .before .before .before .before .before .before) .args .p) + compareSpan (((c .before .before .before .before .before .before .before .before .before .before .before .before) .args .p) .places)) (lowerSpan (((c .before .before .before .before .before .before .before .before .before .before .before .before) .args .p) .digits) (((c .before .before .before .before .before .before .before .before .before .before .before .before) .args .p) .grades - 2) + 2)
+compared c =
+    let a = (c .before .before .before .before .before .before .before .before .before .before .before .before) .args in
+    let k = a .p .places in
+    stands-after ((c .before .before .before .before .before .key-median2) .result) ((c .before .before .before .before .before .key-median2) .last .1 .0) _ (c .compare-halves .last .1 .0) (c .compare-halves .result) _ _ _ (c .compare-halves .ensures)
+    (length-compare-halves ((c .before .before .before .before .before .key-median2) .result .wire) ((c .before .before .before .before .before .before .before .before .before .key-median) .result .wire - (k + 1)) ((c .before .before .before .before .before .key-median2) .result .wire - (k + 1)) k 0 ∙ ap compareSpan (add-zero k))
+    (first (c .before .before .before .before .before))
 
 sub-right : tie.Need-sub-right
 sub-right c =
     omega (arith, second (c .before .before .before .before .before .before .before) .place)
 
-sub-versus : tie.Need-sub-versus
-sub-versus c =
-    omega (arith, first (c .before .before .before .before .before) .place)
+sub-compare-halves : tie.Need-sub-compare-halves
+sub-compare-halves c =
+    omega (arith, first (c .before .before .before .before) .place)
 
-versus-requires : tie.Need-versus-requires
-versus-requires c κs =
-    let p = first (c .before .before .before .before .before) .place in
-    let q = second (c .before .before .before .before .before .before .before .before .before) .place in
-    (room-of ((c .before .before .before .before .before .key-median2) .result) _ _ _ (first (c .before .before .before .before .before)) (omega arith), (omega (arith, p, q), omega (arith, p, q)))
+unequal-at-requires : tie.Need-unequal-at-requires
+unequal-at-requires c κs =
+    omega (arith, first (c .before .before .before .before .before .before .before) .place, (c .before .before .before .before .before .before .before .before .before .before .before .before .before .before) .pre .1 .0 .small)
 
-compared : (c : tie.After-versus) → Stands ((c .versus) .result) ((c .before .before .before .before .before .before .before .before .before .before .before .before .before .before .args) .w .wire + medianSpan ((c .before .before .before .before .before .before .before .before .before .before .before .before .before .before .args) .p) + medianSpan ((c .before .before .before .before .before .before .before .before .before .before .before .before .before .before .args) .p) + versusSpan ((c .before .before .before .before .before .before .before .before .before .before .before .before .before .before .args) .p .places)) (lowerSpan ((c .before .before .before .before .before .before .before .before .before .before .before .before .before .before .args) .p .digits) ((c .before .before .before .before .before .before .before .before .before .before .before .before .before .before .args) .p .grades - 2) + 2)
-compared c =
-    let p = first (c .before .before .before .before .before .before) .place in
-    let q = second (c .before .before .before .before .before .before .before .before .before .before) .place in
-    stands-after ((c .before .before .before .before .before .before .key-median2) .result) ((c .before .before .before .before .before .before .key-median2) .last .1 .0) _ ((c .versus) .last .1 .0) ((c .versus) .result) _ _ _ ((c .versus) .ensures)
-    (versus-block ((c .before .before .before .before .before .before .key-median2) .result .wire) ((c .before .before .before .before .before .before .before .before .before .before .key-median) .result .wire - ((c .before .before .before .before .before .before .before .before .before .before .before .before .before .before .args) .p .places + 1)) ((c .before .before .before .before .before .before .key-median2) .result .wire - ((c .before .before .before .before .before .before .before .before .before .before .before .before .before .before .args) .p .places + 1)) ((c .before .before .before .before .before .before .before .before .before .before .before .before .before .before .args) .p .places) (omega (arith, p, q)) (omega (arith, p, q)) .long) (first (c .before .before .before .before .before .before))
+above-at-requires : tie.Need-above-at-requires
+above-at-requires c κs =
+    omega (arith, first (c .before .before .before .before .before .before .before .before) .place, (c .before .before .before .before .before .before .before .before .before .before .before .before .before .before .before) .pre .1 .0 .small)
 
 lower-requires : tie.Need-lower-requires
 lower-requires c κs =
-    let p = compared (c .before .before .before) .place in
-    ((c .before .before .before .before .before .before .before .before .before .before .before .before .before .before .before .before .before) .pre .0, (room-of ((c .before .before .before .versus) .result) _ _ _ (compared (c .before .before .before)) (omega arith), (omega (arith, p, (c .before .before .before .before .before .before .before .before .before .before .before .before .before .before .before .before .before) .pre .1 .1 .0), omega (arith, p, (c .before .before .before .before .before .before .before .before .before .before .before .before .before .before .before .before .before) .pre .1 .1 .1))))
-
-below : (c : tie.After-lower) → Stands ((c .lower) .result) ((c .before .before .before .before .before .before .before .before .before .before .before .before .before .before .before .before .before .before .args) .w .wire + medianSpan ((c .before .before .before .before .before .before .before .before .before .before .before .before .before .before .before .before .before .before .args) .p) + medianSpan ((c .before .before .before .before .before .before .before .before .before .before .before .before .before .before .before .before .before .before .args) .p) + versusSpan ((c .before .before .before .before .before .before .before .before .before .before .before .before .before .before .before .before .before .before .args) .p .places) + lowerSpan ((c .before .before .before .before .before .before .before .before .before .before .before .before .before .before .before .before .before .before .args) .p .digits) ((c .before .before .before .before .before .before .before .before .before .before .before .before .before .before .before .before .before .before .args) .p .grades - 2)) 2
-below c =
-    let a = (c .before .before .before .before .before .before .before .before .before .before .before .before .before .before .before .before .before .before .args) in
-    let p = compared (c .before .before .before .before) .place in
-    let n = (c .before .before .before .before .versus) .result .wire in
-    stands-after ((c .before .before .before .before .versus) .result) ((c .before .before .before .before .versus) .last .1 .0) _ ((c .lower) .last .1 .0) ((c .lower) .result) _ _ _ ((c .lower) .ensures)
-    (lower-block (a .p) n (a .x) (a .y) (a .p .digits) (a .p .grades - 2) (key-words (a .p) ((c .before .before .before .before .before .before .before .before .before .before .before .before .before .before .before .before .before .before) .pre .0) (a .x) n (omega (arith, p, (c .before .before .before .before .before .before .before .before .before .before .before .before .before .before .before .before .before .before) .pre .1 .1 .0))) (key-words (a .p) ((c .before .before .before .before .before .before .before .before .before .before .before .before .before .before .before .before .before .before) .pre .0) (a .y) n (omega (arith, p, (c .before .before .before .before .before .before .before .before .before .before .before .before .before .before .before .before .before .before) .pre .1 .1 .1))) .long) (compared (c .before .before .before .before))
-
-join-requires : tie.Need-join-requires
-join-requires c κs =
-    ((c .before .before .before .before .before .before .before .before .before .before .before .before .before .before .before .before .before .before .before .before .before) .pre .0, (below (c .before .before .before) .left, (omega (arith, below (c .before .before .before) .place, compared (c .before .before .before .before .before .before .before) .place), omega (arith, compared (c .before .before .before .before .before .before .before) .place, first (c .before .before .before .before .before .before .before .before .before .before .before .before .before) .place))))
+    let q = compared (c .before .before .before .before .before) in
+    let s = (c .before .before .before .before .before .before .before .before .before .before .before .before .before .before .before .before .before) in
+    (s .pre .0, (q .left, (omega (arith, q .place, s .pre .1 .1 .0), omega (arith, q .place, s .pre .1 .1 .1), s .pre .1 .1 .2)))
 
 returns : tie.Need-returns
-unfolding contest joined
+unfolding contest
 returns c =
-    let a = (c .before .before .before .before .before .before .before .before .before .before .before .before .before .before .before .before .before .before .before .before .before .before .before .before .args) in
+    let a = (c .before .before .before .before .before .before .before .before .before .before .before .before .before .before .before .before .before .before .before .before) .args in
     let p = a .p in
     let n = a .w .wire in
-    let r = p .places in
-    let d = p .grades - 1 in
-    let ws = wordSpan p in
-    let right = (c .before .before .before .before .before .before .before .before .before .before .before .before .before .before .before .before .before .before .before .before .key-median) .result .wire - (r + 1) in
-    let er : right ≡ rightMedian p n = omega (arith, second (c .before .before .before .before .before .before .before .before .before .before .before .before .before .before .before .before .before .before .before .before) .place) in
-    let el : (c .before .before .before .before .before .before .before .before .before .before .before .before .before .before .before .before .key-median2) .result .wire - (r + 1) ≡ leftMedian p n = omega (arith, first (c .before .before .before .before .before .before .before .before .before .before .before .before .before .before .before .before) .place) in
-    let em : (c .before .before .before .before .before .before .before .before .before .before .before .before .before .before .before .before .key-median2) .result .wire ≡ mediansAt p n = first (c .before .before .before .before .before .before .before .before .before .before .before .before .before .before .before .before) .place in
-    let eb : (c .before .before .before .before .before .before .before .before .before .before .versus) .result .wire ≡ lowerAt p n = compared (c .before .before .before .before .before .before .before .before .before .before) .place in
-    wrote-then (a .w) (a .table .now) _ ((c .before .before .before .before .before .before .lower) .last .1 .0) ((c .before .before .before .before .before .before .lower) .result) _ _ _ _
-    (wrote-then (a .w) (a .table .now) _ ((c .before .before .before .before .before .before .before .before .before .before .versus) .last .1 .0) ((c .before .before .before .before .before .before .before .before .before .before .versus) .result) _ _ _ _
-    (wrote-then (a .w) (a .table .now) _ ((c .before .before .before .before .before .before .before .before .before .before .before .before .before .before .before .before .key-median2) .last .1 .0) ((c .before .before .before .before .before .before .before .before .before .before .before .before .before .before .before .before .key-median2) .result) _ _ _ _
-    (wrote-then (a .w) (a .table .now) _ ((c .before .before .before .before .before .before .before .before .before .before .before .before .before .before .before .before .before .before .before .before .key-median) .last .1 .0) ((c .before .before .before .before .before .before .before .before .before .before .before .before .before .before .before .before .before .before .before .before .key-median) .result) _ _ _ _ ((c .before .before .before .before .before .before .before .before .before .before .before .before .before .before .before .before .before .before .before .before .key-median) .ensures) ((c .before .before .before .before .before .before .before .before .before .before .before .before .before .before .before .before .key-median2) .ensures) (ap (λ (k : ℕ). median k (a .x + p .digits) ws d (suc r)) (second (c .before .before .before .before .before .before .before .before .before .before .before .before .before .before .before .before .before .before .before .before) .place)))
-    ((c .before .before .before .before .before .before .before .before .before .before .versus) .ensures)
-    (ap (λ (k : ℕ). versus k right ((c .before .before .before .before .before .before .before .before .before .before .before .before .before .before .before .before .key-median2) .result .wire - (r + 1)) r) em ∙ ap (λ (k : ℕ). versus (mediansAt p n) k ((c .before .before .before .before .before .before .before .before .before .before .before .before .before .before .before .before .key-median2) .result .wire - (r + 1)) r) er ∙ ap (λ (k : ℕ). versus (mediansAt p n) (rightMedian p n) k r) el))
-    ((c .before .before .before .before .before .before .lower) .ensures) (ap (λ (k : ℕ). lower p k (a .x) (a .y) (p .digits) (p .grades - 2)) eb))
-    ((c .before .before .join) .ensures)
-    (ap (λ (k : ℕ). joined p k right ((c .before .before .before .before .before .before .before .before .before .before .versus) .result .wire) (a .x)) em ∙ ap (λ (k : ℕ). joined p (mediansAt p n) k ((c .before .before .before .before .before .before .before .before .before .before .versus) .result .wire) (a .x)) er ∙ ap (λ (k : ℕ). joined p (mediansAt p n) (rightMedian p n) k (a .x)) eb)
+    let k = p .places in
+    let w₁ = (c .before .before .before .before .before .before .before .before .before .before .before .before .before .before .before .before .before .key-median) .result in
+    let t₁ = (c .before .before .before .before .before .before .before .before .before .before .before .before .before .before .before .before .before .key-median) .last .1 .0 in
+    let w₂ = (c .before .before .before .before .before .before .before .before .before .before .before .before .before .key-median2) .result in
+    let t₂ = (c .before .before .before .before .before .before .before .before .before .before .before .before .before .key-median2) .last .1 .0 in
+    let w₃ = (c .before .before .before .before .before .before .before .before .compare-halves) .result in
+    let t₃ = (c .before .before .before .before .before .before .before .before .compare-halves) .last .1 .0 in
+    let e₁ = second (c .before .before .before .before .before .before .before .before .before .before .before .before .before .before .before .before .before) .place in
+    let e₂ : w₂ .wire ≡ mediansAt p n = first (c .before .before .before .before .before .before .before .before .before .before .before .before .before) .place in
+    let e₃ : w₃ .wire ≡ lowerAt p n = compared (c .before .before .before .before .before .before .before .before) .place in
+    let er : w₁ .wire - (k + 1) ≡ rightMedian p n = omega arith in
+    let el : w₂ .wire - (k + 1) ≡ leftMedian p n = omega arith in
+    wrote-then (a .w) (a .table .now) _ t₃ w₃ _ _ _ _
+    (wrote-then (a .w) (a .table .now) _ t₂ w₂ _ _ _ _
+    (wrote-then (a .w) (a .table .now) _ t₁ w₁ _ _ _ _ ((c .before .before .before .before .before .before .before .before .before .before .before .before .before .before .before .before .before .key-median) .ensures) ((c .before .before .before .before .before .before .before .before .before .before .before .before .before .key-median2) .ensures)
+    (ap (λ (i : ℕ). median i (a .x + p .digits) (wordSpan p) (p .grades - 1) (suc k)) e₁))
+    ((c .before .before .before .before .before .before .before .before .compare-halves) .ensures)
+    (ap (λ (i : ℕ). compareHalves i (w₁ .wire - (k + 1)) (w₂ .wire - (k + 1)) k 0) e₂
+    ∙ ap (λ (i : ℕ). compareHalves (mediansAt p n) i (w₂ .wire - (k + 1)) k 0) er
+    ∙ ap (λ (i : ℕ). compareHalves (mediansAt p n) (rightMedian p n) i k 0) el
+    ∙ ap (λ (i : ℕ). compareHalves (mediansAt p n) (rightMedian p n) (leftMedian p n) i 0) (sym (sub-zero k))))
+    ((c .before .before .lower) .ensures)
+    (ap (λ (i : ℕ). lower p i (a .x) (a .y) ((c .before .before .before .before .before .unequal-at) .result) ((c .before .before .before .before .above-at) .result) (p .digits) (a .high) (p .grades - 2)) e₃
+    ∙ ap (λ (i : ℕ). lower p (lowerAt p n) (a .x) (a .y) i ((c .before .before .before .before .above-at) .result) (p .digits) (a .high) (p .grades - 2)) ((c .before .before .before .before .before .unequal-at) .ensures ∙ ap (λ (i : ℕ). unequalAt i k) e₂)
+    ∙ ap (λ (i : ℕ). lower p (lowerAt p n) (a .x) (a .y) (unequalAt (mediansAt p n) k) i (p .digits) (a .high) (p .grades - 2)) ((c .before .before .before .before .above-at) .ensures ∙ ap (λ (i : ℕ). aboveAt i (w₁ .wire - (k + 1)) k) e₂ ∙ ap (λ (i : ℕ). aboveAt (mediansAt p n) i k) er))
+
+add-right : tie.Need-add-right
+add-right c =
+    omega (arith, (c .before .before .before .before .before .before .before .before .before) .pre .1 .0 .small, (c .before .before .before .before .before .before .before .before .before) .pre .0 .d-most, places-most ((c .before .before .before .before .before .before .before .before .before) .args .p) ((c .before .before .before .before .before .before .before .before .before) .pre .0))
+
+add-compare-halves : tie.Need-add-compare-halves
+add-compare-halves c =
+    omega (arith, (c .before .before .before .before .before .before .before .before .before .before .before) .pre .1 .0 .small, (c .before .before .before .before .before .before .before .before .before .before .before) .pre .0 .d-most, places-most ((c .before .before .before .before .before .before .before .before .before .before .before) .args .p) ((c .before .before .before .before .before .before .before .before .before .before .before) .pre .0))
 
 same-length : tie.Need-same-length
 same-length c =
-    wrote-long ((c .before .before .before .before .before .before .before .before .before .before .before .before .before .before .before .before .before .before .before .before .before .before .before .before .args) .w) ((c .before .before .before .before .before .before .before .before .before .before .before .before .before .before .before .before .before .before .before .before .before .before .before .before .args) .table .now) (contest ((c .before .before .before .before .before .before .before .before .before .before .before .before .before .before .before .before .before .before .before .before .before .before .before .before .args) .p) ((c .before .before .before .before .before .before .before .before .before .before .before .before .before .before .before .before .before .before .before .before .before .before .before .before .args) .w .wire) ((c .before .before .before .before .before .before .before .before .before .before .before .before .before .before .before .before .before .before .before .before .before .before .before .before .args) .x) ((c .before .before .before .before .before .before .before .before .before .before .before .before .before .before .before .before .before .before .before .before .before .before .before .before .args) .y)) ((c .before .before .join) .last .1 .0) ((c .before .before .join) .result) (returns c)
+    search needs
 
 pub contest-spec : {M : Type 1} → statement M
-contest-spec = tie.close (tie.spec add-digits key-median-requires key-median-requires-2 sub-right sub-versus versus-requires lower-requires join-requires same-length returns)
+contest-spec = tie.close (tie.spec key-median-requires key-median-requires-2 add-right sub-right add-compare-halves sub-compare-halves compare-halves-requires unequal-at-requires above-at-requires lower-requires same-length returns)

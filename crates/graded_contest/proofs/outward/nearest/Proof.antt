@@ -12,7 +12,7 @@ use Rattle.graded_circuit.specs.Nearest.{stride, sideSpan, belowAt, fromAt, eit
 use Rattle.graded_circuit.specs.Outward.{downAt, upAt, farAt, nearest}
 use Rattle.graded_circuit.proofs.NearestLaws.{sides-block, last-of-block}
 use Rattle.graded_keys.proofs.Steps.{product-most}
-use Rattle.graded_circuit.proofs.Writers.{Stands, stands, stands-after, room-of, wrote-then}
+use Rattle.gate_words.proofs.Standing.{Stands, stands, stands-after, room-of, wrote-then}
 use Rattle.graded_contest.proofs.outward.nearest.Statement.{statement}
 use Rattle.graded_contest.proofs.outward.nearest.Tie as tie
 
@@ -70,12 +70,12 @@ add-below-3 c =
 
 sides-requires : tie.Need-sides-requires
 sides-requires c κs =
-    (room-less ((c .before .before .before .args) .w) _ _ (omega arith) ((c .before .before .before) .pre .0), (omega (arith, xs (c .before .before)), omega (arith, ys (c .before .before)), (c .before .before .before) .pre .1 .2))
+    (room-less ((c .before .before .before .args) .w) _ _ (omega arith) ((c .before .before .before) .pre .0), (omega (arith, xs (c .before .before)), omega (arith, ys (c .before .before)), (c .before .before .before) .pre .1 .2, (c .before .before .before) .pre .1 .4))
 
 sided : (c : tie.After-sides) → Stands ((c .sides) .result) ((c .before .before .before .before .args) .w .wire + (c .before .before .before .before .args) .between * sideSpan ((c .before .before .before .before .args) .above)) ((c .before .before .before .before .args) .between * eitherSpan ((c .before .before .before .before .args) .above) + (c .before .before .before .before .args) .between * eitherSpan ((c .before .before .before .before .args) .above))
 sided c =
     let a = (c .before .before .before .before .args) in
-    stands-after (a .w) (a .table .now) _ ((c .sides) .last .1 .0) ((c .sides) .result) _ _ _ ((c .sides) .ensures) (sides-block (a .w .wire) (a .x + (a .above + 2)) (a .y + (a .above + 2)) (a .above) (a .between) (omega (arith, xs (c .before .before .before))) (omega (arith, ys (c .before .before .before))) .long)
+    stands-after (a .w) (a .table .now) _ ((c .sides) .last .1 .0) ((c .sides) .result) _ _ _ ((c .sides) .ensures) (sides-block (a .w .wire) (a .x + (a .above + 2)) (a .y + (a .above + 2)) (a .above) (a .high) (a .between) ((c .before .before .before .before) .pre .1 .4) (omega (arith, xs (c .before .before .before))) (omega (arith, ys (c .before .before .before))) .long)
     (stands (a .w) (a .w .wire) _ _ refl (omega arith) ((c .before .before .before .before) .pre .0))
 
 last-of-requires : tie.Need-last-of-requires

@@ -7,7 +7,7 @@ use borrow.Author.Needs.{needs}
 use Rattle.gate_words.proofs.Writing.{wrote-both, room-less}
 use Rattle.graded_circuit.specs.Median.{median, medianSize}
 use Rattle.graded_circuit.proofs.MedianLaws.{levels-block}
-use Rattle.graded_circuit.proofs.Writers.{Stands, stands, stands-after}
+use Rattle.gate_words.proofs.Standing.{Stands, stands, stands-after}
 use Rattle.graded_keys.proofs.median.median.Statement.{statement}
 use Rattle.graded_keys.proofs.median.median.Tie as tie
 

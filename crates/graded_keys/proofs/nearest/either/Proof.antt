@@ -9,7 +9,7 @@ use Rattle.gate_words.specs.Choice.{choose}
 use Rattle.gate_words.proofs.Laws.{length-choose}
 use Rattle.gate_words.proofs.Writing.{wrote-as, room-less}
 use Rattle.graded_circuit.specs.Nearest.{either}
-use Rattle.graded_circuit.proofs.Writers.{Stands, stands, stands-after, room-of, wrote-then}
+use Rattle.gate_words.proofs.Standing.{Stands, stands, stands-after, room-of, wrote-then}
 use Rattle.graded_keys.proofs.nearest.either.Statement.{statement}
 use Rattle.graded_keys.proofs.nearest.either.Tie as tie
 

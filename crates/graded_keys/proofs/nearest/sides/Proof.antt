@@ -13,16 +13,16 @@ use Rattle.graded_keys.proofs.nearest.sides.Statement.{statement}
 use Rattle.graded_keys.proofs.nearest.sides.Tie as tie
 
 abbrev Inv-loop : tie.InvT-loop
-Inv-loop table₀ x y above count next₀ left₀ right₀ more₀ table next left right more =
-    (left + more * stride above ≤ next .wire) × (right + more * stride above ≤ next .wire) × Goes next₀ table₀ (sides (next₀ .wire) x y above count) next table (sides (next .wire) left right above more)
+Inv-loop table₀ x y above high count next₀ left₀ right₀ more₀ table next left right more =
+    (left + more * stride above ≤ next .wire) × (right + more * stride above ≤ next .wire) × Goes next₀ table₀ (sides (next₀ .wire) x y above high count) next table (sides (next .wire) left right above high more)
 
 abbrev μ-loop : tie.MeasureT-loop
-μ-loop table₀ x y above count next₀ left₀ right₀ more₀ table next left right more = more
+μ-loop table₀ x y above high count next₀ left₀ right₀ more₀ table next left right more = more
 
 loop-holds : tie.Need-loop-holds Inv-loop μ-loop
 loop-holds c =
     let q = (c .before) .pre .1 in
-    (q .0, q .1, goes-start ((c .before .args) .w) ((c .before .args) .table .now) (sides ((c .before .args) .w .wire) ((c .before .args) .x) ((c .before .args) .y) ((c .before .args) .above) ((c .before .args) .count)) ((c .before .args) .count * sideSpan ((c .before .args) .above)) ((c .before) .pre .0))
+    (q .0, q .1, goes-start ((c .before .args) .w) ((c .before .args) .table .now) (sides ((c .before .args) .w .wire) ((c .before .args) .x) ((c .before .args) .y) ((c .before .args) .above) ((c .before .args) .high) ((c .before .args) .count)) ((c .before .args) .count * sideSpan ((c .before .args) .above)) ((c .before) .pre .0))
 
 -- the next words stand before the writer
 
@@ -35,16 +35,16 @@ wires-left : (c : tie.In-loop Inv-loop μ-loop) → (c .before .loop) .next .wir
 wires-left c =
     let l = (c .before .loop) in
     let a = (c .before .before .before .args) in
-    omega (arith, l .inv .2 .wireLeft, sides-block (l .next .wire) (l .left) (l .right) (a .above) (l .more) (l .inv .0) (l .inv .1) .long, sides-block (a .w .wire) (a .x) (a .y) (a .above) (a .count) ((c .before .before .before) .pre .1 .0) ((c .before .before .before) .pre .1 .1) .long)
+    omega (arith, l .inv .2 .wireLeft, sides-block (l .next .wire) (l .left) (l .right) (a .above) (a .high) (l .more) ((c .before .before .before) .pre .1 .3) (l .inv .0) (l .inv .1) .long, sides-block (a .w .wire) (a .x) (a .y) (a .above) (a .high) (a .count) ((c .before .before .before) .pre .1 .3) ((c .before .before .before) .pre .1 .0) ((c .before .before .before) .pre .1 .1) .long)
 
 side-requires : tie.Need-side-requires Inv-loop μ-loop
 side-requires c κs =
     let a = (c .before .before .before .before .args) in
     let l = (c .before .before .loop) in (
-      goes-room (a .w) (a .table .now) (sides (a .w .wire) (a .x) (a .y) (a .above) (a .count)) (l .next) (l .table) (sides (l .next .wire) (l .left) (l .right) (a .above) (l .more)) _ (a .count * sideSpan (a .above)) (l .inv .2)
-          (omega (arith, sides-block (l .next .wire) (l .left) (l .right) (a .above) (l .more) (l .inv .0) (l .inv .1) .long, one-less (l .more) (sideSpan (a .above)) ((c .before .loop-test) .taken)))
-          (omega (arith, sides-block (a .w .wire) (a .x) (a .y) (a .above) (a .count) ((c .before .before .before .before) .pre .1 .0) ((c .before .before .before .before) .pre .1 .1) .long)) ((c .before .before .before .before) .pre .0),
-      there (c .before),
+      goes-room (a .w) (a .table .now) (sides (a .w .wire) (a .x) (a .y) (a .above) (a .high) (a .count)) (l .next) (l .table) (sides (l .next .wire) (l .left) (l .right) (a .above) (a .high) (l .more)) _ (a .count * sideSpan (a .above)) (l .inv .2)
+          (omega (arith, sides-block (l .next .wire) (l .left) (l .right) (a .above) (a .high) (l .more) ((c .before .before .before .before) .pre .1 .3) (l .inv .0) (l .inv .1) .long, one-less (l .more) (sideSpan (a .above)) ((c .before .loop-test) .taken)))
+          (omega (arith, sides-block (a .w .wire) (a .x) (a .y) (a .above) (a .high) (a .count) ((c .before .before .before .before) .pre .1 .3) ((c .before .before .before .before) .pre .1 .0) ((c .before .before .before .before) .pre .1 .1) .long)) ((c .before .before .before .before) .pre .0),
+      (there (c .before) .0, there (c .before) .1, (c .before .before .before .before) .pre .1 .3),
     )
 
 add-left : tie.Need-add-left Inv-loop μ-loop
@@ -77,13 +77,13 @@ loop-again c =
     let l = (c .before .before .before .before .before .loop) in
     let t = (c .before .before .before .before .loop-test) .taken in
     let h = (c .before .before .side) in
-    let ends : h .result .wire ≡ l .next .wire + sideSpan (a .above) = omega (arith, h .ensures .wires, side-block (l .next .wire) (l .left) (l .right) (a .above) (omega (arith, there (c .before .before .before .before))) (omega (arith, there (c .before .before .before .before))) .long) in
+    let ends : h .result .wire ≡ l .next .wire + sideSpan (a .above) = omega (arith, h .ensures .wires, side-block (l .next .wire) (l .left) (l .right) (a .above) (a .high) ((c .before .before .before .before .before .before .before) .pre .1 .3) (omega (arith, there (c .before .before .before .before))) (omega (arith, there (c .before .before .before .before))) .long) in
     let e : stride (a .above) ≡ a .above + 2 = refl in (
       omega (arith, l .inv .0, one-less (l .more) (stride (a .above)) t),
       omega (arith, l .inv .1, one-less (l .more) (stride (a .above)) t),
-      goes-as (a .w) (a .table .now) (sides (a .w .wire) (a .x) (a .y) (a .above) (a .count)) (h .result) (h .last .1 .0) _ _ (ap (λ (k : ℕ). sides k (l .left + (a .above + 2)) (l .right + (a .above + 2)) (a .above) (l .more - 1)) (sym ends))
-          (goes-on (a .w) (a .table .now) (sides (a .w .wire) (a .x) (a .y) (a .above) (a .count)) (l .next) (l .table) _ _ (h .last .1 .0) (h .result)
-          (goes-as (a .w) (a .table .now) (sides (a .w .wire) (a .x) (a .y) (a .above) (a .count)) (l .next) (l .table) _ _ (sides-step (l .next .wire) (l .left) (l .right) (a .above) (l .more) t) (l .inv .2))
+      goes-as (a .w) (a .table .now) (sides (a .w .wire) (a .x) (a .y) (a .above) (a .high) (a .count)) (h .result) (h .last .1 .0) _ _ (ap (λ (k : ℕ). sides k (l .left + (a .above + 2)) (l .right + (a .above + 2)) (a .above) (a .high) (l .more - 1)) (sym ends))
+          (goes-on (a .w) (a .table .now) (sides (a .w .wire) (a .x) (a .y) (a .above) (a .high) (a .count)) (l .next) (l .table) _ _ (h .last .1 .0) (h .result)
+          (goes-as (a .w) (a .table .now) (sides (a .w .wire) (a .x) (a .y) (a .above) (a .high) (a .count)) (l .next) (l .table) _ _ (sides-step (l .next .wire) (l .left) (l .right) (a .above) (a .high) (l .more) t) (l .inv .2))
           (h .ensures)),
     )
 
@@ -95,7 +95,7 @@ returns : tie.Need-returns Inv-loop μ-loop
 returns c =
     let a = (c .before .before .before .args) in
     let l = (c .before .loop) in
-    goes-end (a .w) (a .table .now) (sides (a .w .wire) (a .x) (a .y) (a .above) (a .count)) (l .next) (l .table) _ (sides-none (l .next .wire) (l .left) (l .right) (a .above) (l .more) ((c .loop-test) .left)) (l .inv .2)
+    goes-end (a .w) (a .table .now) (sides (a .w .wire) (a .x) (a .y) (a .above) (a .high) (a .count)) (l .next) (l .table) _ (sides-none (l .next .wire) (l .left) (l .right) (a .above) (a .high) (l .more) ((c .loop-test) .left)) (l .inv .2)
 
 pub sides-spec : {M : Type 1} → statement M
 sides-spec = tie.close (tie.spec Inv-loop μ-loop loop-holds side-requires add-left add-left-2 add-right add-right-2 sub-more loop-less loop-again same-length returns)

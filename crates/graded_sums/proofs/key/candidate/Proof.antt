@@ -17,7 +17,7 @@ use Rattle.graded_circuit.specs.RunningSums.{wordSpan, firstSum, firstGrade, mi
 use Rattle.graded_circuit.specs.Key.{keyWord, keyWords, keySpan, candidate, candidateSpan}
 use Rattle.graded_circuit.proofs.PlanFacts.{first-countable}
 use Rattle.graded_circuit.proofs.CandidateBlocks.{candidate-span, later-block, key-words-block, earlier-words}
-use Rattle.graded_circuit.proofs.Writers.{Stands, stands, stands-after, room-of, wrote-then}
+use Rattle.gate_words.proofs.Standing.{Stands, stands, stands-after, room-of, wrote-then}
 use Rattle.graded_sums.proofs.key.candidate.Statement.{statement}
 use Rattle.graded_sums.proofs.key.candidate.Tie as tie
 

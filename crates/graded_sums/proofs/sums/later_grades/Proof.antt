@@ -10,7 +10,7 @@ use Rattle.gate_words.proofs.Writing.{wrote-nothing, wrote-as, room-less}
 use Rattle.graded_circuit.specs.declared.plan.Plan.{Plan}
 use Rattle.graded_circuit.specs.RunningSums.{wordSpan, middleSpan, middleGrades, lastSpan, lastGrade, laterGrades, laterSpan}
 use Rattle.graded_circuit.proofs.CandidateBlocks.{middles-block}
-use Rattle.graded_circuit.proofs.Writers.{Stands, stands, stands-after, wrote-then}
+use Rattle.gate_words.proofs.Standing.{Stands, stands, stands-after, wrote-then}
 use Rattle.graded_sums.proofs.sums.later_grades.Statement.{statement}
 use Rattle.graded_sums.proofs.sums.later_grades.Tie as tie
 

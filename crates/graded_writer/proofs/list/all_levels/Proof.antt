@@ -10,7 +10,7 @@ use Rattle.graded_circuit.specs.declared.plan.Plan.{Plan}
 use Rattle.graded_circuit.specs.Merge.{mergeSpan}
 use Rattle.graded_circuit.specs.OwnList.{levelsSpan, levels, levelsAt}
 use Rattle.graded_circuit.proofs.LevelsLaws.{levels-block}
-use Rattle.graded_circuit.proofs.Writers.{Stands, stands, stands-after, room-of, wrote-then}
+use Rattle.gate_words.proofs.Standing.{Stands, stands, stands-after, room-of, wrote-then}
 use Rattle.graded_writer.proofs.ListWriters.{span-least, merge-same, allLevelsSpan}
 use Rattle.graded_writer.proofs.list.all_levels.Statement.{statement}
 use Rattle.graded_writer.proofs.list.all_levels.Tie as tie

@@ -10,7 +10,7 @@ use Rattle.gate_words.proofs.Writing.{wrote-as, room-less}
 use Rattle.graded_circuit.specs.Key.{candidateSpan}
 use Rattle.graded_circuit.specs.OwnList.{candidates, levelsAt, circuit}
 use Rattle.graded_circuit.proofs.LevelsLaws.{candidates-block}
-use Rattle.graded_circuit.proofs.Writers.{Stands, stands, stands-after, wrote-then}
+use Rattle.gate_words.proofs.Standing.{Stands, stands, stands-after, wrote-then}
 use Rattle.graded_writer.proofs.ListWriters.{divided, allLevelsSpan, circuit-parts, circuit-long}
 use Rattle.graded_writer.proofs.list.circuit.Statement.{statement}
 use Rattle.graded_writer.proofs.list.circuit.Tie as tie

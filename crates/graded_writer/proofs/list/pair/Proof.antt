@@ -12,7 +12,7 @@ use Rattle.graded_circuit.specs.Merge.{merge, mergeSpan}
 use Rattle.graded_circuit.specs.OwnList.{keyAt, levelsSpan, levels, levelsAt}
 use Rattle.graded_circuit.proofs.MergeLaws.{merge-block}
 use Rattle.graded_circuit.proofs.LevelsLaws.{key-before, levels-one}
-use Rattle.graded_circuit.proofs.Writers.{Stands, stands, stands-after, room-of, wrote-then}
+use Rattle.gate_words.proofs.Standing.{Stands, stands, stands-after, room-of, wrote-then}
 use Rattle.graded_writer.proofs.ListWriters.{pair-is, pair-span}
 use Rattle.graded_writer.proofs.list.pair.Statement.{statement}
 use Rattle.graded_writer.proofs.list.pair.Tie as tie

@@ -14,7 +14,7 @@ use Rattle.graded_circuit.specs.Contest.{resultAt}
 use Rattle.graded_circuit.specs.Merge.{merge, mergeSpan}
 use Rattle.graded_circuit.specs.OwnList.{keyAt, levelsSpan, otherAt, mergeAt, halvesMerge, levels, levelsAt}
 use Rattle.graded_circuit.proofs.LevelsLaws.{span-more, levels-more, levels-block, halves-merge-block}
-use Rattle.graded_circuit.proofs.Writers.{Stands, stands, stands-after, room-of, wrote-then}
+use Rattle.gate_words.proofs.Standing.{Stands, stands, stands-after, room-of, wrote-then}
 use Rattle.graded_writer.proofs.ListWriters.{span-least, key-below, merge-same, better-same}
 use Rattle.graded_writer.proofs.list.two_to_four.Statement.{statement}
 use Rattle.graded_writer.proofs.list.two_to_four.Tie as tie

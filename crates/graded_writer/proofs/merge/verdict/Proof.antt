@@ -6,7 +6,7 @@ use native.Mathlib.Omega.{arith}
 use Rattle.gate_words.proofs.Writing.{room-less, wrote-long}
 use Rattle.gate_words.proofs.Emitting.{and-wrote, xor-wrote, not-wrote, wrote-four}
 use Rattle.graded_circuit.specs.Merge.{verdict}
-use Rattle.graded_circuit.proofs.Writers.{Stands, stands, stands-after, room-of}
+use Rattle.gate_words.proofs.Standing.{Stands, stands, stands-after, room-of}
 use Rattle.graded_writer.proofs.merge.verdict.Statement.{statement}
 use Rattle.graded_writer.proofs.merge.verdict.Tie as tie
 
