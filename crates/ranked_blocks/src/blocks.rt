@@ -6,9 +6,8 @@ ghost use mathlib.Core.Path.{_≡_};
 ghost use mathlib.Core.List.{_++_};
 ghost use Prim.Native.Nat.{suc, _+_, _*_, _≤_, _<_};
 ghost use Rattle.gate_words.specs.Writing.{Room, Wrote};
-ghost use Rattle.gate_words.specs.Choice.{choose, constants, copies, masked};
+ghost use Rattle.gate_words.specs.Choice.{choose};
 ghost use Rattle.ranked_circuit.specs.Blocks.{compare, order, orderEnd, smaller, larger, largerIf};
-ghost use Rattle.ranked_circuit.specs.Stages.{detourPad, firstPad};
 
 // Two words compared both ways.
 pub(crate) fn compare(w: Writer, table: &mut [u32], x: u32, y: u32, digits: u32) -> Writer
@@ -57,16 +56,6 @@ fn larger_if(w: Writer, table: &mut [u32], f: u32, x: u32, y: u32, digits: u32) 
     both.choose(table, flag, x, y, digits + 1)
 }
 
-// The word at v where wire f is 1, else 0, behind zeros.
-pub(crate) fn link_only(w: Writer, table: &mut [u32], f: u32, v: u32, digits: u32) -> Writer
-    requires { ⌜ Room w (firstPad digits + suc digits) ⌝ }
-    requires { ⌜ (v + suc digits ≤ w .wire) × (digits ≤ 7) ⌝ }
-    ensures { λ r. ⌜ Wrote w (now (table .entry)) (constants 0 (firstPad digits) ++ masked f v (suc digits)) (now (table .exit)) r ⌝ }
-{
-    let zeros = w.constants(table, 0, 5 * digits + 2);
-    zeros.masked(table, f, v, digits + 1)
-}
-
 // The stronger of the link, if wire f says that there is one, and of the way whose links are x and y.
 pub(crate) fn link_or_way(
     w: Writer,
@@ -77,23 +66,13 @@ pub(crate) fn link_or_way(
     y: u32,
     digits: u32,
 ) -> Writer
-    requires { ⌜ Room w (firstPad digits + suc digits) ⌝ }
+    requires { ⌜ Room w (2 * digits + suc digits + (2 * digits + 1) + suc digits) ⌝ }
     requires { ⌜ (v + suc digits ≤ w .wire) × (x + suc digits ≤ w .wire) × (y + suc digits ≤ w .wire) × (digits ≤ 7) ⌝ }
     ensures { λ r. ⌜ Wrote w (now (table .entry)) (smaller (w .wire) x y digits ++ largerIf (w .wire + (2 * digits + suc digits)) f v (w .wire + 2 * digits) digits) (now (table .exit)) r ⌝ }
 {
     let way = w.wire + 2 * digits;
     let weaker = one_of(w, table, x, y, y, x, digits);
     larger_if(weaker, table, f, v, way, digits)
-}
-
-// The word at v again, behind zeros.
-pub(crate) fn path_only(w: Writer, table: &mut [u32], v: u32, digits: u32) -> Writer
-    requires { ⌜ Room w (detourPad digits + suc digits) ⌝ }
-    requires { ⌜ (v + suc digits ≤ w .wire) × (digits ≤ 7) ⌝ }
-    ensures { λ r. ⌜ Wrote w (now (table .entry)) (constants 0 (detourPad digits) ++ copies v (suc digits)) (now (table .exit)) r ⌝ }
-{
-    let zeros = w.constants(table, 0, 5 * digits + 1);
-    zeros.copies(table, v, digits + 1)
 }
 
 // The stronger of the path so far and of the way whose parts are x and y.
@@ -105,7 +84,7 @@ pub(crate) fn path_or_way(
     y: u32,
     digits: u32,
 ) -> Writer
-    requires { ⌜ Room w (detourPad digits + suc digits) ⌝ }
+    requires { ⌜ Room w (2 * digits + suc digits + 2 * digits + suc digits) ⌝ }
     requires { ⌜ (v + suc digits ≤ w .wire) × (x + suc digits ≤ w .wire) × (y + suc digits ≤ w .wire) × (digits ≤ 7) ⌝ }
     ensures { λ r. ⌜ Wrote w (now (table .entry)) (smaller (w .wire) x y digits ++ larger (w .wire + (2 * digits + suc digits)) v (w .wire + 2 * digits) digits) (now (table .exit)) r ⌝ }
 {

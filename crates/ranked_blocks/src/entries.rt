@@ -1,111 +1,133 @@
-// The blocks of the tables, one for each two candidates i and j.
+// The blocks of the tables: number e is that of row e / k and column e % k.
 use crate::blocks::compare;
-use crate::blocks::link_only;
 use crate::blocks::link_or_way;
-use crate::blocks::path_only;
 use crate::blocks::path_or_way;
-use crate::places::Places;
-use crate::places::place;
-use crate::places::stays;
+use crate::kept::kept;
+use crate::kept::stays;
 use gate_adders::counter::counter;
 use gate_words::writer::Writer;
 ghost use mathlib.Core.Path.{_≡_};
-ghost use Prim.Native.Nat.{ℕ, suc, _+_, _*_, _≤_, _<_};
+ghost use mathlib.Core.Bool.{false};
+ghost use Prim.Native.Nat.{ℕ, suc, _+_, _-_, _*_, _/_, _%_, _≤_, _<_};
+ghost use lib.Dec.{eqb};
+ghost use lib.ListN.{length};
 ghost use Rattle.gate_words.specs.Writing.{Room, Wrote};
-ghost use Rattle.ranked_circuit.specs.Table.{place};
-ghost use Rattle.ranked_circuit.specs.Stages.{votesBlock, linksBlock, detourBlock, firstBlock};
-ghost use Rattle.ranked_circuit.specs.Paths.{votesSize, linksSize, firstSize, detourSize};
-ghost use Rattle.ranked_blocks.specs.Ranked.{Ranked};
+ghost use Rattle.ranked_circuit.specs.Stages as spec;
+ghost use Rattle.ranked_circuit.specs.Stages.{votesBlock, linksBlock, newWord, pathBlock};
+ghost use Rattle.ranked_blocks.specs.Ranked.{Ranked, keptOf, keep, keepLinks, WordsBelow};
 
-// The public numbers that the list is written with: k, n, the digits of a word beside the lowest, and how many gates
-// count the ballots for one candidate against another.
+// The public numbers that the list is written with: k, n, and the digits of a word beside the lowest.
 pub struct Ranks {
     pub candidates: u32,
     pub ballots: u32,
     pub digits: u32,
-    pub votes: u32,
 }
 
-// The number of ballots that put i before j.
-pub fn votes_block(w: Writer, table: &mut [u32], p: Ranks, i: u32, j: u32) -> Writer
+// The number of ballots that put one candidate before another: its word is kept.
+pub fn votes_entry(w: Writer, table: &mut [u32], words: &mut [u32], p: Ranks, e: u32) -> Writer
     requires { ⌜ Ranked p ⌝ }
-    requires { ⌜ Room w (votesSize (p .ballots) (p .digits)) ⌝ }
-    requires { ⌜ (i < p .candidates) × (j < p .candidates) × (p .ballots * p .candidates * p .candidates ≤ w .wire) ⌝ }
-    ensures { λ r. ⌜ Wrote w (now (table .entry)) (votesBlock (p .candidates) (p .ballots) (p .digits) (w .wire) i j) (now (table .exit)) r ⌝ }
+    requires { ⌜ Room w (length (votesBlock (p .candidates) (p .ballots) (p .digits) (w .wire) (e / p .candidates) (e % p .candidates))) ⌝ }
+    requires { ⌜ (e < p .candidates * p .candidates) × (p .ballots * p .candidates * p .candidates ≤ w .wire) × (length (now words) ≡ 64) ⌝ }
+    ensures { λ r. ⌜ Wrote w (now (table .entry)) (votesBlock (p .candidates) (p .ballots) (p .digits) (w .wire) (e / p .candidates) (e % p .candidates)) (now (table .exit)) r ⌝ }
+    ensures { λ r. ⌜ now (words .exit) ≡ keep (eqb (e / p .candidates) (e % p .candidates)) (now (words .entry)) e (r .wire - suc (p .digits)) ⌝ }
 {
-    if i == j {
-        return w.constants(table, 0, p.votes);
-    }
     let k = p.candidates;
-    counter(w, table, i * k + j, k * k, p.ballots, 0, p.digits)
-}
-
-// The words of i and j compared, once for both.
-pub fn links_block(w: Writer, table: &mut [u32], p: Ranks, words: Places, i: u32, j: u32) -> Writer
-    requires { ⌜ Ranked p ⌝ }
-    requires { ⌜ Room w (linksSize (p .digits)) ⌝ }
-    requires { ⌜ (i < p .candidates) × (j < p .candidates) ⌝ }
-    requires { ⌜ (place (words .first) (words .size) (p .candidates) i j + suc (p .digits) ≤ w .wire) × (place (words .first) (words .size) (p .candidates) j i + suc (p .digits) ≤ w .wire) ⌝ }
-    ensures { λ r. ⌜ Wrote w (now (table .entry)) (linksBlock (place (words .first) (words .size) (p .candidates)) (p .digits) (w .wire) i j) (now (table .exit)) r ⌝ }
-{
-    if j < i {
-        let x = place(words, p.candidates, i, j);
-        let y = place(words, p.candidates, j, i);
-        return compare(w, table, x, y, p.digits);
+    if e / k == e % k {
+        return w;
     }
-    w.constants(table, 0, 3 + 3 * p.digits)
+    let next = counter(w, table, e, k * k, p.ballots, 0, p.digits);
+    words[e as usize] = next.wire - p.digits - 1;
+    next
 }
 
-// The strongest path from i to j by the link alone or over candidate 0: v is where the number of ballots for the link
-// stands, f the wire that tells of it, and the words of this table stand at `own`.
-pub fn first_block(
+// The words of two candidates compared, once for both: the wires that tell which is larger are kept.
+pub fn links_entry(
     w: Writer,
     table: &mut [u32],
+    words: &[u32],
+    links: &mut [u32],
     p: Ranks,
-    f: u32,
-    v: u32,
-    own: Places,
+    e: u32,
+) -> Writer
+    requires { ⌜ Ranked p ⌝ }
+    requires { ⌜ Room w (length (linksBlock (keptOf (now words) (p .candidates)) (p .digits) (w .wire) (e / p .candidates) (e % p .candidates))) ⌝ }
+    requires { ⌜ (e < p .candidates * p .candidates) × (length (now words) ≡ 64) × (length (now links) ≡ 64) ⌝ }
+    requires { ⌜ WordsBelow (now words) (p .candidates) (p .digits) (w .wire) ⌝ }
+    ensures { λ r. ⌜ Wrote w (now (table .entry)) (linksBlock (keptOf (now (words .entry)) (p .candidates)) (p .digits) (w .wire) (e / p .candidates) (e % p .candidates)) (now (table .exit)) r ⌝ }
+    ensures { λ r. ⌜ now (links .exit) ≡ keepLinks (now (links .entry)) (p .candidates) (e / p .candidates) (e % p .candidates) (r .wire) ⌝ }
+{
+    let k = p.candidates;
+    let i = e / k;
+    let j = e % k;
+    if i <= j {
+        return w;
+    }
+    let next = compare(
+        w,
+        table,
+        kept(words, k, i, j),
+        kept(words, k, j, i),
+        p.digits,
+    );
+    links[(i * k + j) as usize] = next.wire - 2;
+    links[(j * k + i) as usize] = next.wire - 1;
+    next
+}
+
+// The word of i and j after stage m of the paths.
+fn new_word(
+    w: Writer,
+    table: &mut [u32],
+    links: &[u32],
+    words: &[u32],
+    p: Ranks,
+    m: u32,
     i: u32,
     j: u32,
 ) -> Writer
     requires { ⌜ Ranked p ⌝ }
-    requires { ⌜ Room w (firstSize (p .digits)) ⌝ }
-    requires { ⌜ (i < p .candidates) × (j < p .candidates) × (v + suc (p .digits) ≤ w .wire) ⌝ }
-    requires { ⌜ ((a b : ℕ) → a ≤ i → b ≤ j → a * p .candidates + b < i * p .candidates + j → place (own .first) (own .size) (p .candidates) a b + suc (p .digits) ≤ w .wire) ⌝ }
-    ensures { λ r. ⌜ Wrote w (now (table .entry)) (firstBlock (λ a b. v) (λ a b. f) (place (own .first) (own .size) (p .candidates)) (p .digits) (w .wire) i j) (now (table .exit)) r ⌝ }
+    requires { ⌜ Room w (length (newWord (keptOf (now links) (p .candidates)) (keptOf (now words) (p .candidates)) (p .digits) m (w .wire) i j)) ⌝ }
+    requires { ⌜ (m ≤ p .candidates) × (i < p .candidates) × (j < p .candidates) × (spec.stays m i j ≡ false) × (length (now links) ≡ 64) × (length (now words) ≡ 64) ⌝ }
+    requires { ⌜ WordsBelow (now words) (p .candidates) (p .digits) (w .wire) ⌝ }
+    ensures { λ r. ⌜ Wrote w (now (table .entry)) (newWord (keptOf (now (links .entry)) (p .candidates)) (keptOf (now (words .entry)) (p .candidates)) (p .digits) m (w .wire) i j) (now (table .exit)) r ⌝ }
 {
-    if i == j {
-        return w.constants(table, 0, 6 * p.digits + 3);
+    let k = p.candidates;
+    let link = kept(links, k, i, j);
+    let word = kept(words, k, i, j);
+    if m == 0 {
+        return w.masked(table, link, word, p.digits + 1);
     }
-    if stays(0, i, j) {
-        return link_only(w, table, f, v, p.digits);
+    let to = kept(words, k, i, m - 1);
+    let from = kept(words, k, m - 1, j);
+    if m == 1 {
+        return link_or_way(w, table, link, word, to, from, p.digits);
     }
-    let x = place(own, p.candidates, i, 0);
-    let y = place(own, p.candidates, 0, j);
-    link_or_way(w, table, f, v, x, y, p.digits)
+    path_or_way(w, table, word, to, from, p.digits)
 }
 
-// The strongest path from i to j once the way over l is allowed too; those so far stand at `paths`.
-pub fn detour_block(
+// The same, kept: a word that the stage leaves stays where it is.
+pub fn path_entry(
     w: Writer,
     table: &mut [u32],
+    links: &[u32],
+    words: &mut [u32],
     p: Ranks,
-    paths: Places,
-    l: u32,
-    i: u32,
-    j: u32,
+    m: u32,
+    e: u32,
 ) -> Writer
     requires { ⌜ Ranked p ⌝ }
-    requires { ⌜ Room w (detourSize (p .digits)) ⌝ }
-    requires { ⌜ (i < p .candidates) × (j < p .candidates) × (l < p .candidates) ⌝ }
-    requires { ⌜ ((a b : ℕ) → a < p .candidates → b < p .candidates → place (paths .first) (paths .size) (p .candidates) a b + suc (p .digits) ≤ w .wire) ⌝ }
-    ensures { λ r. ⌜ Wrote w (now (table .entry)) (detourBlock (place (paths .first) (paths .size) (p .candidates)) l (p .digits) (w .wire) i j) (now (table .exit)) r ⌝ }
+    requires { ⌜ Room w (length (pathBlock (keptOf (now links) (p .candidates)) (keptOf (now words) (p .candidates)) (p .digits) m (w .wire) (e / p .candidates) (e % p .candidates))) ⌝ }
+    requires { ⌜ (m ≤ p .candidates) × (e < p .candidates * p .candidates) × (length (now links) ≡ 64) × (length (now words) ≡ 64) ⌝ }
+    requires { ⌜ WordsBelow (now words) (p .candidates) (p .digits) (w .wire) ⌝ }
+    ensures { λ r. ⌜ Wrote w (now (table .entry)) (pathBlock (keptOf (now (links .entry)) (p .candidates)) (keptOf (now (words .entry)) (p .candidates)) (p .digits) m (w .wire) (e / p .candidates) (e % p .candidates)) (now (table .exit)) r ⌝ }
+    ensures { λ r. ⌜ now (words .exit) ≡ keep (spec.stays m (e / p .candidates) (e % p .candidates)) (now (words .entry)) e (r .wire - suc (p .digits)) ⌝ }
 {
-    let v = place(paths, p.candidates, i, j);
-    if stays(l, i, j) {
-        return path_only(w, table, v, p.digits);
+    let i = e / p.candidates;
+    let j = e % p.candidates;
+    if stays(m, i, j) {
+        return w;
     }
-    let x = place(paths, p.candidates, i, l);
-    let y = place(paths, p.candidates, l, j);
-    path_or_way(w, table, v, x, y, p.digits)
+    let next = new_word(w, table, links, words, p, m, i, j);
+    words[e as usize] = next.wire - p.digits - 1;
+    next
 }

@@ -8,137 +8,213 @@ use Prim.Native.Nat.{ℕ, suc, _+_, _-_, _*_, _≤_, _<_}
 use native.Mathlib.Omega.{arith}
 use lib.ListN.{length, length-append}
 use Rattle.gates.specs.Gate.{Gate}
-use Rattle.gates.proofs.Laws.{Holds, holds-append}
+use Rattle.gates.proofs.Laws.{AllGood, Holds, holds-append, good-append, good-one, operand-counts}
 use Rattle.gate_words.specs.Gates.{notOf}
 use Rattle.gate_words.specs.Word.{ones, number}
 use Rattle.gate_words.specs.Counter.{Countable}
 use Rattle.gate_words.proofs.Laws.{Binary, bit-cases}
 use Rattle.gate_words.proofs.GateValues.{not-is}
-use Rattle.basics.proofs.Cases.{below-or-not}
-use Rattle.basics.proofs.Flags.{never-true}
+use Rattle.jury.proofs.BallotLaws.{row-within}
+use Rattle.jury.proofs.Cases.{below-or-not}
+use Rattle.jury.proofs.Flags.{never-true}
 use Rattle.rule_schulze.specs.Schulze.{link, strongest, wins}
 use Rattle.rule_schulze.proofs.Winning.{wins-unbeaten, unbeaten-wins}
-use Rattle.ranked_circuit.specs.Table.{blocks, table, place}
-use Rattle.ranked_circuit.specs.Stages.{linksBlock}
-use Rattle.ranked_circuit.specs.Paths.{linksSize, detourFrom, pathAt, pathTables}
-use Rattle.ranked_circuit.specs.RankedList.{beatsAt, other, lostRow, lostGate, lostFrom, rankedList}
-use Rattle.ranked_circuit.proofs.TableLaws.{length-blocks, block-holds, length-table, entry-holds}
-use Rattle.ranked_circuit.proofs.StageLaws.{link-wire}
-use Rattle.ranked_circuit.proofs.PathLaws.{links-sized, tables-end, strongest-spelled}
-use Rattle.ranked_circuit.proofs.LostLaws.{other-apart, other-low, other-found, lost-zero, lost-one}
+use Rattle.ranked_circuit.specs.Table.{blocks, table}
+use Rattle.ranked_circuit.specs.Stages.{linksBlock, linkAt}
+use Rattle.ranked_circuit.specs.Paths.{pathsTo}
+use Rattle.ranked_circuit.specs.RankedList.{other, joined, loserRow, loserRows, outputGates, contestsFrom, contests, beatsAt, losersFrom, rankedList}
+use Rattle.ranked_circuit.proofs.TableLaws.{startOf, length-same, block-holds, blocks-good}
+use Rattle.ranked_circuit.proofs.StageLaws.{link-told}
+use Rattle.ranked_circuit.proofs.PathLaws.{strengthAfter, paths-spelled, all-strongest}
+use Rattle.ranked_circuit.proofs.GoodLaws.{WiresBelow, links-good, links-below, words-below, paths-good}
+use Rattle.ranked_circuit.proofs.LoserLaws.{other-apart, other-low, other-found, row-length, item-before, row-good, lost-zero, lost-one}
 
-pub row-sized : (beats : ℕ → ℕ → ℕ) (m at i : ℕ) → length (lostRow beats m at i) ≡ suc m
-unfolding lostRow
-row-sized beats m at i = omega (arith, length-blocks 1 (λ wire s. lostGate beats i wire s ∷ []) (λ wire s. refl) at (suc m))
-
-module _ (m n w : ℕ) where
+-- Rows and output gates from wire n on, for r + 2 candidates.
+module _ (beats : ℕ → ℕ → ℕ) (r n : ℕ) where
   abbrev k : ℕ
-  k = suc (suc m)
+  k = suc (suc r)
 
-  unfoldable pub paths : List Gate
-  paths = pathTables k n w (suc m)
+  rows-start : (i : ℕ) → startOf n (loserRow beats r) i ≡ n + i * r
+  rows-start i = omega (arith, length-same n (loserRow beats r) r (λ at i. row-length beats r at i) i)
 
-  unfoldable pub contests : List Gate
-  contests = table (detourFrom k n w (suc m)) (linksSize w) k (linksBlock (pathAt k n w (suc m)) w)
+  pub rows-length : length (loserRows beats r n k) ≡ k * r
+  unfolding loserRows
+  rows-length = length-same n (loserRow beats r) r (λ at i. row-length beats r at i) k
 
-  unfoldable pub lost : List Gate
-  lost = blocks (lostFrom k n w (suc m)) (suc m) (lostRow (beatsAt k n w (suc m)) m) k
+  abbrev output : ℕ → ℕ → List Gate
+  output wire i = notOf (joined beats (suc r) (n + i * r) i (2 * r)) ∷ []
 
-  unfoldable pub closings : List Gate
-  closings = blocks (lostFrom k n w (suc m) + k * suc m) 1 (λ wire i. notOf (lostFrom k n w (suc m) + i * suc m + m) ∷ []) k
+  output-start : (i : ℕ) → startOf (n + k * r) output i ≡ n + k * r + i
+  output-start i = omega (arith, length-same (n + k * r) output 1 (λ wire i. refl) i)
 
-  pub contests-length : length contests ≡ k * k * linksSize w
-  unfolding contests
-  contests-length = length-table (linksSize w) k (linksBlock (pathAt k n w (suc m)) w) (links-sized (pathAt k n w (suc m)) w) (detourFrom k n w (suc m))
+  pub outputs-length : length (outputGates beats r n k) ≡ k
+  unfolding outputGates
+  outputs-length = omega (arith, length-same (n + k * r) output 1 (λ wire i. refl) k)
 
-  pub lost-length : length lost ≡ k * suc m
-  unfolding lost
-  lost-length = length-blocks (suc m) (lostRow (beatsAt k n w (suc m)) m) (row-sized (beatsAt k n w (suc m)) m) (lostFrom k n w (suc m)) k
+  pub rows-good : WiresBelow k beats n → AllGood n (loserRows beats r n k)
+  unfolding loserRows
+  rows-good below =
+      blocks-good n (loserRow beats r) k
+      (λ i l. row-good beats r (startOf n (loserRow beats r) i) i (λ s q. let h = below (other i s) i (other-low i s r q) l (other-apart i s) in omega arith))
+
+  pub outputs-good : WiresBelow k beats n → AllGood (n + k * r) (outputGates beats r n k)
+  unfolding outputGates
+  outputs-good below =
+      blocks-good (n + k * r) output k
+      (λ i l.
+      let rows : i * r + r ≤ k * r = row-fits i l in
+      let wire = startOf (n + k * r) output i in
+      let low : joined beats (suc r) (n + i * r) i (2 * r) < wire =
+      item-before beats r (n + i * r) i wire r (2 * r) (omega arith) (omega arith) (λ s q. let h = below (other i s) i (other-low i s r q) l (other-apart i s) in omega arith) in
+      (good-one wire 3 (joined beats (suc r) (n + i * r) i (2 * r)) (omega arith) (operand-counts .3) low, tt))
+    where
+      row-fits : (i : ℕ) → i < k → i * r + r ≤ k * r
+      row-fits i l = omega (arith, row-within i k r l)
+
+  module _ (W : ℕ → ℕ) (b : Binary W) (v : ℕ → ℕ → ℕ) (rows : Holds W n (loserRows beats r n k)) (outputs : Holds W (n + k * r) (outputGates beats r n k))
+      (i : ℕ) (hi : i < k)
+      (winner-unbeaten : wins v k i ≡ true → (j : ℕ) → j < k → j ≢ i → W (beats j i) ≡ 0)
+      (unbeaten-winner : ((j : ℕ) → j < k → j ≢ i → W (beats j i) ≡ 0) → wins v k i ≡ true) where
+    lost : ℕ
+    lost = joined beats (suc r) (n + i * r) i (2 * r)
+
+    row-holds : Holds W (n + i * r) (loserRow beats r (n + i * r) i)
+    unfolding loserRows
+    row-holds = subst (λ (at : ℕ). Holds W at (loserRow beats r at i)) (rows-start i) (block-holds n (loserRow beats r) W k i hi rows)
+
+    winner-unlost : wins v k i ≡ true → W lost ≡ 0
+    unfolding lost
+    winner-unlost e = lost-zero beats r (n + i * r) i W b row-holds (λ s q. winner-unbeaten e (other i s) (other-low i s r q) (other-apart i s))
+
+    unlost-winner : W lost ≡ 0 → wins v k i ≡ true
+    unfolding lost
+    unlost-winner z =
+        unbeaten-winner
+        (λ j hj ne.
+        ⊎-elim (λ (e : W (beats j i) ≡ 0). e)
+        (λ (e : W (beats j i) ≡ 1).
+        let f = other-found i j r hi hj ne in
+        let one = lost-one beats r (n + i * r) i W b row-holds (f .0) (f .1) (ap (λ (x : ℕ). W (beats x i)) (f .2) ∙ e) in
+        absurd (omega (arith, z, one)))
+        (bit-cases (W (beats j i)) (b (beats j i))))
+
+    output-is : W (n + k * r + i) ≡ 1 - W lost
+    unfolding outputGates lost
+    output-is = ap W (sym (output-start i)) ∙ block-holds (n + k * r) output W k i hi outputs .0 ∙ not-is W b (joined beats (suc r) (n + i * r) i (2 * r))
+
+    -- output gate i says whether i wins
+    pub output-law : W (n + k * r + i) ≡ cond (wins v k i) 1 0
+    output-law =
+        ⊎-elim (λ (z : W lost ≡ 0). let one : W (n + k * r + i) ≡ 1 = omega (arith, output-is) in one ∙ sym (ap (λ (c : Bool). cond {A = ℕ} c 1 0) (unlost-winner z)))
+        (λ (z : W lost ≡ 1).
+        let none : W (n + k * r + i) ≡ 0 = omega (arith, output-is) in
+        none ∙ sym (ap (λ (c : Bool). cond {A = ℕ} c 1 0) (never-true (wins v k i) (λ e. let y = winner-unlost e in omega arith))))
+        (bit-cases (W lost) (b lost))
+
+module _ (r n w : ℕ) where
+  abbrev k₂ : ℕ
+  k₂ = suc (suc r)
+
+  unfoldable pub pathGates : List Gate
+  pathGates = pathsTo k₂ n w (suc k₂) .gates
+
+  unfoldable pub contestGates : List Gate
+  contestGates = contests k₂ n w
+
+  unfoldable pub rowGates : List Gate
+  rowGates = loserRows (beatsAt k₂ n w) r (losersFrom k₂ n w) k₂
+
+  unfoldable pub lastGates : List Gate
+  lastGates = outputGates (beatsAt k₂ n w) r (losersFrom k₂ n w) k₂
+
+  pub list-is : rankedList (suc (suc r)) n w ≡ pathGates ++ contestGates ++ rowGates ++ lastGates
+  unfolding rankedList pathGates contestGates rowGates lastGates
+  list-is = refl
+
+  paths-end : n * k₂ * k₂ + length pathGates ≡ contestsFrom k₂ n w
+  unfolding pathGates contestsFrom
+  paths-end = refl
+
+  contests-end : n * k₂ * k₂ + length (pathGates ++ contestGates) ≡ losersFrom k₂ n w
+  unfolding losersFrom contestGates
+  contests-end = omega (arith, length-append pathGates contestGates, paths-end)
+
+  rows-end : n * k₂ * k₂ + length (pathGates ++ contestGates ++ rowGates) ≡ losersFrom k₂ n w + k₂ * r
+  unfolding rowGates
+  rows-end = omega (arith, length-append (pathGates ++ contestGates) rowGates, contests-end, rows-length (beatsAt k₂ n w) r (losersFrom k₂ n w))
+
+  -- the output gates are the last k
+  pub list-end : n * k₂ * k₂ + length (rankedList (suc (suc r)) n w) ≡ losersFrom k₂ n w + k₂ * r + k₂
+  unfolding lastGates
+  list-end = omega (arith, ap length list-is, length-append (pathGates ++ contestGates ++ rowGates) lastGates, rows-end, outputs-length (beatsAt k₂ n w) r (losersFrom k₂ n w))
+
+  beats-below : WiresBelow k₂ (beatsAt k₂ n w) (losersFrom k₂ n w)
+  unfolding beatsAt losersFrom contests
+  beats-below = links-below k₂ w (pathsTo k₂ n w (suc k₂) .words) (contestsFrom k₂ n w)
+
+  contests-good : AllGood (contestsFrom k₂ n w) contestGates
+  unfolding contestGates contests contestsFrom
+  contests-good = links-good k₂ w (pathsTo k₂ n w (suc k₂) .words) (contestsFrom k₂ n w) (words-below k₂ n w (suc k₂))
+
+  pub circuit-good : Countable n 0 w → AllGood (n * k₂ * k₂) (rankedList (suc (suc r)) n w)
+  circuit-good c =
+      subst (λ (gs : List Gate). AllGood (n * k₂ * k₂) gs) (sym list-is)
+      (good-append (n * k₂ * k₂) (pathGates ++ contestGates ++ rowGates) lastGates
+      (good-append (n * k₂ * k₂) (pathGates ++ contestGates) rowGates
+      (good-append (n * k₂ * k₂) pathGates contestGates paths (subst (λ (l : ℕ). AllGood l contestGates) (sym paths-end) contests-good))
+      (subst (λ (l : ℕ). AllGood l rowGates) (sym contests-end) rows))
+      (subst (λ (l : ℕ). AllGood l lastGates) (sym rows-end) outputs))
+    where
+      paths : AllGood (n * k₂ * k₂) pathGates
+      paths = unfold pathGates in (paths-good k₂ n w c (suc k₂) (omega arith))
+
+      rows : AllGood (losersFrom k₂ n w) rowGates
+      rows = unfold rowGates in (rows-good (beatsAt k₂ n w) r (losersFrom k₂ n w) beats-below)
+
+      outputs : AllGood (losersFrom k₂ n w + k₂ * r) lastGates
+      outputs = unfold lastGates in (outputs-good (beatsAt k₂ n w) r (losersFrom k₂ n w) beats-below)
 
   module _ (W : ℕ → ℕ) (b : Binary W) (v : ℕ → ℕ → ℕ) (countable : Countable n 0 w)
-      (counted : (i j : ℕ) → i < k → j < k → i ≢ j → ones W (i * k + j) (k * k) n ≡ v i j) (h : Holds W (n * k * k) (rankedList (suc (suc m)) n w)) where
+      (counted : (i j : ℕ) → i < k₂ → j < k₂ → i ≢ j → ones W (i * k₂ + j) (k₂ * k₂) n ≡ v i j) (h : Holds W (n * k₂ * k₂) (rankedList (suc (suc r)) n w)) where
     t : ℕ → ℕ → ℕ
-    t = strongest (link v) k
+    t = strongest (link v) k₂
 
-    whole : Holds W (n * k * k) (paths ++ contests ++ lost ++ closings)
-    unfolding rankedList paths contests lost closings
-    whole = h
+    whole : Holds W (n * k₂ * k₂) (pathGates ++ contestGates ++ rowGates ++ lastGates)
+    whole = subst (λ (gs : List Gate). Holds W (n * k₂ * k₂) gs) list-is h
 
-    before-closings : Holds W (n * k * k) (paths ++ contests ++ lost)
-    before-closings = holds-append W (n * k * k) (paths ++ contests ++ lost) closings whole .0
+    before-outputs : Holds W (n * k₂ * k₂) (pathGates ++ contestGates ++ rowGates) × Holds W (losersFrom k₂ n w + k₂ * r) lastGates
+    before-outputs =
+        let p = holds-append W (n * k₂ * k₂) (pathGates ++ contestGates ++ rowGates) lastGates whole in
+        (p .0, subst (λ (l : ℕ). Holds W l lastGates) rows-end (p .1))
 
-    before-lost : Holds W (n * k * k) (paths ++ contests)
-    before-lost = holds-append W (n * k * k) (paths ++ contests) lost before-closings .0
+    before-rows : Holds W (n * k₂ * k₂) (pathGates ++ contestGates) × Holds W (losersFrom k₂ n w) rowGates
+    before-rows =
+        let p = holds-append W (n * k₂ * k₂) (pathGates ++ contestGates) rowGates (before-outputs .0) in
+        (p .0, subst (λ (l : ℕ). Holds W l rowGates) contests-end (p .1))
 
-    paths-hold : Holds W (n * k * k) (pathTables k n w (suc m))
-    unfolding paths
-    paths-hold = holds-append W (n * k * k) paths contests before-lost .0
+    before-contests : Holds W (n * k₂ * k₂) pathGates × Holds W (contestsFrom k₂ n w) contestGates
+    before-contests =
+        let p = holds-append W (n * k₂ * k₂) pathGates contestGates (before-rows .0) in
+        (p .0, subst (λ (l : ℕ). Holds W l contestGates) paths-end (p .1))
 
-    paths-end : n * k * k + length paths ≡ detourFrom k n w (suc m)
-    unfolding paths
-    paths-end = tables-end k n w (suc m)
-
-    contests-end : n * k * k + length (paths ++ contests) ≡ lostFrom k n w (suc m)
-    unfolding lostFrom
-    contests-end = omega (arith, length-append paths contests, paths-end, contests-length)
-
-    lost-end : n * k * k + length (paths ++ contests ++ lost) ≡ lostFrom k n w (suc m) + k * suc m
-    lost-end = omega (arith, length-append (paths ++ contests) lost, contests-end, lost-length)
-
-    contests-hold : Holds W (detourFrom k n w (suc m)) contests
-    contests-hold = subst (λ (l : ℕ). Holds W l contests) paths-end (holds-append W (n * k * k) paths contests before-lost .1)
-
-    lost-hold : Holds W (lostFrom k n w (suc m)) lost
-    lost-hold = subst (λ (l : ℕ). Holds W l lost) contests-end (holds-append W (n * k * k) (paths ++ contests) lost before-closings .1)
-
-    closings-hold : Holds W (lostFrom k n w (suc m) + k * suc m) closings
-    closings-hold = subst (λ (l : ℕ). Holds W l closings) lost-end (holds-append W (n * k * k) (paths ++ contests ++ lost) closings whole .1)
+    spelled : (i j : ℕ) → i < k₂ → j < k₂ → i ≢ j → number W (pathsTo k₂ n w (suc k₂) .words i j) 1 (suc w) ≡ strongest (link v) k₂ i j
+    unfolding pathGates
+    spelled i j hi hj ne =
+        paths-spelled k₂ n w W b v countable counted (suc k₂) (omega arith) (before-contests .0) i j hi hj ne ∙ all-strongest v (suc r) i j ne
 
     -- who beats whom
-    told : (i j : ℕ) → i < k → j < k → i ≢ j → (t j i < t i j → W (beatsAt k n w (suc m) i j) ≡ 1) × (t i j ≤ t j i → W (beatsAt k n w (suc m) i j) ≡ 0)
-    unfolding contests t
-    told =
-        link-wire W b (pathAt k n w (suc m)) (strongest (link v) k) k w (strongest-spelled k n w W b v countable counted (suc m) refl paths-hold) (place (detourFrom k n w (suc m)) (linksSize w) k)
-        (λ i j hi hj. entry-holds (linksSize w) k (linksBlock (pathAt k n w (suc m)) w) (links-sized (pathAt k n w (suc m)) w) W (detourFrom k n w (suc m)) i j hi hj contests-hold)
+    told : (i j : ℕ) → i < k₂ → j < k₂ → i ≢ j → (t j i < t i j → W (beatsAt k₂ n w i j) ≡ 1) × (t i j ≤ t j i → W (beatsAt k₂ n w i j) ≡ 0)
+    unfolding contestGates contests beatsAt t
+    told = link-told W b (pathsTo k₂ n w (suc k₂) .words) (strongest (link v) k₂) k₂ w spelled (contestsFrom k₂ n w) (before-contests .1)
 
-    module _ (i : ℕ) (hi : i < k) where
-      rowAt : ℕ
-      rowAt = lostFrom k n w (suc m) + i * suc m
-
-      row-holds : Holds W rowAt (lostRow (beatsAt k n w (suc m)) m rowAt i)
-      unfolding lost rowAt
-      row-holds = block-holds (suc m) (lostRow (beatsAt k n w (suc m)) m) (row-sized (beatsAt k n w (suc m)) m) W (lostFrom k n w (suc m)) k i hi lost-hold
-
-      winner-unlost : wins v k i ≡ true → W (rowAt + m) ≡ 0
-      unfolding t
-      winner-unlost e =
-          lost-zero W b (beatsAt k n w (suc m)) m rowAt i row-holds m (omega arith)
-          (λ r q. told (other i r) i (other-low i r m q) hi (other-apart i r) .1 (wins-unbeaten v k i e (other i r) (other-low i r m q) (other-apart i r)))
-
-      unlost-winner : W (rowAt + m) ≡ 0 → wins v k i ≡ true
-      unfolding t
-      unlost-winner z =
-          unbeaten-wins v k i
-          (λ j hj ne.
-          ⊎-elim
-          (λ (l : strongest (link v) k i j < strongest (link v) k j i).
-          let f = other-found i j m hi hj ne in
-          let one : W (rowAt + m) ≡ 1 =
-          lost-one W b (beatsAt k n w (suc m)) m rowAt i row-holds m (f .0) (omega arith) (f .1) (ap (λ (x : ℕ). W (beatsAt k n w (suc m) x i)) (f .2) ∙ told j i hj hi ne .0 l) in
-          absurd (omega arith))
-          (λ (l : strongest (link v) k j i ≤ strongest (link v) k i j). l) (below-or-not (strongest (link v) k i j) (strongest (link v) k j i)))
-
-      closing-is : W (lostFrom k n w (suc m) + k * suc m + i * 1) ≡ 1 - W (rowAt + m)
-      unfolding closings rowAt
-      closing-is =
-          block-holds 1 (λ wire i. notOf (lostFrom k n w (suc m) + i * suc m + m) ∷ []) (λ wire i. refl) W (lostFrom k n w (suc m) + k * suc m) k i hi closings-hold .0
-          ∙ not-is W b (lostFrom k n w (suc m) + i * suc m + m)
-
-      -- closing gate i says whether i wins
-      pub closing-law : W (lostFrom k n w (suc m) + k * suc m + i * 1) ≡ cond (wins v k i) 1 0
-      closing-law =
-          ⊎-elim (λ (z : W (rowAt + m) ≡ 0). let one : W (lostFrom k n w (suc m) + k * suc m + i * 1) ≡ 1 = omega (arith, closing-is) in one ∙ sym (ap (λ (c : Bool). cond {A = ℕ} c 1 0) (unlost-winner z)))
-          (λ (z : W (rowAt + m) ≡ 1).
-          let none : W (lostFrom k n w (suc m) + k * suc m + i * 1) ≡ 0 = omega (arith, closing-is) in
-          none ∙ sym (ap (λ (c : Bool). cond {A = ℕ} c 1 0) (never-true (wins v k i) (λ e. let y = winner-unlost e in omega arith))))
-          (bit-cases (W (rowAt + m)) (b (rowAt + m)))
+    -- closing byte i says whether i wins
+    pub closing-law : (i : ℕ) → i < k₂ → W (losersFrom k₂ n w + k₂ * r + i) ≡ cond (wins v k₂ i) 1 0
+    unfolding rowGates lastGates t
+    closing-law i hi =
+        output-law (beatsAt k₂ n w) r (losersFrom k₂ n w) W b v (before-rows .1) (before-outputs .1) i hi
+        (λ e j hj ne. told j i hj hi ne .1 (wins-unbeaten v k₂ i e j hj ne))
+        (λ none.
+        unbeaten-wins v k₂ i
+        (λ j hj ne.
+        ⊎-elim (λ (l : strongest (link v) k₂ i j < strongest (link v) k₂ j i). absurd (omega (arith, told j i hj hi ne .0 l, none j hj ne)))
+        (λ (l : strongest (link v) k₂ j i ≤ strongest (link v) k₂ i j). l) (below-or-not (strongest (link v) k₂ i j) (strongest (link v) k₂ j i))))

@@ -26,12 +26,11 @@ use Rattle.jury.proofs.WidthLaws.{width-half, below-width, least-width, width-m
 use Rattle.rule_schulze.specs.Schulze.{wins, closingBytes}
 use Rattle.rule_schulze.specs.Votes.{votes}
 use Rattle.rule_schulze.proofs.Winning.{unbeaten-wins}
-use Rattle.ranked_circuit.specs.RankedList.{lostFrom, rankedList}
+use Rattle.ranked_circuit.specs.RankedList.{contestsFrom, losersFrom, rankedList}
 use Rattle.ranked_circuit.specs.OwnRanking.{ownRanking, rankingBound, OwnRankingHolds}
 use Rattle.ranked_circuit.proofs.Columns.{column}
-use Rattle.ranked_circuit.proofs.Accuracy.{closing-law}
-use Rattle.ranked_circuit.proofs.GoodLaws.{circuit-good}
-use Rattle.ranked_circuit.proofs.SizeLaws.{gates-most, bound-small, list-end, closings-in}
+use Rattle.ranked_circuit.proofs.Accuracy.{list-end, circuit-good, closing-law}
+use Rattle.ranked_circuit.proofs.SizeLaws.{gates-most, bound-small}
 
 -- n ballots can be counted in words as wide as n
 pub ranking-countable : (n : ℕ) → 0 < n → Countable n 0 (widthOf n - 1)
@@ -70,6 +69,12 @@ single n xs bits =
     let alone : wins (votes 1 n xs) 1 i ≡ true = unbeaten-wins (votes 1 n xs) 1 i (λ j hj ne. absurd (ne (omega arith))) in
     ap (wire (wiresOf xs gs)) at ∙ w ∙ sym (ap (λ (c : Bool). cond {A = ℕ} c 1 0) alone))
 
+outputs-in : (m n w : ℕ) → suc (suc m) ≤ length (rankedList (suc (suc m)) n w)
+outputs-in m n w = omega (arith, list-end m n w, begins)
+  where
+    begins : n * suc (suc m) * suc (suc m) ≤ losersFrom (suc (suc m)) n w
+    begins = unfold losersFrom contestsFrom in (omega arith)
+
 -- two or more
 several : (m n w : ℕ) (xs : List ℕ) → Countable n 0 w → length xs ≡ n * suc (suc m) * suc (suc m) → ((p : ℕ) → getD xs p 0 ≤ 1) →
     outputsOf (suc (suc m)) (wiresOf xs (rankedList (suc (suc m)) n w)) ≡ closingBytes (votes (suc (suc m)) n xs) (suc (suc m))
@@ -80,9 +85,10 @@ several m n w xs count size bits =
     let W = wire (wiresOf xs gs) in
     let holds : Holds W (n * k * k) gs = subst (λ (l : ℕ). Holds W l gs) size (wires-hold xs gs good) in
     let counted : (i j : ℕ) → i < k → j < k → i ≢ j → ones W (i * k + j) (k * k) n ≡ votes k n xs i j = λ i j hi hj ne. column W xs k n i j hi hj bits (λ p l. wires-start xs gs p (omega arith)) in
-    closing-from k n xs gs (closings-in m n w)
+    let end = list-end m n w in
+    closing-from k n xs gs (outputs-in m n w)
     (λ i h.
-    let at : length xs + length gs - k + i ≡ lostFrom k n w (suc m) + k * suc m + i * 1 = omega (arith, list-end m n w) in
+    let at : length xs + length gs - k + i ≡ losersFrom k n w + k * m + i = omega arith in
     ap W at ∙ closing-law m n w W (bits-of xs gs bits good) (votes k n xs) count counted holds i h)
 
 single-holds : (n : ℕ) → OwnRankingHolds 1 n
@@ -101,9 +107,9 @@ several-holds m n hk ln hn =
     let w = widthOf n - 1 in
     let count = ranking-countable n ln in
     let top : suc w ≡ widthOf n = omega (arith, width-half n ln) in
-    let few : length (rankedList (suc (suc m)) n w) ≤ rankingBound k n (widthOf n) = subst (λ (v : ℕ). length (rankedList (suc (suc m)) n w) ≤ rankingBound k n v) top (gates-most m n w ln) in
+    let few : length (rankedList (suc (suc m)) n w) ≤ rankingBound k n (widthOf n) = subst (λ (v : ℕ). length (rankedList (suc (suc m)) n w) ≤ rankingBound k n v) top (gates-most n w ln m (omega arith)) in
     record {
-      passes = good-list-accepted (n * k * k) k (rankedList (suc (suc m)) n w) (circuit-good m n w count) (closings-in m n w) (omega (arith, few, bound-small k n (widthOf n) hk hn (width-most n hn)));
+      passes = good-list-accepted (n * k * k) k (rankedList (suc (suc m)) n w) (circuit-good m n w count) (outputs-in m n w) (omega (arith, few, bound-small k n (widthOf n) hk hn (width-most n hn)));
       bounded = few;
       closing = λ xs size bits. several m n w xs count size bits;
     }

@@ -3,20 +3,18 @@
 use mathlib.Core.Path.{_≡_, _∙_, refl, sym, ap, subst}
 use mathlib.Core.List.{List, [], _++_}
 use Prim.Native.Nat.{ℕ, zero, suc, _+_, _-_, _*_, _≤_, _<_}
-use native.Mathlib.Nat.{suc-mul, mul-add, mul-comm, mul-assoc, mul-le-mul, mul-le-mul-left, mul-le-mul-right}
+use native.Mathlib.Nat.{suc-mul, mul-add, mul-comm, mul-assoc, mul-le-mul}
 use native.Mathlib.Omega.{arith}
 use lib.ListN.{length, length-append}
 use Rattle.gates.specs.Gate.{Gate}
-use Rattle.gate_words.specs.Gates.{notOf}
 use Rattle.gate_words.specs.Counter.{countSize}
 use Rattle.gate_words.proofs.CounterSteps.{count-size-most}
-use Rattle.ranked_circuit.specs.Stages.{detourPad, firstPad}
-use Rattle.ranked_circuit.specs.Paths.{votesSize, linksSize, firstSize, detourSize, linksFrom, firstFrom, detourFrom}
-use Rattle.ranked_circuit.specs.RankedList.{lostFrom, rankedList}
+use Rattle.gate_words.proofs.Laws.{length-counter, length-masked}
+use Rattle.ranked_circuit.specs.Blocks.{smaller, larger, largerIf}
+use Rattle.ranked_circuit.specs.RankedList.{rankedList}
 use Rattle.ranked_circuit.specs.OwnRanking.{rankingBound}
-use Rattle.ranked_circuit.proofs.TableLaws.{length-blocks}
-use Rattle.ranked_circuit.proofs.PathLaws.{tables-end}
-use Rattle.ranked_circuit.proofs.Accuracy.{paths, contests, lost, closings, contests-length, lost-length}
+use Rattle.ranked_circuit.proofs.BlockLaws.{length-whole, length-smaller, length-larger, length-larger-if}
+use Rattle.ranked_circuit.proofs.Figures.{Figure, Each, figure-is}
 
 -- the levels' bound by products of two numbers
 levels-product : (r n : ℕ) → r * (2 * n + 2) + 2 * n + 2 ≡ 2 * (n * suc r) + 2 * suc r
@@ -25,63 +23,67 @@ levels-product r n =
     let first : suc r * (2 * n) ≡ 2 * (n * suc r) = mul-comm (suc r) (2 * n) ∙ mul-assoc 2 n (suc r) in
     omega (arith, suc-mul r (2 * n + 2))
 
-pub votes-most : (n w : ℕ) → 0 < n → votesSize n w ≤ 2 * (n * suc w) + 3 * suc w
-unfolding votesSize
-votes-most n w h = omega (arith, count-size-most n 0 w n (omega arith) h, levels-product w n)
+counter-most : (n w : ℕ) → 0 < n → countSize n 0 w + suc w ≤ 2 * (n * suc w) + 3 * suc w
+counter-most n w h = omega (arith, count-size-most n 0 w n (omega arith) h, levels-product w n)
 
-module _ (m n w : ℕ) where
-  abbrev k : ℕ
-  k = suc (suc m)
+-- each block's
+sizes : (n w : ℕ) → Each length n w (countSize n 0 w + suc w) (3 + 3 * w) (suc w) (6 * w + 3) (6 * w + 2) 1 1
+sizes n w =
+    record {
+      counters = λ at from step. omega (arith, length-counter at from step n 0 w);
+      compares = λ at a b. length-whole at a b w;
+      strengths = λ l a. length-masked l a (suc w);
+      firsts = λ at a b at′ l a′ b′. omega (arith, length-append (smaller at a b w) (largerIf at′ l a′ b′ w), length-smaller at a b w, length-larger-if at′ l a′ b′ w);
+      detours = λ at a b at′ a′ b′. omega (arith, length-append (smaller at a b w) (larger at′ a′ b′ w), length-smaller at a b w, length-larger at′ a′ b′ w);
+      joins = λ a b. refl;
+      lasts = λ a. refl;
+    }
 
-  closings-length : length (closings m n w) ≡ k * 1
-  unfolding closings
-  closings-length = length-blocks 1 _ (λ wire i. refl) (lostFrom k n w (suc m) + k * suc m) k
+-- G: a counter for each two candidates either way, two comparisons for both, a word for each link to or from the first, and so on
+pub gates-are : (r n w : ℕ) → r ≤ 6 → length (rankedList (suc (suc r)) n w) ≡
+    suc (suc r) * suc r * (countSize n 0 w + suc w) + suc (suc r) * suc r * (3 + 3 * w) + 2 * suc r * suc w + suc r * r * (6 * w + 3) + suc r * (suc r * r) * (6 * w + 2) + suc (suc r) * suc r
+gates-are r n w h =
+    let total = figure-is length (record { none = refl; both = length-append }) n w (countSize n 0 w + suc w) (3 + 3 * w) (suc w) (6 * w + 3) (6 * w + 2) 1 1 (sizes n w) r h in
+    omega arith
 
-  -- G: tables of k² blocks, a row for each candidate, and the closing gates
-  pub gates-are : length (rankedList (suc (suc m)) n w) ≡
-      k * k * votesSize n w + k * k * linksSize w + k * k * firstSize w + suc m * (k * k * detourSize w) + k * k * linksSize w + k * suc m + k
-  gates-are = unfold rankedList paths contests lost closings detourFrom firstFrom linksFrom in all
-    where
-      ends : n * k * k + length (paths m n w) ≡ n * k * k + k * k * votesSize n w + k * k * linksSize w + k * k * firstSize w + suc m * (k * k * detourSize w)
-      ends = unfold paths detourFrom firstFrom linksFrom in (tables-end k n w (suc m))
+module _ (n w : ℕ) (h : 0 < n) where
+  bounded-two : length (rankedList 2 n w) ≤ rankingBound 2 n (suc w)
+  unfolding rankingBound
+  bounded-two = omega (arith, gates-are 0 n w (omega arith), counter-most n w h)
 
-      all : length (paths m n w ++ contests m n w ++ lost m n w ++ closings m n w) ≡
-          k * k * votesSize n w + k * k * linksSize w + k * k * firstSize w + suc m * (k * k * detourSize w) + k * k * linksSize w + k * suc m + k
-      all =
-          let two = length-append (paths m n w) (contests m n w) in
-          let three = length-append (paths m n w ++ contests m n w) (lost m n w) in
-          let four = length-append (paths m n w ++ contests m n w ++ lost m n w) (closings m n w) in
-          omega (arith, two, three, four, ends, contests-length m n w, lost-length m n w, closings-length)
+  bounded-three : length (rankedList 3 n w) ≤ rankingBound 3 n (suc w)
+  unfolding rankingBound
+  bounded-three = omega (arith, gates-are 1 n w (omega arith), counter-most n w h)
 
-  -- the closing gates are the last k
-  pub list-end : n * k * k + length (rankedList (suc (suc m)) n w) ≡ lostFrom k n w (suc m) + k * suc m + k
-  unfolding lostFrom detourFrom firstFrom linksFrom
-  list-end = omega (arith, gates-are)
+  bounded-four : length (rankedList 4 n w) ≤ rankingBound 4 n (suc w)
+  unfolding rankingBound
+  bounded-four = omega (arith, gates-are 2 n w (omega arith), counter-most n w h)
 
-  pub closings-in : k ≤ length (rankedList (suc (suc m)) n w)
-  closings-in = omega (arith, gates-are)
+  bounded-five : length (rankedList 5 n w) ≤ rankingBound 5 n (suc w)
+  unfolding rankingBound
+  bounded-five = omega (arith, gates-are 3 n w (omega arith), counter-most n w h)
 
-  pub gates-most : 0 < n → length (rankedList (suc (suc m)) n w) ≤ rankingBound k n (suc w)
-  gates-most h = unfold rankingBound in bound
-    where
-      -- a block of each table
-      blocks-most : votesSize n w + linksSize w + firstSize w + linksSize w + 1 ≤ 2 * (n * suc w) + (20 * suc w + 20)
-      blocks-most = unfold linksSize firstSize firstPad in (omega (arith, votes-most n w h))
+  bounded-six : length (rankedList 6 n w) ≤ rankingBound 6 n (suc w)
+  unfolding rankingBound
+  bounded-six = omega (arith, gates-are 4 n w (omega arith), counter-most n w h)
 
-      detours-most : detourSize w ≤ 12 * suc w + 4
-      detours-most = unfold detourSize detourPad in (omega arith)
+  bounded-seven : length (rankedList 7 n w) ≤ rankingBound 7 n (suc w)
+  unfolding rankingBound
+  bounded-seven = omega (arith, gates-are 5 n w (omega arith), counter-most n w h)
 
-      bound : length (rankedList (suc (suc m)) n w) ≤ 2 * k * k * n * suc w + k * k * k * (12 * suc w + 4) + k * k * (20 * suc w + 20) + 2
-      bound =
-          let first = mul-le-mul-left {m = votesSize n w + linksSize w + firstSize w + linksSize w + 1} {n = 2 * (n * suc w) + (20 * suc w + 20)} (k * k) blocks-most in
-          let each = mul-le-mul-left {m = detourSize w} {n = 12 * suc w + 4} (k * k) detours-most in
-          let last : suc m ≤ k = omega arith in
-          let further : suc m * (k * k * detourSize w) ≤ k * (k * k * (12 * suc w + 4)) = mul-le-mul last each in
-          let cube : k * (k * k * (12 * suc w + 4)) ≡ k * k * k * (12 * suc w + 4) = sym (mul-assoc k (k * k) (12 * suc w + 4)) ∙ ap (λ (x : ℕ). x * (12 * suc w + 4)) (sym (mul-assoc k k k)) in
-          let shares : k * k * (2 * (n * suc w) + (20 * suc w + 20)) ≡ 2 * k * k * n * suc w + k * k * (20 * suc w + 20) = omega arith in
-          let parts : k * k * (votesSize n w + linksSize w + firstSize w + linksSize w + 1) ≡ k * k * votesSize n w + k * k * linksSize w + k * k * firstSize w + k * k * linksSize w + k * k = omega arith in
-          let rows : k * suc m + k ≡ k * k = omega arith in
-          omega (arith, gates-are, first, further, cube, shares, parts, rows)
+  bounded-eight : length (rankedList 8 n w) ≤ rankingBound 8 n (suc w)
+  unfolding rankingBound
+  bounded-eight = omega (arith, gates-are 6 n w (omega arith), counter-most n w h)
+
+  pub gates-most : (r : ℕ) → r ≤ 6 → length (rankedList (suc (suc r)) n w) ≤ rankingBound (suc (suc r)) n (suc w)
+  gates-most zero l = bounded-two
+  gates-most (suc zero) l = bounded-three
+  gates-most (suc (suc zero)) l = bounded-four
+  gates-most (suc (suc (suc zero))) l = bounded-five
+  gates-most (suc (suc (suc (suc zero)))) l = bounded-six
+  gates-most (suc (suc (suc (suc (suc zero))))) l = bounded-seven
+  gates-most (suc (suc (suc (suc (suc (suc zero)))))) l = bounded-eight
+  gates-most (suc (suc (suc (suc (suc (suc (suc r))))))) l = absurd (omega arith)
 
 -- in plain numbers
 pub bound-small : (c n v : ℕ) → c ≤ 8 → n ≤ 255 → v ≤ 8 → rankingBound c n v ≤ 400000

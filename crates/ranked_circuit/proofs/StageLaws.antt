@@ -1,38 +1,106 @@
--- What the words of the circuit's tables spell: numbers of ballots, links, and the strengths after detours.
+-- What the words of the circuit's blocks spell: numbers of ballots, links, and the strengths of paths.
 -- Assumes nothing.
 use mathlib.Core.Path.{_≡_, _∙_, refl, sym, ap, subst}
-use mathlib.Core.Bool.{Bool, true, false, cond, _||_}
+use mathlib.Core.Bool.{Bool, true, false, cond, _||_, not}
 use mathlib.Core.Logic.{⊎-elim, _≢_}
-use mathlib.Core.List.{List, _++_}
-use Prim.Native.Nat.{ℕ, suc, min, max, _+_, _*_, _≤_, _<_}
+use mathlib.Core.List.{List, [], _++_}
+use Prim.Native.Nat.{ℕ, zero, suc, min, max, _+_, _-_, _*_, _≤_, _<_}
 use native.Mathlib.Nat.{add-zero}
 use native.Mathlib.Omega.{arith}
 use lib.Dec.{eqb, ltb}
-use lib.ListN.{length}
-use borrow.Author.Tests.{eqb-false, eq-eqb, ne-eqb, lt-ltb, le-ltb}
-use Rattle.basics.proofs.Cases.{same-or-not, below-or-not}
-use Rattle.basics.proofs.Flags.{or-first, or-second}
+use lib.ListN.{length, length-append}
+use borrow.Author.Tests.{eqb-false, ne-eqb, lt-ltb, le-ltb}
+use Rattle.jury.proofs.Cases.{below-or-not}
 use Rattle.gates.specs.Gate.{Gate}
 use Rattle.gates.proofs.Laws.{Holds, holds-append}
 use Rattle.gate_words.specs.Word.{ones, number}
-use Rattle.gate_words.specs.Choice.{constants, copies, masked}
+use Rattle.gate_words.specs.Choice.{masked}
 use Rattle.gate_words.specs.Counter.{counter, countSize, Countable}
 use Rattle.gate_words.specs.Comparison.{upEnd, downEnd}
-use Rattle.gate_words.proofs.Laws.{Binary, bit-cases, copies-law, masked-one, masked-zero, counter-law, length-constants}
+use Rattle.gate_words.proofs.Laws.{Binary, masked-one, masked-zero, counter-law, length-counter, length-masked}
 use Rattle.rule_schulze.specs.Schulze.{link}
-use Rattle.rule_schulze.specs.Closure.{detour}
 use Rattle.rule_schulze.proofs.Winning.{link-won, link-lost}
-use Rattle.rule_schulze.proofs.Paths.{detour-over}
-use Rattle.rule_schulze.proofs.Tables.{detour-stays}
 use Rattle.ranked_circuit.specs.Blocks.{compare, smaller, larger, largerIf}
-use Rattle.ranked_circuit.specs.Stages.{votesBlock, linksBlock, linkWire, detourPad, detourBlock, firstPad, firstBlock}
-use Rattle.ranked_circuit.proofs.BlockLaws.{compare-up, compare-down, smaller-law, larger-law, larger-if, larger-if-not, length-smaller}
+use Rattle.ranked_circuit.specs.Table.{table, entryEnd}
+use Rattle.ranked_circuit.specs.Stages.{votesBlock, linksBlock, linkAt, stays, newWord, pathBlock}
+use Rattle.ranked_circuit.proofs.BlockLaws.{compare-up, compare-down, smaller-law, larger-law, larger-if, larger-if-not, length-whole, length-smaller, length-larger, length-larger-if}
+use Rattle.ranked_circuit.proofs.TableLaws.{entryStart, entry-end, entry-holds}
+
+-- none of some tests holds
+pub neither : (a b : Bool) → (a || b) ≡ false → (a ≡ false) × (b ≡ false)
+neither true b e = let z : _≡_ {A = ℕ} 0 1 = cc in absurd (omega arith)
+neither false b e = (refl, e)
+
+not-false : (a : Bool) → not a ≡ false → a ≡ true
+not-false true e = refl
+not-false false e = let z : _≡_ {A = ℕ} 0 1 = cc in absurd (omega arith)
+
+-- a detour over l that does not leave the word as it is
+pub apart-all : (l i j : ℕ) → stays (suc l) i j ≡ false → (i ≢ l) × (j ≢ l) × (i ≢ j)
+unfolding stays
+apart-all l i j e =
+    let p = neither (eqb i l || eqb j l) (eqb i j) e in
+    let q = neither (eqb i l) (eqb j l) (p .0) in
+    (eqb-false i l (q .0), eqb-false j l (q .1), eqb-false i j (p .1))
+
+pub apart-zero : (i j : ℕ) → stays 0 i j ≡ false → i ≢ j
+unfolding stays
+apart-zero i j e = eqb-false i j (neither (not (eqb i 0 || eqb j 0)) (eqb i j) e .1)
+
+pub stage-moves : (links words : ℕ → ℕ → ℕ) (w m at i j : ℕ) → stays m i j ≡ false → pathBlock links words w m at i j ≡ newWord links words w m at i j
+unfolding pathBlock
+stage-moves links words w m at i j e = ap (λ (c : Bool). cond c [] (newWord links words w m at i j)) e
+
+pub stage-stays : (links words : ℕ → ℕ → ℕ) (w m at i j : ℕ) → stays m i j ≡ true → pathBlock links words w m at i j ≡ []
+unfolding pathBlock
+stage-stays links words w m at i j e = ap (λ (c : Bool). cond c [] (newWord links words w m at i j)) e
+
+-- the gates before its word
+unfoldable pub stagePad : ℕ → ℕ → ℕ
+stagePad w zero = 0
+stagePad w (suc zero) = 2 * w + suc w + (2 * w + 1)
+stagePad w (suc (suc l)) = 2 * w + suc w + 2 * w
+
+pub stage-length : (links words : ℕ → ℕ → ℕ) (w m at i j : ℕ) → length (newWord links words w m at i j) ≡ stagePad w m + suc w
+unfolding stagePad newWord
+stage-length links words w zero at i j = omega (arith, length-masked (links i j) (words i j) (suc w))
+stage-length links words w (suc zero) at i j =
+    let way = smaller at (words i 0) (words 0 j) w in
+    let more = largerIf (at + (2 * w + suc w)) (links i j) (words i j) (at + 2 * w) w in
+    omega (arith, length-append way more, length-smaller at (words i 0) (words 0 j) w, length-larger-if (at + (2 * w + suc w)) (links i j) (words i j) (at + 2 * w) w)
+stage-length links words w (suc (suc l)) at i j =
+    let way = smaller at (words i (suc l)) (words (suc l) j) w in
+    let more = larger (at + (2 * w + suc w)) (words i j) (at + 2 * w) w in
+    omega (arith, length-append way more, length-smaller at (words i (suc l)) (words (suc l) j) w, length-larger (at + (2 * w + suc w)) (words i j) (at + 2 * w) w)
+
+-- a counter's block
+pub votes-moves : (k n w at i j : ℕ) → i ≢ j → votesBlock k n w at i j ≡ counter at (i * k + j) (k * k) n 0 w
+unfolding votesBlock
+votes-moves k n w at i j ne = ap (λ (c : Bool). cond c [] (counter at (i * k + j) (k * k) n 0 w)) (ne-eqb i j ne)
+
+pub votes-length : (k n w at i j : ℕ) → i ≢ j → length (votesBlock k n w at i j) ≡ countSize n 0 w + suc w
+votes-length k n w at i j ne = ap length (votes-moves k n w at i j ne) ∙ omega (arith, length-counter at (i * k + j) (k * k) n 0 w)
+
+-- a block of comparisons, i being the later candidate
+pub links-moves : (words : ℕ → ℕ → ℕ) (w at i j : ℕ) → j < i → linksBlock words w at i j ≡ compare at (words i j) (words j i) w
+unfolding linksBlock
+links-moves words w at i j l = ap (λ (c : Bool). cond c (compare at (words i j) (words j i) w) []) (lt-ltb j i l)
+
+pub links-length : (words : ℕ → ℕ → ℕ) (w at i j : ℕ) → j < i → length (linksBlock words w at i j) ≡ 3 + 3 * w
+links-length words w at i j l = ap length (links-moves words w at i j l) ∙ length-whole at (words i j) (words j i) w
+
+-- the two wires that tell of links are the last of their block
+up-last : (at w : ℕ) → upEnd (at + 3) (at + 1) w ≡ at + (3 + 3 * w) - 2
+unfolding upEnd
+up-last at zero = omega arith
+up-last at (suc w) = omega arith
+
+down-last : (at w : ℕ) → downEnd (at + 3) (at + 2) w ≡ at + (3 + 3 * w) - 1
+unfolding downEnd
+down-last at zero = omega arith
+down-last at (suc w) = omega arith
 
 module _ (W : ℕ → ℕ) (b : Binary W) where
-  -- a word behind as many zeros
-  behind-zeros : (at m : ℕ) (gs : List Gate) → Holds W at (constants 0 m ++ gs) → Holds W (at + m) gs
-  behind-zeros at m gs h = subst (λ (l : ℕ). Holds W (at + l) gs) (length-constants 0 m) (holds-append W at (constants 0 m) gs h .1)
-
   -- a smaller word, and what stands behind it
   behind-smaller : (at x y w : ℕ) (gs : List Gate) → Holds W at (smaller at x y w ++ gs) → Holds W at (smaller at x y w) × Holds W (at + (2 * w + suc w)) gs
   behind-smaller at x y w gs h =
@@ -41,143 +109,76 @@ module _ (W : ℕ → ℕ) (b : Binary W) where
 
   -- the number of the ballots whose byte is 1
   pub votes-law : (k n w at i j : ℕ) → i ≢ j → Countable n 0 w → Holds W at (votesBlock k n w at i j) → number W (at + countSize n 0 w) 1 (suc w) ≡ ones W (i * k + j) (k * k) n
-  unfolding votesBlock
   votes-law k n w at i j ne c h =
-      let g : Holds W at (counter at (i * k + j) (k * k) n 0 w) =
-      subst (λ (t : Bool). Holds W at (cond t (constants 0 (countSize n 0 w + suc w)) (counter at (i * k + j) (k * k) n 0 w))) (ne-eqb i j ne) h in
-      counter-law W b at (i * k + j) (k * k) n 0 w c g ∙ add-zero (ones W (i * k + j) (k * k) n)
+      counter-law W b at (i * k + j) (k * k) n 0 w c (subst (λ (gs : List Gate). Holds W at gs) (votes-moves k n w at i j ne) h) ∙ add-zero (ones W (i * k + j) (k * k) n)
 
-  -- the strengths t of the paths so far, at the places `paths`
-  module _ (paths t : ℕ → ℕ → ℕ) (k w : ℕ) (spelled : (i j : ℕ) → i < k → j < k → i ≢ j → number W (paths i j) 1 (suc w) ≡ t i j) where
-    pub detour-law : (l at i j : ℕ) → l < k → i < k → j < k → i ≢ j → Holds W at (detourBlock paths l w at i j) → number W (at + detourPad w) 1 (suc w) ≡ detour l t i j
-    unfolding detourBlock detourPad detour
-    detour-law l at i j hl hi hj ne h = go (eqb i l) (eqb j l) (eqb i j) refl refl refl h
-      where
-        kept : List Gate
-        kept = constants 0 (2 * w + suc w + 2 * w) ++ copies (paths i j) (suc w)
+  -- words that are compared, of which a wire tells whether one is larger
+  module _ (words t : ℕ → ℕ → ℕ) (k w : ℕ) (spelled : (i j : ℕ) → i < k → j < k → i ≢ j → number W (words i j) 1 (suc w) ≡ t i j) where
+    abbrev pub Tells : (ℕ → ℕ → ℕ) → ℕ → ℕ → Type 0
+    Tells wires i j = (t j i < t i j → W (wires i j) ≡ 1) × (t i j ≤ t j i → W (wires i j) ≡ 0)
 
-        way : List Gate
-        way = smaller at (paths i l) (paths l j) w ++ larger (at + (2 * w + suc w)) (paths i j) (at + 2 * w) w
+    module _ (n : ℕ) (h : Holds W n (table n k (linksBlock words w))) (i j : ℕ) (hi : i < k) (hj : j < k) (l : j < i) where
+      block : ℕ → ℕ → ℕ → List Gate
+      block = linksBlock words w
 
-        stays : Holds W at kept → number W (at + (2 * w + suc w + 2 * w)) 1 (suc w) ≡ t i j
-        stays g = copies-law W b (at + (2 * w + suc w + 2 * w)) (paths i j) (suc w) (behind-zeros at (2 * w + suc w + 2 * w) (copies (paths i j) (suc w)) g) ∙ spelled i j hi hj ne
+      at : ℕ
+      at = entryStart n k block i j
 
-        over : i ≢ l → j ≢ l → Holds W at way → number W (at + (2 * w + suc w + 2 * w)) 1 (suc w) ≡ max (t i j) (min (t i l) (t l j))
-        over il jl g =
-            let p = behind-smaller at (paths i l) (paths l j) w (larger (at + (2 * w + suc w)) (paths i j) (at + 2 * w) w) g in
-            let s = smaller-law W b at (paths i l) (paths l j) w (p .0) in
-            let r = larger-law W b (at + (2 * w + suc w)) (paths i j) (at + 2 * w) w (p .1) in
-            let e : at + (2 * w + suc w) + 2 * w ≡ at + (2 * w + suc w + 2 * w) = omega arith in
-            sym (ap (λ (m : ℕ). number W m 1 (suc w)) e)
-            ∙ omega (arith, r, s, spelled i j hi hj ne, spelled i l hi hl il, spelled l j hl hj (λ q. jl (sym q)))
+      ends : entryEnd n k block i j ≡ at + (3 + 3 * w)
+      unfolding at block
+      ends = entry-end n k block i j hj ∙ ap (λ (x : ℕ). at + x) (links-length words w at i j l)
 
-        go : (a c d : Bool) → eqb i l ≡ a → eqb j l ≡ c → eqb i j ≡ d → Holds W at (cond (a || c || d) kept way) →
-            number W (at + (2 * w + suc w + 2 * w)) 1 (suc w) ≡ cond (a || c || d) (t i j) (max (t i j) (min (t i l) (t l j)))
-        go true c d ea ec ed g = stays g
-        go false true d ea ec ed g = stays g
-        go false false true ea ec ed g = stays g
-        go false false false ea ec ed g = over (eqb-false i l ea) (eqb-false j l ec) g
+      held : Holds W at (compare at (words i j) (words j i) w)
+      unfolding at block
+      held = subst (λ (gs : List Gate). Holds W at gs) (links-moves words w at i j l) (entry-holds n k block i j hj W hi h)
 
-    -- the strengths compared, or the numbers of ballots: the wires tell which is larger
-    module _ (start : ℕ → ℕ → ℕ) (held : (i j : ℕ) → i < k → j < k → Holds W (start i j) (linksBlock paths w (start i j) i j)) where
-      pub link-wire : (i j : ℕ) → i < k → j < k → i ≢ j → (t j i < t i j → W (linkWire start w i j) ≡ 1) × (t i j ≤ t j i → W (linkWire start w i j) ≡ 0)
-      unfolding linksBlock linkWire
-      link-wire i j hi hj ne = ⊎-elim later earlier (below-or-not j i)
-        where
-          Tells : Bool → Type 0
-          Tells c =
-              let wire = cond c (upEnd (start i j + 3) (start i j + 1) w) (downEnd (start j i + 3) (start j i + 2) w) in
-              (t j i < t i j → W wire ≡ 1) × (t i j ≤ t j i → W wire ≡ 0)
+      later : Tells (linkAt n k (linksBlock words w)) i j
+      unfolding linkAt block
+      later =
+          let r = compare-up W b at (words i j) (words j i) w held in
+          let e : linkAt n k (linksBlock words w) i j ≡ upEnd (at + 3) (at + 1) w = ap (λ (c : Bool). cond {A = ℕ} c (entryEnd n k block i j - 2) (entryEnd n k block j i - 1)) (lt-ltb j i l) ∙ omega (arith, ends, up-last at w) in
+          rw e ((λ q. r .0 (omega (arith, spelled i j hi hj (λ e. omega arith), spelled j i hj hi (λ e. omega arith)))), (λ q. r .1 (omega (arith, spelled i j hi hj (λ e. omega arith), spelled j i hj hi (λ e. omega arith)))))
 
-          one : number W (paths i j) 1 (suc w) ≡ t i j
-          one = spelled i j hi hj ne
+      earlier : Tells (linkAt n k (linksBlock words w)) j i
+      unfolding linkAt block
+      earlier =
+          let r = compare-down W b at (words i j) (words j i) w held in
+          let e : linkAt n k (linksBlock words w) j i ≡ downEnd (at + 3) (at + 2) w = ap (λ (c : Bool). cond {A = ℕ} c (entryEnd n k block j i - 2) (entryEnd n k block i j - 1)) (le-ltb i j (omega arith)) ∙ omega (arith, ends, down-last at w) in
+          rw e ((λ q. r .0 (omega (arith, spelled i j hi hj (λ e. omega arith), spelled j i hj hi (λ e. omega arith)))), (λ q. r .1 (omega (arith, spelled i j hi hj (λ e. omega arith), spelled j i hj hi (λ e. omega arith)))))
 
-          other : number W (paths j i) 1 (suc w) ≡ t j i
-          other = spelled j i hj hi (λ e. ne (sym e))
+    pub link-told : (n : ℕ) → Holds W n (table n k (linksBlock words w)) → (i j : ℕ) → i < k → j < k → i ≢ j → Tells (linkAt n k (linksBlock words w)) i j
+    link-told n h i j hi hj ne = ⊎-elim (λ (l : j < i). later n h i j hi hj l) (λ (l : i ≤ j). earlier n h j i hj hi (omega arith)) (below-or-not j i)
 
-          later : j < i → Tells (ltb j i)
-          later l =
-              let here : Holds W (start i j) (compare (start i j) (paths i j) (paths j i) w) =
-              subst (λ (c : Bool). Holds W (start i j) (cond c (compare (start i j) (paths i j) (paths j i) w) (constants 0 (3 + 3 * w)))) (lt-ltb j i l) (held i j hi hj) in
-              let r = compare-up W b (start i j) (paths i j) (paths j i) w here in
-              subst Tells (sym (lt-ltb j i l)) ((λ q. r .0 (omega (arith, one, other))), (λ q. r .1 (omega (arith, one, other))))
+  -- a link's strength: the number of ballots where the link is there
+  pub strength-law : (f x w at v v′ : ℕ) → number W x 1 (suc w) ≡ v → (v′ < v → W f ≡ 1) × (v ≤ v′ → W f ≡ 0) → Holds W at (masked f x (suc w))
+      → (v′ < v → number W (at + 0) 1 (suc w) ≡ v) × (v ≤ v′ → number W (at + 0) 1 (suc w) ≡ 0)
+  strength-law f x w at v v′ e told h =
+      rw (add-zero at) ((λ l. masked-one W b at f x (suc w) (told .0 l) h ∙ e), (λ l. masked-zero W b at f x (suc w) (told .1 l) h))
 
-          earlier : i ≤ j → Tells (ltb j i)
-          earlier l =
-              let here : Holds W (start j i) (compare (start j i) (paths j i) (paths i j) w) =
-              subst (λ (c : Bool). Holds W (start j i) (cond c (compare (start j i) (paths j i) (paths i j) w) (constants 0 (3 + 3 * w)))) (lt-ltb i j (omega arith)) (held j i hj hi) in
-              let r = compare-down W b (start j i) (paths j i) (paths i j) w here in
-              subst Tells (sym (le-ltb j i l)) ((λ q. r .0 (omega (arith, one, other))), (λ q. r .1 (omega (arith, one, other))))
+  -- the stronger of the path so far and a way
+  pub way-law : (words : ℕ → ℕ → ℕ) (w l at i j a c d : ℕ) → number W (words i j) 1 (suc w) ≡ a → number W (words i (suc l)) 1 (suc w) ≡ c → number W (words (suc l) j) 1 (suc w) ≡ d →
+      Holds W at (smaller at (words i (suc l)) (words (suc l) j) w ++ larger (at + (2 * w + suc w)) (words i j) (at + 2 * w) w) → number W (at + (2 * w + suc w + 2 * w)) 1 (suc w) ≡ max a (min c d)
+  way-law words w l at i j a c d ea ec ed h =
+      let p = behind-smaller at (words i (suc l)) (words (suc l) j) w (larger (at + (2 * w + suc w)) (words i j) (at + 2 * w) w) h in
+      let s = smaller-law W b at (words i (suc l)) (words (suc l) j) w (p .0) in
+      let r = larger-law W b (at + (2 * w + suc w)) (words i j) (at + 2 * w) w (p .1) in
+      let e : at + (2 * w + suc w) + 2 * w ≡ at + (2 * w + suc w + 2 * w) = omega arith in
+      sym (ap (λ (m : ℕ). number W m 1 (suc w)) e) ∙ omega (arith, r, s)
 
-  -- links and detours over candidate 0, v being the numbers of ballots
-  module _ (votes links paths v : ℕ → ℕ → ℕ) (k w : ℕ)
-      (spelled : (i j : ℕ) → i < k → j < k → i ≢ j → number W (votes i j) 1 (suc w) ≡ v i j)
-      (told : (i j : ℕ) → i < k → j < k → i ≢ j → (v j i < v i j → W (links i j) ≡ 1) × (v i j ≤ v j i → W (links i j) ≡ 0)) where
-    -- off the diagonal a block is one of two
-    apart : (at i j : ℕ) → i ≢ j → Holds W at (firstBlock votes links paths w at i j) →
-        Holds W at (cond (eqb i 0 || eqb j 0) (constants 0 (firstPad w) ++ masked (links i j) (votes i j) (suc w)) (smaller at (paths i 0) (paths 0 j) w ++ largerIf (at + (2 * w + suc w)) (links i j) (votes i j) (at + 2 * w) w))
-    unfolding firstBlock
-    apart at i j ne h =
-        subst (λ (c : Bool). Holds W at (cond c (constants 0 (firstPad w + suc w)) (cond (eqb i 0 || eqb j 0) (constants 0 (firstPad w) ++ masked (links i j) (votes i j) (suc w)) (smaller at (paths i 0) (paths 0 j) w ++ largerIf (at + (2 * w + suc w)) (links i j) (votes i j) (at + 2 * w) w)))) (ne-eqb i j ne) h
-
-    first-kept : (at i j : ℕ) → i < k → j < k → i ≢ j → (eqb i 0 || eqb j 0) ≡ true → Holds W at (firstBlock votes links paths w at i j) → number W (at + firstPad w) 1 (suc w) ≡ link v i j
-    first-kept at i j hi hj ne e h =
-        let g : Holds W at (constants 0 (firstPad w) ++ masked (links i j) (votes i j) (suc w)) =
-        subst (λ (c : Bool). Holds W at (cond c (constants 0 (firstPad w) ++ masked (links i j) (votes i j) (suc w)) (smaller at (paths i 0) (paths 0 j) w ++ largerIf (at + (2 * w + suc w)) (links i j) (votes i j) (at + 2 * w) w))) e (apart at i j ne h) in
-        let m = behind-zeros at (firstPad w) (masked (links i j) (votes i j) (suc w)) g in
-        ⊎-elim
-        (λ (l : v j i < v i j). masked-one W b (at + firstPad w) (links i j) (votes i j) (suc w) (told i j hi hj ne .0 l) m ∙ spelled i j hi hj ne ∙ sym (link-won v i j l))
-        (λ (l : v i j ≤ v j i). masked-zero W b (at + firstPad w) (links i j) (votes i j) (suc w) (told i j hi hj ne .1 l) m ∙ sym (link-lost v i j l))
-        (below-or-not (v j i) (v i j))
-
-    first-over : (at i j : ℕ) → i < k → j < k → i ≢ 0 → j ≢ 0 → i ≢ j → number W (paths i 0) 1 (suc w) ≡ link v i 0 → number W (paths 0 j) 1 (suc w) ≡ link v 0 j →
-        Holds W at (firstBlock votes links paths w at i j) → number W (at + firstPad w) 1 (suc w) ≡ max (link v i j) (min (link v i 0) (link v 0 j))
-    unfolding firstPad
-    first-over at i j hi hj i0 j0 ne to from h =
-        let g : Holds W at (smaller at (paths i 0) (paths 0 j) w ++ largerIf (at + (2 * w + suc w)) (links i j) (votes i j) (at + 2 * w) w) =
-        subst (λ (c : Bool). Holds W at (cond c (constants 0 (2 * w + suc w + (2 * w + 1)) ++ masked (links i j) (votes i j) (suc w)) (smaller at (paths i 0) (paths 0 j) w ++ largerIf (at + (2 * w + suc w)) (links i j) (votes i j) (at + 2 * w) w))) none-equal (apart at i j ne h) in
-        let p = behind-smaller at (paths i 0) (paths 0 j) w (largerIf (at + (2 * w + suc w)) (links i j) (votes i j) (at + 2 * w) w) g in
-        let s = smaller-law W b at (paths i 0) (paths 0 j) w (p .0) in
-        let e : at + (2 * w + suc w) + 2 * w + 1 ≡ at + (2 * w + suc w + (2 * w + 1)) = omega arith in
-        sym (ap (λ (m : ℕ). number W m 1 (suc w)) e)
-        ∙ ⊎-elim
-        (λ (l : v j i < v i j).
-        let r = larger-if W b (at + (2 * w + suc w)) (links i j) (votes i j) (at + 2 * w) w (p .1) (told i j hi hj ne .0 l) in
-        omega (arith, r, s, to, from, spelled i j hi hj ne, link-won v i j l))
-        (λ (l : v i j ≤ v j i).
-        let r = larger-if-not W b (at + (2 * w + suc w)) (links i j) (votes i j) (at + 2 * w) w (p .1) (told i j hi hj ne .1 l) in
-        omega (arith, r, s, to, from, link-lost v i j l))
-        (below-or-not (v j i) (v i j))
-      where
-        none-equal : (eqb i 0 || eqb j 0) ≡ false
-        none-equal = rw (ne-eqb i 0 i0, ne-eqb j 0 j0)
-
-    -- the table of first paths spells the strengths after the detour over 0, where its words stand at `paths`
-    pub first-law : (start : ℕ → ℕ → ℕ) → ((i j : ℕ) → paths i j ≡ start i j + firstPad w) →
-        ((i j : ℕ) → i < k → j < k → Holds W (start i j) (firstBlock votes links paths w (start i j) i j)) →
-        (i j : ℕ) → i < k → j < k → i ≢ j → number W (paths i j) 1 (suc w) ≡ detour 0 (link v) i j
-    first-law start places held i j hi hj ne = ⊎-elim from (λ i0. ⊎-elim to (over i0) (same-or-not j 0)) (same-or-not i 0)
-      where
-        edge : (a c : ℕ) → a < k → c < k → a ≢ c → (eqb a 0 || eqb c 0) ≡ true → number W (paths a c) 1 (suc w) ≡ link v a c
-        edge a c ha hc n e = ap (λ (m : ℕ). number W m 1 (suc w)) (places a c) ∙ first-kept (start a c) a c ha hc n e (held a c ha hc)
-
-        row : (a c : ℕ) → a ≡ 0 → (eqb a 0 || eqb c 0) ≡ true
-        row a c e = or-first (eqb a 0) (eqb c 0) (eq-eqb a 0 e)
-
-        column : (a c : ℕ) → c ≡ 0 → (eqb a 0 || eqb c 0) ≡ true
-        column a c e = or-second (eqb a 0) (eqb c 0) (eq-eqb c 0 e)
-
-        stays : (eqb i 0 || eqb j 0) ≡ true → (eqb i 0 || eqb j 0 || eqb i j) ≡ true
-        stays e = or-first (eqb i 0 || eqb j 0) (eqb i j) e
-
-        from : i ≡ 0 → number W (paths i j) 1 (suc w) ≡ detour 0 (link v) i j
-        from e = edge i j hi hj ne (row i j e) ∙ sym (detour-stays 0 (link v) i j (stays (row i j e)))
-
-        to : j ≡ 0 → number W (paths i j) 1 (suc w) ≡ detour 0 (link v) i j
-        to e = edge i j hi hj ne (column i j e) ∙ sym (detour-stays 0 (link v) i j (stays (column i j e)))
-
-        over : i ≢ 0 → j ≢ 0 → number W (paths i j) 1 (suc w) ≡ detour 0 (link v) i j
-        over i0 j0 =
-            ap (λ (m : ℕ). number W m 1 (suc w)) (places i j)
-            ∙ first-over (start i j) i j hi hj i0 j0 ne (edge i 0 hi (omega arith) i0 (column i 0 refl)) (edge 0 j (omega arith) hj (λ q. j0 (sym q)) (row 0 j refl)) (held i j hi hj)
-            ∙ sym (detour-over 0 (link v) i j i0 j0 ne)
+  -- the same where the path so far counts only if a link is there
+  pub first-way-law : (links words v : ℕ → ℕ → ℕ) (w at i j c d : ℕ) → number W (words i j) 1 (suc w) ≡ v i j → (v j i < v i j → W (links i j) ≡ 1) × (v i j ≤ v j i → W (links i j) ≡ 0) →
+      number W (words i 0) 1 (suc w) ≡ c → number W (words 0 j) 1 (suc w) ≡ d →
+      Holds W at (smaller at (words i 0) (words 0 j) w ++ largerIf (at + (2 * w + suc w)) (links i j) (words i j) (at + 2 * w) w) → number W (at + (2 * w + suc w + (2 * w + 1))) 1 (suc w) ≡ max (link v i j) (min c d)
+  first-way-law links words v w at i j c d ea told ec ed h =
+      let p = behind-smaller at (words i 0) (words 0 j) w (largerIf (at + (2 * w + suc w)) (links i j) (words i j) (at + 2 * w) w) h in
+      let s = smaller-law W b at (words i 0) (words 0 j) w (p .0) in
+      let e : at + (2 * w + suc w) + 2 * w + 1 ≡ at + (2 * w + suc w + (2 * w + 1)) = omega arith in
+      sym (ap (λ (m : ℕ). number W m 1 (suc w)) e)
+      ∙ ⊎-elim
+      (λ (l : v j i < v i j).
+      let r = larger-if W b (at + (2 * w + suc w)) (links i j) (words i j) (at + 2 * w) w (p .1) (told .0 l) in
+      omega (arith, r, s, link-won v i j l))
+      (λ (l : v i j ≤ v j i).
+      let r = larger-if-not W b (at + (2 * w + suc w)) (links i j) (words i j) (at + 2 * w) w (p .1) (told .1 l) in
+      omega (arith, r, s, link-lost v i j l))
+      (below-or-not (v j i) (v i j))

@@ -1,4 +1,4 @@
--- Tables of blocks: their length, and that each block's gates stand at its place.
+-- Tables of blocks: where each block stands, and that its gates stand there.
 -- Assumes nothing.
 use mathlib.Core.Path.{_≡_, _∙_, refl, sym, ap, subst}
 use mathlib.Core.Logic.{⊎-elim}
@@ -8,37 +8,48 @@ use native.Mathlib.Nat.{suc-mul, zero-mul, add-zero, mul-add-div-right, div-eq-o
 use native.Mathlib.Omega.{arith}
 use lib.ListN.{length, length-append}
 use Rattle.gates.specs.Gate.{Gate}
-use Rattle.gates.proofs.Laws.{AllGood, Holds, holds-append}
-use Rattle.basics.proofs.Cases.{below-or-not}
-use Rattle.ranked_circuit.specs.Table.{blocks, table, place}
-use Rattle.ranked_circuit.proofs.BlockLaws.{good-behind}
-use Rattle.basics.proofs.Arithmetic.{row-within}
+use Rattle.gates.proofs.Laws.{AllGood, Holds, holds-append, good-append}
+use Rattle.jury.proofs.BallotLaws.{row-within}
+use Rattle.jury.proofs.Cases.{below-or-not}
+use Rattle.ranked_circuit.specs.Table.{blocks, entries, table, entryEnd}
 
-module _ (size : ℕ) (block : ℕ → ℕ → List Gate) (sized : (at e : ℕ) → length (block at e) ≡ size) where
-  pub length-blocks : (n m : ℕ) → length (blocks n size block m) ≡ m * size
+-- where block e starts
+abbrev pub startOf : ℕ → (ℕ → ℕ → List Gate) → ℕ → ℕ
+startOf n block e = n + length (blocks n block e)
+
+module _ (n : ℕ) (block : ℕ → ℕ → List Gate) where
+  pub start-zero : startOf n block 0 ≡ n
   unfolding blocks
-  length-blocks n zero = sym (zero-mul size)
-  length-blocks n (suc m) =
-      length-append (blocks n size block m) (block (n + m * size) m) ∙ omega (arith, length-blocks n m, sized (n + m * size) m, suc-mul m size)
+  start-zero = omega arith
 
-  -- the last block, and those before it
-  last-holds : (W : ℕ → ℕ) (n m : ℕ) → Holds W n (blocks n size block (suc m)) → Holds W n (blocks n size block m) × Holds W (n + m * size) (block (n + m * size) m)
+  pub start-next : (e : ℕ) → startOf n block (suc e) ≡ startOf n block e + length (block (startOf n block e) e)
   unfolding blocks
-  last-holds W n m h =
-      let p = holds-append W n (blocks n size block m) (block (n + m * size) m) h in
-      (p .0, subst (λ (l : ℕ). Holds W (n + l) (block (n + m * size) m)) (length-blocks n m) (p .1))
+  start-next e = omega (arith, length-append (blocks n block e) (block (startOf n block e) e))
 
-  pub block-holds : (W : ℕ → ℕ) (n m e : ℕ) → e < m → Holds W n (blocks n size block m) → Holds W (n + e * size) (block (n + e * size) e)
-  block-holds W n zero e l h = absurd (omega arith)
-  block-holds W n (suc m) e l h =
-      ⊎-elim (λ (b : e < m). block-holds W n m e b (last-holds W n m h .0))
-      (λ (b : m ≤ e). subst (λ (j : ℕ). Holds W (n + j * size) (block (n + j * size) j)) {x = m} {y = e} (omega arith) (last-holds W n m h .1)) (below-or-not e m)
+  pub start-grows : (m e : ℕ) → e ≤ m → startOf n block e ≤ startOf n block m
+  start-grows zero e h = let z : e ≡ 0 = omega arith in rw z (omega arith)
+  start-grows (suc m) e h =
+      ⊎-elim (λ (l : e < suc m). omega (arith, start-grows m e (omega arith), start-next m))
+      (λ (l : suc m ≤ e). let z : e ≡ suc m = omega arith in rw z (omega arith)) (below-or-not e (suc m))
 
-  pub blocks-good : (n m : ℕ) → ((e : ℕ) → e < m → AllGood (n + e * size) (block (n + e * size) e)) → AllGood n (blocks n size block m)
+  -- blocks of one size
+  pub length-same : (size : ℕ) → ((at e : ℕ) → length (block at e) ≡ size) → (m : ℕ) → length (blocks n block m) ≡ m * size
+  length-same size sized zero = omega (arith, start-zero, zero-mul size)
+  length-same size sized (suc m) = omega (arith, start-next m, sized (startOf n block m) m, length-same size sized m, suc-mul m size)
+
+  pub block-holds : (W : ℕ → ℕ) (m e : ℕ) → e < m → Holds W n (blocks n block m) → Holds W (startOf n block e) (block (startOf n block e) e)
   unfolding blocks
-  blocks-good n zero good = tt
-  blocks-good n (suc m) good =
-      good-behind n (m * size) (blocks n size block m) (block (n + m * size) m) (length-blocks n m) (blocks-good n m (λ e l. good e (omega arith))) (good m (omega arith))
+  block-holds W zero e l h = absurd (omega arith)
+  block-holds W (suc m) e l h =
+      let p = holds-append W n (blocks n block m) (block (startOf n block m) m) h in
+      ⊎-elim (λ (b : e < m). block-holds W m e b (p .0))
+      (λ (b : m ≤ e). subst (λ (j : ℕ). Holds W (startOf n block j) (block (startOf n block j) j)) {x = m} {y = e} (omega arith) (p .1)) (below-or-not e m)
+
+  pub blocks-good : (m : ℕ) → ((e : ℕ) → e < m → AllGood (startOf n block e) (block (startOf n block e) e)) → AllGood n (blocks n block m)
+  unfolding blocks
+  blocks-good zero good = tt
+  blocks-good (suc m) good =
+      good-append n (blocks n block m) (block (startOf n block m) m) (blocks-good m (λ e l. good e (omega arith))) (good m (omega arith))
 
 -- row and column of the block at place i, j
 pub row-of : (k i j : ℕ) → j < k → (i * k + j) / k ≡ i
@@ -59,51 +70,45 @@ pub column-low : (k e : ℕ) → e < k * k → e % k < k
 column-low zero e h = absurd (omega (arith, zero-mul 0))
 column-low (suc l) e h = mod-lt e {m = suc l} (omega arith)
 
--- a word that is `pad` gates behind the start of its block
-pub place-behind : (n pad size k i j : ℕ) → place (n + pad) size k i j ≡ place n size k i j + pad
-unfolding place
-place-behind n pad size k i j = omega arith
+pub number-low : (k i j : ℕ) → i < k → j < k → i * k + j < k * k
+number-low k i j hi hj = omega (arith, row-within i k k hi)
 
--- no block starts before its table
-pub place-from : (n size k i j : ℕ) → n ≤ place n size k i j
-unfolding place
-place-from n size k i j = omega arith
+-- where the block of row i and column j starts
+abbrev pub entryStart : ℕ → ℕ → (ℕ → ℕ → ℕ → List Gate) → ℕ → ℕ → ℕ
+entryStart n k block i j = n + length (entries n k block (i * k + j))
 
--- a block ends before the next one starts
-pub place-before : (n size k i j i′ j′ : ℕ) → i * k + j < i′ * k + j′ → place n size k i j + size ≤ place n size k i′ j′
-unfolding place
-place-before n size k i j i′ j′ h =
-    let l = row-within (i * k + j) (i′ * k + j′) size h in
-    omega arith
+module _ (n k : ℕ) (block : ℕ → ℕ → ℕ → List Gate) where
+  abbrev numbered : ℕ → ℕ → List Gate
+  numbered at e = block at (e / k) (e % k)
 
--- and before the table ends
-pub place-within : (n size k i j : ℕ) → i < k → j < k → place n size k i j + size ≤ n + k * k * size
-unfolding place
-place-within n size k i j hi hj =
-    let few : i * k + j < k * k = omega (arith, row-within i k k hi) in
-    let l = row-within (i * k + j) (k * k) size few in
-    omega arith
+  module _ (i j : ℕ) (hj : j < k) where
+    here : (at : ℕ) → numbered at (i * k + j) ≡ block at i j
+    here at = ap (λ (a : ℕ). block at a ((i * k + j) % k)) (row-of k i j hj) ∙ ap (block at i) (column-of k i j hj)
 
-module _ (size k : ℕ) (block : ℕ → ℕ → ℕ → List Gate) (sized : (at i j : ℕ) → length (block at i j) ≡ size) where
-  pub length-table : (n : ℕ) → length (table n size k block) ≡ k * k * size
-  unfolding table
-  length-table n = length-blocks size (λ at e. block at (e / k) (e % k)) (λ at e. sized at (e / k) (e % k)) n (k * k)
+    pub entry-end : entryEnd n k block i j ≡ entryStart n k block i j + length (block (entryStart n k block i j) i j)
+    unfolding entryEnd entries
+    entry-end = start-next n numbered (i * k + j) ∙ ap (λ (gs : List Gate). startOf n numbered (i * k + j) + length gs) (here (startOf n numbered (i * k + j)))
 
-  -- the gates of row i and column j stand at their place
-  pub entry-holds : (W : ℕ → ℕ) (n i j : ℕ) → i < k → j < k → Holds W n (table n size k block) → Holds W (place n size k i j) (block (place n size k i j) i j)
-  unfolding table place
-  entry-holds W n i j hi hj h =
-      let few : i * k + j < k * k = omega (arith, row-within i k k hi) in
-      let at = n + (i * k + j) * size in
-      subst (λ (a : ℕ). Holds W at (block at a j)) (row-of k i j hj)
-      (subst (λ (a : ℕ). Holds W at (block at ((i * k + j) / k) a)) (column-of k i j hj)
-      (block-holds size (λ at e. block at (e / k) (e % k)) (λ at e. sized at (e / k) (e % k)) W n (k * k) (i * k + j) few h))
+    -- the gates of row i and column j stand at their place
+    pub entry-holds : (W : ℕ → ℕ) → i < k → Holds W n (table n k block) → Holds W (entryStart n k block i j) (block (entryStart n k block i j) i j)
+    unfolding table entries
+    entry-holds W hi h =
+        let at = startOf n numbered (i * k + j) in
+        subst (λ (gs : List Gate). Holds W at gs) (here at) (block-holds n numbered W (k * k) (i * k + j) (number-low k i j hi hj) h)
+
+    -- no block starts before its table, or ends behind it
+    pub start-from : n ≤ entryStart n k block i j
+    start-from = omega arith
+
+    pub end-within : i < k → entryEnd n k block i j ≤ n + length (table n k block)
+    unfolding table entries entryEnd
+    end-within hi = start-grows n numbered (k * k) (suc (i * k + j)) (number-low k i j hi hj)
 
   -- a table is well-formed where each of its blocks is
-  pub table-good : (n : ℕ) → ((i j : ℕ) → i < k → j < k → AllGood (place n size k i j) (block (place n size k i j) i j)) → AllGood n (table n size k block)
-  unfolding table place
-  table-good n good =
-      blocks-good size (λ at e. block at (e / k) (e % k)) (λ at e. sized at (e / k) (e % k)) n (k * k)
+  pub table-good : ((i j : ℕ) → i < k → j < k → AllGood (entryStart n k block i j) (block (entryStart n k block i j) i j)) → AllGood n (table n k block)
+  unfolding table entries
+  table-good good =
+      blocks-good n numbered (k * k)
       (λ e l.
-      subst (λ (x : ℕ). AllGood (n + x * size) (block (n + x * size) (e / k) (e % k))) (number-of k e)
+      subst (λ (x : ℕ). AllGood (startOf n numbered x) (block (startOf n numbered x) (e / k) (e % k))) (number-of k e)
       (good (e / k) (e % k) (row-low k e l) (column-low k e l)))

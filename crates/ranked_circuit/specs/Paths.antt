@@ -1,58 +1,42 @@
--- The first part of a ranked tasting's own list, up to the strengths of the strongest paths: tables of the numbers of ballots, the links, the first paths, and a table for each further detour. The n ballots of k candidates are the first wires; a word has a digit and w more.
-use mathlib.Core.List.{List, [], _++_}
-use Prim.Native.Nat.{ℕ, zero, suc, _+_, _*_}
+-- The first part of a ranked tasting's own list, up to the strengths of the strongest paths: tables of the numbers of
+-- ballots, of the links, and of the paths after each stage. The n ballots of k candidates are the first wires.
+use mathlib.Core.Bool.{cond}
+use mathlib.Core.List.{List, _++_}
+use Prim.Native.Nat.{ℕ, zero, suc, _+_, _-_, _*_}
+use lib.ListN.{length}
 use Rattle.gates.specs.Gate.{Gate}
-use Rattle.gate_words.specs.Counter.{countSize}
-use Rattle.ranked_circuit.specs.Table.{table, place}
-use Rattle.ranked_circuit.specs.Stages.{votesBlock, linksBlock, linkWire, detourPad, detourBlock, firstPad, firstBlock}
+use Rattle.ranked_circuit.specs.Table.{table, entryEnd}
+use Rattle.ranked_circuit.specs.Stages.{votesBlock, linksBlock, linkAt, stays, pathBlock}
 
--- The sizes of the blocks of each table.
-unfoldable pub votesSize : ℕ → ℕ → ℕ
-votesSize n w = countSize n 0 w + suc w
+-- The number of ballots for i against j: its word, and behind all of them the links.
+unfoldable pub votesAt : ℕ → ℕ → ℕ → ℕ → ℕ → ℕ
+votesAt k n w i j = entryEnd (n * k * k) k (votesBlock k n w) i j - suc w
 
-unfoldable pub linksSize : ℕ → ℕ
-linksSize w = 3 + 3 * w
+unfoldable pub votesTable : ℕ → ℕ → ℕ → List Gate
+votesTable k n w = table (n * k * k) k (votesBlock k n w)
 
-unfoldable pub firstSize : ℕ → ℕ
-firstSize w = firstPad w + suc w
-
-unfoldable pub detourSize : ℕ → ℕ
-detourSize w = detourPad w + suc w
-
--- Where each table starts.
 unfoldable pub linksFrom : ℕ → ℕ → ℕ → ℕ
-linksFrom k n w = n * k * k + k * k * votesSize n w
+linksFrom k n w = n * k * k + length (votesTable k n w)
 
-unfoldable pub firstFrom : ℕ → ℕ → ℕ → ℕ
-firstFrom k n w = linksFrom k n w + k * k * linksSize w
+unfoldable pub linksTable : ℕ → ℕ → ℕ → List Gate
+linksTable k n w = table (linksFrom k n w) k (linksBlock (votesAt k n w) w)
 
--- The table of the detour over candidate m + 1.
-unfoldable pub detourFrom : ℕ → ℕ → ℕ → ℕ → ℕ
-detourFrom k n w m = firstFrom k n w + k * k * firstSize w + m * (k * k * detourSize w)
+unfoldable pub linkWire : ℕ → ℕ → ℕ → ℕ → ℕ → ℕ
+linkWire k n w = linkAt (linksFrom k n w) k (linksBlock (votesAt k n w) w)
 
--- Where the number of ballots for i against j stands, the wire of their link, and the strength of the path from i to j after the detours over 0 to m.
-abbrev pub votesAt : ℕ → ℕ → ℕ → ℕ → ℕ → ℕ
-votesAt k n w = place (n * k * k + countSize n 0 w) (votesSize n w) k
+-- A list from the first ballots' wire on, and where the words of each two candidates stand.
+pub record Paths : Type 0 where
+  pub gates : List Gate
+  pub words : ℕ → ℕ → ℕ
 
-abbrev pub linkAt : ℕ → ℕ → ℕ → ℕ → ℕ → ℕ
-linkAt k n w = linkWire (place (linksFrom k n w) (linksSize w) k) w
+-- A word that a stage leaves stays where it is.
+unfoldable pub nextPaths : ℕ → ℕ → ℕ → ℕ → Paths → Paths
+nextPaths k n w m p =
+    let start = n * k * k + length (p .gates) in
+    let block = pathBlock (linkWire k n w) (p .words) w m in
+    record { gates = p .gates ++ table start k block; words = λ i j. cond (stays m i j) (p .words i j) (entryEnd start k block i j - suc w) }
 
-unfoldable pub pathFirst : ℕ → ℕ → ℕ → ℕ → ℕ
-pathFirst k n w zero = firstFrom k n w + firstPad w
-pathFirst k n w (suc m) = detourFrom k n w m + detourPad w
-
-unfoldable pub pathSize : ℕ → ℕ → ℕ
-pathSize w zero = firstSize w
-pathSize w (suc m) = detourSize w
-
-abbrev pub pathAt : ℕ → ℕ → ℕ → ℕ → ℕ → ℕ → ℕ
-pathAt k n w m = place (pathFirst k n w m) (pathSize w m) k
-
--- The tables up to the detour over candidate m.
-unfoldable pub pathTables : ℕ → ℕ → ℕ → ℕ → List Gate
-pathTables k n w zero =
-    table (n * k * k) (votesSize n w) k (votesBlock k n w)
-    ++ table (linksFrom k n w) (linksSize w) k (linksBlock (votesAt k n w) w)
-    ++ table (firstFrom k n w) (firstSize w) k (firstBlock (votesAt k n w) (linkAt k n w) (pathAt k n w 0) w)
-pathTables k n w (suc m) =
-    pathTables k n w m ++ table (detourFrom k n w m) (detourSize w) k (detourBlock (pathAt k n w m) (suc m) w)
+-- The first m stages.
+unfoldable pub pathsTo : ℕ → ℕ → ℕ → ℕ → Paths
+pathsTo k n w zero = record { gates = votesTable k n w ++ linksTable k n w; words = votesAt k n w }
+pathsTo k n w (suc m) = nextPaths k n w m (pathsTo k n w m)

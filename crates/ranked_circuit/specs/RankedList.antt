@@ -1,41 +1,52 @@
--- The own list of a ranked tasting: the tables of paths, the contests of each two candidates, and for each candidate whether one of the others beats it. The last k gates say who is not beaten.
+-- The own list of a ranked tasting: the paths, the contests of each two candidates, and for each candidate whether one of
+-- the others beats it. The last k gates say who is not beaten.
 use mathlib.Core.Bool.{cond}
 use mathlib.Core.List.{List, [], _∷_, _++_}
 use Prim.Native.Nat.{ℕ, zero, suc, _+_, _-_, _*_}
-use lib.Dec.{eqb, ltb}
+use lib.Dec.{ltb}
+use lib.ListN.{length}
 use Rattle.gates.specs.Gate.{Gate}
-use Rattle.gate_words.specs.Gates.{constant, copyOf, notOf, orOf}
-use Rattle.ranked_circuit.specs.Table.{blocks, table, place}
-use Rattle.ranked_circuit.specs.Stages.{linksBlock, linkWire}
-use Rattle.ranked_circuit.specs.Paths.{linksSize, detourFrom, pathAt, pathTables}
-
--- The wire that tells whether i beats j, for k candidates of whom m is the last.
-abbrev pub beatsAt : ℕ → ℕ → ℕ → ℕ → ℕ → ℕ → ℕ
-beatsAt k n w m = linkWire (place (detourFrom k n w m) (linksSize w) k) w
+use Rattle.gate_words.specs.Gates.{constant, notOf, orOf}
+use Rattle.ranked_circuit.specs.Table.{blocks, table}
+use Rattle.ranked_circuit.specs.Stages.{linksBlock, linkAt}
+use Rattle.ranked_circuit.specs.Paths.{pathsTo}
 
 -- The candidates but i, in order: number s of them.
 unfoldable pub other : ℕ → ℕ → ℕ
 other i s = cond (ltb s i) s (suc s)
 
--- Whether one of the first s + 1 others beats i: the gate at this wire, the one before it having told of those before.
-unfoldable pub lostGate : (ℕ → ℕ → ℕ) → ℕ → ℕ → ℕ → Gate
-lostGate beats i wire s = cond (eqb s 0) (copyOf (beats (other i s) i)) (orOf (wire - 1) (beats (other i s) i))
+-- What a row of gates from wire `at` on joins for candidate i, r others being there: first the wires by which they beat i, then the row's own wires. Gate t of the row joins numbers 2 t and 2 t + 1.
+unfoldable pub joined : (ℕ → ℕ → ℕ) → ℕ → ℕ → ℕ → ℕ → ℕ
+joined beats r at i s = cond (ltb s r) (beats (other i s) i) (at + (s - r))
 
--- Such gates for all others, m + 1 of them.
-unfoldable pub lostRow : (ℕ → ℕ → ℕ) → ℕ → ℕ → ℕ → List Gate
-lostRow beats m at i = blocks at 1 (λ wire s. lostGate beats i wire s ∷ []) (suc m)
+-- Whether one of r + 1 others beats i: r gates, the last of which has joined all; number 2 r is its wire, or the one other's.
+unfoldable pub loserRow : (ℕ → ℕ → ℕ) → ℕ → ℕ → ℕ → List Gate
+loserRow beats r at i = blocks at (λ wire t. orOf (joined beats (suc r) at i (2 * t)) (joined beats (suc r) at i (2 * t + 1)) ∷ []) r
 
--- Where the rows of k candidates start.
-unfoldable pub lostFrom : ℕ → ℕ → ℕ → ℕ → ℕ
-lostFrom k n w m = detourFrom k n w m + k * k * linksSize w
+-- Rows of r gates for k candidates from wire n on, and behind them who is not beaten.
+unfoldable pub loserRows : (ℕ → ℕ → ℕ) → ℕ → ℕ → ℕ → List Gate
+loserRows beats r n k = blocks n (loserRow beats r) k
 
--- The list for m + 2 candidates, and for one alone, who wins. The last gate of a row tells whether its candidate is beaten.
+unfoldable pub outputGates : (ℕ → ℕ → ℕ) → ℕ → ℕ → ℕ → List Gate
+outputGates beats r n k = blocks (n + k * r) (λ wire i. notOf (joined beats (suc r) (n + i * r) i (2 * r)) ∷ []) k
+
+-- The contests of k candidates: from which wire on, and the wire that tells whether i beats j.
+unfoldable pub contestsFrom : ℕ → ℕ → ℕ → ℕ
+contestsFrom k n w = n * k * k + length (pathsTo k n w (suc k) .gates)
+
+unfoldable pub contests : ℕ → ℕ → ℕ → List Gate
+contests k n w = table (contestsFrom k n w) k (linksBlock (pathsTo k n w (suc k) .words) w)
+
+unfoldable pub beatsAt : ℕ → ℕ → ℕ → ℕ → ℕ → ℕ
+beatsAt k n w = linkAt (contestsFrom k n w) k (linksBlock (pathsTo k n w (suc k) .words) w)
+
+unfoldable pub losersFrom : ℕ → ℕ → ℕ → ℕ
+losersFrom k n w = contestsFrom k n w + length (contests k n w)
+
+-- The list for r + 2 candidates, and for one alone, who wins.
 unfoldable pub rankedList : ℕ → ℕ → ℕ → List Gate
 rankedList zero n w = []
 rankedList (suc zero) n w = constant 1 ∷ []
-rankedList (suc (suc m)) n w =
-    let k = suc (suc m) in
-    pathTables k n w (suc m)
-    ++ table (detourFrom k n w (suc m)) (linksSize w) k (linksBlock (pathAt k n w (suc m)) w)
-    ++ blocks (lostFrom k n w (suc m)) (suc m) (lostRow (beatsAt k n w (suc m)) m) k
-    ++ blocks (lostFrom k n w (suc m) + k * suc m) 1 (λ wire i. notOf (lostFrom k n w (suc m) + i * suc m + m) ∷ []) k
+rankedList (suc (suc r)) n w =
+    let k = suc (suc r) in
+    pathsTo k n w (suc k) .gates ++ contests k n w ++ loserRows (beatsAt k n w) r (losersFrom k n w) k ++ outputGates (beatsAt k n w) r (losersFrom k n w) k

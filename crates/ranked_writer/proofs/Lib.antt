@@ -1,2 +1,3 @@
 pub mod Filling
-pub mod ListWriters
+pub mod Keeping
+pub mod Parts

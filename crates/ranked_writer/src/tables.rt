@@ -1,119 +1,85 @@
 // The tables: k rows of k blocks.
 use gate_words::writer::Writer;
 use ranked_blocks::entries::Ranks;
-use ranked_blocks::entries::detour_block;
-use ranked_blocks::entries::first_block;
-use ranked_blocks::entries::links_block;
-use ranked_blocks::entries::votes_block;
-use ranked_blocks::places::Places;
-use ranked_blocks::places::link_wire;
-use ranked_blocks::places::place;
+use ranked_blocks::entries::links_entry;
+use ranked_blocks::entries::path_entry;
+use ranked_blocks::entries::votes_entry;
 ghost use mathlib.Core.Path.{_≡_};
-ghost use Prim.Native.Nat.{ℕ, suc, _+_, _*_, _≤_, _<_};
-ghost use Rattle.gate_words.specs.Limits.{writerLimit};
+ghost use mathlib.Core.Bool.{cond};
+ghost use mathlib.Core.Logic.{_≢_};
+ghost use Prim.Native.Nat.{ℕ, suc, _+_, _-_, _*_, _≤_, _<_};
+ghost use lib.ListN.{length};
 ghost use Rattle.gate_words.specs.Writing.{Room, Wrote};
-ghost use Rattle.ranked_circuit.specs.Table.{place};
 ghost use Rattle.ranked_circuit.specs.Table as spec;
-ghost use Rattle.ranked_circuit.specs.Stages.{votesBlock, linksBlock, linkWire, detourBlock, firstBlock, firstPad};
-ghost use Rattle.ranked_circuit.specs.Paths.{votesSize, linksSize, firstSize, detourSize};
-ghost use Rattle.ranked_blocks.specs.Ranked.{Ranked};
+ghost use Rattle.ranked_circuit.specs.Table.{entryEnd};
+ghost use Rattle.ranked_circuit.specs.Stages.{votesBlock, linksBlock, linkAt, stays, pathBlock};
+ghost use Rattle.ranked_blocks.specs.Ranked.{Ranked, keptOf, WordsBelow};
+ghost use Rattle.ranked_writer.specs.Tables.{Keeps};
 
 // The numbers of ballots.
-pub(crate) fn votes_table(w: Writer, table: &mut [u32], p: Ranks) -> Writer
+pub(crate) fn votes_table(w: Writer, table: &mut [u32], words: &mut [u32], p: Ranks) -> Writer
     requires { ⌜ Ranked p ⌝ }
-    requires { ⌜ Room w (p .candidates * p .candidates * votesSize (p .ballots) (p .digits)) ⌝ }
-    requires { ⌜ p .ballots * p .candidates * p .candidates ≤ w .wire ⌝ }
-    ensures { λ r. ⌜ Wrote w (now (table .entry)) (spec.table (w .wire) (votesSize (p .ballots) (p .digits)) (p .candidates) (votesBlock (p .candidates) (p .ballots) (p .digits))) (now (table .exit)) r ⌝ }
+    requires { ⌜ Room w (length (spec.table (w .wire) (p .candidates) (votesBlock (p .candidates) (p .ballots) (p .digits)))) ⌝ }
+    requires { ⌜ (p .ballots * p .candidates * p .candidates ≤ w .wire) × (length (now words) ≡ 64) ⌝ }
+    ensures { λ r. ⌜ Wrote w (now (table .entry)) (spec.table (w .wire) (p .candidates) (votesBlock (p .candidates) (p .ballots) (p .digits))) (now (table .exit)) r ⌝ }
+    ensures { λ r. ⌜ Keeps (p .candidates) (now (words .exit)) (λ i j. entryEnd (w .wire) (p .candidates) (votesBlock (p .candidates) (p .ballots) (p .digits)) i j - suc (p .digits)) ⌝ }
 {
     let k = p.candidates;
     let mut next = w;
     let mut e: u32 = 0;
     while e < k * k {
-        next = votes_block(next, table, p, e / k, e % k);
+        next = votes_entry(next, table, words, p, e);
         e += 1;
     }
     next
 }
 
 // Words compared.
-pub(crate) fn links_table(w: Writer, table: &mut [u32], p: Ranks, words: Places) -> Writer
+pub(crate) fn links_table(
+    w: Writer,
+    table: &mut [u32],
+    words: &[u32],
+    links: &mut [u32],
+    p: Ranks,
+) -> Writer
     requires { ⌜ Ranked p ⌝ }
-    requires { ⌜ Room w (p .candidates * p .candidates * linksSize (p .digits)) ⌝ }
-    requires { ⌜ ((a b : ℕ) → a < p .candidates → b < p .candidates → place (words .first) (words .size) (p .candidates) a b + suc (p .digits) ≤ w .wire) ⌝ }
-    ensures { λ r. ⌜ Wrote w (now (table .entry)) (spec.table (w .wire) (linksSize (p .digits)) (p .candidates) (linksBlock (place (words .first) (words .size) (p .candidates)) (p .digits))) (now (table .exit)) r ⌝ }
+    requires { ⌜ Room w (length (spec.table (w .wire) (p .candidates) (linksBlock (keptOf (now words) (p .candidates)) (p .digits)))) ⌝ }
+    requires { ⌜ (length (now words) ≡ 64) × (length (now links) ≡ 64) ⌝ }
+    requires { ⌜ WordsBelow (now words) (p .candidates) (p .digits) (w .wire) ⌝ }
+    ensures { λ r. ⌜ Wrote w (now (table .entry)) (spec.table (w .wire) (p .candidates) (linksBlock (keptOf (now (words .entry)) (p .candidates)) (p .digits))) (now (table .exit)) r ⌝ }
+    ensures { λ r. ⌜ Keeps (p .candidates) (now (links .exit)) (linkAt (w .wire) (p .candidates) (linksBlock (keptOf (now (words .entry)) (p .candidates)) (p .digits))) ⌝ }
 {
     let k = p.candidates;
     let mut next = w;
     let mut e: u32 = 0;
     while e < k * k {
-        next = links_block(next, table, p, words, e / k, e % k);
+        next = links_entry(next, table, words, links, p, e);
         e += 1;
     }
     next
 }
 
-// Links and detours over candidate 0 in one: the block of row i and column j.
-fn first_entry(
+// Stage m of the paths.
+pub(crate) fn path_table(
     w: Writer,
     table: &mut [u32],
+    links: &[u32],
+    words: &mut [u32],
     p: Ranks,
-    votes: Places,
-    links: Places,
-    own: Places,
-    i: u32,
-    j: u32,
+    m: u32,
 ) -> Writer
     requires { ⌜ Ranked p ⌝ }
-    requires { ⌜ Room w (firstSize (p .digits)) ⌝ }
-    requires { ⌜ (i < p .candidates) × (j < p .candidates) ⌝ }
-    requires { ⌜ ((a b : ℕ) → a < p .candidates → b < p .candidates → place (votes .first) (votes .size) (p .candidates) a b + suc (p .digits) ≤ w .wire) ⌝ }
-    requires { ⌜ ((a b : ℕ) → a < p .candidates → b < p .candidates → place (links .first) (links .size) (p .candidates) a b + linksSize (p .digits) ≤ w .wire) ⌝ }
-    requires { ⌜ ((a b : ℕ) → a ≤ i → b ≤ j → a * p .candidates + b < i * p .candidates + j → place (own .first) (own .size) (p .candidates) a b + suc (p .digits) ≤ w .wire) ⌝ }
-    ensures { λ r. ⌜ Wrote w (now (table .entry)) (firstBlock (place (votes .first) (votes .size) (p .candidates)) (linkWire (place (links .first) (links .size) (p .candidates)) (p .digits)) (place (own .first) (own .size) (p .candidates)) (p .digits) (w .wire) i j) (now (table .exit)) r ⌝ }
-{
-    let f = link_wire(links, p.candidates, p.digits, i, j);
-    let v = place(votes, p.candidates, i, j);
-    first_block(w, table, p, f, v, own, i, j)
-}
-
-pub(crate) fn first_table(
-    w: Writer,
-    table: &mut [u32],
-    p: Ranks,
-    votes: Places,
-    links: Places,
-    own: Places,
-) -> Writer
-    requires { ⌜ Ranked p ⌝ }
-    requires { ⌜ Room w (p .candidates * p .candidates * firstSize (p .digits)) ⌝ }
-    requires { ⌜ ((a b : ℕ) → a < p .candidates → b < p .candidates → place (votes .first) (votes .size) (p .candidates) a b + suc (p .digits) ≤ w .wire) ⌝ }
-    requires { ⌜ ((a b : ℕ) → a < p .candidates → b < p .candidates → place (links .first) (links .size) (p .candidates) a b + linksSize (p .digits) ≤ w .wire) ⌝ }
-    requires { ⌜ (own .first ≡ w .wire + firstPad (p .digits)) × (own .size ≡ firstSize (p .digits)) ⌝ }
-    ensures { λ r. ⌜ Wrote w (now (table .entry)) (spec.table (w .wire) (firstSize (p .digits)) (p .candidates) (firstBlock (place (votes .first) (votes .size) (p .candidates)) (linkWire (place (links .first) (links .size) (p .candidates)) (p .digits)) (place (own .first) (own .size) (p .candidates)) (p .digits))) (now (table .exit)) r ⌝ }
+    requires { ⌜ Room w (length (spec.table (w .wire) (p .candidates) (pathBlock (keptOf (now links) (p .candidates)) (keptOf (now words) (p .candidates)) (p .digits) m))) ⌝ }
+    requires { ⌜ (m ≤ p .candidates) × (length (now links) ≡ 64) × (length (now words) ≡ 64) ⌝ }
+    requires { ⌜ WordsBelow (now words) (p .candidates) (p .digits) (w .wire) ⌝ }
+    ensures { λ r. ⌜ Wrote w (now (table .entry)) (spec.table (w .wire) (p .candidates) (pathBlock (keptOf (now (links .entry)) (p .candidates)) (keptOf (now (words .entry)) (p .candidates)) (p .digits) m)) (now (table .exit)) r ⌝ }
+    ensures { λ r. ⌜ Keeps (p .candidates) (now (words .exit)) (λ i j. cond (stays m i j) (keptOf (now (words .entry)) (p .candidates) i j) (entryEnd (w .wire) (p .candidates) (pathBlock (keptOf (now (links .entry)) (p .candidates)) (keptOf (now (words .entry)) (p .candidates)) (p .digits) m) i j - suc (p .digits))) ⌝ }
 {
     let k = p.candidates;
     let mut next = w;
     let mut e: u32 = 0;
     while e < k * k {
-        next = first_entry(next, table, p, votes, links, own, e / k, e % k);
-        e += 1;
-    }
-    next
-}
-
-// The detours over candidate l.
-pub(crate) fn detour_table(w: Writer, table: &mut [u32], p: Ranks, paths: Places, l: u32) -> Writer
-    requires { ⌜ Ranked p ⌝ }
-    requires { ⌜ Room w (p .candidates * p .candidates * detourSize (p .digits)) ⌝ }
-    requires { ⌜ l < p .candidates ⌝ }
-    requires { ⌜ ((a b : ℕ) → a < p .candidates → b < p .candidates → place (paths .first) (paths .size) (p .candidates) a b + suc (p .digits) ≤ w .wire) ⌝ }
-    ensures { λ r. ⌜ Wrote w (now (table .entry)) (spec.table (w .wire) (detourSize (p .digits)) (p .candidates) (detourBlock (place (paths .first) (paths .size) (p .candidates)) l (p .digits))) (now (table .exit)) r ⌝ }
-{
-    let k = p.candidates;
-    let mut next = w;
-    let mut e: u32 = 0;
-    while e < k * k {
-        next = detour_block(next, table, p, paths, l, e / k, e % k);
+        next = path_entry(next, table, links, words, p, m, e);
         e += 1;
     }
     next

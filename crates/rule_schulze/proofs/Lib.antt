@@ -4,4 +4,4 @@ pub mod Winning
 pub mod Filling
 pub mod Tables
 pub mod Counting
-pub mod Theorems
+pub mod LastDetour

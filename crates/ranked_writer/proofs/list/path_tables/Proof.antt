@@ -1,208 +1,133 @@
--- `ranked_writer::list::path_tables` meets its contract: after the first paths a table for each further candidate.
+-- `ranked_writer::list::path_tables` meets its contract: one stage after the other.
 -- Assumes nothing.
 use mathlib.Core.Path.{_≡_, _∙_, refl, sym, ap, subst}
-use mathlib.Core.List.{List, _++_}
+use mathlib.Core.List.{List, [], _++_}
 use Prim.Native.Nat.{ℕ, suc, _+_, _-_, _*_, _≤_, _<_}
-use native.Mathlib.Nat.{suc-mul, mul-le-mul-right}
+use native.Mathlib.Numerals.{add-one}
 use native.Mathlib.Omega.{arith}
+use borrow.Author.Needs.{needs}
+use lib.ListN.{length}
 use Rattle.gates.specs.Gate.{Gate}
-use Rattle.gate_words.specs.Writing.{Room}
-use Rattle.gate_words.proofs.Writing.{room-less, wrote-both, wrote-as}
-use Rattle.ranked_circuit.specs.Table.{blocks, table, place}
-use Rattle.ranked_circuit.specs.Stages.{detourBlock}
-use Rattle.ranked_circuit.specs.Paths.{firstSize, detourSize, detourFrom, pathFirst, pathSize, pathTables}
-use Rattle.ranked_circuit.proofs.GoodLaws.{path-end}
+use Rattle.gate_words.specs.Writing.{Room, Wrote}
+use Rattle.gate_words.proofs.Writing.{room-less, room-after, wrote-nothing, wrote-as, wrote-both}
+use Rattle.ranked_circuit.specs.Table.{table}
+use Rattle.ranked_circuit.specs.Stages.{pathBlock}
+use Rattle.ranked_circuit.specs.Paths.{linkWire, pathsTo}
+use Rattle.ranked_circuit.proofs.GoodLaws.{endOf}
+use Rattle.ranked_blocks.specs.Ranked.{keptOf}
 use Rattle.ranked_blocks.specs.declared.entries.Ranks.{Ranks}
-use Rattle.ranked_blocks.proofs.Behind.{behind, room-behind}
-use Rattle.ranked_writer.proofs.Filling.{Filled, fill-start, fill-wire, fill-next, fill-room, fill-end}
-use Rattle.ranked_writer.proofs.ListWriters.{first-size, detour-size, first-end, detoursFrom, detoursBlock, detours-sized, tables-split, tables-long, detour-start, first-words, later-words, later-size, zero-size, detour-same, place-same}
+use Rattle.ranked_writer.specs.Tables.{Keeps}
+use Rattle.ranked_writer.proofs.Parts.{kept-below, stagesTo, stages-split, stages-long, stages-next, stages-grow, stage-table, stage-words, stage-end}
 use Rattle.ranked_writer.proofs.list.path_tables.Statement.{statement}
 use Rattle.ranked_writer.proofs.list.path_tables.Tie as tie
 
-abbrev step : Ranks → ℕ
-step p = p .candidates * p .candidates * detourSize (p .digits)
+abbrev wordsAt : Ranks → ℕ → ℕ → ℕ → ℕ
+wordsAt p m = pathsTo (p .candidates) (p .ballots) (p .digits) m .words
 
-abbrev block : Ranks → ℕ → ℕ → List Gate
-block p = detoursBlock (p .candidates) (p .ballots) (p .digits)
+abbrev stages : Ranks → ℕ → List Gate
+stages p m = stagesTo (p .candidates) (p .ballots) (p .digits) m
 
 abbrev Inv-loop : tie.InvT-loop
-Inv-loop table₀ p next₀ paths₀ l₀ table next paths l =
-    (next₀ .wire ≡ detoursFrom (p .candidates) (p .ballots) (p .digits)) × (1 ≤ l) × (l ≤ p .candidates)
-    × (paths .first ≡ pathFirst (p .candidates) (p .ballots) (p .digits) (l - 1)) × (paths .size ≡ pathSize (p .digits) (l - 1))
-    × Filled next₀ table₀ (step p) (block p) (detours-sized (p .candidates) (p .ballots) (p .digits)) (l - 1) table next
+Inv-loop table₀ words₀ p links next₀ m₀ table words next m =
+    (m ≤ suc (p .candidates)) × Keeps (p .candidates) links (linkWire (p .candidates) (p .ballots) (p .digits)) × (next .wire ≡ endOf (p .candidates) (p .ballots) (p .digits) m)
+    × Wrote next₀ table₀ (stages p m) table next × Keeps (p .candidates) words (wordsAt p m)
 
 abbrev μ-loop : tie.MeasureT-loop
-μ-loop table₀ p next₀ paths₀ l₀ table next paths l = p .candidates - l
+μ-loop table₀ words₀ p links next₀ m₀ table words next m = suc (p .candidates) - m
 
-first-paths-requires : tie.Need-first-paths-requires Inv-loop μ-loop
-first-paths-requires c κs =
-    let p = (c .before .before .args) .p in
-    ((c .before .before .pre) .0, (room-less ((c .before .before .args) .w) _ _ (omega (arith, tables-long (p .candidates) (p .ballots) (p .digits) (p .candidates - 1))) ((c .before .before .pre) .1 .0), (c .before .before .pre) .1 .1))
-
--- where the first tables end, and the room behind them
-first-wire : (c : tie.After-first-paths Inv-loop μ-loop) → _≡_ {A = ℕ} ((c .first-paths) .result .wire) (detoursFrom ((c .before .before .before .args) .p .candidates) ((c .before .before .before .args) .p .ballots) ((c .before .before .before .args) .p .digits))
-first-wire c =
-    let p = (c .before .before .before .args) .p in
-    omega (arith, (c .first-paths) .ensures .wires, first-end (p .candidates) (p .ballots) (p .digits), (c .before .before .before .pre) .1 .1)
-
-first-room : (c : tie.After-first-paths Inv-loop μ-loop) → Room ((c .first-paths) .result) (((c .before .before .before .args) .p .candidates - 1) * step ((c .before .before .before .args) .p))
-first-room c =
-    let a = (c .before .before .before .args) in
+first-tables-requires : tie.Need-first-tables-requires Inv-loop μ-loop
+first-tables-requires c κs =
+    let a = (c .before .before .before .before .before .args) in
     let p = a .p in
-    room-behind (a .w) (a .table .now) _ ((c .first-paths) .last .1 .0) ((c .first-paths) .result) _ _ _ ((c .first-paths) .ensures) refl (omega (arith, tables-long (p .candidates) (p .ballots) (p .digits) (p .candidates - 1))) ((c .before .before .before .pre) .1 .0)
+    ((c .before .before .before .before .before .pre) .0, (room-less (a .w) _ _ (omega (arith, stages-long (p .candidates) (p .ballots) (p .digits) (suc (p .candidates)))) ((c .before .before .before .before .before .pre) .1 .0), ((c .before .before .before .before .before .pre) .1 .1 .0, refl, (c .before .before .before .before .before .pre) .1 .1 .1)))
 
-mul-words-before : tie.Need-mul-words-before Inv-loop μ-loop
-mul-words-before c = omega (arith, (c .before .before .before .before .before .before .pre) .0 .w-most)
-
-add-words-before : tie.Need-add-words-before Inv-loop μ-loop
-add-words-before c = omega (arith, (c .before .before .before .before .before .before .pre) .0 .w-most)
-
-words-before-requires : tie.Need-words-before-requires Inv-loop μ-loop
-words-before-requires c κs =
-    let p = (c .before .before .before .before .before .before .args) .p in
-    let s = ap (λ (x : ℕ). p .candidates * p .candidates * x) (first-size (p .digits)) in
-    ((c .before .before .before .before .before .before .pre) .0, (omega (arith, s, first-wire (c .before .before .before)), omega arith, omega (arith, (c .before .before .before .before .before .before .pre) .0 .w-most), omega (arith, first-room (c .before .before .before) .small)))
+nothing : (p : Ranks) → stages p 0 ≡ []
+nothing p = unfold stagesTo in refl
 
 loop-holds : tie.Need-loop-holds Inv-loop μ-loop
 loop-holds c =
-    let p = (c .before .before .before .before .before .before .before .args) .p in
-    let k = p .candidates in
-    let n = p .ballots in
-    let w = p .digits in
-    let s = ap (λ (x : ℕ). k * k * x) (first-size w) in
-    let r = (c .words-before) .ensures in (
-      first-wire (c .before .before .before .before),
+    let a = (c .before .before .before .before .before .before .before .before .before .before .before .args) in
+    let p = a .p in
+    let f = (c .before .before .before .before .before .first-tables) in (
       omega arith,
-      omega (arith, (c .before .before .before .before .before .before .before .pre) .0 .k-least),
-      first-words k n w ((c .words-before) .result .first) ((c .before .before .before .before .first-paths) .result .wire) (first-wire (c .before .before .before .before)) (omega (arith, r .0, s, first-size w)),
-      r .1 ∙ first-size w ∙ zero-size k n w,
-      fill-start ((c .before .before .before .before .first-paths) .result) ((c .before .before .before .before .first-paths) .last .1 .0) (step p) (block p) (detours-sized k n w),
+      f .ensures .1 .1,
+      omega (arith, f .ensures .0 .wires, (c .before .before .before .before .before .before .before .before .before .before .before .pre) .1 .1 .0),
+      wrote-as (f .result) (f .last .1 .0) _ _ (f .last .1 .0) (f .result) (sym (nothing p)) (wrote-nothing (f .result) (f .last .1 .0)),
+      f .ensures .1 .0,
     )
 
--- a turn: where the writer stands, and its room
-now-wire : (c : tie.Then1 Inv-loop μ-loop) → _≡_ {A = ℕ} ((c .before .before .loop) .next .wire) (detourFrom ((c .before .before .before .before .before .before .before .before .before .before .args) .p .candidates) ((c .before .before .before .before .before .before .before .before .before .before .args) .p .ballots) ((c .before .before .before .before .before .before .before .before .before .before .args) .p .digits) ((c .before .before .loop) .l - 1))
-now-wire c =
-    let p = (c .before .before .before .before .before .before .before .before .before .before .args) .p in
+-- the stage under the wires that are kept
+same : (c : tie.Then1 Inv-loop μ-loop) → table ((c .before .before .loop) .next .wire) ((c .before .before .before .before .before .before .before .before .before .before .before .before .before .before .args) .p .candidates) (pathBlock (keptOf ((c .before .before .before .before .before .before .before .before .first-tables) .last .1 .1 .0) ((c .before .before .before .before .before .before .before .before .before .before .before .before .before .before .args) .p .candidates)) (keptOf ((c .before .before .loop) .words) ((c .before .before .before .before .before .before .before .before .before .before .before .before .before .before .args) .p .candidates)) ((c .before .before .before .before .before .before .before .before .before .before .before .before .before .before .args) .p .digits) ((c .before .before .loop) .m)) ≡ table (endOf ((c .before .before .before .before .before .before .before .before .before .before .before .before .before .before .args) .p .candidates) ((c .before .before .before .before .before .before .before .before .before .before .before .before .before .before .args) .p .ballots) ((c .before .before .before .before .before .before .before .before .before .before .before .before .before .before .args) .p .digits) ((c .before .before .loop) .m)) ((c .before .before .before .before .before .before .before .before .before .before .before .before .before .before .args) .p .candidates) (pathBlock (linkWire ((c .before .before .before .before .before .before .before .before .before .before .before .before .before .before .args) .p .candidates) ((c .before .before .before .before .before .before .before .before .before .before .before .before .before .before .args) .p .ballots) ((c .before .before .before .before .before .before .before .before .before .before .before .before .before .before .args) .p .digits)) (wordsAt ((c .before .before .before .before .before .before .before .before .before .before .before .before .before .before .args) .p) ((c .before .before .loop) .m)) ((c .before .before .before .before .before .before .before .before .before .before .before .before .before .before .args) .p .digits) ((c .before .before .loop) .m))
+same c =
+    let p = (c .before .before .before .before .before .before .before .before .before .before .before .before .before .before .args) .p in
     let l = (c .before .before .loop) in
-    omega (arith, fill-wire ((c .before .before .before .before .before .before .before .first-paths) .result) ((c .before .before .before .before .before .before .before .first-paths) .last .1 .0) (step p) (block p) (detours-sized (p .candidates) (p .ballots) (p .digits)) (l .l - 1) (l .table) (l .next) (l .inv .5), detour-start (p .candidates) (p .ballots) (p .digits) (l .l - 1), l .inv .0)
+    stage-table (p .candidates) (p .ballots) (p .digits) (l .m) ((c .if1) .taken) ((c .before .before .before .before .before .before .before .before .first-tables) .last .1 .1 .0) (l .words) (l .inv .1) (l .inv .4) (l .next .wire) (l .inv .2)
 
-now-room : (c : tie.Then1 Inv-loop μ-loop) → Room ((c .before .before .loop) .next) (step ((c .before .before .before .before .before .before .before .before .before .before .args) .p))
-now-room c =
-    let p = (c .before .before .before .before .before .before .before .before .before .before .args) .p in
-    let l = (c .before .before .loop) in
-    fill-room ((c .before .before .before .before .before .before .before .first-paths) .result) ((c .before .before .before .before .before .before .before .first-paths) .last .1 .0) (step p) (block p) (detours-sized (p .candidates) (p .ballots) (p .digits)) (l .l - 1) (p .candidates - 1) (l .table) (l .next) (omega (arith, (c .if1) .taken, l .inv .1)) (first-room (c .before .before .before .before .before .before .before)) (l .inv .5)
-
-detour-table-requires : tie.Need-detour-table-requires Inv-loop μ-loop
-detour-table-requires c κs =
-    let p = (c .before .before .before .before .before .before .before .before .before .before .before .args) .p in
-    let l = (c .before .before .before .loop) in
-    let at = now-wire (c .before) in (
-      (c .before .before .before .before .before .before .before .before .before .before .before .pre) .0,
+path-table-requires : tie.Need-path-table-requires Inv-loop μ-loop
+path-table-requires c κs =
+    let a = (c .before .before .before .before .before .before .before .before .before .before .before .before .before .before .before .before .before .args) in
+    let p = a .p in
+    let l = (c .before .before .before .before .before .loop) in
+    let f = (c .before .before .before .before .before .before .before .before .before .before .before .first-tables) in
+    let room₀ = room-after (a .w) (a .table .now) _ (f .last .1 .0) (f .result) (length (stages p (suc (p .candidates)))) _ (f .ensures .0) (omega (arith, stages-long (p .candidates) (p .ballots) (p .digits) (suc (p .candidates)))) ((c .before .before .before .before .before .before .before .before .before .before .before .before .before .before .before .before .before .pre) .1 .0) in
+    let grow = stages-grow (p .candidates) (p .ballots) (p .digits) (suc (p .candidates)) (suc (l .m)) (omega (arith, (c .before .before .before .if1) .taken)) in
+    let next = stages-next (p .candidates) (p .ballots) (p .digits) (l .m) in (
+      (c .before .before .before .before .before .before .before .before .before .before .before .before .before .before .before .before .before .pre) .0,
       (
-        now-room (c .before),
-        (
-          (c .before .if1) .taken,
-          (λ x y hx hy. omega (arith, at, path-end (p .candidates) (p .ballots) (p .digits) (l .l - 1) x y hx hy, place-same (l .paths .first) (l .paths .size) _ _ (p .candidates) x y (l .inv .3) (l .inv .4))),
-        ),
+        room-after (f .result) (f .last .1 .0) _ (l .table) (l .next) _ _ (l .inv .3) (omega (arith, ap length (same (c .before .before .before)), grow, next)) room₀,
+        (((c .before .before .before .if1) .taken, l .inv .1 .long, l .inv .4 .long), kept-below (p .candidates) (p .ballots) (p .digits) (l .m) (l .words) (l .next .wire) (l .inv .4) (l .inv .2)),
       ),
     )
 
-next-filled : (c : tie.After-detour-table Inv-loop μ-loop) → Filled ((c .before .before .before .before .before .before .before .before .before .first-paths) .result) ((c .before .before .before .before .before .before .before .before .before .first-paths) .last .1 .0) (step ((c .before .before .before .before .before .before .before .before .before .before .before .before .args) .p)) (block ((c .before .before .before .before .before .before .before .before .before .before .before .before .args) .p)) (detours-sized ((c .before .before .before .before .before .before .before .before .before .before .before .before .args) .p .candidates) ((c .before .before .before .before .before .before .before .before .before .before .before .before .args) .p .ballots) ((c .before .before .before .before .before .before .before .before .before .before .before .before .args) .p .digits)) ((c .before .before .before .before .loop) .l) ((c .detour-table) .last .1 .0) ((c .detour-table) .result)
-next-filled c =
-    let p = (c .before .before .before .before .before .before .before .before .before .before .before .before .args) .p in
-    let k = p .candidates in
-    let n = p .ballots in
-    let w = p .digits in
-    let l = (c .before .before .before .before .loop) in
-    let h = (c .detour-table) in
-    let up : l .l ≡ suc (l .l - 1) = omega (arith, l .inv .1) in
-    let down : l .l - 1 + 1 ≡ l .l = omega (arith, l .inv .1) in
-    subst (λ (m : ℕ). Filled ((c .before .before .before .before .before .before .before .before .before .first-paths) .result) ((c .before .before .before .before .before .before .before .before .before .first-paths) .last .1 .0) (step p) (block p) (detours-sized k n w) m (h .last .1 .0) (h .result)) down
-    (fill-next ((c .before .before .before .before .before .before .before .before .before .first-paths) .result) ((c .before .before .before .before .before .before .before .before .before .first-paths) .last .1 .0) (step p) (block p) (detours-sized k n w) (l .l - 1) (l .table) (l .next) (h .last .1 .0) (h .result) (l .inv .5)
-    (wrote-as (l .next) (l .table) _ _ (h .last .1 .0) (h .result) (detour-same k n w (l .next .wire) (l .paths .first) (l .paths .size) (l .l) (l .l - 1) up (l .inv .3) (l .inv .4)) (h .ensures)))
-
-next-wire : (c : tie.After-detour-table Inv-loop μ-loop) → _≡_ {A = ℕ} ((c .detour-table) .result .wire) (detourFrom ((c .before .before .before .before .before .before .before .before .before .before .before .before .args) .p .candidates) ((c .before .before .before .before .before .before .before .before .before .before .before .before .args) .p .ballots) ((c .before .before .before .before .before .before .before .before .before .before .before .before .args) .p .digits) ((c .before .before .before .before .loop) .l))
-next-wire c =
-    let p = (c .before .before .before .before .before .before .before .before .before .before .before .before .args) .p in
-    omega (arith, fill-wire ((c .before .before .before .before .before .before .before .before .before .first-paths) .result) ((c .before .before .before .before .before .before .before .before .before .first-paths) .last .1 .0) (step p) (block p) (detours-sized (p .candidates) (p .ballots) (p .digits)) ((c .before .before .before .before .loop) .l) ((c .detour-table) .last .1 .0) ((c .detour-table) .result) (next-filled c), detour-start (p .candidates) (p .ballots) (p .digits) ((c .before .before .before .before .loop) .l), (c .before .before .before .before .loop) .inv .0)
-
-mul-words-before-2 : tie.Need-mul-words-before-2 Inv-loop μ-loop
-mul-words-before-2 c = omega (arith, (c .before .before .before .before .before .before .before .before .before .before .before .before .before .before .before .pre) .0 .w-most)
-
-add-words-before-2 : tie.Need-add-words-before-2 Inv-loop μ-loop
-add-words-before-2 c = omega (arith, (c .before .before .before .before .before .before .before .before .before .before .before .before .before .before .before .pre) .0 .w-most)
-
-words-before-requires-2 : tie.Need-words-before-requires-2 Inv-loop μ-loop
-words-before-requires-2 c κs =
-    let p = (c .before .before .before .before .before .before .before .before .before .before .before .before .before .before .before .args) .p in
-    let k = p .candidates in
-    let s = ap (λ (x : ℕ). k * k * x) (detour-size (p .digits)) in
-    let some : 1 * step p ≤ (c .before .before .before .before .before .before .before .loop) .l * step p = mul-le-mul-right {m = 1} {n = (c .before .before .before .before .before .before .before .loop) .l} (step p) ((c .before .before .before .before .before .before .before .loop) .inv .1) in
-    let most : (c .before .before .before .before .before .before .before .loop) .l * step p ≤ (k - 1) * step p = mul-le-mul-right {m = (c .before .before .before .before .before .before .before .loop) .l} {n = k - 1} (step p) (omega (arith, (c .before .before .before .before .before .if1) .taken)) in
-    let at = next-wire (c .before .before .before) in
-    let from = detour-start k (p .ballots) (p .digits) ((c .before .before .before .before .before .before .before .loop) .l) in
-    let start = first-wire (c .before .before .before .before .before .before .before .before .before .before .before .before) in
-    ((c .before .before .before .before .before .before .before .before .before .before .before .before .before .before .before .pre) .0, (omega (arith, s, at, from, some), omega arith, omega (arith, (c .before .before .before .before .before .before .before .before .before .before .before .before .before .before .before .pre) .0 .w-most), omega (arith, at, from, most, start, first-room (c .before .before .before .before .before .before .before .before .before .before .before .before) .small)))
-
-add-l : tie.Need-add-l Inv-loop μ-loop
-add-l c = omega (arith, (c .before .before .before .before .before .before .if1) .taken, (c .before .before .before .before .before .before .before .before .before .before .before .before .before .before .before .before .pre) .0 .k-most)
+add-m : tie.Need-add-m Inv-loop μ-loop
+add-m c = omega (arith, (c .before .before .before .before .before .before .before .before .if1) .taken, (c .before .before .before .before .before .before .before .before .before .before .before .before .before .before .before .before .before .before .before .before .before .before .pre) .0 .k-most)
 
 loop-less : tie.Need-loop-less Inv-loop μ-loop
-loop-less c = omega (arith, (c .before .before .before .before .before .before .if1) .taken)
+loop-less c = omega (arith, (c .before .before .before .before .before .before .before .before .if1) .taken)
+
+stages-are : (p : Ranks) (m : ℕ) → stages p m ++ table (endOf (p .candidates) (p .ballots) (p .digits) m) (p .candidates) (pathBlock (linkWire (p .candidates) (p .ballots) (p .digits)) (wordsAt p m) (p .digits) m) ≡ stages p (suc m)
+stages-are p m = unfold stagesTo in refl
 
 loop-again : tie.Need-loop-again Inv-loop μ-loop
 loop-again c =
-    let p = (c .before .before .before .before .before .before .before .before .before .before .before .before .before .before .before .before .args) .p in
-    let k = p .candidates in
-    let n = p .ballots in
-    let w = p .digits in
-    let l = (c .before .before .before .before .before .before .before .before .loop) in
-    let s = ap (λ (x : ℕ). k * k * x) (detour-size w) in
-    let r = (c .words-before2) .ensures in
-    let up : l .l ≡ suc (l .l - 1) = omega (arith, l .inv .1) in
-    let same : l .l ≡ l .l + 1 - 1 = omega arith in (
-      l .inv .0,
-      omega arith,
-      omega (arith, (c .before .before .before .before .before .before .if1) .taken),
-      later-words k n w ((c .words-before2) .result .first) ((c .before .before .before .before .detour-table) .result .wire) (l .l) (l .l - 1) up (next-wire (c .before .before .before .before)) (omega (arith, r .0, s, detour-size w)) ∙ ap (pathFirst k n w) same,
-      r .1 ∙ detour-size w ∙ later-size k n w (l .l) (l .l - 1) up ∙ ap (pathSize w) same,
-      subst (λ (m : ℕ). Filled ((c .before .before .before .before .before .before .before .before .before .before .before .before .before .first-paths) .result) ((c .before .before .before .before .before .before .before .before .before .before .before .before .before .first-paths) .last .1 .0) (step p) (block p) (detours-sized k n w) m ((c .before .before .before .before .detour-table) .last .1 .0) ((c .before .before .before .before .detour-table) .result)) same (next-filled (c .before .before .before .before)),
+    let a = (c .before .before .before .before .before .before .before .before .before .before .before .before .before .before .before .before .before .before .before .before .before .before .args) in
+    let p = a .p in
+    let l = (c .before .before .before .before .before .before .before .before .before .before .loop) in
+    let f = (c .before .before .before .before .before .before .before .before .before .before .before .before .before .before .before .before .first-tables) in
+    let h = (c .before .before .before .before .path-table) in
+    let e = add-one (l .m) in (
+      omega (arith, (c .before .before .before .before .before .before .before .before .if1) .taken),
+      l .inv .1,
+      omega (arith, h .ensures .0 .wires, ap length (same (c .before .before .before .before .before .before .before .before)), stage-end (p .candidates) (p .ballots) (p .digits) (l .m), l .inv .2) ∙ ap (endOf (p .candidates) (p .ballots) (p .digits)) (sym e),
+      wrote-as (f .result) (f .last .1 .0) _ _ (h .last .1 .0) (h .result) (stages-are p (l .m) ∙ ap (stages p) (sym e))
+          (wrote-both (f .result) (f .last .1 .0) (stages p (l .m)) (l .table) (l .next) _ (h .last .1 .0) (h .result) (l .inv .3) (wrote-as (l .next) (l .table) _ _ (h .last .1 .0) (h .result) (same (c .before .before .before .before .before .before .before .before)) (h .ensures .0))),
+      subst (λ (x : ℕ). Keeps (p .candidates) (h .last .1 .1 .1 .0) (wordsAt p x)) (sym e)
+          (stage-words (p .candidates) (p .ballots) (p .digits) (l .m) ((c .before .before .before .before .before .before .before .before .if1) .taken) (f .last .1 .1 .0) (l .words) (l .inv .1) (l .inv .4) (l .next .wire) (h .last .1 .1 .1 .0) (l .inv .2) (h .ensures .1)),
     )
 
 same-length : tie.Need-same-length Inv-loop μ-loop
-same-length c = (c .before .before .loop) .inv .5 .long ∙ (c .before .before .before .before .before .before .before .first-paths) .ensures .long
+same-length c = (c .before .before .loop) .inv .3 .long ∙ (c .before .before .before .before .before .before .before .before .first-tables) .ensures .0 .long
+
+same-length-2 : tie.Need-same-length-2 Inv-loop μ-loop
+same-length-2 c = (c .before .before .loop) .inv .4 .long ∙ sym ((c .before .before .before .before .before .before .before .before .before .before .before .before .before .before .pre) .1 .1 .1)
 
 returns : tie.Need-returns Inv-loop μ-loop
 returns c =
-    let a = (c .before .before .before .before .before .before .before .before .before .before .args) in
+    let a = (c .before .before .before .before .before .before .before .before .before .before .before .before .before .before .args) in
     let p = a .p in
-    let k = p .candidates in
-    let n = p .ballots in
-    let w = p .digits in
     let l = (c .before .before .loop) in
-    let f = (c .before .before .before .before .before .before .before .first-paths) in
-    let last = fill-end (f .result) (f .last .1 .0) (step p) (block p) (detours-sized k n w) (l .l - 1) (k - 1) (l .table) (l .next) (omega (arith, (c .if1) .left)) (omega (arith, l .inv .2)) (l .inv .5) in
-    wrote-as (a .w) (a .table .now) _ (pathTables k n w (k - 1)) (l .table) (l .next) (sym (tables-split k n w (k - 1)))
-    (wrote-both (a .w) (a .table .now) (pathTables k n w 0) (f .last .1 .0) (f .result) (blocks (detoursFrom k n w) (step p) (block p) (k - 1)) (l .table) (l .next) (f .ensures)
-    (wrote-as (f .result) (f .last .1 .0) _ _ (l .table) (l .next) (ap (λ (x : ℕ). blocks x (step p) (block p) (k - 1)) (first-wire (c .before .before .before .before .before .before .before))) last))
+    let f = (c .before .before .before .before .before .before .before .before .first-tables) in
+    let all : l .m ≡ suc (p .candidates) = omega (arith, (c .if1) .left) in (
+      wrote-as (a .w) (a .table .now) _ _ (l .table) (l .next) (sym (stages-split (p .candidates) (p .ballots) (p .digits) (l .m)) ∙ ap (λ (x : ℕ). pathsTo (p .candidates) (p .ballots) (p .digits) x .gates) all)
+          (wrote-both (a .w) (a .table .now) (pathsTo (p .candidates) (p .ballots) (p .digits) 0 .gates) (f .last .1 .0) (f .result) (stages p (l .m)) (l .table) (l .next) (f .ensures .0) (l .inv .3)),
+      subst (λ (x : ℕ). Keeps (p .candidates) (l .words) (wordsAt p x)) all (l .inv .4),
+    )
+
+slice-aggregate-first-tables : tie.Need-slice-aggregate-first-tables Inv-loop μ-loop
+slice-aggregate-first-tables c = search needs
+
+slice-aggregate-path-table : tie.Need-slice-aggregate-path-table Inv-loop μ-loop
+slice-aggregate-path-table c = search needs
 
 pub path-tables-spec : {M : Type 1} → statement M
-path-tables-spec =
-    tie.close
-    (tie.spec
-    Inv-loop
-    μ-loop
-    first-paths-requires
-    mul-words-before
-    add-words-before
-    words-before-requires
-    loop-holds
-    detour-table-requires
-    mul-words-before-2
-    add-words-before-2
-    words-before-requires-2
-    add-l
-    loop-less
-    loop-again
-    same-length
-    returns)
+path-tables-spec = tie.close (tie.spec Inv-loop μ-loop slice-aggregate-first-tables first-tables-requires loop-holds slice-aggregate-path-table path-table-requires add-m loop-less loop-again same-length same-length-2 returns)

@@ -9,16 +9,17 @@ use borrow.Author.Needs.{needs}
 use lib.ListN.{length}
 use Rattle.gates.specs.Gate.{Gate}
 use Rattle.gate_words.specs.Gates.{constant}
+use Rattle.gate_words.specs.Counter.{Countable}
 use Rattle.gate_words.specs.declared.writer.Writer.{Writer}
 use Rattle.gate_words.specs.Writing.{Room, Wrote}
 use Rattle.gate_words.proofs.Writing.{wrote-as}
 use Rattle.gate_words.proofs.Emitting.{constant-wrote}
 use Rattle.jury.specs.Width.{widthOf}
-use Rattle.jury.proofs.WidthLaws.{width-most}
+use Rattle.jury.proofs.WidthLaws.{width-half, width-most}
 use Rattle.ranked_circuit.specs.RankedList.{rankedList}
 use Rattle.ranked_circuit.specs.OwnRanking.{ownRanking}
 use Rattle.ranked_circuit.proofs.SizeLaws.{bound-small}
-use Rattle.ranked_circuit.proofs.OwnRankingLaws.{own-ranking-holds}
+use Rattle.ranked_circuit.proofs.OwnRankingLaws.{ranking-countable, own-ranking-holds}
 use Rattle.ranked_writer.proofs.list.ranked_list.Statement.{statement}
 use Rattle.ranked_writer.proofs.list.ranked_list.Tie as tie
 
@@ -33,9 +34,12 @@ single k n e = sym (ap (λ (x : ℕ). ownRanking x n) e ∙ unfold ownRanking ra
 short : (k n : ℕ) → 1 ≤ k → k ≤ 8 → 1 ≤ n → n ≤ 255 → length (ownRanking k n) ≤ 400000
 short k n lk hk ln hn = omega (arith, own-ranking-holds k n lk hk ln hn .bounded, bound-small k n (widthOf n) hk hn (width-most n hn))
 
-list-is : (k n w k′ n′ : ℕ) → k ≡ k′ → n ≡ n′ → w ≡ widthOf n′ - 1 → rankedList k n w ≡ ownRanking k′ n′
-list-is k n w k′ n′ ek en ew =
-    ap (λ (x : ℕ). rankedList x n w) ek ∙ ap (λ (x : ℕ). rankedList k′ x w) en ∙ ap (λ (x : ℕ). rankedList k′ n′ x) ew ∙ unfold ownRanking in refl
+list-is : (k n w : ℕ) → w ≡ widthOf n - 1 → rankedList k n w ≡ ownRanking k n
+list-is k n w e = ap (rankedList k n) e ∙ unfold ownRanking in refl
+
+-- the width of the number of ballots
+widths : (n : ℕ) → 1 ≤ n → n ≤ 255 → (1 ≤ widthOf n) × (widthOf n ≤ 8)
+widths n l h = (omega (arith, width-half n l), width-most n h)
 
 first-room : (w : Writer) (bytes m : ℕ) → w ≡ record { gate = 0; wire = bytes; conditional = 0 } → bytes ≤ 16320 → m ≤ 400000 → Room w m
 first-room w bytes m e h l =
@@ -51,9 +55,6 @@ mul-new c = omega (arith, bytes ((c .before .args) .candidates) ((c .before .arg
 mul-new-2 : tie.Need-mul-new-2
 mul-new-2 c = omega (arith, bytes ((c .before .args) .candidates) ((c .before .args) .ballots) ((c .before .pre) .1) ((c .before .pre) .3))
 
-new-requires : tie.Need-new-requires
-new-requires c κs = search needs
-
 emit-requires : tie.Need-emit-requires
 emit-requires c κs = first-room ((c .before .before .new) .result) _ 1 ((c .before .before .new) .ensures) (bytes ((c .before .before .before .before .args) .candidates) ((c .before .before .before .before .args) .ballots) ((c .before .before .before .before .pre) .1) ((c .before .before .before .before .pre) .3) .1) (omega arith)
 
@@ -64,35 +65,42 @@ returns c =
     subst (λ (v : Writer). Wrote v (a .table .now) (ownRanking (a .candidates) (a .ballots)) (e .last .1 .0) (e .result)) ((c .before .before .before .before .before .new) .ensures)
     (wrote-as ((c .before .before .before .before .before .new) .result) (a .table .now) _ _ (e .last .1 .0) (e .result) (single (a .candidates) (a .ballots) ((c .before .before .before .before .if1) .taken)) (constant-wrote ((c .before .before .before .before .before .new) .result) (a .table .now) (e .last .1 .0) (e .result) 0 0 0 1 (e .ensures)))
 
-same-length : tie.Need-same-length
-same-length c = search needs
+cast-digits : tie.Need-cast-digits
+cast-digits c = omega (arith, (c .width) .ensures, widths ((c .before .before .before .before .args) .ballots) ((c .before .before .before .before .pre) .2) ((c .before .before .before .before .pre) .3))
 
-ranks-requires : tie.Need-ranks-requires
-ranks-requires c κs = (two ((c .before .before .before .args) .candidates) ((c .before .before .before .pre) .0) ((c .if1) .left), (c .before .before .before .pre) .1, (c .before .before .before .pre) .2, (c .before .before .before .pre) .3)
-  where
-    two : (k : ℕ) → 1 ≤ k → (k ≡ 1 → ⊥) → 2 ≤ k
-    two k l h = omega arith
+sub-digits : tie.Need-sub-digits
+sub-digits c = omega (arith, (c .width) .ensures, widths ((c .before .before .before .before .args) .ballots) ((c .before .before .before .before .pre) .2) ((c .before .before .before .before .pre) .3))
 
-same-list : (c : tie.After-ranks) → rankedList ((c .ranks) .result .candidates) ((c .ranks) .result .ballots) ((c .ranks) .result .digits) ≡ ownRanking ((c .before .before .before .before .args) .candidates) ((c .before .before .before .before .args) .ballots)
-same-list c =
-    let q = (c .ranks) .ensures .1 in
-    list-is ((c .ranks) .result .candidates) ((c .ranks) .result .ballots) ((c .ranks) .result .digits) ((c .before .before .before .before .args) .candidates) ((c .before .before .before .before .args) .ballots) (q .0) (q .1) (q .2)
+-- the digits
+digits-are : (c : tie.After-width) → (c .width) .result - 1 ≡ widthOf ((c .before .before .before .before .args) .ballots) - 1
+digits-are c = ap (λ (x : ℕ). x - 1) ((c .width) .ensures)
+
+can-count : (c : tie.After-width) → Countable ((c .before .before .before .before .args) .ballots) 0 ((c .width) .result - 1)
+can-count c = subst (Countable ((c .before .before .before .before .args) .ballots) 0) (sym (digits-are (c))) (ranking-countable ((c .before .before .before .before .args) .ballots) ((c .before .before .before .before .pre) .2))
+
+same-list : (c : tie.After-width) → rankedList ((c .before .before .before .before .args) .candidates) ((c .before .before .before .before .args) .ballots) ((c .width) .result - 1) ≡ ownRanking ((c .before .before .before .before .args) .candidates) ((c .before .before .before .before .args) .ballots)
+same-list c = list-is ((c .before .before .before .before .args) .candidates) ((c .before .before .before .before .args) .ballots) ((c .width) .result - 1) (digits-are (c))
 
 circuit-requires : tie.Need-circuit-requires
 circuit-requires c κs =
     let a = (c .before .before .before .before .before .args) in
-    let p = (c .before .ranks) .result in
-    let q = (c .before .ranks) .ensures .1 in
     let few = short (a .candidates) (a .ballots) ((c .before .before .before .before .before .pre) .0) ((c .before .before .before .before .before .pre) .1) ((c .before .before .before .before .before .pre) .2) ((c .before .before .before .before .before .pre) .3) in (
-      (c .before .ranks) .ensures .0,
+      record {
+        k-least = two (a .candidates) ((c .before .before .before .before .before .pre) .0) ((c .before .before .if1) .left);
+        k-most = (c .before .before .before .before .before .pre) .1;
+        n-least = (c .before .before .before .before .before .pre) .2;
+        n-most = (c .before .before .before .before .before .pre) .3;
+        w-most = omega (arith, (c .before .width) .ensures, widths (a .ballots) ((c .before .before .before .before .before .pre) .2) ((c .before .before .before .before .before .pre) .3));
+        countable = can-count (c .before);
+      },
       (
         first-room ((c .before .before .before .new) .result) _ _ ((c .before .before .before .new) .ensures) (bytes (a .candidates) (a .ballots) ((c .before .before .before .before .before .pre) .1) ((c .before .before .before .before .before .pre) .3) .1) (omega (arith, few, ap (λ (gs : List Gate). length gs) (same-list (c .before)))),
-        ap (λ (v : Writer). v .wire) ((c .before .before .before .new) .ensures) ∙ sym (inputs (p .candidates) (p .ballots) (a .candidates) (a .ballots) (q .0) (q .1)),
+        ap (λ (v : Writer). v .wire) ((c .before .before .before .new) .ensures),
       ),
     )
   where
-    inputs : (k n k′ n′ : ℕ) → k ≡ k′ → n ≡ n′ → n * k * k ≡ n′ * k′ * k′
-    inputs k n k′ n′ e f = ap (λ (x : ℕ). x * k * k) f ∙ ap (λ (x : ℕ). n′ * x * x) e
+    two : (k : ℕ) → 1 ≤ k → (k ≡ 1 → ⊥) → 2 ≤ k
+    two k l h = omega arith
 
 returns-2 : tie.Need-returns-2
 returns-2 c =
@@ -101,8 +109,17 @@ returns-2 c =
     subst (λ (v : Writer). Wrote v (a .table .now) (ownRanking (a .candidates) (a .ballots)) (e .last .1 .0) (e .result)) ((c .before .before .before .before .before .before .new) .ensures)
     (wrote-as ((c .before .before .before .before .before .before .new) .result) (a .table .now) _ _ (e .last .1 .0) (e .result) (same-list (c .before .before .before .before)) (e .ensures))
 
+new-requires : tie.Need-new-requires
+new-requires c κs = search needs
+
+same-length : tie.Need-same-length
+same-length c = search needs
+
+width-requires : tie.Need-width-requires
+width-requires c κs = search needs
+
 same-length-2 : tie.Need-same-length-2
 same-length-2 c = search needs
 
 pub ranked-list-spec : {M : Type 1} → statement M
-ranked-list-spec = tie.close (tie.spec mul-new mul-new-2 new-requires emit-requires same-length returns ranks-requires circuit-requires same-length-2 returns-2)
+ranked-list-spec = tie.close (tie.spec mul-new mul-new-2 new-requires emit-requires same-length returns width-requires cast-digits sub-digits circuit-requires same-length-2 returns-2)
