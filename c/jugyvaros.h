@@ -240,6 +240,21 @@ size_t jugy_dispatch(size_t juries, size_t share, const size_t *statements, size
                      size_t tapes_length, uint8_t *wires, size_t wires_length, uint8_t *boards, size_t boards_length,
                      size_t *answer, size_t answer_length);
 
+/* Levels (ours, beyond the requests). A wire's level is its multiplicative depth: 0 for a ballot byte; for a gate the
+ * largest level of its operands, and one more where it is conditional. The rounds R are the largest level of a list: whoever
+ * seals values opens the conditional gates of one level together, in R rounds and not C. Numbers from 200 on are our own. */
+#define JUGY_LEVELS 200       /* the level table has not G numbers, or not the list's own levels where they are read */
+
+/* The length of the answer array that a call by levels needs: reason, place, G, C, R. */
+#define JUGY_LEVELS_ANSWER 5
+
+/* Writes the level of each gate of anyone's list: answer[2] is G, answer[3] is C, answer[4] is R, at most C. Reasons 1, 2,
+ * 3, 200.
+ *   table   4 G numbers, the list's own length
+ *   levels  G numbers, whatever they held; afterwards gate g's level is levels[g] */
+size_t jugy_levels(size_t candidates, size_t grades, size_t ballots, const uint32_t *table, size_t table_length,
+                   uint32_t *levels, size_t levels_length, size_t *answer, size_t answer_length);
+
 #ifdef __cplusplus
 }
 #endif

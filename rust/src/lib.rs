@@ -4,6 +4,7 @@
 
 pub mod batch;
 pub mod dispatch;
+pub mod levels;
 pub mod trustees;
 pub mod urn;
 pub mod urn_run;
@@ -146,10 +147,12 @@ pub enum Reason {
     Line = 23,
     /// Since request 2.10, behind `Gate`.
     Output = 24,
+    /// Our own, behind all others of a call by levels.
+    Levels = 200,
 }
 
 impl Reason {
-    const ALL: [Reason; 22] = [
+    const ALL: [Reason; 23] = [
         Reason::Shape,
         Reason::Table,
         Reason::Gate,
@@ -172,6 +175,7 @@ impl Reason {
         Reason::GatesPerRound,
         Reason::Line,
         Reason::Output,
+        Reason::Levels,
     ];
 
     /// The reason of that number, if there is one.
@@ -208,6 +212,7 @@ impl Reason {
             Reason::GatesPerRound => "the gates of a round are outside 1 to 65,536",
             Reason::Line => "another form than a gate's, or a number that is too large, in line",
             Reason::Output => "what would be written has no room in the output",
+            Reason::Levels => "the level table is not that of the list",
         }
     }
 
