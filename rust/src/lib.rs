@@ -5,6 +5,7 @@
 pub mod batch;
 pub mod dispatch;
 pub mod levels;
+pub mod trustee;
 pub mod trustees;
 pub mod urn;
 pub mod urn_run;
@@ -149,10 +150,14 @@ pub enum Reason {
     Output = 24,
     /// Our own, behind all others of a call by levels.
     Levels = 200,
+    /// Our own, behind `Levels`.
+    Round = 201,
+    /// Our own, behind `Round`.
+    Heard = 202,
 }
 
 impl Reason {
-    const ALL: [Reason; 23] = [
+    const ALL: [Reason; 25] = [
         Reason::Shape,
         Reason::Table,
         Reason::Gate,
@@ -176,6 +181,8 @@ impl Reason {
         Reason::Line,
         Reason::Output,
         Reason::Levels,
+        Reason::Round,
+        Reason::Heard,
     ];
 
     /// The reason of that number, if there is one.
@@ -213,6 +220,8 @@ impl Reason {
             Reason::Line => "another form than a gate's, or a number that is too large, in line",
             Reason::Output => "what would be written has no room in the output",
             Reason::Levels => "the level table is not that of the list",
+            Reason::Round => "the list has no such round",
+            Reason::Heard => "the sums are not two bits for each conditional gate",
         }
     }
 
