@@ -25,7 +25,7 @@ pub(crate) fn enter_once(p: usize, x: u8) -> u8
 }
 
 // Trustee p's bit of a product, from its bits of the dealt triple and both opened sums.
-pub(crate) fn product_bit(p: usize, u: u8, v: u8, product: u8, first: u8, second: u8) -> u8
+pub fn product_bit(p: usize, u: u8, v: u8, product: u8, first: u8, second: u8) -> u8
     ensures { λ r. ⌜ r ≡ (product + first * v + second * u + entered p (first * second)) % 2 ⌝ }
 {
     let dealt = plus(product, times(first, v));
@@ -34,7 +34,7 @@ pub(crate) fn product_bit(p: usize, u: u8, v: u8, product: u8, first: u8, second
 }
 
 // Trustee p's bit of a gate's wire from its bits of the operands and z, its bit of the product.
-pub(crate) fn part_of_kind(p: usize, kind: u32, a: u8, b: u8, c: u8, z: u8) -> u8
+pub fn part_of_kind(p: usize, kind: u32, a: u8, b: u8, c: u8, z: u8) -> u8
     ensures { λ r. ⌜ r ≡ partOfKind p kind a b c z ⌝ }
 {
     let one = enter_once(p, 1);

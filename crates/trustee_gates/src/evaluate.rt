@@ -16,7 +16,7 @@ ghost use Rattle.trustee_gates.specs.Gate.{gateOf};
 ghost use Rattle.trustee_gates.specs.Evaluate.{RunReady, EvaluateReady};
 
 // Gate g of a table.
-fn numbers_at(table: &[u32], g: usize) -> Numbers
+pub fn numbers_at(table: &[u32], g: usize) -> Numbers
     requires { ⌜ 4 * g + 3 < length (now table) ⌝ }
     ensures { λ r. ⌜ gateOf r ≡ gateAt (now (table .entry)) g ⌝ }
 {

@@ -46,7 +46,14 @@ fn second_factor(size: usize, gate: Numbers, p: usize, wires: &[u8]) -> u8
 }
 
 // Trustee p's bit of the first factor, masked.
-fn masked_first(pieces: Pieces, gate: Numbers, i: usize, p: usize, dealt: &[u8], wires: &[u8]) -> u8
+pub fn masked_first(
+    pieces: Pieces,
+    gate: Numbers,
+    i: usize,
+    p: usize,
+    dealt: &[u8],
+    wires: &[u8],
+) -> u8
     requires { ⌜ InWires (pieces .wires) gate p (now wires) ⌝ }
     requires { ⌜ InDealt (pieces .dealt) i p (now dealt) ⌝ }
     ensures { λ r.
@@ -58,7 +65,7 @@ fn masked_first(pieces: Pieces, gate: Numbers, i: usize, p: usize, dealt: &[u8],
 }
 
 // Trustee p's bit of the second factor, masked.
-fn masked_second(
+pub fn masked_second(
     pieces: Pieces,
     gate: Numbers,
     i: usize,

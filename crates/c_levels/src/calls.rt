@@ -1,0 +1,66 @@
+// Levels, as a C program calls for them.
+use c_answers::array::SHORT_ANSWER;
+use c_answers::array::put;
+use jury::shape::Shape;
+use levels::answer::Answer;
+ghost use mathlib.Core.Path.{_≡_};
+ghost use mathlib.Core.List.{_++_};
+ghost use Prim.Native.Nat.{_≤_};
+ghost use lib.ListN.{length, drop};
+ghost use Rattle.levels.specs.Answer.{depthsSaid};
+ghost use Rattle.levels.specs.Levels.{levelsSaid, levelsWritten};
+ghost use Rattle.c_answers.specs.Numbers.{shapeOf, statusOf, status, answered, altered};
+ghost use Rattle.c_levels.specs.Numbers.{depthAnswer, depthNumbers};
+
+// How many numbers an answer has: reason, place, G, C and R.
+pub const DEPTH_ANSWER: usize = 5;
+
+// The answer of a call by levels, and its status.
+pub fn put_depths(said: Answer, answer: &mut [usize]) -> usize
+    requires { ⌜ depthAnswer ≤ length (now answer) ⌝ }
+    ensures { λ r. ⌜ r ≡ statusOf (depthNumbers (depthsSaid said)) ⌝ }
+    ensures { λ _. ⌜ now (answer .exit) ≡ depthNumbers (depthsSaid said) ++ drop depthAnswer (now (answer .entry)) ⌝ }
+{
+    match said {
+        Answer::Accepted {
+            gates,
+            conditional,
+            rounds,
+        } => {
+            put(&[0, 0, gates, conditional, rounds], answer);
+            0
+        }
+        Answer::Refused(reason) => {
+            let number = reason.number();
+            let place = reason.place();
+            put(&[number, place, 0, 0, 0], answer);
+            number
+        }
+    }
+}
+
+// Writes the level of each gate of a list, whoever wrote the list, for a shape: reason, place, G, C and R.
+#[no_mangle]
+pub extern "C" fn jugy_levels(
+    candidates: usize,
+    grades: usize,
+    ballots: usize,
+    table: &[u32],
+    levels: &mut [u32],
+    answer: &mut [usize],
+) -> usize
+    ensures { λ r. ⌜ r ≡ status depthAnswer (depthNumbers (levelsSaid (shapeOf candidates grades ballots) (now (table .entry)) (now (levels .entry)))) (now (answer .entry)) ⌝ }
+    ensures { λ _. ⌜ now (answer .exit) ≡ answered depthAnswer (depthNumbers (levelsSaid (shapeOf candidates grades ballots) (now (table .entry)) (now (levels .entry)))) (now (answer .entry)) ⌝ }
+    ensures { λ _. ⌜ now (levels .exit) ≡ altered depthAnswer (now (answer .entry)) (levelsWritten (shapeOf candidates grades ballots) (now (table .entry)) (now (levels .entry))) (now (levels .entry)) ⌝ }
+{
+    if answer.len() < DEPTH_ANSWER {
+        return SHORT_ANSWER;
+    }
+    let shape = Shape {
+        candidates,
+        grades,
+        ballots,
+    };
+    let said = levels::write::write(shape, table, levels);
+    put_depths(said, answer)
+}

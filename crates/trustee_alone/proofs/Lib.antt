@@ -1,0 +1,5 @@
+pub mod Tests
+pub mod Sizes
+pub mod Passed
+pub mod Memory
+pub mod Demands

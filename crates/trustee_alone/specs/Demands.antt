@@ -1,0 +1,53 @@
+-- What is shown of a trustee's calls, over the definitions that their contracts equate with the program's answers and tables.
+use mathlib.Core.Path.{_≡_}
+use mathlib.Core.List.{List, [], _∷_}
+use Prim.Native.Nat.{ℕ, zero, suc, _≤_, _<_}
+use lib.Dec.{T}
+use lib.ListN.{length, replicate}
+use Rattle.gates.specs.Gate.{Gate, gatesOf}
+use Rattle.gates.specs.Board.{conditionalCount}
+use Rattle.gate_levels.specs.Levels.{roundsOf}
+use Rattle.jury.specs.declared.shape.Shape.{Shape}
+use Rattle.jury.specs.Shape.{ballotBytes}
+use Rattle.jury.specs.Reason.{Reason}
+use Rattle.tally.specs.Answer.{refused, accepted, hasNumberIn, Size}
+use Rattle.trustee_shares.specs.Shares.{Held}
+use Rattle.trustee_shares.specs.Views.{joined, Dealing, dealtOf}
+use Rattle.trustee_rounds.specs.Together.{sumsOf, Holdings, publishedAfter, holdingsAfter}
+use Rattle.trustees.specs.Shared.{shared, closingSums}
+use Rattle.trustee_alone.specs.Start.{startSaid, startedWires, startedPublished}
+use Rattle.trustee_alone.specs.Rounds.{roundSaid, roundedWires, roundedPublished}
+use Rattle.trustee_alone.specs.Finish.{finishSaid, finishedWires}
+
+-- A refusal's number is that of a reason which concerns the call, and a refusal alters nothing; an accepted finish leaves zeros.
+pub record Memory : Type 0 where
+  pub start-number : (s : Shape) (table : List ℕ) (t p : ℕ) (parts dealt ws published : List ℕ) (r : Reason) → startSaid s table t p parts dealt ws published ≡ refused r
+      → T (hasNumberIn (1 ∷ 2 ∷ 3 ∷ 16 ∷ 17 ∷ 18 ∷ []) r)
+  pub round-number : (s : Shape) (table : List ℕ) (t p round : ℕ) (levels dealt heard ws published : List ℕ) (r : Reason) → roundSaid s table t p round levels dealt heard ws published ≡ refused r
+      → T (hasNumberIn (1 ∷ 2 ∷ 3 ∷ 16 ∷ 17 ∷ 18 ∷ 200 ∷ 201 ∷ 202 ∷ []) r)
+  pub finish-number : (s : Shape) (table ws : List ℕ) (r : Reason) → finishSaid s table ws ≡ refused r → T (hasNumberIn (1 ∷ 2 ∷ 3 ∷ 17 ∷ []) r)
+  pub start-refused : (s : Shape) (table : List ℕ) (t p : ℕ) (parts dealt ws published : List ℕ) (r : Reason) → startSaid s table t p parts dealt ws published ≡ refused r
+      → (startedWires s table t p parts dealt ws published ≡ ws) × (startedPublished s table t p parts dealt ws published ≡ published)
+  pub round-refused : (s : Shape) (table : List ℕ) (t p round : ℕ) (levels dealt heard ws published : List ℕ) (r : Reason) → roundSaid s table t p round levels dealt heard ws published ≡ refused r
+      → (roundedWires s table t p round levels dealt heard ws published ≡ ws) × (roundedPublished s table t p round levels dealt heard ws published ≡ published)
+  pub finish-refused : (s : Shape) (table ws : List ℕ) (r : Reason) → finishSaid s table ws ≡ refused r → finishedWires s table ws ≡ ws
+  pub finish-empties : (s : Shape) (table ws : List ℕ) (size : Size) → finishSaid s table ws ≡ accepted size → finishedWires s table ws ≡ replicate (length ws) 0
+
+-- Trustees apart end as the one call of request 2.7 does on the joined tables: after the rounds 0 to R their published bits, trustee after trustee, are that call's, and the sums of their closing bits its eight bytes. So its accuracy and its hiding are theirs.
+pub record AsTheOneCall (s : Shape) (table ballots : List ℕ) (t : ℕ) (d : Dealing) (ws published : List ℕ) : Type 0 where
+  pub same-published : joined t (holdingsAfter t (ballotBytes s) (gatesOf table) (s .candidates) d (suc (roundsOf (ballotBytes s) (gatesOf table))) .published) ≡ shared s table ballots t d ws published .published
+  pub same-closing : closingSums t (s .candidates) (holdingsAfter t (ballotBytes s) (gatesOf table) (s .candidates) d (suc (roundsOf (ballotBytes s) (gatesOf table))) .wireParts) ≡ shared s table ballots t d ws published .closing
+
+-- What a trustee sends depends on its own tables and on the sums that were heard, and on nothing else: over any two elections that agree on these.
+abbrev pub OwnTablesOnly : Type 0
+OwnTablesOnly =
+    (t inputs k : ℕ) (gs : List Gate) (d e : Dealing) (r : ℕ) (one other : Holdings) (p : ℕ)
+    → dealtOf gs d p ≡ dealtOf gs e p → sumsOf t (conditionalCount gs) (one .published) ≡ sumsOf t (conditionalCount gs) (other .published)
+    → one .wireParts p ≡ other .wireParts p → one .published p ≡ other .published p
+    → publishedAfter t inputs gs k d r one p ≡ publishedAfter t inputs gs k e r other p
+
+pub record Demands : Type 0 where
+  pub memory : Memory
+  pub own-tables-only : OwnTablesOnly
+  pub as-the-one-call : (s : Shape) (table ballots : List ℕ) (t : ℕ) (d : Dealing) (ws published : List ℕ) (size : Size) → shared s table ballots t d ws published .answer ≡ accepted size
+      → AsTheOneCall s table ballots t d ws published
