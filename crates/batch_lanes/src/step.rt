@@ -6,7 +6,7 @@ ghost use mathlib.Core.Path.{_≡_};
 ghost use mathlib.Core.List.{_++_};
 ghost use Prim.Native.Nat.{_-_};
 ghost use lib.ListN.{length, take, drop};
-ghost use Rattle.gates.specs.Step.{StepReady, RunReady};
+ghost use Rattle.gates.specs.inner.Step.{StepReady, RunReady};
 ghost use Rattle.batch_lanes.specs.Run.{RunDone};
 ghost use Rattle.batch_lanes.specs.inner.Step.{GateAsks, GateDone, StepDone, CloseFits};
 

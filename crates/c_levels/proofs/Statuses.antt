@@ -5,22 +5,22 @@ use mathlib.Core.List.{List}
 use Prim.Native.Nat.{ℕ, _<_}
 use native.Mathlib.Omega.{arith}
 use Rattle.jury.specs.Reason.{Reason}
-use Rattle.tally.specs.Answer.{Said, refused}
+use Rattle.tally.specs.Answer.{Outcome, refused}
 use Rattle.levels.specs.Answer.{Depths}
 use Rattle.levels.specs.Levels.{levelsSaid}
 use Rattle.levels.proofs.Demands.{levels-number}
 use Rattle.c_answers.specs.Numbers.{statusOf, shortAnswer}
 use Rattle.c_answers.specs.Status.{isAccepted, Tells}
-use Rattle.c_answers.proofs.Statuses.{fit, Numbered, numbered, said-tells}
+use Rattle.c_answers.proofs.Statuses.{fit, Numbered, numbered, outcome-tells}
 use Rattle.c_levels.specs.Numbers.{depthNumbers}
-use Rattle.c_levels.specs.Status.{lastReason, StatusTells}
+use Rattle.c_levels.specs.Status.{lastReason, StatusMeans}
 
 -- of any call that answers G, C and R
-pub depth-tells : (last : ℕ) → last < shortAnswer → (answer : List ℕ) (said : Said Depths) → ((r : Reason) → said ≡ refused r → Numbered last r) → Tells last 5 (depthNumbers said) answer (isAccepted said)
+pub depth-tells : (last : ℕ) → last < shortAnswer → (answer : List ℕ) (outcome : Outcome Depths) → ((r : Reason) → outcome ≡ refused r → Numbered last r) → Tells last 5 (depthNumbers outcome) answer (isAccepted outcome)
 unfolding statusOf depthNumbers
-depth-tells last few answer said h = said-tells last few 5 depthNumbers answer (λ r. refl) (λ v. refl) said h
+depth-tells last few answer outcome h = outcome-tells last few 5 depthNumbers answer (λ r. refl) (λ v. refl) outcome h
 
-pub status-tells : StatusTells
+pub status-tells : StatusMeans
 unfolding fit
 status-tells =
     record {

@@ -9,5 +9,5 @@ use Rattle.c_levels.specs.Numbers.{depthAnswer, depthNumbers}
 abbrev pub lastReason : ℕ
 lastReason = 200
 
-pub record StatusTells : Type 0 where
+pub record StatusMeans : Type 0 where
   pub levels : (s : Shape) (table ls answer : List ℕ) → Tells lastReason depthAnswer (depthNumbers (levelsSaid s table ls)) answer (isAccepted (levelsSaid s table ls))

@@ -16,12 +16,12 @@ ghost use Rattle.c_levels.specs.Numbers.{depthAnswer, depthNumbers};
 pub const DEPTH_ANSWER: usize = 5;
 
 // The answer of a call by levels, and its status.
-pub fn put_depths(said: Answer, answer: &mut [usize]) -> usize
+pub fn put_depths(outcome: Answer, answer: &mut [usize]) -> usize
     requires { ⌜ depthAnswer ≤ length (now answer) ⌝ }
-    ensures { λ r. ⌜ r ≡ statusOf (depthNumbers (depthsSaid said)) ⌝ }
-    ensures { λ _. ⌜ now (answer .exit) ≡ depthNumbers (depthsSaid said) ++ drop depthAnswer (now (answer .entry)) ⌝ }
+    ensures { λ r. ⌜ r ≡ statusOf (depthNumbers (depthsSaid outcome)) ⌝ }
+    ensures { λ _. ⌜ now (answer .exit) ≡ depthNumbers (depthsSaid outcome) ++ drop depthAnswer (now (answer .entry)) ⌝ }
 {
-    match said {
+    match outcome {
         Answer::Accepted {
             gates,
             conditional,
@@ -61,6 +61,6 @@ pub extern "C" fn jugy_levels(
         grades,
         ballots,
     };
-    let said = levels::write::write(shape, table, levels);
-    put_depths(said, answer)
+    let outcome = levels::write::write(shape, table, levels);
+    put_depths(outcome, answer)
 }

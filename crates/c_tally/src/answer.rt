@@ -2,7 +2,6 @@
 use basics::byte::wide;
 use c_answers::array::put;
 use c_answers::array::put_eight;
-use jury::byte::wide;
 use jury::reason::Verdict;
 use tally::count::Counted;
 use tally::measure::Measured;

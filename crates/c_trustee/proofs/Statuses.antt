@@ -7,9 +7,9 @@ use Rattle.trustee_alone.specs.Finish.{finishSaid}
 use Rattle.trustee_alone.proofs.Memory.{start-number, round-number, finish-number}
 use Rattle.c_answers.proofs.Statuses.{fit, numbered, size-tells}
 use Rattle.c_levels.proofs.Statuses.{depth-tells}
-use Rattle.c_trustee.specs.Status.{StatusTells}
+use Rattle.c_trustee.specs.Status.{StatusMeans}
 
-pub status-tells : StatusTells
+pub status-tells : StatusMeans
 unfolding fit
 status-tells =
     record {

@@ -9,7 +9,7 @@ use Rattle.c_answers.specs.Numbers.{sizeAnswer, sizeNumbers}
 use Rattle.c_answers.specs.Status.{isAccepted, Tells}
 use Rattle.c_levels.specs.Numbers.{depthAnswer, depthNumbers}
 
-pub record StatusTells : Type 0 where
+pub record StatusMeans : Type 0 where
   pub start : (s : Shape) (table : List ℕ) (t p : ℕ) (parts dealt wireParts published answer : List ℕ)
       → Tells 18 sizeAnswer (sizeNumbers (startSaid s table t p parts dealt wireParts published)) answer (isAccepted (startSaid s table t p parts dealt wireParts published))
   pub round : (s : Shape) (table : List ℕ) (t p r : ℕ) (levels dealt heard wireParts published answer : List ℕ)

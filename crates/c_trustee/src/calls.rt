@@ -40,7 +40,7 @@ pub extern "C" fn jugy_trustee_start(
         grades,
         ballots,
     };
-    let said = trustee_alone::start::start(
+    let outcome = trustee_alone::start::start(
         shape,
         table,
         trustees,
@@ -50,7 +50,7 @@ pub extern "C" fn jugy_trustee_start(
         wires,
         published,
     );
-    put_size(said, answer)
+    put_size(outcome, answer)
 }
 
 // A round of a trustee: reason, place, G, C and R. It enters the parts of its level and publishes for the next.
@@ -83,7 +83,7 @@ pub extern "C" fn jugy_trustee_round(
         grades,
         ballots,
     };
-    let said = trustee_alone::round::round(
+    let outcome = trustee_alone::round::round(
         shape,
         table,
         trustees,
@@ -95,7 +95,7 @@ pub extern "C" fn jugy_trustee_round(
         wires,
         published,
     );
-    put_depths(said, answer)
+    put_depths(outcome, answer)
 }
 
 // A trustee finishes: reason, place, G and C. Its wire parts are zeros.
@@ -120,6 +120,6 @@ pub extern "C" fn jugy_trustee_finish(
         grades,
         ballots,
     };
-    let said = trustee_alone::finish::finish(shape, table, wires);
-    put_size(said, answer)
+    let outcome = trustee_alone::finish::finish(shape, table, wires);
+    put_size(outcome, answer)
 }

@@ -15,7 +15,7 @@ use Rattle.gates.specs.Gate.{gatesOf}
 use Rattle.gates.specs.Board.{conditionalCount}
 use Rattle.gates.proofs.Counting.{count-nil}
 use Rattle.jury.specs.Shape.{ballotBytes}
-use Rattle.jury.proofs.Cases.{below-or-not}
+use Rattle.basics.proofs.Cases.{below-or-not}
 use Rattle.jury.specs.Reason.{Reason, reasonAt, unless, firstOf}
 use Rattle.tally.specs.Run.{RunResult, runResultAfter}
 use Rattle.tally.proofs.RunReasons.{ran-by}

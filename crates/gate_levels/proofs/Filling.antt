@@ -3,16 +3,16 @@
 use mathlib.Core.Path.{_≡_, _∙_, refl, sym, ap, subst}
 use mathlib.Core.Bool.{Bool, true, false, cond, _&&_}
 use mathlib.Core.List.{List, [], _∷_, _++_}
-use Prim.Native.Nat.{ℕ, zero, suc, _+_, _-_, _*_, _≤_, _<_, max}
-use native.Mathlib.Nat.{add-zero, add-suc}
+use Prim.Native.Nat.{ℕ, suc, _+_, _-_, _*_, _≤_, _<_, max}
+use native.Mathlib.Nat.{add-suc}
 use native.Mathlib.Omega.{arith}
-use lib.Dec.{T, ltb, eqb}
-use lib.ListN.{length, getD, take, drop, set, length-append, drop-of-length-le}
+use lib.Dec.{ltb, eqb}
+use lib.ListN.{length, getD, take, drop, length-append, drop-of-length-le}
 use lib.Seq.{getD-take, take-all, length-take-le, getD-append-seam}
 use borrow.Author.Tests.{ltb-false, eqb-true, eq-eqb}
 use Rattle.gates.specs.Kind.{conditionalOf}
 use Rattle.gates.specs.Gate.{Gate, gatesOf}
-use Rattle.gates.specs.Step.{gateAt}
+use Rattle.gates.specs.inner.Step.{gateAt}
 use Rattle.gates.specs.Test.{firstBad}
 use Rattle.gates.specs.declared.place.Place.the-variants.{Nowhere}
 use Rattle.gates.proofs.Table.{length-gates, gates-from}
@@ -22,7 +22,6 @@ use Rattle.gates.proofs.Laws.{AllGood, all-good}
 use Rattle.gate_levels.specs.Levels.{wireLevel, gateLevel, levelsFrom, levelsOf, largest, roundsOf}
 use Rattle.gate_levels.specs.Inner.{LevelReady}
 use Rattle.gate_levels.specs.Compared.{sameNumbers, compared}
-use Rattle.gate_levels.specs.declared.level.Compared.{Compared}
 use Rattle.gate_levels.specs.declared.level.Compared.the-variants.{Own, Other}
 use Rattle.gate_levels.proofs.Laws.{Below, operands-below, levels-keep, gate-level-same, largest-most, largest-more, gate-most}
 

@@ -1,22 +1,22 @@
 -- What the layers above use of levels.
 -- Assumes nothing.
-use mathlib.Core.Path.{_≡_, _∙_, refl, sym, ap, subst}
+use mathlib.Core.Path.{_≡_, _∙_, refl, sym, subst}
 use mathlib.Core.Bool.{Bool, true, false, cond}
 use mathlib.Core.List.{List, [], _∷_, _++_}
 use Prim.Native.Nat.{ℕ, zero, suc, _+_, _-_, _≤_, _<_, max}
 use native.Mathlib.Nat.{add-zero, add-suc}
 use native.Mathlib.Omega.{arith}
 use lib.Dec.{T, ltb}
-use lib.ListN.{length, getD, take, drop, length-append, List·getD-append}
-use lib.Seq.{getD-append-seam, getD-take}
-use borrow.Author.Tests.{ltb-true, ltb-false, lt-ltb, le-ltb}
+use lib.ListN.{length, getD, length-append, List·getD-append}
+use lib.Seq.{getD-append-seam}
+use borrow.Author.Tests.{ltb-true, ltb-false}
 use Rattle.gates.specs.Kind.{operandsOf, conditionalOf}
 use Rattle.gates.specs.Gate.{Gate}
 use Rattle.gates.specs.Board.{conditionalCount}
 use Rattle.gates.specs.Test.{goodGate}
 use Rattle.gates.proofs.Goodness.{good-gate}
 use Rattle.gates.proofs.Reading.{good-unused}
-use Rattle.gates.proofs.Counting.{count-nil, count-cons, mark-at-most-one}
+use Rattle.gates.proofs.Counting.{count-cons}
 use Rattle.gates.proofs.Laws.{AllGood}
 use Rattle.gate_levels.specs.Levels.{wireLevel, gateLevel, levelsFrom, levelsOf, largest, roundsOf}
 

@@ -4,10 +4,9 @@ use mathlib.Core.List.{List}
 use Prim.Native.Nat.{ℕ, _+_, _*_, _≤_, _<_}
 use lib.ListN.{length, getD}
 use Rattle.gates.specs.Gate.{gatesOf}
-use Rattle.gates.specs.Step.{gateAt}
+use Rattle.gates.specs.inner.Step.{gateAt}
 use Rattle.gates.specs.Test.{firstBad}
 use Rattle.gates.specs.declared.place.Place.the-variants.{Nowhere}
-use Rattle.gate_levels.specs.Levels.{wireLevel}
 
 -- Gate g: its numbers are in the table, its operands name inputs or earlier gates, and no level before it is so large that one more would not fit.
 pub record LevelReady (inputs : ℕ) (table : List ℕ) (g : ℕ) (levels : List ℕ) : Type 0 where

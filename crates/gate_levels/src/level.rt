@@ -2,12 +2,11 @@
 // establishes.
 use gates::kind;
 ghost use mathlib.Core.Path.{_≡_};
-ghost use mathlib.Core.Bool.{cond};
 ghost use Prim.Native.Nat.{_+_, _*_, _<_, max};
-ghost use lib.ListN.{length, getD};
-ghost use Rattle.gates.specs.Kind.{conditionalMarks, conditionalOf};
+ghost use lib.ListN.{length};
+ghost use Rattle.gates.specs.Kind.{conditionalMarks};
 ghost use Rattle.gates.specs.Gate.{gatesOf};
-ghost use Rattle.gates.specs.Step.{gateAt};
+ghost use Rattle.gates.specs.inner.Step.{gateAt};
 ghost use Rattle.gate_levels.specs.Levels.{wireLevel, gateLevel, levelsOf, roundsOf};
 ghost use Rattle.gate_levels.specs.Inner.{LevelReady, LevelsReady};
 ghost use Rattle.gate_levels.specs.Compared.{compared};

@@ -1,18 +1,18 @@
 -- What adders spell.
 -- Assumes nothing.
-use mathlib.Core.Path.{_≡_, _∙_, sym, ap, subst}
+use mathlib.Core.Path.{_≡_, _∙_, ap, subst}
 use mathlib.Core.Logic.{⊎-elim}
-use mathlib.Core.List.{[], _∷_}
-use Prim.Native.Nat.{ℕ, zero, suc, _+_, _*_, _/_, _^_, _%_, _≤_, _<_}
-use native.Mathlib.Nat.{pow-succ', mul-add, mul-assoc, mul-left-comm, mul-le-mul-left, add-mul-mod-self-left, mod-eq-of-lt}
+use mathlib.Core.List.{[]}
+use Prim.Native.Nat.{ℕ, zero, suc, _+_, _*_, _^_, _%_, _≤_}
+use native.Mathlib.Nat.{pow-succ', mul-assoc}
 use native.Mathlib.Omega.{arith}
 use Rattle.gates.proofs.Laws.{Holds, holds-append, mux-zero, mux-one}
 use Rattle.gate_words.specs.Gates.{copyOf, notOf, andOf, orOf, xorOf, muxOf}
 use Rattle.gate_words.specs.Word.{number}
 use Rattle.gate_words.specs.Adder.{fullAdder, halfAdder, increment, addWords, addWithBit, topCarry}
-use Rattle.gate_words.proofs.Numbers.{Binary, bit-cases, number-less, number-more, number-top}
-use Rattle.gate_words.proofs.GateValues.{holds-first, holds-rest, holds-three, copy-is, not-is, and-is, or-is, xor-is}
-use Rattle.gate_words.proofs.WordSteps.{length-full, length-half, length-add}
+use Rattle.gate_words.proofs.Numbers.{Binary, bit-cases, number-more}
+use Rattle.gate_words.proofs.GateValues.{holds-three, copy-is, not-is, and-is, or-is, xor-is}
+use Rattle.gate_words.proofs.WordSteps.{length-full, length-half}
 
 -- three bits: x is the first two's sum modulo 2, t the sum modulo 2, and the carry is v where x is 1, s where it is 0
 full-sum : (s u v x t c : ℕ) → s ≤ 1 → u ≤ 1 → v ≤ 1 → x ≡ (s + u) % 2 → t ≡ (x + v) % 2 → (x ≡ 0 → c ≡ s) → (x ≡ 1 → c ≡ v) → t + 2 * c ≡ s + u + v

@@ -1,19 +1,16 @@
 -- What comparisons tell: for all widths at once. A wire up that says "above so far" counts as one unit more of the word.
 -- Assumes nothing.
 use mathlib.Core.Path.{_≡_, _∙_, sym, ap}
-use mathlib.Core.Bool.{cond}
 use mathlib.Core.Logic.{⊎-elim}
 use mathlib.Core.List.{[], _∷_}
-use Prim.Native.Nat.{ℕ, zero, suc, _+_, _/_, _^_, _%_, _≤_, _<_}
-use native.Mathlib.Nat.{pow-succ'}
+use Prim.Native.Nat.{ℕ, zero, suc, _+_, _%_, _≤_, _<_}
 use native.Mathlib.Omega.{arith}
-use lib.Dec.{eqb}
 use Rattle.gates.proofs.Laws.{Holds, mux-zero, mux-one}
 use Rattle.gate_words.specs.Gates.{andOf, xorOf, muxOf}
 use Rattle.gate_words.specs.Word.{number}
 use Rattle.gate_words.specs.Choice.{chainEnd}
 use Rattle.gate_words.specs.Comparison.{firstDigit, compareWords, upEnd, downEnd, differences, above}
-use Rattle.gate_words.proofs.Numbers.{Binary, bit-cases, number-none, number-more}
+use Rattle.gate_words.proofs.Numbers.{Binary, bit-cases, number-more}
 use Rattle.gate_words.proofs.GateValues.{valueOn, holds-first, holds-rest, holds-three, and-is, xor-is}
 use Rattle.gate_words.proofs.ChoiceSteps.{chain-next}
 

@@ -1,6 +1,5 @@
 -- Where a block's answer stands: one of its own wires, or the wire that was handed in where it has no gate.
 -- Assumes nothing.
-use mathlib.Core.Path.{_≡_, refl}
 use Prim.Native.Nat.{ℕ, zero, suc, _+_, _*_, _≤_, _<_}
 use native.Mathlib.Omega.{arith}
 use Rattle.gate_words.specs.Adder.{topCarry}

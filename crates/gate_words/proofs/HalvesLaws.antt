@@ -8,13 +8,13 @@ use native.Mathlib.Nat.{add-zero, zero-add, suc-add, mul-suc, mul-le-mul-left}
 use native.Mathlib.Omega.{arith}
 use lib.ListN.{length, length-append}
 use Rattle.gates.specs.Gate.{Gate}
-use Rattle.gates.proofs.Laws.{Holds, AllGood, good-append, holds-append, mux-zero, mux-one}
+use Rattle.gates.proofs.Laws.{Holds, AllGood, holds-append, mux-zero, mux-one}
 use Rattle.gate_words.specs.Gates.{andOf, orOf, xorOf, muxOf}
 use Rattle.gate_words.specs.Word.{ones, number, Below}
 use Rattle.gate_words.specs.Choice.{anyOf, chainEnd}
 use Rattle.gate_words.specs.Comparison.{differences, above}
 use Rattle.gate_words.specs.Halves.{anyOfHalves, unequalHalves, unequalSpan, unequalAt, aboveHalves, highUnequalAt, compareHalves, compareSpan, aboveAt, compareBothWays, unequalCut, compareCut}
-use Rattle.gate_words.proofs.Numbers.{Binary, bit-cases, number-none, number-more, number-split, number-less, ones-none, ones-more}
+use Rattle.gate_words.proofs.Numbers.{Binary, number-none, number-more, number-split, number-less, ones-none, ones-more}
 use Rattle.gate_words.proofs.GateValues.{holds-first, holds-rest, and-is, or-is, xor-is}
 use Rattle.gate_words.proofs.ChoiceLaws.{any-one, any-zero}
 use Rattle.gate_words.proofs.ChoiceSteps.{length-chain}

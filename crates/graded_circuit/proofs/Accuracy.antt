@@ -3,11 +3,10 @@
 use mathlib.Core.Path.{_≡_, _∙_, refl, sym, ap, subst}
 use mathlib.Core.Bool.{Bool, true, false, cond}
 use mathlib.Core.Logic.{_⊎_, inl, inr, ⊎-elim}
-use mathlib.Core.List.{List, [], _∷_, _++_}
-use Prim.Native.Nat.{ℕ, zero, suc, _+_, _-_, _*_, _/_, _^_, _≤_, _<_}
+use mathlib.Core.List.{List, [], _∷_}
+use Prim.Native.Nat.{ℕ, suc, _+_, _-_, _≤_, _<_}
 use native.Mathlib.Omega.{arith}
-use lib.Dec.{eqb}
-use lib.ListN.{length, getD, take}
+use lib.ListN.{length, getD}
 use lib.Seq.{ext-getD}
 use borrow.Author.Tests.{eq-eqb, ne-eqb}
 use Rattle.gates.specs.Gate.{Gate}
@@ -16,7 +15,6 @@ use Rattle.gates.proofs.Laws.{AllGood, Holds, wires-hold, wires-bits, wire-bit,
 use Rattle.gates.proofs.WireLaws.{length-wires}
 use Rattle.jury.specs.declared.shape.Shape.{Shape}
 use Rattle.jury.specs.Shape.{gradedLimits, ballotBytes}
-use Rattle.basics.specs.Lists.{sum}
 use Rattle.jury.specs.Counts.{countsOf, countOf}
 use Rattle.rule_judgment.specs.Median.{medianOf}
 use Rattle.jury.specs.Accepted.{GradedBallots}
@@ -26,7 +24,7 @@ use Rattle.basics.proofs.Tabulate.{length-tabulate}
 use Rattle.jury.proofs.CountFacts.{counts-length, counts-row, counts-at, counts-sum}
 use Rattle.rule_judgment.proofs.RunningSums.{running-start, running-next}
 use Rattle.rule_judgment.specs.Judgment.{sequenceOf, precedes, judgmentOf}
-use Rattle.rule_judgment.proofs.Statements.{running, Precedes}
+use Rattle.rule_judgment.proofs.Statements.{Precedes}
 use Rattle.rule_judgment.proofs.Order.{precedes-self, precedes-one-way}
 use Rattle.rule_judgment.proofs.Winners.{Unpreceded, judgment-length, byte-one, byte-zero}
 use Rattle.gate_words.specs.Gates.{constant}

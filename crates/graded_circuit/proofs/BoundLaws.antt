@@ -1,27 +1,24 @@
 -- The own list keeps the bound on the number of gates.
 -- Assumes nothing.
-use mathlib.Core.Path.{_≡_, _∙_, refl, sym, ap, subst}
+use mathlib.Core.Path.{_≡_, _∙_, sym, ap}
 use mathlib.Core.Logic.{⊎-elim}
-use mathlib.Core.List.{List}
 use Prim.Native.Nat.{ℕ, zero, suc, _+_, _-_, _*_, _/_, _^_, _≤_, _<_}
-use native.Mathlib.Nat.{pow-succ', suc-mul, zero-mul, add-mul, mul-comm, mul-assoc, mul-add, mul-le-mul, mul-le-mul-left, mul-le-mul-right}
+use native.Mathlib.Nat.{pow-succ', suc-mul, add-mul, mul-comm, mul-assoc, mul-add, mul-le-mul, mul-le-mul-left, mul-le-mul-right}
 use native.Mathlib.Omega.{arith}
 use lib.ListN.{length}
 use lib.Pow.{pow-mono}
 use Rattle.basics.proofs.Cases.{below-or-not}
-use Rattle.gate_words.specs.Counter.{countSize, addSize}
+use Rattle.gate_words.specs.Counter.{countSize}
 use Rattle.gate_words.proofs.CounterSteps.{count-size-most, add-size-most}
 use Rattle.graded_circuit.specs.declared.plan.Plan.{Plan}
 use Rattle.graded_circuit.specs.Plan.{Planned}
 use Rattle.graded_circuit.specs.Bound.{boundOf}
 use Rattle.graded_circuit.specs.RunningSums.{wordSpan, middleSpan, lastSpan, laterSpan}
 use Rattle.graded_circuit.specs.Key.{keySpan, candidateSpan}
-use Rattle.gate_words.specs.Reach.{reachLast}
 use Rattle.gate_words.proofs.ReachLaws.{reach-last-most}
 use Rattle.graded_circuit.specs.Median.{medianSize}
 use Rattle.graded_circuit.specs.Nearest.{sideSpan, eitherSpan}
-use Rattle.graded_circuit.specs.Outward.{outwardSpan}
-use Rattle.graded_circuit.specs.Contest.{lowerSpan, medianSpan, contestSpan}
+use Rattle.graded_circuit.specs.Contest.{lowerSpan}
 use Rattle.graded_circuit.specs.Merge.{mergeSpan}
 use Rattle.graded_circuit.specs.OwnList.{levelsSpan, lowLevels, circuit}
 use Rattle.graded_circuit.proofs.CandidateBlocks.{middle-span, last-span, candidate-span}

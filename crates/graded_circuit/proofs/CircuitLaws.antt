@@ -1,8 +1,7 @@
 -- The circuit of a plan is well-formed, and its last wires tell who is as good as the best candidate.
 -- Assumes nothing.
-use mathlib.Core.Path.{_≡_, _∙_, refl, sym, ap, subst}
-use mathlib.Core.List.{List, [], _∷_, _++_}
-use Prim.Native.Nat.{ℕ, zero, suc, _+_, _-_, _*_, _/_, _^_, _≤_, _<_}
+use mathlib.Core.Path.{_≡_, refl, sym, subst}
+use Prim.Native.Nat.{ℕ, suc, _+_, _-_, _*_, _/_, _<_}
 use native.Mathlib.Nat.{zero-add}
 use native.Mathlib.Omega.{arith}
 use lib.ListN.{length}
@@ -12,10 +11,10 @@ use Rattle.gate_words.proofs.Numbers.{Binary}
 use Rattle.graded_circuit.specs.declared.plan.Plan.{Plan}
 use Rattle.graded_circuit.specs.Plan.{Planned, bitsAt, apart}
 use Rattle.graded_circuit.specs.Key.{candidateSpan}
-use Rattle.graded_circuit.specs.Contest.{contestSpan, resultAt}
+use Rattle.graded_circuit.specs.Contest.{resultAt}
 use Rattle.graded_circuit.specs.Merge.{mergeSpan, wonAt}
 use Rattle.graded_circuit.specs.OwnList.{candidates, keyAt, levelsSpan, otherAt, mergeAt, halvesMerge, bestKey, groupWon, levels, lowLevels, levelsAt, circuit}
-use Rattle.graded_circuit.proofs.Blocks.{Block, both-block, sized}
+use Rattle.graded_circuit.proofs.Blocks.{Block, both-block}
 use Rattle.graded_circuit.proofs.Cutting.{cut4}
 use Rattle.graded_circuit.proofs.SumLaws.{Sums, Spells, candidate-law}
 use Rattle.graded_circuit.proofs.MergeLaws.{Rule, Standing, Group, Joined}

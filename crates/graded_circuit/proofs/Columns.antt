@@ -1,11 +1,11 @@
 -- The bits that a grade's counter counts are the ones of its column.
 -- Assumes nothing.
-use mathlib.Core.Path.{_≡_, _∙_, refl, sym, ap}
+use mathlib.Core.Path.{_≡_, _∙_, sym, ap}
 use mathlib.Core.List.{List}
 use Prim.Native.Nat.{ℕ, zero, suc, _+_, _*_, _<_}
-use native.Mathlib.Nat.{add-zero, zero-mul, suc-mul, add-mul, mul-assoc}
+use native.Mathlib.Nat.{zero-mul, suc-mul, add-mul, mul-assoc}
 use native.Mathlib.Omega.{arith}
-use lib.ListN.{length, getD}
+use lib.ListN.{getD}
 use Rattle.gates.specs.Wires.{wire, wiresOf}
 use Rattle.gates.specs.Gate.{Gate}
 use Rattle.gates.proofs.Laws.{wires-start}

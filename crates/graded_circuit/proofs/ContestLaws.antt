@@ -1,28 +1,27 @@
 -- A contest of two keys is well-formed, and tells which comes first.
 -- Assumes nothing.
 use mathlib.Core.Path.{_≡_, _∙_, refl, sym, ap, subst}
-use mathlib.Core.Logic.{_⊎_, inl, inr, ⊎-elim, _≢_}
-use mathlib.Core.List.{List, [], _∷_, _++_}
-use Prim.Native.Nat.{ℕ, zero, suc, _+_, _-_, _*_, _/_, _%_, _^_, _≤_, _<_, max}
+use mathlib.Core.Logic.{_⊎_, inl, inr, ⊎-elim}
+use mathlib.Core.List.{[], _∷_}
+use Prim.Native.Nat.{ℕ, zero, suc, _+_, _-_, _*_, _%_, _^_, _≤_, _<_}
 use native.Mathlib.Nat.{pow-succ', suc-mul, zero-mul, add-zero}
 use native.Mathlib.Omega.{arith}
-use lib.ListN.{length}
 use Rattle.gates.proofs.Laws.{Holds, mux-zero, mux-one}
-use Rattle.jury.proofs.Cases.{below-or-not}
+use Rattle.basics.proofs.Cases.{below-or-not}
 use Rattle.gate_words.specs.Gates.{copyOf, orOf, muxOf}
 use Rattle.gate_words.specs.Halves.{unequalSpan, unequalAt, compareCut, compareSpan, aboveAt}
 use Rattle.gate_words.specs.Word.{number}
-use Rattle.gate_words.proofs.Numbers.{Binary, bit-cases}
+use Rattle.gate_words.proofs.Numbers.{Binary}
 use Rattle.gate_words.proofs.GateValues.{holds-first, holds-rest, copy-is, or-is}
 use Rattle.gate_words.proofs.Ends.{chain-below}
-use Rattle.gate_words.proofs.HalvesLaws.{Tells, compare-cut-law}
+use Rattle.gate_words.proofs.HalvesLaws.{compare-cut-law}
 use Rattle.graded_circuit.specs.declared.plan.Plan.{Plan}
 use Rattle.graded_circuit.specs.Plan.{Planned}
 use Rattle.graded_circuit.specs.RunningSums.{wordSpan}
-use Rattle.graded_circuit.specs.Key.{keySpan, lowAt, worseAt}
-use Rattle.graded_circuit.specs.Median.{Fits, median, medianSize}
+use Rattle.graded_circuit.specs.Key.{keySpan}
+use Rattle.graded_circuit.specs.Median.{Fits, median}
 use Rattle.graded_circuit.specs.Nearest.{stride}
-use Rattle.graded_circuit.specs.Outward.{resolveAt, outwardSpan}
+use Rattle.graded_circuit.specs.Outward.{resolveAt}
 use Rattle.graded_circuit.specs.Contest.{lower, lowerSpan, medianSpan, rightMedian, leftMedian, mediansAt, lowerAt, resultAt, contest, contestSpan}
 use Rattle.graded_circuit.proofs.Blocks.{Block, none-block, both-block, sized, gate-block, compare-block, copy-good, or-good, mux-good}
 use Rattle.graded_circuit.proofs.Cutting.{cut2, cut4}

@@ -1,6 +1,6 @@
 -- The wires of a row of blocks: those of each block, from its own place on.
 -- Assumes nothing.
-use mathlib.Core.Path.{_≡_, _∙_, ap, subst}
+use mathlib.Core.Path.{_≡_, subst}
 use mathlib.Core.List.{List, _++_}
 use Prim.Native.Nat.{ℕ, _+_}
 use native.Mathlib.Omega.{arith}

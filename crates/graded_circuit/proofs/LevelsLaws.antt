@@ -1,15 +1,11 @@
 -- The levels of merges are well-formed, and find the best of their candidates.
 -- Assumes nothing.
 use mathlib.Core.Path.{_≡_, _∙_, refl, sym, ap, subst}
-use mathlib.Core.Bool.{Bool, true, false, cond}
-use mathlib.Core.Logic.{_⊎_, inl, inr, ⊎-elim}
-use mathlib.Core.List.{List, [], _∷_, _++_}
+use mathlib.Core.Logic.{_⊎_, inl, ⊎-elim}
+use mathlib.Core.List.{List, [], _++_}
 use Prim.Native.Nat.{ℕ, zero, suc, _+_, _-_, _*_, _/_, _^_, _≤_, _<_}
 use native.Mathlib.Nat.{pow-succ', suc-mul, zero-mul, add-zero, mul-le-mul-right}
-use native.Mathlib.Numerals.{add-one}
 use native.Mathlib.Omega.{arith}
-use lib.Dec.{leb}
-use lib.ListN.{length}
 use borrow.Author.Tests.{le-leb, lt-leb}
 use Rattle.gates.specs.Gate.{Gate}
 use Rattle.gates.proofs.Laws.{Holds}
@@ -17,16 +13,15 @@ use Rattle.basics.proofs.Cases.{below-or-not}
 use Rattle.gate_words.proofs.Numbers.{Binary}
 use Rattle.graded_circuit.specs.declared.plan.Plan.{Plan}
 use Rattle.graded_circuit.specs.Plan.{Planned}
-use Rattle.graded_circuit.specs.Key.{candidate, keyOf, keySpan, candidateSpan}
-use Rattle.graded_circuit.specs.Contest.{resultAt, contestSpan}
-use Rattle.graded_circuit.specs.Merge.{merge, mergeSpan, wonAt, better}
-use Rattle.graded_circuit.specs.OwnList.{candidates, keyAt, levelsSpan, bestKey, groupWon, otherAt, mergeAt, halvesMerge, halvesBetter, levels, lowLevels, levelsAt, circuit}
+use Rattle.graded_circuit.specs.Key.{candidate, keySpan, candidateSpan}
+use Rattle.graded_circuit.specs.Contest.{resultAt}
+use Rattle.graded_circuit.specs.Merge.{merge, mergeSpan, wonAt}
+use Rattle.graded_circuit.specs.OwnList.{candidates, keyAt, levelsSpan, bestKey, groupWon, otherAt, mergeAt, halvesMerge, halvesBetter, levels, levelsAt}
 use Rattle.graded_circuit.proofs.Blocks.{Block, none-block, both-block, sized}
 use Rattle.graded_circuit.proofs.Cutting.{cut2, cut4}
 use Rattle.graded_circuit.proofs.CandidateBlocks.{candidate-block, key-of}
 use Rattle.graded_circuit.proofs.SumLaws.{Sums, Spells}
-use Rattle.graded_circuit.proofs.ContestLaws.{key-some}
-use Rattle.graded_circuit.proofs.MergeLaws.{merge-block, better-block, better-one, better-zero, wonBit, won-bit, won-alone, Same, Rule, Standing, Group, Joined, merge-law}
+use Rattle.graded_circuit.proofs.MergeLaws.{merge-block, better-block, better-one, better-zero, wonBit, won-bit, won-alone, Rule, Standing, Group, Joined, merge-law}
 
 -- one candidate alone, or two halves
 module _ (p : Plan) (r m : ℕ) where

@@ -1,16 +1,12 @@
 -- What the number of a median grade spells: how many of the wires are 1, where just the first ones are.
 -- Assumes nothing.
-use mathlib.Core.Path.{_≡_, _∙_, refl, sym, ap, subst}
-use mathlib.Core.Logic.{⊎-elim}
-use mathlib.Core.List.{List, [], _∷_, _++_}
+use mathlib.Core.Path.{_≡_, _∙_, refl, ap}
 use Prim.Native.Nat.{ℕ, zero, suc, _+_, _-_, _*_, _/_, _%_, _^_, _≤_, _<_}
-use native.Mathlib.Nat.{pow-succ', suc-mul, zero-mul, add-mul, mul-add, add-zero}
-use native.Mathlib.Numerals.{add-one}
+use native.Mathlib.Nat.{pow-succ', suc-mul, zero-mul, add-mul, mul-add}
 use native.Mathlib.Omega.{arith}
-use lib.ListN.{length, length-append}
 use Rattle.gates.proofs.Laws.{Holds}
 use Rattle.gate_words.specs.Gates.{copyOf}
-use Rattle.gate_words.specs.Word.{ones, number, Below}
+use Rattle.gate_words.specs.Word.{ones, number}
 use Rattle.gate_words.specs.Choice.{parity, chainEnd}
 use Rattle.gate_words.proofs.Numbers.{Binary, number-none, number-more, ones-none, ones-more}
 use Rattle.gate_words.proofs.GateValues.{holds-first, holds-rest, copy-is}
@@ -18,7 +14,7 @@ use Rattle.gate_words.proofs.ChoiceSteps.{length-chain}
 use Rattle.gate_words.proofs.CounterLaws.{parity-law}
 use Rattle.gate_words.proofs.Ends.{chain-below}
 use Rattle.graded_circuit.specs.Median.{Fits, medianLevels, medianDigits, medianSize, median}
-use Rattle.graded_circuit.proofs.Blocks.{Block, none-block, both-block, sized, gate-block, parity-block, copy-good}
+use Rattle.graded_circuit.proofs.Blocks.{Block, none-block, both-block, gate-block, parity-block, copy-good}
 use Rattle.graded_circuit.proofs.PlanFacts.{all-below}
 use Rattle.graded_circuit.proofs.Cutting.{cut2}
 

@@ -1,14 +1,13 @@
 -- Two groups of candidates are merged: who is best of both, and who is as good as that.
 -- Assumes nothing.
 use mathlib.Core.Path.{_≡_, _∙_, refl, sym, ap, subst}
-use mathlib.Core.Logic.{_⊎_, inl, inr, ⊎-elim, _≢_}
+use mathlib.Core.Logic.{_⊎_, inl, inr, ⊎-elim}
 use mathlib.Core.Bool.{Bool, true, false, cond}
-use mathlib.Core.List.{List, [], _∷_, _++_}
+use mathlib.Core.List.{[], _∷_}
 use Prim.Native.Nat.{ℕ, zero, suc, _+_, _-_, _*_, _/_, _%_, _≤_, _<_, min}
 use native.Mathlib.Nat.{suc-mul, add-zero, mul-le-mul-right}
 use native.Mathlib.Omega.{arith}
 use lib.Dec.{leb}
-use lib.ListN.{length}
 use Rattle.gates.proofs.Laws.{Holds, mux-zero, mux-one}
 use Rattle.basics.proofs.Cases.{below-or-not}
 use Rattle.gate_words.specs.Gates.{copyOf, notOf, andOf, xorOf, muxOf}
@@ -20,11 +19,11 @@ use Rattle.graded_circuit.specs.declared.plan.Plan.{Plan}
 use Rattle.graded_circuit.specs.Plan.{Planned}
 use Rattle.graded_circuit.specs.RunningSums.{wordSpan}
 use Rattle.graded_circuit.specs.Key.{keySpan, lowAt}
-use Rattle.graded_circuit.specs.Contest.{contest, contestSpan, resultAt}
-use Rattle.graded_circuit.specs.Merge.{bothOf, stillWon, verdict, verdictAt, highDigits, leftStays, rightStays, wonAt, merge, mergeSpan, better}
-use Rattle.graded_circuit.proofs.Blocks.{Block, none-block, both-block, sized, gate-block, choose-block, copy-good, not-good, and-good, xor-good}
+use Rattle.graded_circuit.specs.Contest.{contest, resultAt}
+use Rattle.graded_circuit.specs.Merge.{bothOf, stillWon, verdict, highDigits, leftStays, rightStays, wonAt, merge, mergeSpan, better}
+use Rattle.graded_circuit.proofs.Blocks.{Block, none-block, both-block, gate-block, choose-block, copy-good, not-good, and-good, xor-good}
 use Rattle.graded_circuit.proofs.Cutting.{cut4}
-use Rattle.graded_circuit.proofs.SumLaws.{Sums, Word, Spells}
+use Rattle.graded_circuit.proofs.SumLaws.{Sums, Spells}
 use Rattle.graded_circuit.proofs.OutwardLaws.{Ahead, Outcome}
 use Rattle.graded_circuit.proofs.ContestLaws.{Leaves, contest-block, contest-law}
 

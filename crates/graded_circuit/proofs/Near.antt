@@ -1,10 +1,10 @@
 -- Two rows of sums with the same median: the two nearest differences decide which row comes first. About numbers only.
 -- Assumes nothing.
-use mathlib.Core.Path.{_≡_, _∙_, refl, sym, ap, subst}
+use mathlib.Core.Path.{_≡_, sym, ap}
 use mathlib.Core.Logic.{_⊎_, ⊎-elim, _≢_}
-use Prim.Native.Nat.{ℕ, zero, suc, _+_, _-_, _*_, _≤_, _<_}
+use Prim.Native.Nat.{ℕ, suc, _+_, _-_, _≤_, _<_}
 use native.Mathlib.Omega.{arith}
-use Rattle.basics.proofs.Cases.{below-or-not, same-or-not}
+use Rattle.basics.proofs.Cases.{below-or-not}
 use Rattle.graded_circuit.proofs.SumLaws.{Sums}
 
 -- Of t + 2 grades, `down` is the last one below the median at which the sums differ, or the best grade; `up` the first one from the median on, or the last grade.

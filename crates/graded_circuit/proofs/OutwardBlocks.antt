@@ -1,13 +1,12 @@
 -- The comparison of two keys with equal medians is well-formed.
 -- Assumes nothing.
-use mathlib.Core.Path.{_≡_, _∙_, refl, sym, ap, subst}
-use mathlib.Core.List.{List, [], _∷_, _++_}
-use Prim.Native.Nat.{ℕ, zero, suc, _+_, _-_, _*_, _/_, _%_, _≤_, _<_}
+use mathlib.Core.Path.{_≡_, refl}
+use Prim.Native.Nat.{ℕ, zero, suc, _+_, _-_, _*_, _≤_, _<_}
 use native.Mathlib.Nat.{suc-mul}
 use native.Mathlib.Omega.{arith}
 use Rattle.gate_words.proofs.Ends.{chain-below}
 use Rattle.gate_words.specs.Halves.{unequalSpan, unequalAt, compareSpan, aboveAt}
-use Rattle.gate_words.specs.Reach.{reachLast, reachSpan}
+use Rattle.gate_words.specs.Reach.{reachSpan}
 use Rattle.graded_circuit.specs.Nearest.{stride, sideSpan, belowAt, fromAt, eitherSpan}
 use Rattle.graded_circuit.specs.Outward.{downAt, upAt, nearestEnd, farAt, nearest, downLeft, downRight, upLeft, upRight, chosenHigh, compareAndReach, compareAndReachSpan, leftCarry, rightCarry, resolve, resolveSpan, resolveAt, outward, outwardSpan}
 use Rattle.graded_circuit.proofs.Blocks.{Block, none-block, both-block, sized, gate-block, compare-block, reach-block, not-good, and-good, or-good, xor-good, mux-good}

@@ -1,27 +1,25 @@
 -- Which of two keys with equal medians comes first, as the wires tell it.
 -- Assumes nothing.
-use mathlib.Core.Path.{_≡_, _∙_, refl, sym, ap, subst}
+use mathlib.Core.Path.{_≡_, _∙_, sym, ap, subst}
 use mathlib.Core.Logic.{_⊎_, inl, inr, ⊎-elim, _≢_}
-use mathlib.Core.List.{List, [], _∷_, _++_}
-use Prim.Native.Nat.{ℕ, zero, suc, _+_, _-_, _*_, _/_, _%_, _^_, _≤_, _<_, min, max}
-use native.Mathlib.Nat.{pow-succ', suc-mul, zero-mul, mul-assoc, mul-zero, mul-one, zero-add}
+use mathlib.Core.List.{[], _∷_}
+use Prim.Native.Nat.{ℕ, zero, suc, _+_, _-_, _*_, _%_, _^_, _≤_, _<_, min, max}
+use native.Mathlib.Nat.{suc-mul, zero-mul}
 use native.Mathlib.Omega.{arith}
-use lib.ListN.{length}
-use Rattle.gates.proofs.Laws.{Holds, holds-append, mux-zero, mux-one}
-use Rattle.jury.proofs.Cases.{below-or-not, same-or-not}
+use Rattle.gates.proofs.Laws.{Holds, mux-zero, mux-one}
+use Rattle.basics.proofs.Cases.{below-or-not}
 use Rattle.gate_words.specs.Gates.{notOf, andOf, orOf, xorOf, muxOf}
-use Rattle.gate_words.specs.Word.{number}
-use Rattle.gate_words.specs.Halves.{unequalSpan, unequalAt, compareCut, compareSpan, aboveAt}
+use Rattle.gate_words.specs.Halves.{unequalAt, compareCut, compareSpan, aboveAt}
 use Rattle.gate_words.specs.Reach.{reach, reachLast, reachSpan}
-use Rattle.gate_words.proofs.Numbers.{Binary, bit-cases, number-less, number-more}
-use Rattle.gate_words.proofs.GateValues.{valueOn, holds-first, holds-rest, holds-three, not-is, and-is, or-is, xor-is}
+use Rattle.gate_words.proofs.Numbers.{Binary, bit-cases}
+use Rattle.gate_words.proofs.GateValues.{valueOn, holds-first, holds-three, not-is, and-is, or-is, xor-is}
 use Rattle.gate_words.proofs.HalvesLaws.{Tells, compare-cut-law}
 use Rattle.gate_words.proofs.ReachLaws.{Reaches, length-reach, reach-law}
 use Rattle.graded_circuit.specs.declared.plan.Plan.{Plan}
 use Rattle.graded_circuit.specs.Plan.{Planned}
-use Rattle.graded_circuit.specs.Nearest.{stride, sides, sideSpan, belowAt, fromAt, lastOf, firstOf, eitherSpan, leftEnd, rightEnd}
-use Rattle.graded_circuit.specs.Outward.{downAt, upAt, nearestEnd, farAt, nearest, downLeft, downRight, upLeft, upRight, chosenHigh, compareAndReach, compareAndReachSpan, leftCarry, rightCarry, resolve, resolveSpan, resolveAt, outward, outwardSpan}
-use Rattle.graded_circuit.proofs.Cutting.{cut2, cut3, cut4}
+use Rattle.graded_circuit.specs.Nearest.{stride, sides, sideSpan, belowAt, fromAt, lastOf, firstOf}
+use Rattle.graded_circuit.specs.Outward.{downAt, upAt, nearestEnd, farAt, nearest, downLeft, downRight, upLeft, upRight, chosenHigh, compareAndReach, leftCarry, rightCarry, resolve, resolveAt, outward}
+use Rattle.graded_circuit.proofs.Cutting.{cut3, cut4}
 use Rattle.graded_circuit.proofs.Blocks.{compare-block}
 use Rattle.graded_circuit.proofs.SumLaws.{Sums, Word, Spells}
 use Rattle.graded_circuit.proofs.NearestLaws.{Side, sides-block, last-of-block, sides-law, spelled, flagAt, wordOf, Absent, LastAt, FirstAt, last-of-law, first-of-law}

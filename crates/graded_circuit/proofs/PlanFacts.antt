@@ -1,7 +1,6 @@
 -- What follows for a plan: its bits are inputs, and both counts fit their digits.
 -- Assumes nothing.
-use mathlib.Core.Path.{_≡_, _∙_, sym, ap}
-use Prim.Native.Nat.{ℕ, zero, suc, _+_, _-_, _*_, _/_, _^_, _≤_, _<_}
+use Prim.Native.Nat.{ℕ, zero, suc, _+_, _-_, _*_, _≤_, _<_}
 use native.Mathlib.Nat.{pow-succ', mul-assoc, suc-mul, mul-le-mul-right}
 use native.Mathlib.Omega.{arith}
 use Rattle.gate_words.specs.Word.{Below}

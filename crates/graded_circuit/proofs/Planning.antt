@@ -1,14 +1,14 @@
 -- A shape within its limits has a plan.
 -- Assumes nothing.
-use mathlib.Core.Path.{_≡_, _∙_, refl, sym, ap, subst}
+use mathlib.Core.Path.{_≡_, sym, subst}
 use mathlib.Core.Bool.{true}
-use Prim.Native.Nat.{ℕ, suc, _+_, _-_, _*_, _/_, _^_, _≤_, _<_}
+use Prim.Native.Nat.{ℕ, suc, _+_, _-_, _/_, _^_, _≤_, _<_}
 use native.Mathlib.Nat.{pow-succ'}
 use native.Mathlib.Omega.{arith}
 use Rattle.jury.specs.declared.shape.Shape.{Shape}
 use Rattle.jury.specs.Shape.{gradedLimits}
 use Rattle.jury.specs.Width.{widthOf}
-use Rattle.jury.proofs.Limits.{Within, within, bytes-are}
+use Rattle.jury.proofs.Limits.{within, bytes-are}
 use Rattle.jury.proofs.WidthLaws.{width-half, below-width, least-width}
 use Rattle.graded_circuit.specs.Plan.{planOf, Planned}
 

@@ -1,12 +1,12 @@
 -- The order of candidates by full majority judgment is one that the circuit can rest on.
 -- Assumes nothing.
-use mathlib.Core.Path.{_≡_, _∙_, refl, sym, ap, subst}
-use mathlib.Core.Bool.{Bool, true, false}
-use mathlib.Core.Logic.{_⊎_, inl, inr, ⊎-elim}
-use mathlib.Core.List.{List, []}
-use Prim.Native.Nat.{ℕ, zero, suc, _+_, _-_, _*_, _≤_, _<_}
+use mathlib.Core.Path.{_≡_, _∙_, sym, ap, subst}
+use mathlib.Core.Bool.{true}
+use mathlib.Core.Logic.{_⊎_, ⊎-elim}
+use mathlib.Core.List.{List}
+use Prim.Native.Nat.{ℕ, zero, suc, _+_, _-_, _≤_, _<_}
 use native.Mathlib.Omega.{arith}
-use lib.ListN.{length, getD, take}
+use lib.ListN.{length}
 use lib.Seq.{ext-getD}
 use Rattle.basics.specs.Lists.{sum}
 use Rattle.rule_judgment.specs.Median.{medianOf}
@@ -14,11 +14,10 @@ use Rattle.basics.proofs.Cases.{below-or-not}
 use Rattle.rule_judgment.proofs.MedianFacts.{median-passed, median-reached}
 use Rattle.rule_judgment.proofs.RunningSums.{running-start, running-next, running-most, running-grows, running-whole, from-median}
 use Rattle.rule_judgment.specs.Judgment.{sequenceOf, precedes}
-use Rattle.rule_judgment.proofs.Statements.{running, Precedes, Alike}
+use Rattle.rule_judgment.proofs.Statements.{running, Precedes}
 use Rattle.rule_judgment.proofs.Order.{precedes-trans}
 use Rattle.rule_judgment.proofs.SumRule.{sum-rule}
 use Rattle.graded_circuit.proofs.SumLaws.{Sums}
-use Rattle.graded_circuit.proofs.Near.{Decides}
 use Rattle.graded_circuit.proofs.OutwardLaws.{Ahead}
 use Rattle.graded_circuit.proofs.MergeLaws.{Same, Rule}
 

@@ -2,12 +2,11 @@
 -- Assumes nothing.
 use mathlib.Core.Path.{_≡_, _∙_, refl, sym, ap, subst}
 use mathlib.Core.Logic.{⊎-elim}
-use mathlib.Core.List.{List, [], _∷_, _++_}
-use Prim.Native.Nat.{ℕ, zero, suc, _+_, _-_, _*_, _/_, _%_, _^_, _≤_, _<_}
+use mathlib.Core.List.{[], _∷_}
+use Prim.Native.Nat.{ℕ, zero, suc, _+_, _-_, _*_, _/_, _^_, _≤_, _<_}
 use native.Mathlib.Nat.{pow-succ', suc-mul, mul-one, mul-zero, zero-mul, zero-add, add-zero}
 use native.Mathlib.Numerals.{add-one}
 use native.Mathlib.Omega.{arith}
-use lib.ListN.{length}
 use Rattle.gates.proofs.Laws.{Holds}
 use Rattle.gate_words.specs.Gates.{notOf}
 use Rattle.gate_words.specs.Word.{ones, number}
@@ -22,7 +21,7 @@ use Rattle.gate_words.proofs.CounterLaws.{counter-law, accumulator-law}
 use Rattle.graded_circuit.specs.declared.plan.Plan.{Plan}
 use Rattle.graded_circuit.specs.Plan.{Planned, bitsAt, apart}
 use Rattle.graded_circuit.specs.RunningSums.{wordSpan, firstSum, firstGrade, middleSpan, middleGrade, middleGrades, lastSpan, lastGrade, laterGrades, laterSpan}
-use Rattle.graded_circuit.specs.Key.{keyWord, keyWords, candidate, keyOf, lowAt, worseAt}
+use Rattle.graded_circuit.specs.Key.{keyWord, keyWords, candidate, keyOf, lowAt}
 use Rattle.graded_circuit.proofs.PlanFacts.{first-countable, worst-countable}
 use Rattle.basics.proofs.Cases.{below-or-not}
 use Rattle.graded_circuit.proofs.Cutting.{cut2, cut4}

@@ -1,7 +1,7 @@
 -- Two groups of candidates are merged, each with the key of its best candidate and, for more than one, a wire a candidate that says who is as good as that.
 use mathlib.Core.Bool.{cond}
 use mathlib.Core.List.{List, [], _∷_, _++_}
-use Prim.Native.Nat.{ℕ, zero, suc, _+_, _-_, _*_, _/_}
+use Prim.Native.Nat.{ℕ, zero, suc, _+_, _/_}
 use lib.Dec.{leb}
 use Rattle.gates.specs.Gate.{Gate}
 use Rattle.gate_words.specs.Gates.{copyOf, notOf, andOf, xorOf}

@@ -167,8 +167,8 @@ fn resolve(
 {
     let q = w.wire;
     let first = lower_first(w, table, q, s1, j, k, f, g);
-    let said = both_say(first, table, q, e1, s1, e2, s2);
-    let lower = lower_decides(said, table, q, e);
+    let outcome = both_say(first, table, q, e1, s1, e2, s2);
+    let lower = lower_decides(outcome, table, q, e);
     answer(lower, table, q, e, s)
 }
 

@@ -7,7 +7,7 @@ use native.Mathlib.Nat.{mul-add, mul-le-mul}
 use native.Mathlib.Omega.{arith}
 use Rattle.gate_words.specs.Counter.{adders, countSize, Countable}
 use Rattle.gate_words.proofs.CounterSteps.{count-size-step, countable-step}
-use Rattle.gate_words.specs.Reach.{reachLast, reachSpan}
+use Rattle.gate_words.specs.Reach.{reachSpan}
 use Rattle.graded_circuit.specs.declared.plan.Plan.{Plan}
 use Rattle.graded_circuit.specs.RunningSums.{middleSpan, lastSpan, laterSpan}
 use Rattle.graded_circuit.specs.Median.{Fits, medianSize}

@@ -1,13 +1,12 @@
 -- Numbers of a plan that do not wrap.
 -- Assumes nothing.
-use Prim.Native.Nat.{ℕ, zero, suc, _+_, _*_, _^_, _≤_, _<_}
+use Prim.Native.Nat.{ℕ, zero, suc, _^_, _≤_, _<_}
 use native.Mathlib.Nat.{pow-succ', mul-le-mul}
 use native.Mathlib.Omega.{arith}
-use Rattle.gate_words.specs.Counter.{addSize}
 use Rattle.gate_words.proofs.CounterSteps.{add-size-most}
 use Rattle.graded_circuit.specs.declared.plan.Plan.{Plan}
 use Rattle.graded_circuit.specs.Plan.{Planned, bitsAt, apart}
-use Rattle.graded_circuit.specs.RunningSums.{wordSpan, middleSpan}
+use Rattle.graded_circuit.specs.RunningSums.{middleSpan}
 use Rattle.graded_circuit.proofs.PlanFacts.{row-below}
 use Rattle.graded_circuit.proofs.CandidateBlocks.{middle-span}
 

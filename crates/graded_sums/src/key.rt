@@ -6,7 +6,6 @@ use crate::sums::sum_before;
 use gate_words::writer::Writer;
 use gates::kind;
 use graded_circuit::plan::Plan;
-ghost use mathlib.Core.Path.{_≡_};
 ghost use Prim.Native.Nat.{_+_, _*_, _≤_, _<_};
 ghost use Rattle.gate_words.specs.Writing.{Room, Wrote};
 ghost use Rattle.graded_circuit.specs.Plan.{Planned};

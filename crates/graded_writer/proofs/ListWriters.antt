@@ -1,14 +1,14 @@
 -- What the list's writers share: the own list by its cases, and where keys and wires of groups stand.
 -- Assumes nothing.
 use mathlib.Core.Path.{_≡_, _∙_, refl, sym, ap, subst}
-use mathlib.Core.Bool.{Bool, true, false, cond}
+use mathlib.Core.Bool.{Bool, cond}
 use mathlib.Core.Logic.{⊎-elim}
 use mathlib.Core.List.{List, [], _∷_, _++_, append-assoc}
 use Prim.Native.Nat.{ℕ, zero, suc, _+_, _-_, _*_, _/_, _≤_, _<_}
 use native.Mathlib.Nat.{suc-mul, mul-comm, mul-div-cancel}
 use native.Mathlib.Numerals.{add-one}
 use native.Mathlib.Omega.{arith}
-use lib.Dec.{T, leb, eqb}
+use lib.Dec.{T, leb}
 use lib.ListN.{length}
 use borrow.Author.Tests.{eq-eqb, ne-eqb, le-leb, lt-leb}
 use Rattle.gates.specs.Gate.{Gate}
@@ -19,16 +19,16 @@ use Rattle.gate_words.specs.Writing.{Room}
 use Rattle.jury.specs.declared.shape.Shape.{Shape}
 use Rattle.jury.specs.Shape.{gradedLimits, ballotBytes}
 use Rattle.basics.proofs.Cases.{below-or-not}
-use Rattle.jury.proofs.Limits.{within, within-T, within-back, bytes-are, bytes-bound}
+use Rattle.jury.proofs.Limits.{within-T, within-back, bytes-are, bytes-bound}
 use Rattle.graded_circuit.specs.declared.plan.Plan.{Plan}
 use Rattle.graded_circuit.specs.Plan.{planOf, Planned}
 use Rattle.graded_circuit.specs.Key.{keySpan, candidate, candidateSpan}
-use Rattle.graded_circuit.specs.Contest.{resultAt, contestSpan}
+use Rattle.graded_circuit.specs.Contest.{resultAt}
 use Rattle.graded_circuit.specs.Merge.{bothOf, stillWon, merge, mergeSpan, wonAt, better}
 use Rattle.graded_circuit.specs.OwnList.{candidates, keyAt, levelsSpan, bestKey, groupWon, otherAt, mergeAt, halvesMerge, halvesBetter, levels, lowLevels, levelsAt, circuit, ownList}
 use Rattle.graded_circuit.proofs.Planning.{planned}
 use Rattle.graded_circuit.proofs.CandidateBlocks.{key-of}
-use Rattle.graded_circuit.proofs.LevelsLaws.{key-before, span-one, span-more, key-one, key-more, won-more, levels-one, levels-more}
+use Rattle.graded_circuit.proofs.LevelsLaws.{key-before, span-more, key-one, key-more, won-more, levels-more}
 use Rattle.graded_circuit.proofs.CircuitLaws.{circuit-block}
 use Rattle.graded_circuit.proofs.OwnListLaws.{own-list-short}
 

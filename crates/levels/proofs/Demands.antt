@@ -1,32 +1,32 @@
 -- What is shown of the call [levels].
 -- Assumes nothing.
 use mathlib.Core.Path.{_≡_, _∙_, refl, sym, ap, subst}
-use mathlib.Core.Bool.{Bool, true, false, cond}
+use mathlib.Core.Bool.{Bool, cond}
 use mathlib.Core.Option.{Option, none, some}
 use mathlib.Core.List.{List, [], _∷_}
 use Prim.Native.Nat.{ℕ, zero, suc, _+_, _≤_, _<_}
 use native.Mathlib.Nat.{add-zero}
 use native.Mathlib.Omega.{arith}
-use lib.Dec.{T, eqb}
+use lib.Dec.{T}
 use lib.ListN.{length, getD, drop}
 use Rattle.gates.specs.Kind.{conditionalOf}
 use Rattle.gates.specs.Gate.{Gate, gatesOf}
-use Rattle.gates.specs.Step.{gateAt}
+use Rattle.gates.specs.inner.Step.{gateAt}
 use Rattle.gates.proofs.Table.{gates-from}
 use Rattle.gates.proofs.Laws.{AllGood, all-good}
-use Rattle.gate_levels.specs.Levels.{wireLevel, gateLevel, levelsOf, largest, roundsOf}
+use Rattle.gate_levels.specs.Levels.{wireLevel, gateLevel, levelsOf, roundsOf}
 use Rattle.gate_levels.proofs.Laws.{length-levels, Leveled, levels-leveled, OperandLevels, operand-levels, largest-most, rounds-most}
 use Rattle.jury.specs.declared.shape.Shape.{Shape}
-use Rattle.jury.specs.Shape.{withinLimits, ballotBytes}
-use Rattle.jury.specs.Reason.{Reason, reasonAt, unless, firstOf}
-use Rattle.tally.specs.Answer.{refused, accepted, said, hasNumberIn, sizeOf}
-use Rattle.tally.specs.Test.{testReasons, testSaid}
-use Rattle.tally.proofs.TestReasons.{orElse, test-passed}
+use Rattle.jury.specs.Shape.{ballotBytes}
+use Rattle.jury.specs.Reason.{Reason, reasonAt, firstOf}
+use Rattle.tally.specs.Answer.{refused, accepted, outcome, hasNumberIn, sizeOf}
+use Rattle.tally.specs.Test.{testReasons, testOutcome}
+use Rattle.tally.proofs.TestReasons.{test-passed}
 use Rattle.levels.specs.Answer.{Depths, depthsOf}
 use Rattle.levels.specs.Levels.{levelsReasons, levelsSaid, levelsWritten}
 use Rattle.levels.specs.Demands.{Memory, OperandBelow, Depth, Demands}
-use Rattle.levels.proofs.Reasons.{said-refused, said-accepted, ListFacts, list-facts, both-passed, call-refused, call-accepted}
-use Rattle.tally.proofs.Numbering.{All, first-fine, both, unless-fine, list-fine, said-fine, refused-fine}
+use Rattle.levels.proofs.Reasons.{outcome-refused, outcome-accepted, ListFacts, list-facts, both-passed, call-refused, call-accepted}
+use Rattle.tally.proofs.Numbering.{All, first-fine, both, unless-fine, list-fine, outcome-fine, refused-fine}
 
 numbers : List ℕ
 numbers = 1 ∷ 2 ∷ 3 ∷ 200 ∷ []
@@ -42,16 +42,16 @@ all-numbers s table levels = both numbers (testReasons s table) _ (test-numbers 
 pub levels-number : (s : Shape) (table levels : List ℕ) (r : Reason) → levelsSaid s table levels ≡ refused r → T (hasNumberIn (1 ∷ 2 ∷ 3 ∷ 200 ∷ []) r)
 unfolding levelsSaid numbers
 levels-number s table levels r e =
-    refused-fine numbers (levelsSaid s table levels) r (said-fine numbers _ _ (first-fine numbers (levelsReasons s table levels) (all-numbers s table levels))) e
+    refused-fine numbers (levelsSaid s table levels) r (outcome-fine numbers _ _ (first-fine numbers (levelsReasons s table levels) (all-numbers s table levels))) e
 
 -- what is known of the reasons, from the answer
 refused-by : (s : Shape) (table levels : List ℕ) (r : Reason) → levelsSaid s table levels ≡ refused r → firstOf (levelsReasons s table levels) ≡ some r
 unfolding levelsSaid
-refused-by s table levels r e = said-refused (firstOf (levelsReasons s table levels)) (depthsOf (ballotBytes s) (gatesOf table)) r e
+refused-by s table levels r e = outcome-refused (firstOf (levelsReasons s table levels)) (depthsOf (ballotBytes s) (gatesOf table)) r e
 
 accepted-by : (s : Shape) (table levels : List ℕ) (depths : Depths) → levelsSaid s table levels ≡ accepted depths → (firstOf (levelsReasons s table levels) ≡ none) × (depthsOf (ballotBytes s) (gatesOf table) ≡ depths)
 unfolding levelsSaid
-accepted-by s table levels depths e = said-accepted (firstOf (levelsReasons s table levels)) (depthsOf (ballotBytes s) (gatesOf table)) depths e
+accepted-by s table levels depths e = outcome-accepted (firstOf (levelsReasons s table levels)) (depthsOf (ballotBytes s) (gatesOf table)) depths e
 
 written-length : (s : Shape) (table levels : List ℕ) → length (levelsWritten s table levels) ≡ length levels
 written-length s table levels = go (firstOf (levelsReasons s table levels)) refl
@@ -94,10 +94,10 @@ module _ (s : Shape) (table levels : List ℕ) (depths : Depths) (e : levelsSaid
 
   facts : ListFacts s table (length (gatesOf table)) (sizeOf (gatesOf table) .conditional)
   unfolding sizeOf
-  facts = list-facts s table _ _ (test-passed s table (sizeOf (gatesOf table)) (unfold testSaid in ap (λ (o : Option Reason). said o (sizeOf (gatesOf table))) (both-passed s table levels is-none .0) ∙ accepts))
+  facts = list-facts s table _ _ (test-passed s table (sizeOf (gatesOf table)) (unfold testOutcome in ap (λ (o : Option Reason). outcome o (sizeOf (gatesOf table))) (both-passed s table levels is-none .0) ∙ accepts))
     where
-      accepts : said none (sizeOf (gatesOf table)) ≡ accepted (sizeOf (gatesOf table))
-      accepts = unfold said in refl
+      accepts : outcome none (sizeOf (gatesOf table)) ≡ accepted (sizeOf (gatesOf table))
+      accepts = unfold outcome in refl
 
   leveled : Leveled (ballotBytes s) (levelsWritten s table levels) 0 (gatesOf table)
   leveled =

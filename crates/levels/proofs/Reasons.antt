@@ -4,8 +4,8 @@ use mathlib.Core.Path.{_≡_, _∙_, refl, sym, ap}
 use mathlib.Core.Bool.{Bool, true, false}
 use mathlib.Core.Logic.{⊎-elim}
 use mathlib.Core.Option.{Option, none, some}
-use mathlib.Core.List.{List, [], _∷_, _++_}
-use Prim.Native.Nat.{ℕ, _+_, _*_, _≤_, _<_}
+use mathlib.Core.List.{List, [], _∷_}
+use Prim.Native.Nat.{ℕ, _*_, _≤_, _<_}
 use native.Mathlib.Nat.{mul-pos}
 use native.Mathlib.Omega.{arith}
 use lib.Dec.{eqb}
@@ -17,27 +17,26 @@ use Rattle.gates.specs.Test.{firstBad}
 use Rattle.gates.specs.declared.place.Place.the-variants.{Nowhere}
 use Rattle.gates.proofs.Evaluating.{accepted-list}
 use Rattle.gate_levels.specs.Levels.{levelsOf, roundsOf}
-use Rattle.gate_levels.specs.Inner.{LevelsReady}
 use Rattle.jury.specs.declared.shape.Shape.{Shape}
 use Rattle.jury.specs.Shape.{gradedLimits, rankedLimits, withinLimits, ballotBytes}
 use Rattle.jury.specs.Reason.{Reason, reasonAt, unless, firstOf}
 use Rattle.jury.proofs.Limits.{within, bytes-are, ranked, ranked-bytes, kinds}
-use Rattle.tally.specs.Answer.{Said, refused, accepted, said, Size, sizeOf}
-use Rattle.tally.specs.Test.{testReasons, testSaid}
+use Rattle.tally.specs.Answer.{refused, accepted, outcome, sizeOf}
+use Rattle.tally.specs.Test.{testReasons, testOutcome}
 use Rattle.tally.proofs.TestReasons.{orElse, first-append, TestPassed}
-use Rattle.levels.specs.Answer.{Depths, depthsOf}
+use Rattle.levels.specs.Answer.{depthsOf}
 use Rattle.levels.specs.Levels.{levelsReasons, levelsSaid, afterwards, levelsWritten}
 
 -- a refusal is the first reason that applies
-pub said-refused : {A : Type 0} (o : Option Reason) (v : A) (r : Reason) → said o v ≡ refused r → o ≡ some r
-unfolding said
-said-refused none v r e = let z : _≡_ {A = ℕ} 0 1 = cc in absurd (omega arith)
-said-refused (some q) v r e = let p : q ≡ r = cc in ap {B = Option Reason} some p
+pub outcome-refused : {A : Type 0} (o : Option Reason) (v : A) (r : Reason) → outcome o v ≡ refused r → o ≡ some r
+unfolding outcome
+outcome-refused none v r e = let z : _≡_ {A = ℕ} 0 1 = cc in absurd (omega arith)
+outcome-refused (some q) v r e = let p : q ≡ r = cc in ap {B = Option Reason} some p
 
-pub said-accepted : {A : Type 0} (o : Option Reason) (v w : A) → said o v ≡ accepted w → (o ≡ none) × (v ≡ w)
-unfolding said
-said-accepted none v w e = (refl, cc)
-said-accepted (some q) v w e = let z : _≡_ {A = ℕ} 0 1 = cc in absurd (omega arith)
+pub outcome-accepted : {A : Type 0} (o : Option Reason) (v w : A) → outcome o v ≡ accepted w → (o ≡ none) × (v ≡ w)
+unfolding outcome
+outcome-accepted none v w e = (refl, cc)
+outcome-accepted (some q) v w e = let z : _≡_ {A = ℕ} 0 1 = cc in absurd (omega arith)
 
 -- a shape within its limits has ballot bytes, of whichever kind it is
 pub some-bytes : (s : Shape) → withinLimits s ≡ true → 1 ≤ ballotBytes s
@@ -92,9 +91,9 @@ module _ (s : Shape) (table levels : List ℕ) where
       ∙ ap (λ (x : Option Reason). orElse x (firstOf (unless (eqb (length levels) (length (gatesOf table))) 200 ∷ []))) e
       ∙ ap (λ (x : Bool). orElse o (firstOf (unless x 200 ∷ []))) f
 
-  pub of-list : (r : Reason) → testSaid s table ≡ refused r → firstOf (levelsReasons s table levels) ≡ some r
-  unfolding testSaid orElse
-  of-list r e = by (some r) _ (said-refused (firstOf (testReasons s table)) (sizeOf (gatesOf table)) r e) refl
+  pub of-list : (r : Reason) → testOutcome s table ≡ refused r → firstOf (levelsReasons s table levels) ≡ some r
+  unfolding testOutcome orElse
+  of-list r e = by (some r) _ (outcome-refused (firstOf (testReasons s table)) (sizeOf (gatesOf table)) r e) refl
 
   pub other-length : firstOf (testReasons s table) ≡ none → (length levels ≡ length (gatesOf table) → ⊥) → firstOf (levelsReasons s table levels) ≡ some (reasonAt 200 0)
   unfolding orElse unless firstOf
@@ -115,12 +114,12 @@ module _ (s : Shape) (table levels : List ℕ) where
       go none true f g = (f, eqb-true (length levels) (length (gatesOf table)) g)
 
   pub call-refused : (r : Reason) → firstOf (levelsReasons s table levels) ≡ some r → (refused r ≡ levelsSaid s table levels) × (levels ≡ levelsWritten s table levels)
-  unfolding levelsSaid levelsWritten said afterwards
+  unfolding levelsSaid levelsWritten outcome afterwards
   call-refused r e = (rw e, rw e)
 
   pub call-accepted : firstOf (levelsReasons s table levels) ≡ none
       → (accepted (depthsOf (ballotBytes s) (gatesOf table)) ≡ levelsSaid s table levels) × (levelsOf (ballotBytes s) (gatesOf table) ≡ levelsWritten s table levels)
-  unfolding levelsSaid levelsWritten said afterwards
+  unfolding levelsSaid levelsWritten outcome afterwards
   call-accepted e = (rw e, rw e)
 
 -- the answer of an accepted call

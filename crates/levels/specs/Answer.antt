@@ -6,7 +6,7 @@ use Rattle.gates.specs.Gate.{Gate}
 use Rattle.gates.specs.Board.{conditionalCount}
 use Rattle.gate_levels.specs.Levels.{roundsOf}
 use Rattle.jury.specs.Reason.{Reason, reasonAt, reasonOf}
-use Rattle.tally.specs.Answer.{Said, refused, accepted}
+use Rattle.tally.specs.Answer.{Outcome, refused, accepted}
 use Rattle.levels.specs.declared.answer.LevelRefusal.{LevelRefusal}
 use Rattle.levels.specs.declared.answer.LevelRefusal.the-variants.{OfCore, Levels, Round, Heard}
 use Rattle.levels.specs.declared.answer.Answer.{Answer}
@@ -29,6 +29,6 @@ pub record Depths : Type 0 where
 unfoldable pub depthsOf : ℕ → List Gate → Depths
 depthsOf inputs gs = record { gates = length gs; conditional = conditionalCount gs; rounds = roundsOf inputs gs }
 
-unfoldable pub depthsSaid : Answer → Said Depths
+unfoldable pub depthsSaid : Answer → Outcome Depths
 depthsSaid (Accepted gates conditional rounds) = accepted (record { gates = gates; conditional = conditional; rounds = rounds })
 depthsSaid (Refused r) = refused (levelReasonOf r)

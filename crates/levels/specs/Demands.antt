@@ -2,12 +2,12 @@
 use mathlib.Core.Path.{_≡_}
 use mathlib.Core.Bool.{true}
 use mathlib.Core.List.{List, [], _∷_}
-use Prim.Native.Nat.{ℕ, suc, _+_, _≤_, _<_}
+use Prim.Native.Nat.{ℕ, _≤_, _<_}
 use lib.Dec.{T}
 use lib.ListN.{length, getD}
 use Rattle.gates.specs.Kind.{conditionalOf}
 use Rattle.gates.specs.Gate.{gatesOf}
-use Rattle.gates.specs.Step.{gateAt}
+use Rattle.gates.specs.inner.Step.{gateAt}
 use Rattle.gate_levels.specs.Levels.{wireLevel}
 use Rattle.jury.specs.declared.shape.Shape.{Shape}
 use Rattle.jury.specs.Shape.{ballotBytes}

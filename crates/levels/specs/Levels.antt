@@ -9,7 +9,7 @@ use Rattle.gate_levels.specs.Levels.{levelsOf}
 use Rattle.jury.specs.declared.shape.Shape.{Shape}
 use Rattle.jury.specs.Shape.{ballotBytes}
 use Rattle.jury.specs.Reason.{Reason, unless, firstOf}
-use Rattle.tally.specs.Answer.{Said, said}
+use Rattle.tally.specs.Answer.{Outcome, outcome}
 use Rattle.tally.specs.Test.{testReasons}
 use Rattle.levels.specs.Answer.{Depths, depthsOf}
 
@@ -17,8 +17,8 @@ use Rattle.levels.specs.Answer.{Depths, depthsOf}
 unfoldable pub levelsReasons : Shape → List ℕ → List ℕ → List (Option Reason)
 levelsReasons s table levels = testReasons s table ++ unless (eqb (length levels) (length (gatesOf table))) 200 ∷ []
 
-unfoldable pub levelsSaid : Shape → List ℕ → List ℕ → Said Depths
-levelsSaid s table levels = said (firstOf (levelsReasons s table levels)) (depthsOf (ballotBytes s) (gatesOf table))
+unfoldable pub levelsSaid : Shape → List ℕ → List ℕ → Outcome Depths
+levelsSaid s table levels = outcome (firstOf (levelsReasons s table levels)) (depthsOf (ballotBytes s) (gatesOf table))
 
 -- A lent table afterwards: new where the call is accepted, as it was on a refusal.
 unfoldable pub afterwards : Option Reason → List ℕ → List ℕ → List ℕ

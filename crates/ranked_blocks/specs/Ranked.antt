@@ -1,5 +1,4 @@
 -- The public numbers that a ranked tasting's own list is written with, and where its words stand.
-use mathlib.Core.Path.{_≡_}
 use mathlib.Core.Bool.{Bool, cond}
 use mathlib.Core.Logic.{_≢_}
 use mathlib.Core.List.{List}

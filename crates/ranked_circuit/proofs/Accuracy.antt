@@ -1,7 +1,7 @@
 -- The own list of a ranked tasting is accurate: its last gates say who wins by Schulze's rule.
 -- Assumes nothing.
 use mathlib.Core.Path.{_≡_, _∙_, refl, sym, ap, subst}
-use mathlib.Core.Bool.{Bool, true, false, cond}
+use mathlib.Core.Bool.{Bool, true, cond}
 use mathlib.Core.Logic.{⊎-elim, _≢_}
 use mathlib.Core.List.{List, [], _∷_, _++_}
 use Prim.Native.Nat.{ℕ, suc, _+_, _-_, _*_, _≤_, _<_}
@@ -14,18 +14,16 @@ use Rattle.gate_words.specs.Word.{ones, number}
 use Rattle.gate_words.specs.Counter.{Countable}
 use Rattle.gate_words.proofs.Laws.{Binary, bit-cases}
 use Rattle.gate_words.proofs.GateValues.{not-is}
-use Rattle.jury.proofs.BallotLaws.{row-within}
-use Rattle.jury.proofs.Cases.{below-or-not}
-use Rattle.jury.proofs.Flags.{never-true}
+use Rattle.basics.proofs.Arithmetic.{row-within}
+use Rattle.basics.proofs.Cases.{below-or-not}
+use Rattle.basics.proofs.Flags.{never-true}
 use Rattle.rule_schulze.specs.Schulze.{link, strongest, wins}
 use Rattle.rule_schulze.proofs.Winning.{wins-unbeaten, unbeaten-wins}
-use Rattle.ranked_circuit.specs.Table.{blocks, table}
-use Rattle.ranked_circuit.specs.Stages.{linksBlock, linkAt}
 use Rattle.ranked_circuit.specs.Paths.{pathsTo}
 use Rattle.ranked_circuit.specs.RankedList.{other, joined, loserRow, loserRows, outputGates, contestsFrom, contests, beatsAt, losersFrom, rankedList}
 use Rattle.ranked_circuit.proofs.TableLaws.{startOf, length-same, block-holds, blocks-good}
 use Rattle.ranked_circuit.proofs.StageLaws.{link-told}
-use Rattle.ranked_circuit.proofs.PathLaws.{strengthAfter, paths-spelled, all-strongest}
+use Rattle.ranked_circuit.proofs.PathLaws.{paths-spelled, all-strongest}
 use Rattle.ranked_circuit.proofs.GoodLaws.{WiresBelow, links-good, links-below, words-below, paths-good}
 use Rattle.ranked_circuit.proofs.LoserLaws.{other-apart, other-low, other-found, row-length, item-before, row-good, lost-zero, lost-one}
 

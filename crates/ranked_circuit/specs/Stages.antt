@@ -1,6 +1,6 @@
 -- The blocks of the circuit's tables, one for each two candidates i and j: the numbers of ballots, the links, the paths.
 -- A word of the circuit has a digit and w more; a block's word is the last of it. `words` says where words stand.
-use mathlib.Core.Bool.{Bool, cond, _&&_, _||_, not}
+use mathlib.Core.Bool.{Bool, cond, _||_, not}
 use mathlib.Core.List.{List, [], _++_}
 use Prim.Native.Nat.{ℕ, zero, suc, _+_, _-_, _*_}
 use lib.Dec.{eqb, ltb}

@@ -1,7 +1,7 @@
 -- The own list by its parts, as its writer writes them, under the wires that it keeps.
 -- Assumes nothing.
 use mathlib.Core.Path.{_≡_, _∙_, refl, sym, ap, subst}
-use mathlib.Core.Bool.{Bool, true, false, cond}
+use mathlib.Core.Bool.{Bool, false, cond}
 use mathlib.Core.Logic.{⊎-elim, _≢_}
 use mathlib.Core.List.{List, [], _∷_, _++_, append-nil, append-assoc}
 use Prim.Native.Nat.{ℕ, zero, suc, _+_, _-_, _*_, _≤_, _<_}
@@ -11,7 +11,7 @@ use lib.ListN.{length, length-append}
 use borrow.Author.Tests.{lt-ltb, le-ltb}
 use Rattle.gates.specs.Gate.{Gate}
 use Rattle.gate_words.specs.Gates.{orOf, notOf}
-use Rattle.jury.proofs.Cases.{below-or-not}
+use Rattle.basics.proofs.Cases.{below-or-not}
 use Rattle.ranked_circuit.specs.Table.{blocks, table, entryEnd}
 use Rattle.ranked_circuit.specs.Stages.{votesBlock, linksBlock, linkAt, stays, pathBlock}
 use Rattle.ranked_circuit.specs.Paths.{votesAt, votesTable, linksFrom, linksTable, linkWire, nextPaths, pathsTo}

@@ -12,7 +12,6 @@ ghost use mathlib.Core.Path.{_≡_};
 ghost use Prim.Native.Nat.{suc, _+_, _-_, _*_, _≤_, _<_};
 ghost use lib.ListN.{length};
 ghost use Rattle.gate_words.specs.Writing.{Room, Wrote};
-ghost use Rattle.jury.specs.Width.{widthOf};
 ghost use Rattle.ranked_circuit.specs.Paths.{pathsTo, linkWire};
 ghost use Rattle.ranked_circuit.specs.RankedList.{rankedList};
 ghost use Rattle.ranked_circuit.specs.OwnRanking.{ownRanking};

@@ -3,7 +3,7 @@
 use mathlib.Core.Path.{_≡_, _∙_, refl, sym, ap}
 use mathlib.Core.Option.{Option, none, some}
 use mathlib.Core.List.{List}
-use Prim.Native.Nat.{ℕ, suc, _*_, _≤_, _<_}
+use Prim.Native.Nat.{ℕ, suc, _*_, _<_}
 use native.Mathlib.Omega.{arith}
 use lib.ListN.{length}
 use Rattle.gates.specs.Gate.{Gate, gatesOf}
@@ -13,17 +13,16 @@ use Rattle.gate_levels.specs.Levels.{roundsOf}
 use Rattle.jury.specs.declared.shape.Shape.{Shape}
 use Rattle.jury.specs.Shape.{ballotBytes}
 use Rattle.jury.specs.Reason.{Reason, firstOf}
-use Rattle.jury.specs.Counts.{tabulate}
 use Rattle.jury.specs.ClosingBytes.{eightBytes}
-use Rattle.jury.proofs.Tabulate.{tabulate-cong}
-use Rattle.tally.specs.Answer.{Said, refused, accepted, Size, sizeOf}
+use Rattle.basics.proofs.Tabulate.{tabulate-cong}
+use Rattle.tally.specs.Answer.{refused, accepted, Size}
 use Rattle.levels.proofs.Reasons.{some-bytes}
 use Rattle.trustee_shares.specs.Shares.{opened, part, Held}
 use Rattle.trustee_shares.specs.Views.{joined, Dealing, ballotsOf, dealtOf, wirePartsOf, closingParts, publishedOf}
 use Rattle.trustee_shares.proofs.Accuracy.{opened-same}
 use Rattle.trustee_shares.proofs.Tables.{length-piece, joined-cong}
 use Rattle.trustee_rounds.specs.Rounds.{Turn, enters, publishes, closes}
-use Rattle.trustee_rounds.specs.Together.{sumsOf, Holdings, turnOf, wiresAfter, publishedAfter, holdingsAfter}
+use Rattle.trustee_rounds.specs.Together.{sumsOf, turnOf, wiresAfter, publishedAfter, holdingsAfter}
 use Rattle.trustee_rounds.proofs.Together.{rounds-make-the-tally}
 use Rattle.trustees.specs.Shared.{Shared, sharedReasons, sharedAfter, shared, closingSums}
 use Rattle.trustees.proofs.Reasons.{CallPassed, call-passed, shared-by}

@@ -1,21 +1,20 @@
 -- Numbers of reasons, and that a refusal alters nothing.
 -- Assumes nothing.
-use mathlib.Core.Path.{_≡_, _∙_, refl, sym, ap}
-use mathlib.Core.Option.{Option, none, some}
-use mathlib.Core.List.{List, [], _∷_, _++_}
-use Prim.Native.Nat.{ℕ, _+_}
-use lib.Dec.{T, eqb}
+use mathlib.Core.Path.{_≡_, sym}
+use mathlib.Core.List.{List, [], _∷_}
+use Prim.Native.Nat.{ℕ}
+use lib.Dec.{T}
 use lib.ListN.{length, replicate}
 use Rattle.gates.specs.Gate.{gatesOf}
 use Rattle.gates.specs.Board.{conditionalCount}
 use Rattle.jury.specs.declared.shape.Shape.{Shape}
 use Rattle.jury.specs.Shape.{ballotBytes}
-use Rattle.jury.specs.Reason.{Reason, reasonAt, unless, firstOf}
-use Rattle.tally.specs.Answer.{refused, accepted, said, hasNumberIn, Size, sizeOf}
+use Rattle.jury.specs.Reason.{Reason, reasonAt, firstOf}
+use Rattle.tally.specs.Answer.{refused, accepted, hasNumberIn, Size, sizeOf}
 use Rattle.tally.specs.Test.{testReasons}
-use Rattle.tally.proofs.Numbering.{All, first-fine, both, unless-fine, list-fine, said-fine, refused-fine}
+use Rattle.tally.proofs.Numbering.{All, first-fine, both, unless-fine, list-fine, outcome-fine, refused-fine}
 use Rattle.levels.specs.Answer.{depthsOf}
-use Rattle.levels.proofs.Reasons.{said-refused, said-accepted}
+use Rattle.levels.proofs.Reasons.{outcome-refused, outcome-accepted}
 use Rattle.trustee_rounds.specs.Rounds.{startWires, startPublished}
 use Rattle.trustee_alone.specs.Start.{ownReasons, startReasons, startSaid, startedWires, startedPublished}
 use Rattle.trustee_alone.specs.Rounds.{tableReasons, roundReasons, roundSaid, wiresMade, publishedMade, roundedWires, roundedPublished}
@@ -61,24 +60,24 @@ finish-all s table ws = both finish-numbers (testReasons s table) _ (finish-list
 pub start-number : (s : Shape) (table : List ℕ) (t p : ℕ) (parts dealt ws published : List ℕ) (r : Reason) → startSaid s table t p parts dealt ws published ≡ refused r → T (hasNumberIn (1 ∷ 2 ∷ 3 ∷ 16 ∷ 17 ∷ 18 ∷ []) r)
 unfolding startSaid start-numbers
 start-number s table t p parts dealt ws published r e =
-    refused-fine start-numbers (startSaid s table t p parts dealt ws published) r (said-fine start-numbers _ _ (first-fine start-numbers (startReasons s table t p parts dealt ws published) (start-all s table t p parts dealt ws published))) e
+    refused-fine start-numbers (startSaid s table t p parts dealt ws published) r (outcome-fine start-numbers _ _ (first-fine start-numbers (startReasons s table t p parts dealt ws published) (start-all s table t p parts dealt ws published))) e
 
 pub round-number : (s : Shape) (table : List ℕ) (t p round : ℕ) (levels dealt heard ws published : List ℕ) (r : Reason) → roundSaid s table t p round levels dealt heard ws published ≡ refused r
     → T (hasNumberIn (1 ∷ 2 ∷ 3 ∷ 16 ∷ 17 ∷ 18 ∷ 200 ∷ 201 ∷ 202 ∷ []) r)
 unfolding roundSaid round-numbers
 round-number s table t p round levels dealt heard ws published r e =
-    refused-fine round-numbers (roundSaid s table t p round levels dealt heard ws published) r (said-fine round-numbers _ _ (first-fine round-numbers (roundReasons s table t p round levels dealt heard ws published) (round-all s table t p round levels dealt heard ws published))) e
+    refused-fine round-numbers (roundSaid s table t p round levels dealt heard ws published) r (outcome-fine round-numbers _ _ (first-fine round-numbers (roundReasons s table t p round levels dealt heard ws published) (round-all s table t p round levels dealt heard ws published))) e
 
 pub finish-number : (s : Shape) (table ws : List ℕ) (r : Reason) → finishSaid s table ws ≡ refused r → T (hasNumberIn (1 ∷ 2 ∷ 3 ∷ 17 ∷ []) r)
 unfolding finishSaid finish-numbers
-finish-number s table ws r e = refused-fine finish-numbers (finishSaid s table ws) r (said-fine finish-numbers _ _ (first-fine finish-numbers (finishReasons s table ws) (finish-all s table ws))) e
+finish-number s table ws r e = refused-fine finish-numbers (finishSaid s table ws) r (outcome-fine finish-numbers _ _ (first-fine finish-numbers (finishReasons s table ws) (finish-all s table ws))) e
 
 start-refused : (s : Shape) (table : List ℕ) (t p : ℕ) (parts dealt ws published : List ℕ) (r : Reason) → startSaid s table t p parts dealt ws published ≡ refused r
     → (startedWires s table t p parts dealt ws published ≡ ws) × (startedPublished s table t p parts dealt ws published ≡ published)
 unfolding startSaid startedWires startedPublished
 start-refused s table t p parts dealt ws published r e =
     let o = firstOf (startReasons s table t p parts dealt ws published) in
-    let why = said-refused o (sizeOf (gatesOf table)) r e in
+    let why = outcome-refused o (sizeOf (gatesOf table)) r e in
     (sym (left-old o (startWires (length (gatesOf table)) parts) ws r why), sym (left-old o (startPublished (conditionalCount (gatesOf table)) (s .candidates)) published r why))
 
 round-refused : (s : Shape) (table : List ℕ) (t p round : ℕ) (levels dealt heard ws published : List ℕ) (r : Reason) → roundSaid s table t p round levels dealt heard ws published ≡ refused r
@@ -86,20 +85,20 @@ round-refused : (s : Shape) (table : List ℕ) (t p round : ℕ) (levels dealt h
 unfolding roundSaid roundedWires roundedPublished
 round-refused s table t p round levels dealt heard ws published r e =
     let o = firstOf (roundReasons s table t p round levels dealt heard ws published) in
-    let why = said-refused o (depthsOf (ballotBytes s) (gatesOf table)) r e in
+    let why = outcome-refused o (depthsOf (ballotBytes s) (gatesOf table)) r e in
     (sym (left-old o (wiresMade s table p round levels dealt heard ws) ws r why), sym (left-old o (publishedMade s table p round levels dealt heard ws published) published r why))
 
 finish-refused : (s : Shape) (table ws : List ℕ) (r : Reason) → finishSaid s table ws ≡ refused r → finishedWires s table ws ≡ ws
 unfolding finishSaid finishedWires
 finish-refused s table ws r e =
     let o = firstOf (finishReasons s table ws) in
-    sym (left-old o (replicate (length ws) 0) ws r (said-refused o (sizeOf (gatesOf table)) r e))
+    sym (left-old o (replicate (length ws) 0) ws r (outcome-refused o (sizeOf (gatesOf table)) r e))
 
 finish-empties : (s : Shape) (table ws : List ℕ) (size : Size) → finishSaid s table ws ≡ accepted size → finishedWires s table ws ≡ replicate (length ws) 0
 unfolding finishSaid finishedWires
 finish-empties s table ws size e =
     let o = firstOf (finishReasons s table ws) in
-    sym (left-new o (replicate (length ws) 0) ws (said-accepted o (sizeOf (gatesOf table)) size e .0))
+    sym (left-new o (replicate (length ws) 0) ws (outcome-accepted o (sizeOf (gatesOf table)) size e .0))
 
 pub memory : Memory
 memory =

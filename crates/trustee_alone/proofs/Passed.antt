@@ -1,30 +1,28 @@
 -- What is known of a round that no reason turns away.
 -- Assumes nothing.
 use mathlib.Core.Path.{_≡_, _∙_, refl, sym, ap}
-use mathlib.Core.Bool.{true, _&&_}
-use mathlib.Core.Option.{Option, none}
-use mathlib.Core.List.{List, [], _∷_}
+use mathlib.Core.Option.{none}
+use mathlib.Core.List.{List}
 use Prim.Native.Nat.{ℕ, _*_, _≤_}
-use lib.Dec.{eqb, leb}
+use lib.Dec.{eqb}
 use lib.ListN.{length}
 use borrow.Author.Tests.{eqb-true, leb-true}
 use Rattle.gates.specs.Gate.{gatesOf}
 use Rattle.gates.specs.Board.{conditionalCount}
 use Rattle.gate_levels.specs.Levels.{levelsOf, roundsOf}
-use Rattle.gate_levels.specs.Compared.{sameNumbers}
 use Rattle.gate_levels.proofs.Laws.{length-levels}
 use Rattle.gate_levels.proofs.Filling.{same-true}
 use Rattle.jury.specs.declared.shape.Shape.{Shape}
 use Rattle.jury.specs.Shape.{ballotBytes}
-use Rattle.jury.specs.Reason.{Reason, firstOf}
-use Rattle.jury.proofs.Flags.{and-first, and-second}
-use Rattle.tally.specs.Answer.{said, sizeOf}
-use Rattle.tally.specs.Test.{testReasons, testSaid}
+use Rattle.jury.specs.Reason.{firstOf}
+use Rattle.basics.proofs.Flags.{and-first}
+use Rattle.tally.specs.Answer.{sizeOf}
+use Rattle.tally.specs.Test.{testReasons, testOutcome}
 use Rattle.tally.proofs.TestReasons.{test-passed}
 use Rattle.levels.proofs.Reasons.{ListFacts, list-facts}
 use Rattle.trustee_gates.specs.Dealing.{onlyBits}
 use Rattle.trustee_alone.specs.Rounds.{tableReasons, roundReasons}
-use Rattle.trustee_alone.proofs.Tests.{passed, both-passed, said-none}
+use Rattle.trustee_alone.proofs.Tests.{passed, both-passed, outcome-none}
 use Rattle.trustee_alone.proofs.Sizes.{Fit, fit}
 
 pub record Passed (s : Shape) (table : List ℕ) (round : ℕ) (levels dealt heard wireParts published : List ℕ) : Type 0 where
@@ -37,8 +35,8 @@ pub record Passed (s : Shape) (table : List ℕ) (round : ℕ) (levels dealt hea
 
 -- a list that passed its test
 pub facts-by : (s : Shape) (table : List ℕ) → firstOf (testReasons s table) ≡ none → ListFacts s table (length (gatesOf table)) (conditionalCount (gatesOf table))
-unfolding sizeOf testSaid
-facts-by s table e = list-facts s table _ _ (test-passed s table (sizeOf (gatesOf table)) (sym (said-none (firstOf (testReasons s table)) (sizeOf (gatesOf table)) (sizeOf (gatesOf table)) e refl)))
+unfolding sizeOf testOutcome
+facts-by s table e = list-facts s table _ _ (test-passed s table (sizeOf (gatesOf table)) (sym (outcome-none (firstOf (testReasons s table)) (sizeOf (gatesOf table)) (sizeOf (gatesOf table)) e refl)))
 
 pub round-passed : (s : Shape) (table : List ℕ) (t p round : ℕ) (levels dealt heard wireParts published : List ℕ)
     → firstOf (roundReasons s table t p round levels dealt heard wireParts published) ≡ none → Passed s table round levels dealt heard wireParts published

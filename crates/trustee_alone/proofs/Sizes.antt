@@ -1,30 +1,28 @@
 -- Sizes of a list that passed its test, and of one trustee's tables.
 -- Assumes nothing.
-use mathlib.Core.Path.{_≡_, _∙_, refl, sym, ap}
+use mathlib.Core.Path.{_≡_, _∙_, refl, ap}
 use mathlib.Core.Bool.{Bool, true, false, cond, _&&_}
-use mathlib.Core.Option.{Option, none, some}
-use mathlib.Core.List.{List, [], _∷_, _++_}
-use Prim.Native.Nat.{ℕ, zero, suc, _+_, _*_, _≤_, _<_}
+use mathlib.Core.List.{List, _++_}
+use Prim.Native.Nat.{ℕ, zero, suc, _+_, _*_}
 use native.Mathlib.Nat.{zero-add, suc-add}
 use native.Mathlib.Omega.{arith}
 use lib.Dec.{eqb}
-use lib.ListN.{length, take, drop, replicate, length-replicate}
+use lib.ListN.{length, take, drop, replicate}
 use lib.Seq.{take-all}
 use borrow.Author.Tests.{eqb-true}
 use Rattle.gates.specs.Gate.{Gate, gatesOf}
 use Rattle.gates.specs.Board.{conditionalCount}
 use Rattle.gates.proofs.Counting.{count-most}
 use Rattle.gate_levels.specs.Levels.{levelsOf, roundsOf}
-use Rattle.gate_levels.specs.declared.level.Compared.{Compared}
 use Rattle.gate_levels.specs.declared.level.Compared.the-variants.{Own, Other}
 use Rattle.gate_levels.specs.Compared.{sameNumbers, compared}
 use Rattle.gate_levels.proofs.Laws.{length-levels}
 use Rattle.gate_levels.proofs.Filling.{same-true}
 use Rattle.jury.specs.declared.shape.Shape.{Shape}
-use Rattle.jury.specs.Shape.{withinLimits, ballotBytes}
-use Rattle.jury.proofs.Flags.{and-first, and-second}
+use Rattle.jury.specs.Shape.{ballotBytes}
+use Rattle.basics.proofs.Flags.{and-first, and-second}
 use Rattle.jury.proofs.Limits.{bounds, inputs-bound}
-use Rattle.tally.specs.Answer.{Size, sizeOf}
+use Rattle.tally.specs.Answer.{sizeOf}
 use Rattle.levels.proofs.Reasons.{ListFacts}
 use Rattle.trustees.specs.Inner.{SmallSizes}
 use Rattle.trustee_rounds.specs.Rounds.{startWires, startPublished}

@@ -7,7 +7,7 @@ use mathlib.Core.List.{List, [], _∷_, _++_}
 use Prim.Native.Nat.{ℕ}
 use native.Mathlib.Omega.{arith}
 use Rattle.jury.specs.Reason.{Reason, reasonAt, unless, firstOf}
-use Rattle.tally.specs.Answer.{Said, refused, accepted, said}
+use Rattle.tally.specs.Answer.{refused, accepted, outcome}
 use Rattle.tally.proofs.TestReasons.{orElse, first-append}
 use Rattle.levels.specs.Levels.{afterwards}
 
@@ -53,13 +53,13 @@ pub and-not : (a b : Bool) → a ≡ false → (a && b) ≡ false
 and-not a b e = rw e
 
 -- what is said and left
-pub said-some : {A : Type 0} (o : Option Reason) (v : A) (r : Reason) → o ≡ some r → refused r ≡ said o v
-unfolding said
-said-some o v r e = rw e
+pub outcome-some : {A : Type 0} (o : Option Reason) (v : A) (r : Reason) → o ≡ some r → refused r ≡ outcome o v
+unfolding outcome
+outcome-some o v r e = rw e
 
-pub said-none : {A : Type 0} (o : Option Reason) (v w : A) → o ≡ none → w ≡ v → accepted w ≡ said o v
-unfolding said
-said-none o v w e f = rw (e, f)
+pub outcome-none : {A : Type 0} (o : Option Reason) (v w : A) → o ≡ none → w ≡ v → accepted w ≡ outcome o v
+unfolding outcome
+outcome-none o v w e f = rw (e, f)
 
 pub left-old : (o : Option Reason) (new old : List ℕ) (r : Reason) → o ≡ some r → old ≡ afterwards o new old
 unfolding afterwards

@@ -1,7 +1,7 @@
 -- What is shown of a trustee's calls, over the definitions that their contracts equate with the program's answers and tables.
 use mathlib.Core.Path.{_≡_}
 use mathlib.Core.List.{List, [], _∷_}
-use Prim.Native.Nat.{ℕ, zero, suc, _≤_, _<_}
+use Prim.Native.Nat.{ℕ, suc}
 use lib.Dec.{T}
 use lib.ListN.{length, replicate}
 use Rattle.gates.specs.Gate.{Gate, gatesOf}
@@ -11,7 +11,6 @@ use Rattle.jury.specs.declared.shape.Shape.{Shape}
 use Rattle.jury.specs.Shape.{ballotBytes}
 use Rattle.jury.specs.Reason.{Reason}
 use Rattle.tally.specs.Answer.{refused, accepted, hasNumberIn, Size}
-use Rattle.trustee_shares.specs.Shares.{Held}
 use Rattle.trustee_shares.specs.Views.{joined, Dealing, dealtOf}
 use Rattle.trustee_rounds.specs.Together.{sumsOf, Holdings, publishedAfter, holdingsAfter}
 use Rattle.trustees.specs.Shared.{shared, closingSums}

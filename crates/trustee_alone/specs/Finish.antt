@@ -8,7 +8,7 @@ use Rattle.gates.specs.Gate.{gatesOf}
 use Rattle.jury.specs.declared.shape.Shape.{Shape}
 use Rattle.jury.specs.Shape.{ballotBytes}
 use Rattle.jury.specs.Reason.{Reason, unless, firstOf}
-use Rattle.tally.specs.Answer.{Said, said, Size, sizeOf}
+use Rattle.tally.specs.Answer.{Outcome, outcome, Size, sizeOf}
 use Rattle.tally.specs.Test.{testReasons}
 use Rattle.levels.specs.Levels.{afterwards}
 
@@ -16,8 +16,8 @@ use Rattle.levels.specs.Levels.{afterwards}
 unfoldable pub finishReasons : Shape → List ℕ → List ℕ → List (Option Reason)
 finishReasons s table wireParts = testReasons s table ++ unless (eqb (length wireParts) (ballotBytes s + length (gatesOf table))) 17 ∷ []
 
-unfoldable pub finishSaid : Shape → List ℕ → List ℕ → Said Size
-finishSaid s table wireParts = said (firstOf (finishReasons s table wireParts)) (sizeOf (gatesOf table))
+unfoldable pub finishSaid : Shape → List ℕ → List ℕ → Outcome Size
+finishSaid s table wireParts = outcome (firstOf (finishReasons s table wireParts)) (sizeOf (gatesOf table))
 
 unfoldable pub finishedWires : Shape → List ℕ → List ℕ → List ℕ
 finishedWires s table wireParts = afterwards (firstOf (finishReasons s table wireParts)) (replicate (length wireParts) 0) wireParts

@@ -12,7 +12,7 @@ use Rattle.gate_levels.specs.Compared.{sameNumbers}
 use Rattle.jury.specs.declared.shape.Shape.{Shape}
 use Rattle.jury.specs.Shape.{ballotBytes}
 use Rattle.jury.specs.Reason.{Reason, unless, firstOf}
-use Rattle.tally.specs.Answer.{Said, said, sizeOf}
+use Rattle.tally.specs.Answer.{Outcome, outcome, sizeOf}
 use Rattle.tally.specs.Test.{testReasons}
 use Rattle.levels.specs.Answer.{Depths, depthsOf}
 use Rattle.levels.specs.Levels.{afterwards}
@@ -36,9 +36,9 @@ roundReasons s table t p round levels dealt heard wireParts published =
     testReasons s table ++ tableReasons (ballotBytes s) (s .candidates) (gatesOf table) t p round levels dealt heard wireParts published
 
 -- An accepted call answers G, C and R.
-unfoldable pub roundSaid : Shape → List ℕ → ℕ → ℕ → ℕ → List ℕ → List ℕ → List ℕ → List ℕ → List ℕ → Said Depths
+unfoldable pub roundSaid : Shape → List ℕ → ℕ → ℕ → ℕ → List ℕ → List ℕ → List ℕ → List ℕ → List ℕ → Outcome Depths
 roundSaid s table t p round levels dealt heard wireParts published =
-    said (firstOf (roundReasons s table t p round levels dealt heard wireParts published)) (depthsOf (ballotBytes s) (gatesOf table))
+    outcome (firstOf (roundReasons s table t p round levels dealt heard wireParts published)) (depthsOf (ballotBytes s) (gatesOf table))
 
 -- The trustee's turn, by its own tables and the sums alone.
 unfoldable pub ownTurn : Shape → ℕ → ℕ → List ℕ → List ℕ → List ℕ → Turn

@@ -10,7 +10,7 @@ use Rattle.gates.specs.Board.{conditionalCount}
 use Rattle.jury.specs.declared.shape.Shape.{Shape}
 use Rattle.jury.specs.Shape.{ballotBytes}
 use Rattle.jury.specs.Reason.{Reason, unless, firstOf}
-use Rattle.tally.specs.Answer.{Said, said, Size, sizeOf}
+use Rattle.tally.specs.Answer.{Outcome, outcome, Size, sizeOf}
 use Rattle.tally.specs.Test.{testReasons}
 use Rattle.levels.specs.Levels.{afterwards}
 use Rattle.trustee_gates.specs.Dealing.{onlyBits}
@@ -31,8 +31,8 @@ startReasons s table t p parts dealt wireParts published =
     testReasons s table ++ ownReasons (ballotBytes s) (s .candidates) (sizeOf (gatesOf table)) t p parts dealt wireParts published
 
 -- An accepted call answers G and C.
-unfoldable pub startSaid : Shape → List ℕ → ℕ → ℕ → List ℕ → List ℕ → List ℕ → List ℕ → Said Size
-startSaid s table t p parts dealt wireParts published = said (firstOf (startReasons s table t p parts dealt wireParts published)) (sizeOf (gatesOf table))
+unfoldable pub startSaid : Shape → List ℕ → ℕ → ℕ → List ℕ → List ℕ → List ℕ → List ℕ → Outcome Size
+startSaid s table t p parts dealt wireParts published = outcome (firstOf (startReasons s table t p parts dealt wireParts published)) (sizeOf (gatesOf table))
 
 -- Both tables afterwards; a refusal alters nothing.
 unfoldable pub startedWires : Shape → List ℕ → ℕ → ℕ → List ℕ → List ℕ → List ℕ → List ℕ → List ℕ

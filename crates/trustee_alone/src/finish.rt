@@ -3,12 +3,12 @@ use jury::reason::Refusal;
 use jury::shape::Shape;
 use tally::answer::Answer;
 ghost use mathlib.Core.Path.{_≡_};
-ghost use Rattle.tally.specs.Answer.{saidBy};
+ghost use Rattle.tally.specs.Answer.{outcomeOf};
 ghost use Rattle.trustee_alone.specs.Finish.{finishSaid, finishedWires};
 
 // Empties a trustee's wire parts, which tell its part of every wire (request 2.13).
 pub fn finish(shape: Shape, table: &[u32], wires: &mut [u8]) -> Answer
-    ensures { λ r. ⌜ saidBy r ≡ finishSaid shape (now (table .entry)) (now (wires .entry)) ⌝ }
+    ensures { λ r. ⌜ outcomeOf r ≡ finishSaid shape (now (table .entry)) (now (wires .entry)) ⌝ }
     ensures { λ _. ⌜ now (wires .exit) ≡ finishedWires shape (now (table .entry)) (now (wires .entry)) ⌝ }
 {
     let answer = tally::test::test(shape, table);
@@ -23,6 +23,6 @@ pub fn finish(shape: Shape, table: &[u32], wires: &mut [u8]) -> Answer
     if !gates::lengths::has_length(wires, inputs, gates) {
         return Answer::Refused(Refusal::PartTables);
     }
-    tally::empty::empty(wires);
+    basics::table::empty(wires);
     answer
 }

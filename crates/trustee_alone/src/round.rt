@@ -11,7 +11,7 @@ use trustee_rounds::round::Seat;
 ghost use mathlib.Core.Path.{_≡_};
 ghost use Rattle.jury.specs.Reason.{firstOf};
 ghost use Rattle.gates.specs.Gate.{gatesOf};
-ghost use Rattle.tally.specs.Answer.{said};
+ghost use Rattle.tally.specs.Answer.{outcome};
 ghost use Rattle.levels.specs.Answer.{depthsOf, depthsSaid};
 ghost use Rattle.trustee_alone.specs.Inner.{TablesReady};
 ghost use Rattle.trustee_alone.specs.Rounds.{tableReasons, roundReasons, roundSaid, roundedWires, roundedPublished};
@@ -34,7 +34,7 @@ fn test_tables(
     published: &[u8],
 ) -> Answer
     requires { ⌜ TablesReady inputs k gates conditional (now table) ⌝ }
-    ensures { λ r. ⌜ depthsSaid r ≡ said (firstOf (tableReasons inputs k (gatesOf (now (table .entry))) t p round (now (levels .entry)) (now (dealt .entry)) (now (heard .entry)) (now (wires .entry)) (now (published .entry)))) (depthsOf inputs (gatesOf (now (table .entry)))) ⌝ }
+    ensures { λ r. ⌜ depthsSaid r ≡ outcome (firstOf (tableReasons inputs k (gatesOf (now (table .entry))) t p round (now (levels .entry)) (now (dealt .entry)) (now (heard .entry)) (now (wires .entry)) (now (published .entry)))) (depthsOf inputs (gatesOf (now (table .entry)))) ⌝ }
 {
     if !own::is_trustee(t, p) {
         return Answer::Refused(LevelRefusal::OfCore(Refusal::Trustees));
@@ -80,7 +80,7 @@ fn test_round(
     wires: &[u8],
     published: &[u8],
 ) -> Answer
-    ensures { λ r. ⌜ depthsSaid r ≡ said (firstOf (roundReasons shape (now (table .entry)) t p round (now (levels .entry)) (now (dealt .entry)) (now (heard .entry)) (now (wires .entry)) (now (published .entry)))) (depthsOf (ballotBytes shape) (gatesOf (now (table .entry)))) ⌝ }
+    ensures { λ r. ⌜ depthsSaid r ≡ outcome (firstOf (roundReasons shape (now (table .entry)) t p round (now (levels .entry)) (now (dealt .entry)) (now (heard .entry)) (now (wires .entry)) (now (published .entry)))) (depthsOf (ballotBytes shape) (gatesOf (now (table .entry)))) ⌝ }
 {
     match tally::test::test(shape, table) {
         tally::answer::Answer::Refused(reason) => Answer::Refused(LevelRefusal::OfCore(reason)),

@@ -7,7 +7,7 @@ use tally::answer::Answer;
 use trustee_gates::dealing;
 ghost use mathlib.Core.Path.{_≡_};
 ghost use Rattle.jury.specs.Reason.{refusedFor, firstOf};
-ghost use Rattle.tally.specs.Answer.{saidBy};
+ghost use Rattle.tally.specs.Answer.{outcomeOf};
 ghost use Rattle.trustees.specs.Inner.{SmallSizes};
 ghost use Rattle.trustee_alone.specs.Start.{ownReasons, startSaid, startedWires, startedPublished};
 
@@ -56,7 +56,7 @@ pub fn start(
     wires: &mut [u8],
     published: &mut [u8],
 ) -> Answer
-    ensures { λ r. ⌜ saidBy r ≡ startSaid shape (now (table .entry)) t p (now (parts .entry)) (now (dealt .entry)) (now (wires .entry)) (now (published .entry)) ⌝ }
+    ensures { λ r. ⌜ outcomeOf r ≡ startSaid shape (now (table .entry)) t p (now (parts .entry)) (now (dealt .entry)) (now (wires .entry)) (now (published .entry)) ⌝ }
     ensures { λ _. ⌜ now (wires .exit) ≡ startedWires shape (now (table .entry)) t p (now (parts .entry)) (now (dealt .entry)) (now (wires .entry)) (now (published .entry)) ⌝ }
     ensures { λ _. ⌜ now (published .exit) ≡ startedPublished shape (now (table .entry)) t p (now (parts .entry)) (now (dealt .entry)) (now (wires .entry)) (now (published .entry)) ⌝ }
 {
@@ -80,8 +80,8 @@ pub fn start(
     ) {
         return Answer::Refused(reason);
     }
-    tally::empty::empty(wires);
+    basics::table::empty(wires);
     bytes::copy(parts, wires);
-    tally::empty::empty(published);
+    basics::table::empty(published);
     answer
 }

@@ -1,7 +1,7 @@
 -- The tests of a dealing: request 2.7, reason 18.
-use mathlib.Core.Bool.{Bool, true, _&&_}
+use mathlib.Core.Bool.{Bool, _&&_}
 use mathlib.Core.List.{List}
-use Prim.Native.Nat.{ℕ, zero, suc, _*_}
+use Prim.Native.Nat.{ℕ, _*_}
 use lib.Dec.{eqb, leb}
 use lib.ListN.{length, getD}
 use Rattle.trustee_shares.specs.Shares.{opened, part, uOf, vOf, productOf, Held}

@@ -1,10 +1,9 @@
 -- The lemma that all turns on: after round r each wire of level at most r holds its part, and each other gate's wire 0.
 -- Assumes nothing.
-use mathlib.Core.Path.{_≡_, _∙_, refl, sym, ap, subst}
+use mathlib.Core.Path.{_≡_, _∙_, refl, sym, subst}
 use mathlib.Core.Bool.{Bool, true, false, cond}
 use mathlib.Core.List.{List, [], _∷_}
-use Prim.Native.Nat.{ℕ, zero, suc, _+_, _-_, _*_, _≤_, _<_}
-use native.Mathlib.Nat.{add-suc}
+use Prim.Native.Nat.{ℕ, suc, _+_, _-_, _*_, _≤_, _<_}
 use native.Mathlib.Omega.{arith}
 use lib.Dec.{eqb, ltb}
 use lib.ListN.{length, getD, set, length-set}
@@ -13,7 +12,7 @@ use borrow.Author.Tests.{ltb-true, ltb-false, lt-ltb, le-ltb, eqb-true, eqb-fals
 use Rattle.gates.specs.Kind.{conditionalOf}
 use Rattle.gates.specs.Gate.{Gate}
 use Rattle.gate_levels.specs.Levels.{wireLevel, gateLevel}
-use Rattle.gate_levels.proofs.Laws.{Below, OperandLevels, operand-levels}
+use Rattle.gate_levels.proofs.Laws.{Below, operand-levels}
 use Rattle.trustee_shares.specs.Shares.{part, productPart, partOfKind, Held, openedFirst, openedSecond, newPart, markOf}
 use Rattle.trustee_shares.proofs.Exchange.{ignores}
 use Rattle.trustee_rounds.specs.Rounds.{Turn, heardPart, entersGate, enters}

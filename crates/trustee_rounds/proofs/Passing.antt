@@ -6,14 +6,14 @@ use mathlib.Core.List.{List, [], _∷_}
 use Prim.Native.Nat.{ℕ, suc, _+_, _*_, _≤_, _<_}
 use native.Mathlib.Nat.{add-suc}
 use native.Mathlib.Omega.{arith}
-use lib.Dec.{T, eqb}
+use lib.Dec.{eqb}
 use lib.ListN.{length, getD, drop, take, set, length-set, drop-of-length-le}
-use lib.Seq.{sets, length-sets, take-all, sets-eq}
+use lib.Seq.{sets, length-sets, take-all}
 use Rattle.gates.specs.Kind.{conditionalOf}
 use Rattle.gates.specs.Gate.{Gate, gatesOf}
 use Rattle.gates.specs.Board.{conditionalCount}
-use Rattle.gates.specs.Step.{gateAt}
-use Rattle.gates.specs.Test.{goodGate, firstBad}
+use Rattle.gates.specs.inner.Step.{gateAt}
+use Rattle.gates.specs.Test.{firstBad}
 use Rattle.gates.specs.declared.place.Place.the-variants.{Nowhere}
 use Rattle.gates.proofs.Table.{gates-from}
 use Rattle.gates.proofs.Goodness.{good-gate}
@@ -25,7 +25,7 @@ use Rattle.trustee_shares.proofs.Accuracy.{count-mark, mark-one}
 use Rattle.trustee_gates.specs.declared.gate.Numbers.{Numbers}
 use Rattle.trustee_gates.specs.Gate.{gateOf}
 use Rattle.trustee_rounds.specs.Rounds.{Turn, heardPart, entersGate, enters, publishesGate, publishes}
-use Rattle.trustee_rounds.specs.Inner.{GateIn, PartReady, EnterReady, PublishReady}
+use Rattle.trustee_rounds.specs.Inner.{GateIn, PartReady, PublishReady}
 
 -- a table that is one trustee's own is its piece 0
 pub own-piece : (l : List ℕ) → piece (length l) l 0 ≡ l

@@ -1,6 +1,6 @@
 -- What is published level by level: after round r each conditional gate of level at most r + 1 has published both masked factors, and each other one zeros.
 -- Assumes nothing.
-use mathlib.Core.Path.{_≡_, _∙_, refl, sym, ap, subst}
+use mathlib.Core.Path.{_≡_, _∙_, refl, sym, ap}
 use mathlib.Core.Bool.{Bool, true, false, cond, _&&_}
 use mathlib.Core.List.{List, [], _∷_}
 use Prim.Native.Nat.{ℕ, zero, suc, _+_, _*_, _≤_, _<_}
@@ -21,7 +21,7 @@ use Rattle.trustee_shares.proofs.Accuracy.{opened-same, count-mark, mark-one}
 use Rattle.trustee_gates.proofs.Running.{mark-none}
 use Rattle.trustee_rounds.specs.Rounds.{publishesGate, publishes}
 use Rattle.trustee_rounds.specs.Together.{sumsFrom, sumsOf}
-use Rattle.trustee_rounds.proofs.Entering.{GateFits, Fits, HeardGate, Heard, turn, Stands, wire-there}
+use Rattle.trustee_rounds.proofs.Entering.{GateFits, Fits, Heard, turn, Stands, wire-there}
 
 -- masked factors follow from the parts of the operands
 first-same : (ws vs dealt : List ℕ) (i : ℕ) (x : Gate) → part ws (x .a) ≡ part vs (x .a) → maskedFirst ws dealt i x ≡ maskedFirst vs dealt i x

@@ -4,9 +4,9 @@ use mathlib.Core.Path.{_≡_, _∙_, refl, sym, ap, subst}
 use mathlib.Core.Bool.{Bool, true, false, cond}
 use mathlib.Core.List.{List, [], _∷_, _++_, append-nil}
 use Prim.Native.Nat.{ℕ, zero, suc, _+_, _-_, _*_, _≤_, _<_}
-use native.Mathlib.Nat.{add-zero, add-suc, zero-add}
+use native.Mathlib.Nat.{add-zero, add-suc}
 use native.Mathlib.Omega.{arith}
-use lib.Dec.{eqb, ltb}
+use lib.Dec.{ltb}
 use lib.ListN.{length, getD, take, drop, replicate, length-append, length-replicate, length-drop, drop-of-length-le, List·getD-append}
 use lib.Seq.{ext-getD, getD-append-add, sets, sets-eq}
 use borrow.Author.Tests.{ltb-true, ltb-false, lt-ltb, le-ltb, eq-eqb, ne-eqb}
@@ -17,15 +17,15 @@ use Rattle.gates.specs.Test.{firstBad}
 use Rattle.gates.specs.declared.place.Place.the-variants.{Nowhere}
 use Rattle.gates.proofs.Goodness.{good-gate}
 use Rattle.gates.proofs.Laws.{AllGood, all-good}
-use Rattle.gate_levels.specs.Levels.{gateLevel, levelsOf, largest, roundsOf}
+use Rattle.gate_levels.specs.Levels.{levelsOf, roundsOf}
 use Rattle.gate_levels.proofs.Laws.{Below, operands-below, Leveled, levels-leveled, operand-levels, largest-most}
 use Rattle.trustee_shares.specs.Shares.{part, Held, newPart, markOf, partsOf}
 use Rattle.trustee_shares.specs.Views.{Dealing, ballotsOf, dealtOf, wirePartsOf, maskedFactors, closingParts, publishedOf}
-use Rattle.trustee_shares.proofs.Accuracy.{part-new, count-mark}
+use Rattle.trustee_shares.proofs.Accuracy.{part-new}
 use Rattle.trustee_gates.proofs.Running.{SameParts, new-cong, parts-keep, length-parts}
 use Rattle.trustee_rounds.specs.Rounds.{Turn, enters, publishes, closes, startWires, startPublished}
 use Rattle.trustee_rounds.specs.Together.{sumsOf, Holdings, turnOf, wiresAfter, publishedAfter, holdingsAfter, RoundsMakeTheTally}
-use Rattle.trustee_rounds.proofs.Entering.{GateFits, Fits, Heard, reached, turn, Stands, stands-end}
+use Rattle.trustee_rounds.proofs.Entering.{Fits, Heard, reached, turn, Stands, stands-end}
 use Rattle.trustee_rounds.proofs.Publishing.{Shown, heard-shown, Published, published-end, all-shown}
 
 -- a list's own levels and parts fit each of its gates

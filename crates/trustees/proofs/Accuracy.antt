@@ -15,7 +15,7 @@ use Rattle.gates.proofs.Laws.{AllGood, all-good, wires-hold, wires-start, wires
 use Rattle.gates.proofs.WireLaws.{length-wires}
 use Rattle.jury.specs.Reason.{Reason, firstOf}
 use Rattle.jury.specs.ClosingBytes.{eightBytes}
-use Rattle.jury.proofs.Tabulate.{tabulate-cong, tabulate-getD}
+use Rattle.basics.proofs.Tabulate.{tabulate-cong, tabulate-getD}
 use Rattle.tally.specs.Answer.{accepted, Size, sizeOf}
 use Rattle.tally.specs.SaysWhoWins.{SaysWhoWins}
 use Rattle.tally.specs.Count.{plainClosing}

@@ -3,7 +3,7 @@ use jury::shape::Shape;
 use tally::answer::Answer;
 ghost use mathlib.Core.Path.{_≡_};
 ghost use Prim.Native.Nat.{_+_};
-ghost use Rattle.jury.specs.Counts.{tabulate};
+ghost use Rattle.basics.specs.Lists.{tabulate};
 ghost use Rattle.jury.specs.ClosingBytes.{eightBytes};
 ghost use Rattle.tally.specs.Answer.{outcomeOf};
 ghost use Rattle.trustee_shares.specs.Shares.{opened, part};

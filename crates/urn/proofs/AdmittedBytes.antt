@@ -13,7 +13,8 @@ use Rattle.jury.specs.Shape.{gradedLimits}
 use Rattle.basics.proofs.Flags.{and-second}
 use Rattle.urn_chains.specs.Slots.{Slot, slotBytes, slotOf, slotsOf, bytesOf, slotAt}
 use Rattle.urn_chains.specs.Chains.{ballotSlots, ballotChain, freeChain, firstEntry, firstFree, headSlot}
-use Rattle.urn_chains.specs.Sound.{all, juryOfOne, inUrn, slotCount, urnSlots, sound}
+use Rattle.basics.specs.Lists.{all}
+use Rattle.urn_chains.specs.Sound.{juryOfOne, inUrn, slotCount, urnSlots, sound}
 use Rattle.urn.specs.Facts.{isEmpty}
 use Rattle.urn.specs.Admit.{withBallot}
 use Rattle.urn_chains.proofs.SlotLaws.{slots-length, slot-within, next-is}

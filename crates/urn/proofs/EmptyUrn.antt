@@ -11,12 +11,13 @@ use lib.Dec.{ltb}
 use lib.ListN.{length, set, drop, replicate, length-set, length-replicate, getD-replicate, replicate-append-replicate}
 use lib.Seq.{take-at, drop-at}
 use borrow.Author.Tests.{ne-eqb, lt-ltb}
-use Rattle.jury.specs.Counts.{tabulate}
+use Rattle.basics.specs.Lists.{tabulate}
 use Rattle.jury.specs.Reason.{reasonAt, unless, firstOf}
-use Rattle.jury.proofs.Flags.{and-both}
+use Rattle.basics.proofs.Flags.{and-both}
 use Rattle.urn_chains.specs.Slots.{Slot, slotBytes, slotOf, slotsOf, bytesOf, slotAt, freeSlot}
 use Rattle.urn_chains.specs.Chains.{firstEntry, firstFree, withBallots, withFree, headSlot, layout}
-use Rattle.urn_chains.specs.Sound.{all, member, distinct, inUrn, urnLength}
+use Rattle.basics.specs.Lists.{all, member, distinct}
+use Rattle.urn_chains.specs.Sound.{inUrn, urnLength}
 use Rattle.urn_chains.proofs.SlotLaws.{size-is}
 use Rattle.urn_chains.proofs.Lists.{member-all, distinct-cons}
 use Rattle.urn_chains.proofs.Linked.{at-other, neitherAfterNorBefore, apart-rest}

@@ -10,10 +10,11 @@ use lib.Dec.{T, eqb, eqb·suc-zero}
 use lib.ListN.{length, getD}
 use borrow.Author.Tests.{eqb-true, not-true}
 use Rattle.jury.specs.Shape.{gradedLimits}
-use Rattle.jury.proofs.Flags.{and-first, or-first, or-second}
+use Rattle.basics.proofs.Flags.{and-first, or-first, or-second}
 use Rattle.urn_chains.specs.Slots.{Slot, slotsOf, slotAt}
 use Rattle.urn_chains.specs.Chains.{chain, ballotSlots, ballotChain, freeChain}
-use Rattle.urn_chains.specs.Sound.{all, member, juryOfOne, inUrn, slotCount, urnSlots, sound}
+use Rattle.basics.specs.Lists.{all, member}
+use Rattle.urn_chains.specs.Sound.{juryOfOne, inUrn, slotCount, urnSlots, sound}
 use Rattle.urn.specs.Facts.{isEmpty, jurorsOf, factsOf}
 use Rattle.urn.specs.declared.facts.Facts.{Facts}
 use Rattle.urn_chains.specs.declared.find.ChainPosition.the-variants.{Found, Absent}

@@ -13,12 +13,13 @@ use borrow.Author.Tests.{eq-eqb, not-true}
 use Rattle.jury.specs.Shape.{gradedLimits}
 use Rattle.basics.specs.Lists.{tabulate}
 use Rattle.jury.specs.Reason.{Reason, firstOf}
-use Rattle.jury.proofs.Flags.{and-first, and-second, and-both, true-T, or-first}
+use Rattle.basics.proofs.Flags.{and-first, and-second, and-both, true-T, or-first}
 use Rattle.tally.specs.Answer.{accepted, outcome}
 use Rattle.urn.specs.declared.facts.Facts.{Facts}
 use Rattle.urn_chains.specs.Slots.{slotBytes, bytesOf}
 use Rattle.urn_chains.specs.Chains.{Entry, ballotChain, freeChain, firstFree, layout}
-use Rattle.urn_chains.specs.Sound.{entriesOf, freeOf, all, member, distinct, juryOfOne, goodJuror, goodBallot, slotCount, urnSlots, sound}
+use Rattle.urn_chains.specs.Sound.{entriesOf, freeOf, juryOfOne, goodJuror, goodBallot, slotCount, urnSlots, sound}
+use Rattle.basics.specs.Lists.{all, member, distinct}
 use Rattle.urn_chains.specs.Sound.{gradedShape}
 use Rattle.urn.specs.Facts.{isEmpty, jurorsOf, factsOf}
 use Rattle.urn.specs.Admit.{admitReasons, admitAnswer, withBallot, admitted}

@@ -10,7 +10,8 @@ use Rattle.urn.specs.declared.answer.Answer.{Answer}
 use Rattle.urn.specs.declared.answer.Answer.the-variants.{Accepted, Refused}
 use Rattle.urn.specs.declared.facts.Facts.{Facts}
 use Rattle.urn_chains.specs.Chains.{Entry}
-use Rattle.urn_chains.specs.Sound.{member, sound, entriesOf, freeOf}
+use Rattle.basics.specs.Lists.{member}
+use Rattle.urn_chains.specs.Sound.{sound, entriesOf, freeOf}
 
 unfoldable pub isEmpty : List ℕ → Bool
 isEmpty [] = true

@@ -4,7 +4,8 @@ use mathlib.Core.Bool.{true, false}
 use mathlib.Core.List.{List}
 use Prim.Native.Nat.{ℕ}
 use lib.ListN.{length}
-use Rattle.urn_chains.specs.Sound.{member, sound, entriesOf, freeOf}
+use Rattle.basics.specs.Lists.{member}
+use Rattle.urn_chains.specs.Sound.{sound, entriesOf, freeOf}
 use Rattle.urn.specs.Facts.{isEmpty, jurorsOf}
 use Rattle.urn.specs.Admit.{admitOutcome}
 use Rattle.urn.specs.Withdraw.{withdrawOutcome}

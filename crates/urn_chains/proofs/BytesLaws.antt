@@ -15,7 +15,8 @@ use Rattle.jury.specs.Ballots.{ballotReasons}
 use Rattle.basics.proofs.Flags.{and-first, and-second, and-both, never-true}
 use Rattle.urn_chains.specs.Slots.{Slot, slotBytes, slotOf, slotsOf, bytesOfSlot, bytesOf, slotAt, freeSlot}
 use Rattle.urn_chains.specs.Chains.{Entry, entrySlot, firstFree, headSlot, withBallots, withFree, layout}
-use Rattle.urn_chains.specs.Sound.{all, juryOfOne, noReason, goodBallot, slotCount, urnLength}
+use Rattle.basics.specs.Lists.{all}
+use Rattle.urn_chains.specs.Sound.{juryOfOne, noReason, goodBallot, slotCount, urnLength}
 use Rattle.urn_chains.proofs.SlotLaws.{size-is}
 use Rattle.urn_chains.proofs.Lists.{all-first, all-rest}
 

@@ -10,11 +10,12 @@ use lib.Dec.{eqb}
 use lib.ListN.{length, replicate, length-set, length-replicate, length-append, length-map}
 use lib.Seq.{ext-getD}
 use borrow.Author.Tests.{eq-eqb}
-use Rattle.jury.specs.Counts.{tabulate}
-use Rattle.jury.proofs.Flags.{and-first, and-second, and-both, or-either, or-first, or-second, never-true}
+use Rattle.basics.specs.Lists.{tabulate}
+use Rattle.basics.proofs.Flags.{and-first, and-second, and-both, or-either, or-first, or-second, never-true}
 use Rattle.urn_chains.specs.Slots.{Slot, slotAt, freeSlot}
 use Rattle.urn_chains.specs.Chains.{Entry, chain, entryAt, ballotSlots, ballotChain, freeChain, firstFree, entrySlot, withBallots, withFree, headSlot, layout}
-use Rattle.urn_chains.specs.Sound.{all, member, distinct, goodJuror, goodBallot, inUrn, eachOnce, goodChains, emptySlot, soundSlots}
+use Rattle.basics.specs.Lists.{all, member, distinct}
+use Rattle.urn_chains.specs.Sound.{goodJuror, goodBallot, inUrn, eachOnce, goodChains, emptySlot, soundSlots}
 use Rattle.urn_chains.proofs.Zeros.{zeros-zero}
 use Rattle.urn_chains.proofs.Lists.{all-first, all-rest, all-append, all-member, member-append, distinct-first, distinct-rest, distinct-left, distinct-right, distinct-apart, tabulate-all}
 use Rattle.urn_chains.proofs.Marks.{once-most}

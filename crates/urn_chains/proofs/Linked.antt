@@ -2,7 +2,7 @@
 -- Assumes nothing.
 use mathlib.Core.Path.{_≡_, _∙_, refl, sym, ap}
 use mathlib.Core.Logic.{⊎-elim, _≢_}
-use mathlib.Core.Bool.{true, false, not}
+use mathlib.Core.Bool.{true, false}
 use mathlib.Core.List.{List, [], _∷_, map}
 use Prim.Native.Nat.{ℕ, zero, suc, _-_, _≤_, _<_}
 use native.Mathlib.Omega.{arith}
@@ -10,10 +10,11 @@ use lib.Dec.{eqb, ltb}
 use lib.ListN.{length, set}
 use lib.Seq.{getD-set-same, getD-set-other}
 use borrow.Author.Tests.{eqb-true, eq-eqb, ltb-true}
-use Rattle.jury.proofs.Flags.{and-first, and-second, or-either, or-first, or-second, never-true}
+use Rattle.basics.proofs.Flags.{and-first, and-second, or-either, or-first, or-second, never-true}
 use Rattle.urn_chains.specs.Slots.{Slot, slotAt, freeSlot}
 use Rattle.urn_chains.specs.Chains.{Entry, chain, ends, entryAt, firstEntry, firstFree, entrySlot}
-use Rattle.urn_chains.specs.Sound.{all, member, inUrn}
+use Rattle.basics.specs.Lists.{all, member}
+use Rattle.urn_chains.specs.Sound.{inUrn}
 use Rattle.urn_chains.proofs.Lists.{all-first, all-rest}
 use Rattle.urn_chains.proofs.Walks.{chain-step, ends-step, chain-end, ends-end}
 

@@ -8,9 +8,9 @@ use Prim.Native.Nat.{ℕ, zero, suc, _<_}
 use native.Mathlib.Omega.{arith}
 use lib.Dec.{eqb}
 use borrow.Author.Tests.{eqb-true, eq-eqb, not-true}
-use Rattle.jury.specs.Counts.{tabulate}
-use Rattle.jury.proofs.Flags.{and-first, and-second, and-both, or-either, or-first, or-second, never-true}
-use Rattle.urn_chains.specs.Sound.{all, member, distinct}
+use Rattle.basics.specs.Lists.{tabulate}
+use Rattle.basics.proofs.Flags.{and-first, and-second, and-both, or-either, or-first, or-second, never-true}
+use Rattle.basics.specs.Lists.{all, member, distinct}
 
 -- two tests that hold together are one
 pub same : (t u : Bool) → (t ≡ true → u ≡ true) → (u ≡ true → t ≡ true) → t ≡ u

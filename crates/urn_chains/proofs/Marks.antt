@@ -10,10 +10,11 @@ use lib.Dec.{eqb, ltb}
 use lib.ListN.{length, getD, set, replicate, length-set, length-replicate, getD-replicate, List·getD-eq-default}
 use lib.Seq.{getD-set-same, getD-set-other}
 use borrow.Author.Tests.{eqb-true, eq-eqb, ne-eqb, ltb-true, not-true}
-use Rattle.jury.specs.Counts.{tabulate}
-use Rattle.jury.proofs.Cases.{same-or-not, below-or-not}
-use Rattle.jury.proofs.Flags.{and-first, and-second, or-either, or-first, or-second, never-true}
-use Rattle.urn_chains.specs.Sound.{all, member, distinct, inUrn}
+use Rattle.basics.specs.Lists.{tabulate}
+use Rattle.basics.proofs.Cases.{same-or-not, below-or-not}
+use Rattle.basics.proofs.Flags.{and-first, and-second, or-either, or-first, or-second, never-true}
+use Rattle.basics.specs.Lists.{all, member, distinct}
+use Rattle.urn_chains.specs.Sound.{inUrn}
 use Rattle.urn_chains.specs.inner.Walk.{noMarks, markAll, fresh}
 use Rattle.urn_chains.proofs.Lists.{all-first, all-rest, all-weaken, all-member, all-tabulate, tabulate-all}
 

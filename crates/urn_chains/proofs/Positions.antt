@@ -10,7 +10,8 @@ use native.Mathlib.Omega.{arith}
 use borrow.Author.Tests.{eq-eqb, ne-eqb}
 use Rattle.urn_chains.specs.Slots.{Slot, slotAt}
 use Rattle.urn_chains.specs.Chains.{chain}
-use Rattle.urn_chains.specs.Sound.{all, inUrn}
+use Rattle.basics.specs.Lists.{all}
+use Rattle.urn_chains.specs.Sound.{inUrn}
 use Rattle.urn_chains.specs.declared.find.ChainPosition.the-variants.{Found, Absent}
 use Rattle.urn_chains.specs.inner.Position.{positionOf}
 use Rattle.urn_chains.proofs.Lists.{all-first, all-rest}

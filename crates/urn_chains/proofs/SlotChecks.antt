@@ -7,7 +7,7 @@ use Prim.Native.Nat.{ℕ, _+_, _*_, _-_, _≤_, _<_}
 use lib.Dec.{ltb, eqb}
 use lib.ListN.{length, getD, take, drop}
 use borrow.Author.Tests.{lt-ltb, le-ltb, ltb-true}
-use Rattle.jury.proofs.Flags.{and-first, and-second, and-both}
+use Rattle.basics.proofs.Flags.{and-first, and-second, and-both}
 use Rattle.urn_chains.proofs.GoodBallots.{juror-most}
 use Rattle.urn_chains.specs.Slots.{Slot, slotBytes, slotsOf, slotAt}
 use Rattle.urn_chains.specs.Sound.{goodJuror, goodBallot, inUrn, allZero, emptySlot}

@@ -10,7 +10,7 @@ use native.Mathlib.Omega.{arith}
 use lib.Dec.{T}
 use lib.ListN.{length, getD, take, drop, length-map}
 use Rattle.jury.specs.Shape.{gradedLimits}
-use Rattle.jury.proofs.Flags.{never-true}
+use Rattle.basics.proofs.Flags.{never-true}
 use Rattle.jury.proofs.Limits.{within-T}
 use Rattle.urn_chains.specs.Slots.{slotBytes, slotsOf, slotAt}
 use Rattle.urn_chains.specs.Chains.{chain, entryAt, ballotSlots, ballotChain, freeChain}

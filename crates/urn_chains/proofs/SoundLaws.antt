@@ -11,8 +11,9 @@ use borrow.Author.Tests.{ltb-true, lt-ltb}
 use Rattle.basics.specs.Lists.{tabulate}
 use Rattle.basics.proofs.Flags.{and-first, and-second, and-both}
 use Rattle.urn_chains.specs.Slots.{Slot, slotAt}
-use Rattle.urn_chains.specs.Chains.{Entry, chain, ends, entryAt, ballotSlots, ballotChain, freeChain}
-use Rattle.urn_chains.specs.Sound.{all, member, distinct, goodJuror, goodBallot, inUrn, eachOnce, goodChains, allZero, emptySlot, soundSlots}
+use Rattle.urn_chains.specs.Chains.{Entry, ends, entryAt, ballotSlots, ballotChain, freeChain}
+use Rattle.basics.specs.Lists.{all, member, distinct}
+use Rattle.urn_chains.specs.Sound.{goodJuror, goodBallot, inUrn, eachOnce, goodChains, allZero, emptySlot, soundSlots}
 use Rattle.urn_chains.specs.inner.Walk.{noMarks, markAll, fresh, jurorsAt, ballotAt, freeAt, ballotsFrom, freeFrom}
 use Rattle.urn_chains.proofs.GoodBallots.{juror-most}
 use Rattle.urn_chains.proofs.Lists.{all-append, all-map, all-weaken, all-both}

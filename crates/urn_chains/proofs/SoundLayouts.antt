@@ -8,11 +8,12 @@ use native.Mathlib.Omega.{arith}
 use lib.Dec.{eqb}
 use lib.ListN.{length, replicate}
 use borrow.Author.Tests.{eqb-true}
-use Rattle.jury.specs.Counts.{tabulate}
-use Rattle.jury.proofs.Flags.{and-first, and-second, and-both}
+use Rattle.basics.specs.Lists.{tabulate}
+use Rattle.basics.proofs.Flags.{and-first, and-second, and-both}
 use Rattle.urn_chains.specs.Slots.{Slot, slotBytes, slotsOf, bytesOf, slotAt, freeSlot}
 use Rattle.urn_chains.specs.Chains.{Entry, ballotSlots, ballotChain, freeChain, firstEntry, firstFree, headSlot, layout}
-use Rattle.urn_chains.specs.Sound.{all, member, distinct, goodJuror, goodBallot, inUrn, eachOnce, goodChains, allZero, emptySlot, soundSlots, slotCount, urnLength, urnSlots, sound, entriesOf, freeOf}
+use Rattle.basics.specs.Lists.{all, member, distinct}
+use Rattle.urn_chains.specs.Sound.{goodJuror, goodBallot, inUrn, eachOnce, goodChains, allZero, emptySlot, soundSlots, slotCount, urnLength, urnSlots, sound, entriesOf, freeOf}
 use Rattle.urn_chains.specs.Theorems.{LaidOut, SoundIsLaidOut}
 use Rattle.urn_chains.proofs.Zeros.{zero-zeros}
 use Rattle.urn_chains.proofs.Lists.{all-member, all-append}

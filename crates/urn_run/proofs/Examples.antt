@@ -9,13 +9,14 @@ use Rattle.gates.specs.HidingExample.{oneGate}
 use Rattle.jury.specs.Shape.{isRanking, gradedLimits, columns, ballotBytes}
 use Rattle.jury.specs.Reason.{unless, foundAt, firstOf}
 use Rattle.jury.specs.Ballots.{ones, rowsOf, firstBadRow, gradedReasons, ballotReasons}
-use Rattle.jury.specs.Counts.{tabulate}
+use Rattle.basics.specs.Lists.{tabulate}
 use Rattle.tally.specs.Run.{RunResult, runResult}
 use Rattle.tally.specs.Examples.{oneBallot}
 use Rattle.tally.proofs.Examples.{pair-of-runs}
 use Rattle.urn_chains.specs.Slots.{slotBytes, slotOf, slotsOf, slotAt}
 use Rattle.urn_chains.specs.Chains.{chain, ends, entryAt, ballotSlots, ballotChain, freeChain}
-use Rattle.urn_chains.specs.Sound.{all, member, distinct, juryOfOne, noReason, goodBallot, goodJuror, inUrn, eachOnce, goodChains, allZero, emptySlot, soundSlots, slotCount, urnLength, urnSlots, sound}
+use Rattle.basics.specs.Lists.{all, member, distinct}
+use Rattle.urn_chains.specs.Sound.{juryOfOne, noReason, goodBallot, goodJuror, inUrn, eachOnce, goodChains, allZero, emptySlot, soundSlots, slotCount, urnLength, urnSlots, sound}
 use Rattle.urn_run.specs.Run.{joined, chainBallots, urnRunResult}
 use Rattle.urn_run.specs.Examples.{better, worse, PairOfUrns}
 use Rattle.urn_run.proofs.Reasons.{same-run}

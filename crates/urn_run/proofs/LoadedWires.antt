@@ -11,10 +11,11 @@ use lib.Dec.{T}
 use lib.ListN.{length, getD, set, take, drop, length-append, length-take, length-drop, drop-of-length-le}
 use lib.Seq.{sets, sets-eq, length-sets, take-all, take-length, drop-drop}
 use Rattle.jury.specs.Shape.{gradedLimits}
-use Rattle.jury.proofs.Cases.{below-or-not}
+use Rattle.basics.proofs.Cases.{below-or-not}
 use Rattle.urn_chains.specs.Slots.{Slot, slotBytes, slotsOf, slotAt}
 use Rattle.urn_chains.specs.Chains.{chain, ends, entryAt, ballotChain}
-use Rattle.urn_chains.specs.Sound.{all, inUrn, juryOfOne, slotCount, urnSlots, sound}
+use Rattle.basics.specs.Lists.{all}
+use Rattle.urn_chains.specs.Sound.{inUrn, juryOfOne, slotCount, urnSlots, sound}
 use Rattle.urn_chains.proofs.Lists.{all-first, all-rest}
 use Rattle.urn_chains.proofs.Linked.{below}
 use Rattle.urn_chains.proofs.Walks.{chain-step, chain-end, ends-step, ends-never}

@@ -20,11 +20,11 @@ use Rattle.jury.specs.Shape.{gradedLimits, withinLimits, ballotBytes}
 use Rattle.jury.specs.Reason.{Reason, reasonAt, unless, listReason, firstOf}
 use Rattle.jury.specs.Ballots.{ballotReasons}
 use Rattle.jury.specs.Accepted.{AcceptedBallots}
-use Rattle.jury.proofs.Flags.{never-true, true-T}
+use Rattle.basics.proofs.Flags.{never-true, true-T}
 use Rattle.jury.proofs.Limits.{within, within-back, graded-within, bytes-are}
 use Rattle.jury.proofs.BallotLaws.{judged, judged-by, kindReason}
 use Rattle.jury.proofs.AcceptedLaws as ballots-laws
-use Rattle.tally.specs.Answer.{refused, accepted, Size, sizeOf}
+use Rattle.tally.specs.Answer.{refused, Size, sizeOf}
 use Rattle.tally.specs.Test.{testReasons, testOutcome}
 use Rattle.tally.specs.Run.{bufferReasons, runReasons, runResultAfter, runResult}
 use Rattle.tally.proofs.TestReasons.{orElse}

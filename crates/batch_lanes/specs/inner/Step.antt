@@ -7,7 +7,7 @@ use lib.ListN.{length, getD, set}
 use Rattle.gates.specs.Kind.{conditionalMarks, conditionalOf}
 use Rattle.gates.specs.Wires.{value}
 use Rattle.gates.specs.Board.{conditionalCount, shownBit}
-use Rattle.gates.specs.Step.{GateReady, rangeOf, stepWires, stepBoard, gateAt}
+use Rattle.gates.specs.inner.Step.{GateReady, rangeOf, stepWires, stepBoard, gateAt}
 use Rattle.batch_lanes.specs.Lane.{laneCount, laneOf}
 
 -- One gate: its marks are at hand, and it is ready.

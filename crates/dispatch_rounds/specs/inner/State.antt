@@ -5,7 +5,7 @@ use Prim.Native.Nat.{ℕ, _+_, _*_, _≤_, _<_}
 use lib.Dec.{T}
 use lib.ListN.{length, take}
 use Rattle.gates.specs.Gate.{gatesOf}
-use Rattle.gates.specs.Step.{RunReady}
+use Rattle.gates.specs.inner.Step.{RunReady}
 use Rattle.jury.specs.Shape.{withinLimits, ballotBytes}
 use Rattle.dispatch_rounds.specs.declared.header.JuryHeader.{JuryHeader}
 use Rattle.dispatch_rounds.specs.declared.header.Places.{Places}

@@ -7,7 +7,8 @@ use lib.Dec.{eqb}
 use lib.ListN.{getD}
 use Rattle.urn_chains.specs.Slots.{Slot, slotsOf, slotAt}
 use Rattle.urn_chains.specs.Chains.{chain}
-use Rattle.urn_chains.specs.Sound.{all, inUrn}
+use Rattle.basics.specs.Lists.{all}
+use Rattle.urn_chains.specs.Sound.{inUrn}
 use Rattle.urn_chains.specs.declared.find.ChainPosition.{ChainPosition}
 use Rattle.urn_chains.specs.declared.find.ChainPosition.the-variants.{Found, Absent}
 use Rattle.urn_chains.specs.inner.Table.{SlotTable}

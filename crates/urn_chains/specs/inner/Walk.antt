@@ -6,7 +6,8 @@ use Prim.Native.Nat.{ℕ, _<_}
 use lib.ListN.{length, getD, set, replicate}
 use Rattle.urn_chains.specs.Slots.{Slot, slotAt}
 use Rattle.urn_chains.specs.Chains.{chain, ends}
-use Rattle.urn_chains.specs.Sound.{all, goodBallot, goodJuror, inUrn, emptySlot}
+use Rattle.basics.specs.Lists.{all}
+use Rattle.urn_chains.specs.Sound.{goodBallot, goodJuror, inUrn, emptySlot}
 use Rattle.urn_chains.specs.declared.walk.SlotCheck.{SlotCheck}
 use Rattle.urn_chains.specs.declared.walk.SlotCheck.the-variants.{Sound, Wrong}
 use Rattle.urn_chains.specs.declared.walk.Walk.{Walk}

@@ -13,8 +13,8 @@ use Rattle.c_levels.specs.Numbers.{depthNumbers}
 use Rattle.c_levels.proofs.calls.put_depths.Statement.{statement}
 use Rattle.c_levels.proofs.calls.put_depths.Tie as tie
 
-enum-known-said : tie.Need-enum-known-said
-enum-known-said c = search needs
+enum-known-outcome : tie.Need-enum-known-outcome
+enum-known-outcome c = search needs
 
 slice-aggregate-put : tie.Need-slice-aggregate-put
 slice-aggregate-put c = search needs
@@ -22,8 +22,8 @@ slice-aggregate-put c = search needs
 put-requires : tie.Need-put-requires
 put-requires c κs = search needs
 
-enum-known-said-2 : tie.Need-enum-known-said-2
-enum-known-said-2 c = search needs
+enum-known-outcome-2 : tie.Need-enum-known-outcome-2
+enum-known-outcome-2 c = search needs
 
 number-requires : tie.Need-number-requires
 number-requires c κs = search needs
@@ -44,7 +44,7 @@ returns : tie.Need-returns
 unfolding statusOf depthNumbers depthsSaid
 returns c =
     let a = c .before .before .before .before .before .before .before .before .before .args in
-    let e = ap (λ (s : Answer). depthNumbers (depthsSaid s)) (c .before .before .before .before .before .before .said .given .1) in
+    let e = ap (λ (s : Answer). depthNumbers (depthsSaid s)) (c .before .before .before .before .before .before .outcome .given .1) in
     (sym (ap statusOf e), c .before .before .put .ensures ∙ sym (ap (λ (r : List ℕ). r ++ drop 5 (a .answer .now)) e))
 
 same-length-2 : tie.Need-same-length-2
@@ -65,10 +65,10 @@ pub put-depths-spec : {M : Type 1} → statement M
 put-depths-spec =
     tie.close
     (tie.spec
-    enum-known-said
+    enum-known-outcome
     slice-aggregate-put
     put-requires
-    enum-known-said-2
+    enum-known-outcome-2
     number-requires
     place-requires
     slice-aggregate-put-2

@@ -4,10 +4,10 @@ use mathlib.Core.Path.{_∙_, sym, ap}
 use mathlib.Core.List.{List, _++_}
 use Prim.Native.Nat.{ℕ}
 use lib.ListN.{drop}
-use Rattle.tally.specs.Answer.{Said, Size}
+use Rattle.tally.specs.Answer.{Outcome}
 use Rattle.levels.specs.Answer.{Depths}
 use Rattle.trustee_alone.specs.Rounds.{roundSaid, roundedWires, roundedPublished}
-use Rattle.c_answers.specs.Numbers.{shapeOf, sizeNumbers, statusOf}
+use Rattle.c_answers.specs.Numbers.{shapeOf, statusOf}
 use Rattle.c_levels.specs.Numbers.{depthNumbers}
 use Rattle.c_answers.proofs.Answering.{short-status, short-answered, short-altered, room-status, room-answered, room-altered}
 use borrow.Author.Needs.{needs}
@@ -40,12 +40,12 @@ returns-2 : tie.Need-returns-2
 unfolding shapeOf
 returns-2 c =
     let put = c .before .before in
-    let said = put .before .before .before .before .before .before in
-    let long = said .before .before .before in
+    let outcome = put .before .before .before .before .before .before in
+    let long = outcome .before .before .before in
     let a = long .before .before .before .before .before .before .before .before .args in
     let numbers = depthNumbers (roundSaid (shapeOf (a .candidates) (a .grades) (a .ballots)) (a .table .now) (a .trustees) (a .trustee) (a .round) (a .levels .now) (a .dealt .now) (a .heard .now) (a .wires .now) (a .published .now)) in
-    let e = ap (λ (s : Said Depths). depthNumbers s) (said .round .ensures .0) in
-    (put .put-depths .ensures .0 ∙ ap statusOf e ∙ sym (room-status 5 (a .answer .now) (long .if1 .left) numbers), (put .put-depths .ensures .1 ∙ ap (λ (l : List ℕ). l ++ drop 5 (a .answer .now)) e ∙ sym (room-answered 5 (a .answer .now) (long .if1 .left) numbers), (said .round .ensures .1 .0 ∙ sym (room-altered 5 (a .answer .now) (long .if1 .left) (roundedWires (shapeOf (a .candidates) (a .grades) (a .ballots)) (a .table .now) (a .trustees) (a .trustee) (a .round) (a .levels .now) (a .dealt .now) (a .heard .now) (a .wires .now) (a .published .now)) (a .wires .now)), said .round .ensures .1 .1 ∙ sym (room-altered 5 (a .answer .now) (long .if1 .left) (roundedPublished (shapeOf (a .candidates) (a .grades) (a .ballots)) (a .table .now) (a .trustees) (a .trustee) (a .round) (a .levels .now) (a .dealt .now) (a .heard .now) (a .wires .now) (a .published .now)) (a .published .now)))))
+    let e = ap (λ (s : Outcome Depths). depthNumbers s) (outcome .round .ensures .0) in
+    (put .put-depths .ensures .0 ∙ ap statusOf e ∙ sym (room-status 5 (a .answer .now) (long .if1 .left) numbers), (put .put-depths .ensures .1 ∙ ap (λ (l : List ℕ). l ++ drop 5 (a .answer .now)) e ∙ sym (room-answered 5 (a .answer .now) (long .if1 .left) numbers), (outcome .round .ensures .1 .0 ∙ sym (room-altered 5 (a .answer .now) (long .if1 .left) (roundedWires (shapeOf (a .candidates) (a .grades) (a .ballots)) (a .table .now) (a .trustees) (a .trustee) (a .round) (a .levels .now) (a .dealt .now) (a .heard .now) (a .wires .now) (a .published .now)) (a .wires .now)), outcome .round .ensures .1 .1 ∙ sym (room-altered 5 (a .answer .now) (long .if1 .left) (roundedPublished (shapeOf (a .candidates) (a .grades) (a .ballots)) (a .table .now) (a .trustees) (a .trustee) (a .round) (a .levels .now) (a .dealt .now) (a .heard .now) (a .wires .now) (a .published .now)) (a .published .now)))))
 
 pub jugy-trustee-round-spec : {M : Type 1} → statement M
 jugy-trustee-round-spec =

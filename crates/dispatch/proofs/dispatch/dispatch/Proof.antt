@@ -12,7 +12,7 @@ use lib.Seq.{length-take-le}
 use borrow.Author.Needs.{needs}
 use borrow.Author.Tests.{leb-true, not-true, not-false}
 use Rattle.jury.specs.Reason.{Reason, reasonAt, reasonOf, firstOf}
-use Rattle.jury.proofs.Flags.{and-first, and-second}
+use Rattle.basics.proofs.Flags.{and-first, and-second}
 use Rattle.dispatch_rounds.specs.Tables.{lent}
 use Rattle.dispatch_rounds.specs.Reasons.{juryReasons}
 use Rattle.dispatch.specs.Call.{Call, juriesIn}

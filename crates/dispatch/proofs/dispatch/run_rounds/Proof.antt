@@ -8,7 +8,7 @@ use native.Mathlib.Nat.{zero-mul, mul-le-mul}
 use native.Mathlib.Numerals.{add-one}
 use native.Mathlib.Omega.{arith}
 use lib.ListN.{length, take, replicate, length-take}
-use Rattle.jury.proofs.Cases.{below-or-not}
+use Rattle.basics.proofs.Cases.{below-or-not}
 use Rattle.dispatch_rounds.specs.Tables.{Tables, lent}
 use Rattle.dispatch_rounds.specs.Rounds.{RoundState}
 use Rattle.dispatch.proofs.Whole.{state-start, few-gates, gets-gate}

@@ -23,8 +23,6 @@ use Rattle.dispatch_rounds.proofs.MidRound.{from, inside-next, left-cons}
 use Rattle.dispatch.proofs.JuryTests.{TestedSoFar, tested-start, tested-next, tested-end, tested-as, rest-is, lent-same, bad-jury, refusal-is, at-jury-some, accepted-mark}
 use Rattle.dispatch.proofs.tests.test_juries.Statement.{statement}
 use Rattle.dispatch.proofs.tests.test_juries.Tie as tie
-use Rattle.dispatch.proofs.tests.test_juries.Reads as reads
-use Rattle.dispatch.proofs.tests.test_juries.Lts as lts
 
 abbrev Inv-loop : tie.InvT-loop
 Inv-loop count lists ballots tapes wires boards headers conditional₀ at₀ j₀ conditional at j =

@@ -19,10 +19,6 @@ use Rattle.dispatch_rounds.proofs.Passed.{Passed}
 use Rattle.dispatch_rounds.proofs.MidRound.{from, Inside, inside-next, Mid, left-cons, mid-start, mid-end, mid-passed, mid-mark, mid-wires, mid-wires-room, mid-boards, mid-boards-room, mid-shown, mid-stands, mid-next, slice-is, part-long, spliced-long, jury-as, jury-back, mid-as}
 use Rattle.dispatch_rounds.proofs.round.round.Statement.{statement}
 use Rattle.dispatch_rounds.proofs.round.round.Tie as tie
-use Rattle.dispatch_rounds.proofs.round.round.Reads as reads
-use Rattle.dispatch_rounds.proofs.round.round.Lts as lts
-use Rattle.dispatch_rounds.proofs.round.turn.Reads as turn-reads
-use Rattle.dispatch_rounds.proofs.header.Places.after.Reads as after-reads
 
 abbrev Inv-loop : tie.InvT-loop
 Inv-loop count done quantum lists ballots tapes wires₀ boards₀ headers conditional given shown₀ at₀ j₀ wires boards shown at j =

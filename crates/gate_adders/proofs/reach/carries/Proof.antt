@@ -6,7 +6,6 @@ use native.Mathlib.Nat.{add-zero, sub-zero}
 use native.Mathlib.Omega.{arith}
 use Rattle.gate_words.specs.Reach.{carries}
 use Rattle.gate_words.proofs.ReachLaws.{carries-step, carries-none, length-carries}
-use Rattle.gate_words.proofs.Writing.{wrote-as}
 use Rattle.gate_words.proofs.Going.{Goes, goes-start, goes-as, goes-on, goes-room, goes-end}
 use Rattle.gate_adders.proofs.reach.carries.Statement.{statement}
 use Rattle.gate_adders.proofs.reach.carries.Tie as tie

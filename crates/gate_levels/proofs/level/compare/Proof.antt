@@ -1,14 +1,13 @@
 -- `gate_levels::level::compare` meets its contract: the first gate whose level differs decides, and else what is left is one gate less with each turn.
 -- Assumes nothing.
 use borrow.Author.Needs.{needs}
-use mathlib.Core.Path.{_≡_, _∙_, refl, sym, ap}
-use mathlib.Core.List.{List, [], _∷_, _++_}
-use Prim.Native.Nat.{ℕ, suc, _-_, _<_}
+use mathlib.Core.Path.{_∙_, refl, ap}
+use mathlib.Core.List.{[], _∷_, _++_}
+use Prim.Native.Nat.{ℕ, _-_, _<_}
 use native.Mathlib.Numerals.{add-one}
 use native.Mathlib.Omega.{arith}
-use lib.ListN.{length, getD, take}
+use lib.ListN.{length, take}
 use lib.Seq.{take-suc}
-use Rattle.gates.specs.Gate.{gatesOf}
 use Rattle.gate_levels.proofs.Filling.{Left, left-start, level-ready, left-turn, other, own-levels}
 use Rattle.gate_levels.proofs.level.compare.Statement.{statement}
 use Rattle.gate_levels.proofs.level.compare.Tie as tie

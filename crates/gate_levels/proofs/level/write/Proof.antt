@@ -1,14 +1,12 @@
 -- `gate_levels::level::write` meets its contract: what is left is one gate less with each turn.
 -- Assumes nothing.
 use borrow.Author.Needs.{needs}
-use mathlib.Core.Path.{_≡_, _∙_, refl, sym, ap}
-use mathlib.Core.List.{List, [], _∷_, _++_}
-use Prim.Native.Nat.{ℕ, suc, _-_, _<_}
+use mathlib.Core.Path.{_∙_, refl, sym}
+use Prim.Native.Nat.{_-_, _<_}
 use native.Mathlib.Numerals.{add-one}
 use native.Mathlib.Omega.{arith}
 use lib.ListN.{length, length-set}
 use lib.Seq.{take-suc-set}
-use Rattle.gates.specs.Gate.{gatesOf}
 use Rattle.gate_levels.proofs.Filling.{Left, left-start, level-ready, left-turn, left-end}
 use Rattle.gate_levels.proofs.level.write.Statement.{statement}
 use Rattle.gate_levels.proofs.level.write.Tie as tie

@@ -1,8 +1,7 @@
 -- `gate_words::halves::above_at` meets its contract: it is the end of a chain.
 -- Assumes nothing.
-use mathlib.Core.Path.{_≡_, _∙_, refl, sym, ap}
-use mathlib.Core.List.{List, [], _∷_, _++_}
-use Prim.Native.Nat.{ℕ, suc, _+_, _-_, _<_}
+use mathlib.Core.Path.{_≡_, _∙_, ap}
+use Prim.Native.Nat.{ℕ, _+_, _-_}
 use native.Mathlib.Omega.{arith}
 use Rattle.gate_words.specs.Choice.{chainEnd}
 use Rattle.gate_words.specs.Halves.{unequalSpan}

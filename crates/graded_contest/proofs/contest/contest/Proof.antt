@@ -1,14 +1,13 @@
 -- `graded_contest::contest::contest` meets its contract: the medians, their comparison, and what they and the sums say.
 -- Assumes nothing.
 use mathlib.Core.Path.{_≡_, _∙_, refl, sym, ap}
-use mathlib.Core.List.{List, [], _∷_, _++_}
-use Prim.Native.Nat.{ℕ, zero, suc, _+_, _-_, _*_, _/_, _%_, _≤_, _<_}
+use Prim.Native.Nat.{ℕ, suc, _+_, _-_}
 use native.Mathlib.Omega.{arith}
 use borrow.Author.Needs.{needs}
 use native.Mathlib.Nat.{sub-zero, add-zero}
-use Rattle.gate_words.specs.Halves.{unequalAt, compareHalves, compareCut, compareSpan, aboveAt}
-use Rattle.gate_words.proofs.Writing.{wrote-as, room-less}
-use Rattle.gate_words.proofs.Standing.{Stands, stands, stands-after, room-of, wrote-then, one-gate}
+use Rattle.gate_words.specs.Halves.{unequalAt, compareHalves, compareSpan, aboveAt}
+use Rattle.gate_words.proofs.Writing.{room-less}
+use Rattle.gate_words.proofs.Standing.{Stands, stands, stands-after, room-of, wrote-then}
 use Rattle.gate_words.proofs.HalvesLaws.{length-compare-halves}
 use Rattle.graded_circuit.specs.RunningSums.{wordSpan}
 use Rattle.graded_circuit.specs.Median.{median}

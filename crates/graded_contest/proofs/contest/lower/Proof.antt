@@ -1,18 +1,14 @@
 -- `graded_contest::contest::lower` meets its contract: the medians alone, one comparison, or the nearest differences.
 -- Assumes nothing.
-use mathlib.Core.Path.{_≡_, _∙_, refl, sym, ap}
-use mathlib.Core.List.{List, [], _∷_, _++_}
-use Prim.Native.Nat.{ℕ, zero, suc, _+_, _-_, _*_, _/_, _%_, _≤_, _<_}
+use mathlib.Core.Path.{_≡_, _∙_, ap}
+use Prim.Native.Nat.{ℕ, suc, _+_, _-_, _*_, _%_, _<_}
 use native.Mathlib.Omega.{arith}
 use borrow.Author.Needs.{needs}
-use Rattle.gate_words.specs.Writing.{Room}
 use Rattle.gate_words.proofs.Writing.{wrote-as, room-less}
 use Rattle.graded_circuit.specs.declared.plan.Plan.{Plan}
-use Rattle.graded_circuit.specs.Plan.{Planned}
 use Rattle.graded_circuit.specs.RunningSums.{wordSpan}
 use Rattle.graded_circuit.specs.Key.{keySpan}
 use Rattle.graded_circuit.specs.Nearest.{stride, sideSpan, eitherSpan}
-use Rattle.graded_circuit.specs.Contest.{lower}
 use Rattle.graded_circuit.specs.Outward.{outward}
 use Rattle.graded_circuit.proofs.BoundLaws.{digits-most}
 use Rattle.graded_circuit.proofs.ContestLaws.{key-some}

@@ -1,10 +1,8 @@
 -- `graded_contest::outward::chosen_high` meets its contract: it computes the definition.
 -- Assumes nothing.
-use mathlib.Core.Path.{_≡_, _∙_, refl, sym, ap}
-use mathlib.Core.List.{List, [], _∷_, _++_}
-use Prim.Native.Nat.{ℕ, zero, suc, _+_, _-_, _*_, _/_, _%_, _≤_, _<_}
+use mathlib.Core.Path.{_≡_, refl}
+use Prim.Native.Nat.{ℕ, zero, suc, _+_, _-_, _/_}
 use native.Mathlib.Omega.{arith}
-use borrow.Author.Needs.{needs}
 use Rattle.graded_circuit.specs.Outward.{chosenHigh}
 use Rattle.graded_contest.proofs.outward.chosen_high.Statement.{statement}
 use Rattle.graded_contest.proofs.outward.chosen_high.Tie as tie

@@ -1,16 +1,15 @@
 -- `graded_contest::outward::compare_and_reach` meets its contract: two comparisons, and two carries.
 -- Assumes nothing.
-use mathlib.Core.Path.{_≡_, _∙_, refl, sym, ap}
-use mathlib.Core.List.{List, [], _∷_, _++_}
-use Prim.Native.Nat.{ℕ, zero, suc, _+_, _-_, _*_, _/_, _%_, _≤_, _<_}
+use mathlib.Core.Path.{_≡_, refl, ap}
+use Prim.Native.Nat.{ℕ, _+_, _-_, _*_}
 use native.Mathlib.Omega.{arith}
 use borrow.Author.Needs.{needs}
 use Rattle.gate_words.specs.Halves.{compareCut, compareSpan}
-use Rattle.gate_words.specs.Reach.{reach, reachLast, reachSpan}
+use Rattle.gate_words.specs.Reach.{reach, reachSpan}
 use Rattle.gate_words.proofs.Writing.{room-less}
 use Rattle.gate_words.proofs.HalvesLaws.{length-compare-cut}
 use Rattle.gate_words.proofs.ReachLaws.{length-reach}
-use Rattle.gate_words.proofs.Standing.{Stands, stands, stands-after, room-of, wrote-then, one-gate}
+use Rattle.gate_words.proofs.Standing.{Stands, stands, stands-after, room-of, wrote-then}
 use Rattle.graded_circuit.specs.Outward.{compareAndReach}
 use Rattle.graded_contest.proofs.outward.compare_and_reach.Statement.{statement}
 use Rattle.graded_contest.proofs.outward.compare_and_reach.Tie as tie

@@ -1,19 +1,18 @@
 -- `graded_contest::outward::outward` meets its contract: the nearest words, their comparisons and sums, and which decides.
 -- Assumes nothing.
-use mathlib.Core.Path.{_≡_, _∙_, refl, sym, ap}
-use mathlib.Core.List.{List, [], _∷_, _++_}
-use Prim.Native.Nat.{ℕ, zero, suc, _+_, _-_, _*_, _/_, _%_, _≤_, _<_}
+use mathlib.Core.Path.{_≡_, _∙_, refl, ap}
+use mathlib.Core.List.{List}
+use Prim.Native.Nat.{ℕ, suc, _+_, _-_, _*_, _≤_}
 use native.Mathlib.Omega.{arith}
 use borrow.Author.Needs.{needs}
 use native.Mathlib.Nat.{suc-mul}
 use native.Mathlib.Numerals.{add-one}
 use Rattle.gates.specs.Gate.{Gate}
 use Rattle.gate_words.specs.Halves.{unequalAt, compareSpan, aboveAt}
-use Rattle.gate_words.specs.Reach.{reachLast}
 use Rattle.gate_words.proofs.Writing.{room-less}
-use Rattle.gate_words.proofs.Standing.{Stands, stands, stands-after, room-of, wrote-then, one-gate}
+use Rattle.gate_words.proofs.Standing.{Stands, stands, stands-after, room-of, wrote-then}
 use Rattle.graded_circuit.specs.Nearest.{stride, sideSpan, eitherSpan, leftEnd, rightEnd}
-use Rattle.graded_circuit.specs.Outward.{downAt, upAt, nearestEnd, farAt, downLeft, downRight, upLeft, upRight, chosenHigh, compareAndReach, compareAndReachSpan, leftCarry, rightCarry, resolve, resolveSpan, resolveAt, outward}
+use Rattle.graded_circuit.specs.Outward.{downAt, upAt, nearestEnd, farAt, downLeft, downRight, upLeft, upRight, compareAndReach, compareAndReachSpan, leftCarry, rightCarry, resolve, resolveSpan, resolveAt, outward}
 use Rattle.graded_circuit.proofs.OutwardBlocks.{chosen-high, nearest-block, compare-and-reach-block, down-left-below, down-right-below, up-left-below, up-right-below}
 use Rattle.graded_keys.proofs.Steps.{product-most}
 use Rattle.graded_contest.proofs.outward.outward.Statement.{statement}

@@ -1,12 +1,11 @@
 -- `graded_contest::outward::resolve` meets its contract: its four parts, one behind the other.
 -- Assumes nothing.
-use mathlib.Core.Path.{_≡_, _∙_, refl, sym, ap}
-use mathlib.Core.List.{List, [], _∷_, _++_}
-use Prim.Native.Nat.{ℕ, zero, suc, _+_, _-_, _*_, _/_, _%_, _≤_, _<_}
+use mathlib.Core.Path.{refl}
+use Prim.Native.Nat.{_+_, _-_}
 use native.Mathlib.Omega.{arith}
 use borrow.Author.Needs.{needs}
 use Rattle.gate_words.proofs.Writing.{wrote-both, room-less}
-use Rattle.gate_words.proofs.Standing.{Stands, stands, stands-after, room-of, wrote-then, one-gate}
+use Rattle.gate_words.proofs.Standing.{Stands, stands, stands-after, room-of}
 use Rattle.graded_circuit.specs.Outward.{resolve}
 use Rattle.graded_contest.proofs.outward.resolve.Statement.{statement}
 use Rattle.graded_contest.proofs.outward.resolve.Tie as tie

@@ -1,14 +1,12 @@
 -- `graded_contest::outward::resolve_at` meets its contract: it hands on the wires of the comparisons and sums.
 -- Assumes nothing.
-use mathlib.Core.Path.{_≡_, _∙_, refl, sym, ap}
-use mathlib.Core.List.{List, [], _∷_, _++_}
-use Prim.Native.Nat.{ℕ, zero, suc, _+_, _-_, _*_, _/_, _%_, _≤_, _<_}
+use mathlib.Core.Path.{_≡_, _∙_, ap}
+use Prim.Native.Nat.{ℕ, _+_, _-_}
 use native.Mathlib.Omega.{arith}
 use borrow.Author.Needs.{needs}
-use Rattle.gate_words.specs.Halves.{unequalAt, compareSpan, aboveAt}
-use Rattle.gate_words.specs.Reach.{reachLast}
+use Rattle.gate_words.specs.Halves.{unequalAt, aboveAt}
 use Rattle.gate_words.proofs.Writing.{wrote-as}
-use Rattle.graded_circuit.specs.Outward.{leftCarry, rightCarry, resolve}
+use Rattle.graded_circuit.specs.Outward.{resolve}
 use Rattle.graded_contest.proofs.outward.resolve_at.Statement.{statement}
 use Rattle.graded_contest.proofs.outward.resolve_at.Tie as tie
 

@@ -1,6 +1,6 @@
 -- `graded_keys::median::median` meets its contract: the sums modulo 2, and the digits side by side.
 -- Assumes nothing.
-use mathlib.Core.Path.{_≡_, refl}
+use mathlib.Core.Path.{refl}
 use Prim.Native.Nat.{_+_}
 use native.Mathlib.Omega.{arith}
 use borrow.Author.Needs.{needs}

@@ -1,10 +1,8 @@
 -- `graded_keys::median::median_levels` meets its contract: after each digit, the digits that are left make the whole.
 -- Assumes nothing.
-use mathlib.Core.Path.{_≡_, _∙_, refl, sym, ap}
-use mathlib.Core.List.{List, [], _++_}
-use Prim.Native.Nat.{ℕ, suc, _+_, _-_, _*_, _/_, _≤_, _<_}
+use mathlib.Core.Path.{_≡_, sym, ap}
+use Prim.Native.Nat.{ℕ, _+_, _-_, _*_, _/_, _≤_, _<_}
 use native.Mathlib.Omega.{arith}
-use lib.ListN.{length}
 use Rattle.gate_words.proofs.Laws.{length-chain}
 use Rattle.gate_words.proofs.Going.{Goes, goes-start, goes-as, goes-on, goes-room, goes-end}
 use Rattle.graded_circuit.specs.Median.{Fits, medianLevels, medianSize}

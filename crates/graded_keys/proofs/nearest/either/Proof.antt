@@ -1,7 +1,7 @@
 -- `graded_keys::nearest::either` meets its contract: a choice of words for each key.
 -- Assumes nothing.
-use mathlib.Core.Path.{_≡_, refl, ap}
-use Prim.Native.Nat.{ℕ, suc, _+_}
+use mathlib.Core.Path.{refl, ap}
+use Prim.Native.Nat.{_+_}
 use native.Mathlib.Numerals.{add-one}
 use native.Mathlib.Omega.{arith}
 use borrow.Author.Needs.{needs}
@@ -9,7 +9,7 @@ use Rattle.gate_words.specs.Choice.{choose}
 use Rattle.gate_words.proofs.Laws.{length-choose}
 use Rattle.gate_words.proofs.Writing.{wrote-as, room-less}
 use Rattle.graded_circuit.specs.Nearest.{either}
-use Rattle.gate_words.proofs.Standing.{Stands, stands, stands-after, room-of, wrote-then}
+use Rattle.gate_words.proofs.Standing.{Stands, stands, stands-after, wrote-then}
 use Rattle.graded_keys.proofs.nearest.either.Statement.{statement}
 use Rattle.graded_keys.proofs.nearest.either.Tie as tie
 

@@ -1,8 +1,7 @@
 -- `graded_keys::nearest::side` meets its contract: whether the words differ, and on which side of the median.
 -- Assumes nothing.
-use mathlib.Core.Path.{_≡_, _∙_, refl, ap}
-use mathlib.Core.List.{List, [], _∷_}
-use Prim.Native.Nat.{ℕ, suc, _+_, _-_}
+use mathlib.Core.Path.{_≡_, refl}
+use Prim.Native.Nat.{suc, _+_, _-_}
 use native.Mathlib.Omega.{arith}
 use borrow.Author.Needs.{needs}
 use Rattle.gate_words.specs.Halves.{unequalSpan}

@@ -1,7 +1,7 @@
 -- `graded_size::candidate::count_size` meets its contract: what is counted and the levels left make the whole.
 -- Assumes nothing.
 use mathlib.Core.Path.{_≡_}
-use Prim.Native.Nat.{ℕ, _+_, _-_, _*_, _/_, _%_, _≤_, _<_}
+use Prim.Native.Nat.{_+_, _-_, _*_, _/_, _%_, _<_}
 use native.Mathlib.Omega.{arith}
 use Rattle.gate_words.specs.Limits.{writerLimit}
 use Rattle.gate_words.specs.Counter.{countSize, Countable}

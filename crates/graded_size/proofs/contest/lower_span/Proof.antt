@@ -1,13 +1,11 @@
 -- `graded_size::contest::lower_span` meets its contract, case by case.
 -- Assumes nothing.
-use mathlib.Core.Path.{_≡_, _∙_, sym, ap}
-use Prim.Native.Nat.{ℕ, suc, _+_, _-_, _*_, _/_, _≤_, _<_}
+use mathlib.Core.Path.{_≡_, ap}
+use Prim.Native.Nat.{ℕ, _+_, _-_, _*_, _≤_}
 use native.Mathlib.Nat.{mul-le-mul}
 use native.Mathlib.Omega.{arith}
 use borrow.Author.Needs.{needs}
-use Rattle.gate_words.specs.Reach.{reachLast, reachSpan}
 use Rattle.gate_words.proofs.ReachLaws.{reach-last-most}
-use Rattle.graded_circuit.specs.Contest.{lowerSpan}
 use Rattle.graded_size.proofs.Spans.{lower-none, lower-single, lower-more}
 use Rattle.graded_size.proofs.contest.lower_span.Statement.{statement}
 use Rattle.graded_size.proofs.contest.lower_span.Tie as tie

@@ -1,7 +1,7 @@
 -- `graded_size::contest::median_span` meets its contract: what is counted and the digits left make the whole.
 -- Assumes nothing.
 use mathlib.Core.Path.{_≡_}
-use Prim.Native.Nat.{ℕ, _+_, _-_, _/_, _≤_, _<_}
+use Prim.Native.Nat.{_+_, _-_, _/_}
 use native.Mathlib.Omega.{arith}
 use Rattle.graded_circuit.specs.Median.{Fits, medianSize}
 use Rattle.graded_circuit.proofs.BoundLaws.{median-size-most}

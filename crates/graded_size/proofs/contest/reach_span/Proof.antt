@@ -1,11 +1,8 @@
 -- `graded_size::contest::reach_span` meets its contract: one digit, or two halves.
 -- Assumes nothing.
-use mathlib.Core.Path.{_≡_, _∙_, sym, ap}
-use Prim.Native.Nat.{ℕ, suc, _+_, _-_, _*_, _/_, _≤_, _<_}
-use native.Mathlib.Nat.{mul-le-mul}
+use mathlib.Core.Path.{_≡_, ap}
+use Prim.Native.Nat.{ℕ, _-_, _/_}
 use native.Mathlib.Omega.{arith}
-use borrow.Author.Needs.{needs}
-use Rattle.gate_words.specs.Reach.{reachLast}
 use Rattle.gate_words.proofs.ReachLaws.{reach-last-none, reach-last-some}
 use Rattle.graded_size.proofs.contest.reach_span.Statement.{statement}
 use Rattle.graded_size.proofs.contest.reach_span.Tie as tie

@@ -1,7 +1,7 @@
 -- `graded_size::list::circuit_span` meets its contract: a sum of its parts.
 -- Assumes nothing.
 use mathlib.Core.Path.{_≡_, ap}
-use Prim.Native.Nat.{ℕ, _+_, _-_, _*_, _/_, _≤_}
+use Prim.Native.Nat.{ℕ, _-_, _*_, _/_, _≤_}
 use native.Mathlib.Omega.{arith}
 use borrow.Author.Needs.{needs}
 use Rattle.graded_circuit.specs.declared.plan.Plan.{Plan}

@@ -1,11 +1,9 @@
 -- `graded_size::list::four_span` meets its contract: both halves, their merge and a key.
 -- Assumes nothing.
-use mathlib.Core.Path.{_≡_, ap}
-use Prim.Native.Nat.{ℕ, _+_, _-_, _*_, _/_, _≤_}
+use mathlib.Core.Path.{_≡_}
+use Prim.Native.Nat.{_-_, _/_, _≤_}
 use native.Mathlib.Omega.{arith}
 use borrow.Author.Needs.{needs}
-use Rattle.graded_circuit.specs.declared.plan.Plan.{Plan}
-use Rattle.graded_circuit.specs.Plan.{Planned}
 use Rattle.graded_circuit.specs.OwnList.{levelsSpan}
 use Rattle.graded_size.proofs.Spans.{four-one, four-more, pair-small, contest-small}
 use Rattle.graded_size.proofs.list.four_span.Statement.{statement}

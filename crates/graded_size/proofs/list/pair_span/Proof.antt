@@ -1,12 +1,7 @@
 -- `graded_size::list::pair_span` meets its contract: nothing for one candidate, else a merge and a key.
 -- Assumes nothing.
-use mathlib.Core.Path.{_≡_, ap}
-use Prim.Native.Nat.{ℕ, _+_, _-_, _*_, _/_, _≤_}
+use Prim.Native.Nat.{_-_}
 use native.Mathlib.Omega.{arith}
-use borrow.Author.Needs.{needs}
-use Rattle.graded_circuit.specs.declared.plan.Plan.{Plan}
-use Rattle.graded_circuit.specs.Plan.{Planned}
-use Rattle.graded_circuit.specs.OwnList.{levelsSpan}
 use Rattle.graded_size.proofs.Spans.{pair-one, pair-two, contest-small}
 use Rattle.graded_size.proofs.list.pair_span.Statement.{statement}
 use Rattle.graded_size.proofs.list.pair_span.Tie as tie

@@ -1,6 +1,6 @@
 -- `graded_sums::key::candidate` meets its contract: the sums, and the key behind them.
 -- Assumes nothing.
-use mathlib.Core.Path.{_≡_, _∙_, refl, ap}
+use mathlib.Core.Path.{_≡_, refl, ap}
 use mathlib.Core.List.{List}
 use Prim.Native.Nat.{ℕ, suc, _+_, _-_, _*_, _≤_}
 use native.Mathlib.Nat.{suc-mul}
@@ -10,11 +10,11 @@ use Rattle.gate_words.specs.declared.writer.Writer.{Writer}
 use Rattle.gate_words.specs.Writing.{Wrote}
 use Rattle.gate_words.specs.Counter.{counter, countSize}
 use Rattle.gate_words.proofs.Laws.{length-counter}
-use Rattle.gate_words.proofs.Writing.{wrote-as, room-less}
+use Rattle.gate_words.proofs.Writing.{room-less}
 use Rattle.graded_circuit.specs.declared.plan.Plan.{Plan}
 use Rattle.graded_circuit.specs.Plan.{Planned, bitsAt, apart}
 use Rattle.graded_circuit.specs.RunningSums.{wordSpan, firstSum, firstGrade, middleSpan, laterGrades, laterSpan}
-use Rattle.graded_circuit.specs.Key.{keyWord, keyWords, keySpan, candidate, candidateSpan}
+use Rattle.graded_circuit.specs.Key.{keyWord, keyWords, candidate, candidateSpan}
 use Rattle.graded_circuit.proofs.PlanFacts.{first-countable}
 use Rattle.graded_circuit.proofs.CandidateBlocks.{candidate-span, later-block, key-words-block, earlier-words}
 use Rattle.gate_words.proofs.Standing.{Stands, stands, stands-after, room-of, wrote-then}

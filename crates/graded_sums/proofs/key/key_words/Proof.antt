@@ -1,17 +1,16 @@
 -- `graded_sums::key::key_words` meets its contract: after each word, the words that are left make the whole.
 -- Assumes nothing.
-use mathlib.Core.Path.{_≡_, _∙_, refl, sym, ap, subst}
-use mathlib.Core.List.{List, [], _++_}
+use mathlib.Core.Path.{_≡_, _∙_, refl, ap}
+use mathlib.Core.List.{[], _++_}
 use Prim.Native.Nat.{ℕ, suc, _+_, _-_, _*_, _≤_, _<_}
 use native.Mathlib.Nat.{suc-mul}
 use native.Mathlib.Omega.{arith}
-use lib.ListN.{length, length-append}
 use Rattle.gate_words.proofs.Going.{Goes, goes-start, goes-as, goes-on, goes-room, goes-end}
 use Rattle.graded_circuit.specs.declared.plan.Plan.{Plan}
 use Rattle.graded_circuit.specs.RunningSums.{wordSpan, middleSpan}
 use Rattle.graded_circuit.specs.Key.{keyWord, keyWords}
 use Rattle.graded_circuit.proofs.CandidateBlocks.{key-word-block, key-words-block}
-use Rattle.graded_sums.proofs.Writers.{few-digits, span-most}
+use Rattle.graded_sums.proofs.Writers.{span-most}
 use Rattle.graded_sums.proofs.key.key_words.Statement.{statement}
 use Rattle.graded_sums.proofs.key.key_words.Tie as tie
 

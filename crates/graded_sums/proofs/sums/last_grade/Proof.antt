@@ -16,7 +16,7 @@ use Rattle.graded_circuit.specs.Plan.{bitsAt, apart}
 use Rattle.graded_circuit.specs.RunningSums.{wordSpan, lastGrade}
 use Rattle.graded_circuit.proofs.PlanFacts.{worst-countable}
 use Rattle.graded_circuit.proofs.CandidateBlocks.{last-span}
-use Rattle.gate_words.proofs.Standing.{Stands, stands, stands-after, room-of, wrote-then}
+use Rattle.gate_words.proofs.Standing.{Stands, stands, stands-after, wrote-then}
 use Rattle.graded_sums.proofs.Writers.{few-digits}
 use Rattle.graded_sums.proofs.sums.last_grade.Statement.{statement}
 use Rattle.graded_sums.proofs.sums.last_grade.Tie as tie

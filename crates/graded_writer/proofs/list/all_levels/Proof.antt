@@ -1,11 +1,10 @@
 -- `graded_writer::list::all_levels` meets its contract: three levels of merges behind the candidates.
 -- Assumes nothing.
-use mathlib.Core.Path.{_≡_, ap}
-use mathlib.Core.List.{List}
-use Prim.Native.Nat.{ℕ, _+_, _-_, _/_, _≤_, _<_}
+use mathlib.Core.Path.{ap}
+use Prim.Native.Nat.{ℕ, _+_, _-_, _/_}
 use native.Mathlib.Omega.{arith}
 use borrow.Author.Needs.{needs}
-use Rattle.gate_words.proofs.Writing.{wrote-as, room-less}
+use Rattle.gate_words.proofs.Writing.{wrote-as}
 use Rattle.graded_circuit.specs.declared.plan.Plan.{Plan}
 use Rattle.graded_circuit.specs.Merge.{mergeSpan}
 use Rattle.graded_circuit.specs.OwnList.{levelsSpan, levels, levelsAt}

@@ -1,7 +1,6 @@
 -- `graded_writer::list::key_at` meets its contract: a key ends where its candidate's circuit does.
 -- Assumes nothing.
-use mathlib.Core.Path.{_≡_}
-use Prim.Native.Nat.{ℕ, _+_, _-_, _*_, _≤_, _<_}
+use Prim.Native.Nat.{_-_}
 use native.Mathlib.Omega.{arith}
 use Rattle.graded_circuit.proofs.LevelsLaws.{key-before}
 use Rattle.graded_writer.proofs.ListWriters.{key-from}

@@ -1,7 +1,7 @@
 -- `graded_writer::list::own_list` meets its contract: one gate for a single candidate, else the circuit of the plan.
 -- Assumes nothing.
 use mathlib.Core.Path.{_≡_, ap, subst}
-use mathlib.Core.List.{List, [], _∷_}
+use mathlib.Core.List.{[], _∷_}
 use native.Mathlib.Omega.{arith}
 use borrow.Author.Needs.{needs}
 use lib.ListN.{length}

@@ -1,18 +1,18 @@
 -- `graded_writer::list::pair` meets its contract: nothing for one candidate; for two, their merge and the better key.
 -- Assumes nothing.
-use mathlib.Core.Path.{_≡_, _∙_, refl, sym, ap, subst}
-use mathlib.Core.List.{List, [], _++_}
-use Prim.Native.Nat.{ℕ, _+_, _-_, _≤_, _<_}
+use mathlib.Core.Path.{_≡_, _∙_, refl, sym, ap}
+use mathlib.Core.List.{[]}
+use Prim.Native.Nat.{ℕ, _+_, _-_, _≤_}
 use native.Mathlib.Omega.{arith}
 use Rattle.gate_words.specs.Choice.{choose}
 use Rattle.gate_words.proofs.Writing.{wrote-nothing, wrote-as, wrote-long, room-less}
 use Rattle.graded_circuit.specs.Key.{keySpan}
 use Rattle.graded_circuit.specs.Contest.{resultAt}
 use Rattle.graded_circuit.specs.Merge.{merge, mergeSpan}
-use Rattle.graded_circuit.specs.OwnList.{keyAt, levelsSpan, levels, levelsAt}
+use Rattle.graded_circuit.specs.OwnList.{keyAt, levelsSpan, levels}
 use Rattle.graded_circuit.proofs.MergeLaws.{merge-block}
 use Rattle.graded_circuit.proofs.LevelsLaws.{key-before, levels-one}
-use Rattle.gate_words.proofs.Standing.{Stands, stands, stands-after, room-of, wrote-then}
+use Rattle.gate_words.proofs.Standing.{Stands, stands, stands-after, wrote-then}
 use Rattle.graded_writer.proofs.ListWriters.{pair-is, pair-span}
 use Rattle.graded_writer.proofs.list.pair.Statement.{statement}
 use Rattle.graded_writer.proofs.list.pair.Tie as tie

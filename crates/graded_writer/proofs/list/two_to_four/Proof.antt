@@ -1,9 +1,8 @@
 -- `graded_writer::list::two_to_four` meets its contract: both halves, their merge and the better key.
 -- Assumes nothing.
-use mathlib.Core.Path.{_≡_, _∙_, refl, sym, ap, subst}
+use mathlib.Core.Path.{_≡_, _∙_, refl, sym, ap}
 use mathlib.Core.Bool.{cond}
-use mathlib.Core.List.{List, [], _++_}
-use Prim.Native.Nat.{ℕ, _+_, _-_, _/_, _≤_, _<_}
+use Prim.Native.Nat.{ℕ, _+_, _-_, _/_}
 use native.Mathlib.Omega.{arith}
 use lib.Dec.{leb}
 use lib.ListN.{length}
@@ -12,7 +11,7 @@ use Rattle.gate_words.proofs.Writing.{wrote-as, wrote-long, room-less}
 use Rattle.graded_circuit.specs.Key.{keySpan}
 use Rattle.graded_circuit.specs.Contest.{resultAt}
 use Rattle.graded_circuit.specs.Merge.{merge, mergeSpan}
-use Rattle.graded_circuit.specs.OwnList.{keyAt, levelsSpan, otherAt, mergeAt, halvesMerge, levels, levelsAt}
+use Rattle.graded_circuit.specs.OwnList.{keyAt, levelsSpan, mergeAt, halvesMerge, levels}
 use Rattle.graded_circuit.proofs.LevelsLaws.{span-more, levels-more, levels-block, halves-merge-block}
 use Rattle.gate_words.proofs.Standing.{Stands, stands, stands-after, room-of, wrote-then}
 use Rattle.graded_writer.proofs.ListWriters.{span-least, key-below, merge-same, better-same}

@@ -1,7 +1,7 @@
 -- `graded_writer::merge::better` meets its contract: a choice of the keys' wires.
 -- Assumes nothing.
-use mathlib.Core.Path.{_≡_, ap}
-use Prim.Native.Nat.{ℕ, _+_}
+use mathlib.Core.Path.{ap}
+use Prim.Native.Nat.{_+_}
 use native.Mathlib.Omega.{arith}
 use borrow.Author.Needs.{needs}
 use Rattle.gate_words.specs.Choice.{choose}

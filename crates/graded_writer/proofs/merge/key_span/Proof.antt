@@ -1,7 +1,7 @@
 -- `graded_writer::merge::key_span` meets its contract: a word for each grade but the worst.
 -- Assumes nothing.
-use mathlib.Core.Path.{_≡_, refl}
-use Prim.Native.Nat.{ℕ, _+_, _-_, _*_, _≤_}
+use mathlib.Core.Path.{refl}
+use Prim.Native.Nat.{_+_, _-_, _*_, _≤_}
 use native.Mathlib.Nat.{mul-le-mul}
 use native.Mathlib.Omega.{arith}
 use Rattle.graded_circuit.specs.declared.plan.Plan.{Plan}

@@ -1,13 +1,12 @@
 -- `graded_writer::merge::merge` meets its contract: the contest, its verdict, and who stays of either group.
 -- Assumes nothing.
-use mathlib.Core.Path.{_≡_, _∙_, refl, sym, ap}
-use Prim.Native.Nat.{ℕ, zero, suc, _+_, _-_, _/_, _≤_, _<_}
+use mathlib.Core.Path.{_≡_, refl, ap}
+use Prim.Native.Nat.{ℕ, _+_, _-_}
 use native.Mathlib.Omega.{arith}
-use borrow.Author.Needs.{needs}
 use Rattle.gate_words.proofs.Writing.{wrote-as, room-less, wrote-long}
 use Rattle.gate_words.proofs.Standing.{Stands, stands, stands-after, room-of, wrote-then}
 use Rattle.graded_circuit.specs.Contest.{contest, resultAt, contestSpan}
-use Rattle.graded_circuit.specs.Merge.{stillWon, verdict, highDigits, merge}
+use Rattle.graded_circuit.specs.Merge.{stillWon, verdict, merge}
 use Rattle.graded_circuit.proofs.ContestLaws.{contest-block}
 use Rattle.graded_circuit.proofs.MergeLaws.{high-leaves, verdict-block, still-won-block}
 use Rattle.graded_writer.proofs.merge.merge.Statement.{statement}

@@ -1,6 +1,6 @@
 -- `graded_writer::merge::verdict` meets its contract: four gates.
 -- Assumes nothing.
-use mathlib.Core.Path.{_≡_, refl}
+use mathlib.Core.Path.{refl}
 use Prim.Native.Nat.{_+_}
 use native.Mathlib.Omega.{arith}
 use Rattle.gate_words.proofs.Writing.{room-less, wrote-long}

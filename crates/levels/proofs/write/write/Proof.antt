@@ -1,29 +1,27 @@
 -- `levels::write::write` meets its contract: the list is tested first, then the table's length, and nothing is written before.
 -- Assumes nothing.
 use borrow.Author.Needs.{needs}
-use mathlib.Core.Path.{_≡_, _∙_, refl, sym, ap}
+use mathlib.Core.Path.{_≡_, _∙_, sym, ap}
 use Prim.Native.Nat.{ℕ}
-use native.Mathlib.Omega.{arith}
 use lib.ListN.{length}
 use Rattle.gates.specs.Gate.{gatesOf}
 use Rattle.gate_levels.specs.Levels.{levelsOf, roundsOf}
-use Rattle.gate_levels.specs.Inner.{LevelsReady}
 use Rattle.jury.specs.Shape.{withinLimits, ballotBytes}
 use Rattle.jury.specs.Reason.{reasonAt, reasonOf}
-use Rattle.jury.proofs.Flags.{true-T}
-use Rattle.tally.specs.Answer.{accepted, saidBy}
+use Rattle.basics.proofs.Flags.{true-T}
+use Rattle.tally.specs.Answer.{accepted, outcomeOf}
 use Rattle.tally.proofs.TestReasons.{test-passed}
-use Rattle.levels.specs.Answer.{Depths, levelReasonOf, depthsSaid}
+use Rattle.levels.specs.Answer.{levelReasonOf, depthsSaid}
 use Rattle.levels.proofs.Reasons.{ListFacts, list-facts, of-list, other-length, all-pass, call-refused, call-accepted, depths-are}
 use Rattle.levels.proofs.write.write.Statement.{statement}
 use Rattle.levels.proofs.write.write.Tie as tie
 
 -- the list has passed its test
 facts : (c : tie.After-gates) → let a = c .before .before .before .before .before .args in ListFacts (a .shape) (a .table .now) (c .gates .given .0 .0) (c .gates .given .0 .1 .0)
-unfolding saidBy
+unfolding outcomeOf
 facts c =
     let a = c .before .before .before .before .before .args in
-    list-facts (a .shape) (a .table .now) _ _ (test-passed (a .shape) (a .table .now) _ (sym (c .before .before .test .ensures) ∙ ap saidBy (c .gates .given .1)))
+    list-facts (a .shape) (a .table .now) _ _ (test-passed (a .shape) (a .table .now) _ (sym (c .before .before .test .ensures) ∙ ap outcomeOf (c .gates .given .1)))
 
 test-requires : tie.Need-test-requires
 test-requires c κs = search needs
@@ -56,11 +54,11 @@ write-requires c κs =
     rw e (record { some-input = f .some-input; few = f .few; good = f .good; levels-length = long (c .before .before) })
 
 returns-2 : tie.Need-returns-2
-unfolding depthsSaid levelReasonOf saidBy
+unfolding depthsSaid levelReasonOf outcomeOf
 returns-2 c =
     let a = c .before .before .before .before .before .before .args in
     let g = c .before .reason .given in
-    call-refused (a .shape) (a .table .now) (a .levels .now) (reasonOf (g .0 .0)) (of-list (a .shape) (a .table .now) (a .levels .now) (reasonOf (g .0 .0)) (sym (c .before .before .before .test .ensures) ∙ ap saidBy (g .1)))
+    call-refused (a .shape) (a .table .now) (a .levels .now) (reasonOf (g .0 .0)) (of-list (a .shape) (a .table .now) (a .levels .now) (reasonOf (g .0 .0)) (sym (c .before .before .before .test .ensures) ∙ ap outcomeOf (g .1)))
 
 same-length : tie.Need-same-length
 same-length c = search needs

@@ -1,6 +1,6 @@
 -- `text::read::read` meets its contract.
 -- Assumes nothing.
-use mathlib.Core.Path.{_≡_, _∙_, refl, sym, ap}
+use mathlib.Core.Path.{_≡_, _∙_, sym, ap}
 use mathlib.Core.Bool.{true}
 use mathlib.Core.Logic.{⊎-elim}
 use Prim.Native.Nat.{ℕ, _*_, _<_, _≤_}
@@ -25,7 +25,6 @@ use Rattle.text.specs.Answer.{textReasonOf, lengthOutcome}
 use Rattle.text.proofs.Storing.{sets-front}
 use Rattle.text.proofs.Whole.{gates-many}
 use Rattle.text.proofs.Reasons.{same-text, shape-outside, too-few, too-many, other-line, bad-gate, numbers-short, numbers-good, read-refused, read-accepted}
-use native.Mathlib.Omega.{arith}
 use borrow.Author.Needs.{needs}
 use Rattle.text.proofs.read.read.Statement.{statement}
 use Rattle.text.proofs.read.read.Tie as tie

@@ -1,8 +1,5 @@
 -- `trustee_alone::own::is_trustee` meets its contract.
 -- Assumes nothing.
-use borrow.Author.Needs.{needs}
-use mathlib.Core.Path.{_≡_, _∙_, refl, sym, ap}
-use lib.Dec.{leb, ltb}
 use borrow.Author.Tests.{le-leb, lt-leb}
 use Rattle.trustee_alone.specs.Own.{isTrustee}
 use Rattle.trustee_alone.proofs.own.is_trustee.Statement.{statement}

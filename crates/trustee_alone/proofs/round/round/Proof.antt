@@ -1,39 +1,25 @@
 -- `trustee_alone::round::round` meets its contract: nothing is touched before all tests have passed.
 -- Assumes nothing.
 use borrow.Author.Needs.{needs}
-use mathlib.Core.Path.{_≡_, _∙_, refl, sym, ap}
-use mathlib.Core.Bool.{Bool, true, false, _&&_}
-use mathlib.Core.Option.{Option, none, some}
-use mathlib.Core.List.{List, [], _∷_, _++_}
-use Prim.Native.Nat.{ℕ, _+_, _*_, _≤_, _<_}
+use mathlib.Core.Path.{_≡_, _∙_, sym, ap}
+use mathlib.Core.Option.{none}
+use mathlib.Core.List.{List}
+use Prim.Native.Nat.{ℕ, _+_, _*_}
 use native.Mathlib.Omega.{arith}
-use lib.Dec.{eqb, leb}
-use lib.ListN.{length, take, drop, replicate}
-use borrow.Author.Tests.{eq-eqb, ne-eqb, eqb-true, le-leb, lt-leb, leb-true, not-true, not-false}
 use Rattle.gates.specs.Gate.{gatesOf}
-use Rattle.gates.specs.Board.{conditionalCount}
 use Rattle.gates.proofs.Counting.{count-most}
-use Rattle.gate_levels.specs.Levels.{levelsOf, roundsOf}
-use Rattle.gate_levels.specs.Compared.{sameNumbers, compared}
-use Rattle.gate_levels.proofs.Laws.{length-levels, rounds-most}
-use Rattle.gate_levels.proofs.Filling.{same-true}
+use Rattle.gate_levels.specs.Levels.{roundsOf}
+use Rattle.gate_levels.proofs.Laws.{rounds-most}
 use Rattle.jury.specs.Shape.{withinLimits, ballotBytes}
-use Rattle.jury.specs.Reason.{Reason, reasonAt, reasonOf, refusedFor, unless, firstOf}
-use Rattle.jury.proofs.Flags.{true-T, and-first, and-second}
+use Rattle.jury.specs.Reason.{firstOf}
+use Rattle.basics.proofs.Flags.{true-T}
 use Rattle.jury.proofs.Limits.{bounds, inputs-bound}
-use Rattle.tally.specs.Answer.{Size, accepted, said, saidBy, sizeOf}
-use Rattle.tally.specs.Test.{testReasons, testSaid}
-use Rattle.tally.proofs.TestReasons.{test-passed}
 use Rattle.levels.specs.Answer.{Depths, depthsOf, depthsSaid, levelReasonOf}
-use Rattle.levels.proofs.Reasons.{said-refused, said-accepted, ListFacts, list-facts, depths-are}
-use Rattle.trustee_gates.specs.Dealing.{onlyBits}
-use Rattle.trustee_rounds.specs.Rounds.{Turn, enters, publishes, closes, startWires, startPublished}
-use Rattle.trustee_alone.specs.Own.{isTrustee, tablesFit}
-use Rattle.trustee_alone.specs.Start.{ownReasons, startReasons, startSaid, startedWires, startedPublished}
-use Rattle.trustee_alone.specs.Rounds.{tableReasons, roundReasons, roundSaid, ownTurn, wiresMade, publishedMade, roundedWires, roundedPublished}
-use Rattle.trustee_alone.proofs.Tests.{pass, fail, passed, end, before, behind, both-passed, and-both, and-not, said-some, said-none, left-old, left-new}
+use Rattle.levels.proofs.Reasons.{outcome-refused, outcome-accepted}
+use Rattle.trustee_rounds.specs.Rounds.{Turn, enters, publishes, closes}
+use Rattle.trustee_alone.specs.Rounds.{roundReasons, roundSaid, ownTurn, wiresMade, publishedMade, roundedWires, roundedPublished}
+use Rattle.trustee_alone.proofs.Tests.{pass, before, outcome-some, outcome-none, left-old, left-new}
 use Rattle.trustee_alone.proofs.Passed.{Passed, round-passed}
-use Rattle.trustee_alone.proofs.Sizes.{tables-ready, small-sizes, size-is, Fit, fit, own-same, other-same, other-long, started, started-published}
 use Rattle.trustee_alone.proofs.round.round.Statement.{statement}
 use Rattle.trustee_alone.proofs.round.round.Tie as tie
 
@@ -42,7 +28,7 @@ accepted-by : (c : tie.After-answer) → let a = c .before .before .before .befo
 unfolding depthsSaid
 accepted-by c =
     let a = c .before .before .before .before .before .before .before .before .before .before .before .args in
-    said-accepted (firstOf (roundReasons (a .shape) (a .table .now) (a .t) (a .p) (a .round) (a .levels .now) (a .dealt .now) (a .heard .now) (a .wires .now) (a .published .now))) (depthsOf (ballotBytes (a .shape)) (gatesOf (a .table .now))) _ (sym (c .before .before .test-round .ensures) ∙ ap depthsSaid (c .answer .given .1))
+    outcome-accepted (firstOf (roundReasons (a .shape) (a .table .now) (a .t) (a .p) (a .round) (a .levels .now) (a .dealt .now) (a .heard .now) (a .wires .now) (a .published .now))) (depthsOf (ballotBytes (a .shape)) (gatesOf (a .table .now))) _ (sym (c .before .before .test-round .ensures) ∙ ap depthsSaid (c .answer .given .1))
 
 -- what is known then
 known : (c : tie.After-answer) → let a = c .before .before .before .before .before .before .before .before .before .before .before .args in Passed (a .shape) (a .table .now) (a .round) (a .levels .now) (a .dealt .now) (a .heard .now) (a .wires .now) (a .published .now)
@@ -71,8 +57,8 @@ returns c =
     let a = c .before .before .before .before .before .before .before .before .before .before .before .args in
     let r = levelReasonOf (c .enum-told .given .0 .0) in
     let e = ap depthsSaid (c .enum-told .given .1) in
-    let why = said-refused (firstOf (roundReasons (a .shape) (a .table .now) (a .t) (a .p) (a .round) (a .levels .now) (a .dealt .now) (a .heard .now) (a .wires .now) (a .published .now))) (depthsOf (ballotBytes (a .shape)) (gatesOf (a .table .now))) r (sym (c .before .before .test-round .ensures) ∙ e) in
-    (e ∙ said-some (firstOf (roundReasons (a .shape) (a .table .now) (a .t) (a .p) (a .round) (a .levels .now) (a .dealt .now) (a .heard .now) (a .wires .now) (a .published .now))) (depthsOf (ballotBytes (a .shape)) (gatesOf (a .table .now))) r why, (left-old (firstOf (roundReasons (a .shape) (a .table .now) (a .t) (a .p) (a .round) (a .levels .now) (a .dealt .now) (a .heard .now) (a .wires .now) (a .published .now))) (wiresMade (a .shape) (a .table .now) (a .p) (a .round) (a .levels .now) (a .dealt .now) (a .heard .now) (a .wires .now)) (a .wires .now) r why, left-old (firstOf (roundReasons (a .shape) (a .table .now) (a .t) (a .p) (a .round) (a .levels .now) (a .dealt .now) (a .heard .now) (a .wires .now) (a .published .now))) (publishedMade (a .shape) (a .table .now) (a .p) (a .round) (a .levels .now) (a .dealt .now) (a .heard .now) (a .wires .now) (a .published .now)) (a .published .now) r why))
+    let why = outcome-refused (firstOf (roundReasons (a .shape) (a .table .now) (a .t) (a .p) (a .round) (a .levels .now) (a .dealt .now) (a .heard .now) (a .wires .now) (a .published .now))) (depthsOf (ballotBytes (a .shape)) (gatesOf (a .table .now))) r (sym (c .before .before .test-round .ensures) ∙ e) in
+    (e ∙ outcome-some (firstOf (roundReasons (a .shape) (a .table .now) (a .t) (a .p) (a .round) (a .levels .now) (a .dealt .now) (a .heard .now) (a .wires .now) (a .published .now))) (depthsOf (ballotBytes (a .shape)) (gatesOf (a .table .now))) r why, (left-old (firstOf (roundReasons (a .shape) (a .table .now) (a .t) (a .p) (a .round) (a .levels .now) (a .dealt .now) (a .heard .now) (a .wires .now) (a .published .now))) (wiresMade (a .shape) (a .table .now) (a .p) (a .round) (a .levels .now) (a .dealt .now) (a .heard .now) (a .wires .now)) (a .wires .now) r why, left-old (firstOf (roundReasons (a .shape) (a .table .now) (a .t) (a .p) (a .round) (a .levels .now) (a .dealt .now) (a .heard .now) (a .wires .now) (a .published .now))) (publishedMade (a .shape) (a .table .now) (a .p) (a .round) (a .levels .now) (a .dealt .now) (a .heard .now) (a .wires .now) (a .published .now)) (a .published .now) r why))
 
 ballot-bytes-requires : tie.Need-ballot-bytes-requires
 ballot-bytes-requires c κs = true-T (withinLimits (c .before .before .before .before .before .before .before .before .before .before .before .before .args .shape)) (known (c .before) .facts .within)
@@ -120,7 +106,7 @@ returns-2 c =
     let u : ℕ → Turn = λ n. record { trustee = a .p; round = a .round; inputs = n; levels = a .levels .now; dealt = a .dealt .now; heard = a .heard .now } in
     let X : ℕ → ℕ → ℕ → List ℕ = λ n m c.
     closes (a .round) m c (a .shape .candidates) (enters (u n) (gatesOf (a .table .now)) 0 0 (a .wires .now)) (publishes (u n) (enters (u n) (gatesOf (a .table .now)) 0 0 (a .wires .now)) (gatesOf (a .table .now)) 0 0 (a .published .now)) in (
-      said-none (firstOf (roundReasons (a .shape) (a .table .now) (a .t) (a .p) (a .round) (a .levels .now) (a .dealt .now) (a .heard .now) (a .wires .now) (a .published .now))) (depthsOf (ballotBytes (a .shape)) (gatesOf (a .table .now))) _ (by .0) (sym (by .1)),
+      outcome-none (firstOf (roundReasons (a .shape) (a .table .now) (a .t) (a .p) (a .round) (a .levels .now) (a .dealt .now) (a .heard .now) (a .wires .now) (a .published .now))) (depthsOf (ballotBytes (a .shape)) (gatesOf (a .table .now))) _ (by .0) (sym (by .1)),
       (
         done .0 ∙ ap (λ (n : ℕ). enters (u n) (gatesOf (a .table .now)) 0 0 (a .wires .now)) e ∙ left-new (firstOf (roundReasons (a .shape) (a .table .now) (a .t) (a .p) (a .round) (a .levels .now) (a .dealt .now) (a .heard .now) (a .wires .now) (a .published .now))) (wiresMade (a .shape) (a .table .now) (a .p) (a .round) (a .levels .now) (a .dealt .now) (a .heard .now) (a .wires .now)) (a .wires .now) (by .0),
         done .1 ∙ ap (λ (n : ℕ). X n (ok .answer .given .0 .1 .1 .0) (ok .answer .given .0 .1 .0)) e ∙ ap (λ (m : ℕ). X (ballotBytes (a .shape)) m (ok .answer .given .0 .1 .0)) (sym rounds) ∙ ap (λ (c : ℕ). X (ballotBytes (a .shape)) (roundsOf (ballotBytes (a .shape)) (gatesOf (a .table .now))) c) (sym conditional) ∙ left-new (firstOf (roundReasons (a .shape) (a .table .now) (a .t) (a .p) (a .round) (a .levels .now) (a .dealt .now) (a .heard .now) (a .wires .now) (a .published .now))) (publishedMade (a .shape) (a .table .now) (a .p) (a .round) (a .levels .now) (a .dealt .now) (a .heard .now) (a .wires .now) (a .published .now)) (a .published .now) (by .0),

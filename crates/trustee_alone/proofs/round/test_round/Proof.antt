@@ -1,47 +1,30 @@
 -- `trustee_alone::round::test_round` meets its contract: the list is tested first.
 -- Assumes nothing.
 use borrow.Author.Needs.{needs}
-use mathlib.Core.Path.{_≡_, _∙_, refl, sym, ap}
-use mathlib.Core.Bool.{Bool, true, false, _&&_}
-use mathlib.Core.Option.{Option, none, some}
-use mathlib.Core.List.{List, [], _∷_, _++_}
-use Prim.Native.Nat.{ℕ, _+_, _*_, _≤_, _<_}
-use native.Mathlib.Omega.{arith}
-use lib.Dec.{eqb, leb}
-use lib.ListN.{length, take, drop, replicate}
-use borrow.Author.Tests.{eq-eqb, ne-eqb, eqb-true, le-leb, lt-leb, leb-true, not-true, not-false}
+use mathlib.Core.Path.{_∙_, sym, ap}
+use mathlib.Core.Option.{Option}
+use Prim.Native.Nat.{ℕ}
 use Rattle.gates.specs.Gate.{gatesOf}
-use Rattle.gates.specs.Board.{conditionalCount}
-use Rattle.gates.proofs.Counting.{count-most}
-use Rattle.gate_levels.specs.Levels.{levelsOf, roundsOf}
-use Rattle.gate_levels.specs.Compared.{sameNumbers, compared}
-use Rattle.gate_levels.proofs.Laws.{length-levels, rounds-most}
-use Rattle.gate_levels.proofs.Filling.{same-true}
 use Rattle.jury.specs.Shape.{withinLimits, ballotBytes}
-use Rattle.jury.specs.Reason.{Reason, reasonAt, reasonOf, refusedFor, unless, firstOf}
-use Rattle.jury.proofs.Flags.{true-T, and-first, and-second}
-use Rattle.jury.proofs.Limits.{bounds, inputs-bound}
-use Rattle.tally.specs.Answer.{Size, accepted, said, saidBy, sizeOf}
-use Rattle.tally.specs.Test.{testReasons, testSaid}
+use Rattle.jury.specs.Reason.{Reason, reasonOf, firstOf}
+use Rattle.basics.proofs.Flags.{true-T}
+use Rattle.tally.specs.Answer.{outcome, outcomeOf, sizeOf}
+use Rattle.tally.specs.Test.{testReasons, testOutcome}
 use Rattle.tally.proofs.TestReasons.{test-passed}
-use Rattle.levels.specs.Answer.{Depths, depthsOf, depthsSaid, levelReasonOf}
-use Rattle.levels.proofs.Reasons.{said-refused, said-accepted, ListFacts, list-facts, depths-are}
-use Rattle.trustee_gates.specs.Dealing.{onlyBits}
-use Rattle.trustee_rounds.specs.Rounds.{Turn, enters, publishes, closes, startWires, startPublished}
-use Rattle.trustee_alone.specs.Own.{isTrustee, tablesFit}
-use Rattle.trustee_alone.specs.Start.{ownReasons, startReasons, startSaid, startedWires, startedPublished}
-use Rattle.trustee_alone.specs.Rounds.{tableReasons, roundReasons, roundSaid, ownTurn, wiresMade, publishedMade, roundedWires, roundedPublished}
-use Rattle.trustee_alone.proofs.Tests.{pass, fail, passed, end, before, behind, both-passed, and-both, and-not, said-some, said-none, left-old, left-new}
-use Rattle.trustee_alone.proofs.Sizes.{tables-ready, small-sizes, size-is, Fit, fit, own-same, other-same, other-long, started, started-published}
+use Rattle.levels.specs.Answer.{depthsOf, depthsSaid, levelReasonOf}
+use Rattle.levels.proofs.Reasons.{outcome-refused, ListFacts, list-facts}
+use Rattle.trustee_alone.specs.Rounds.{tableReasons, roundReasons}
+use Rattle.trustee_alone.proofs.Tests.{before, behind, outcome-some}
+use Rattle.trustee_alone.proofs.Sizes.{tables-ready}
 use Rattle.trustee_alone.proofs.round.test_round.Statement.{statement}
 use Rattle.trustee_alone.proofs.round.test_round.Tie as tie
 
 -- the list has passed its test
 facts : (c : tie.After-gates) → let a = c .before .before .before .before .before .before .before .before .before .args in ListFacts (a .shape) (a .table .now) (c .gates .given .0 .0) (c .gates .given .0 .1 .0)
-unfolding saidBy
+unfolding outcomeOf
 facts c =
     let a = c .before .before .before .before .before .before .before .before .before .args in
-    list-facts (a .shape) (a .table .now) _ _ (test-passed (a .shape) (a .table .now) _ (sym (c .before .before .test .ensures) ∙ ap saidBy (c .gates .given .1)))
+    list-facts (a .shape) (a .table .now) _ _ (test-passed (a .shape) (a .table .now) _ (sym (c .before .before .test .ensures) ∙ ap outcomeOf (c .gates .given .1)))
 
 test-requires : tie.Need-test-requires
 test-requires c κs = search needs
@@ -62,19 +45,19 @@ test-tables-requires c κs =
     rw e (tables-ready (a .shape) (a .table .now) _ _ (facts (c .before .before)))
 
 returns : tie.Need-returns
-unfolding depthsSaid levelReasonOf saidBy roundReasons testSaid
+unfolding depthsSaid levelReasonOf outcomeOf roundReasons testOutcome
 returns c =
     let a = c .before .before .before .before .before .before .before .before .before .before .args in
     let g = c .before .reason .given in
     let r = reasonOf (g .0 .0) in
-    said-some (firstOf (roundReasons (a .shape) (a .table .now) (a .t) (a .p) (a .round) (a .levels .now) (a .dealt .now) (a .heard .now) (a .wires .now) (a .published .now))) (depthsOf (ballotBytes (a .shape)) (gatesOf (a .table .now))) r (before (testReasons (a .shape) (a .table .now)) (tableReasons (ballotBytes (a .shape)) (a .shape .candidates) (gatesOf (a .table .now)) (a .t) (a .p) (a .round) (a .levels .now) (a .dealt .now) (a .heard .now) (a .wires .now) (a .published .now)) r (said-refused (firstOf (testReasons (a .shape) (a .table .now))) (sizeOf (gatesOf (a .table .now))) r (sym (c .before .before .before .test .ensures) ∙ ap saidBy (g .1))))
+    outcome-some (firstOf (roundReasons (a .shape) (a .table .now) (a .t) (a .p) (a .round) (a .levels .now) (a .dealt .now) (a .heard .now) (a .wires .now) (a .published .now))) (depthsOf (ballotBytes (a .shape)) (gatesOf (a .table .now))) r (before (testReasons (a .shape) (a .table .now)) (tableReasons (ballotBytes (a .shape)) (a .shape .candidates) (gatesOf (a .table .now)) (a .t) (a .p) (a .round) (a .levels .now) (a .dealt .now) (a .heard .now) (a .wires .now) (a .published .now)) r (outcome-refused (firstOf (testReasons (a .shape) (a .table .now))) (sizeOf (gatesOf (a .table .now))) r (sym (c .before .before .before .test .ensures) ∙ ap outcomeOf (g .1))))
 
 returns-2 : tie.Need-returns-2
 unfolding roundReasons
 returns-2 c =
     let a = c .before .before .before .before .before .before .before .before .before .before .before .before .args in
-    c .test-tables .ensures ∙ ap (λ (n : ℕ). said (firstOf (tableReasons n (a .shape .candidates) (gatesOf (a .table .now)) (a .t) (a .p) (a .round) (a .levels .now) (a .dealt .now) (a .heard .now) (a .wires .now) (a .published .now))) (depthsOf n (gatesOf (a .table .now)))) (c .before .ballot-bytes .ensures)
-    ∙ ap (λ (o : Option Reason). said o (depthsOf (ballotBytes (a .shape)) (gatesOf (a .table .now)))) (sym (behind (testReasons (a .shape) (a .table .now)) (tableReasons (ballotBytes (a .shape)) (a .shape .candidates) (gatesOf (a .table .now)) (a .t) (a .p) (a .round) (a .levels .now) (a .dealt .now) (a .heard .now) (a .wires .now) (a .published .now)) (facts (c .before .before .before) .reasons)))
+    c .test-tables .ensures ∙ ap (λ (n : ℕ). outcome (firstOf (tableReasons n (a .shape .candidates) (gatesOf (a .table .now)) (a .t) (a .p) (a .round) (a .levels .now) (a .dealt .now) (a .heard .now) (a .wires .now) (a .published .now))) (depthsOf n (gatesOf (a .table .now)))) (c .before .ballot-bytes .ensures)
+    ∙ ap (λ (o : Option Reason). outcome o (depthsOf (ballotBytes (a .shape)) (gatesOf (a .table .now)))) (sym (behind (testReasons (a .shape) (a .table .now)) (tableReasons (ballotBytes (a .shape)) (a .shape .candidates) (gatesOf (a .table .now)) (a .t) (a .p) (a .round) (a .levels .now) (a .dealt .now) (a .heard .now) (a .wires .now) (a .published .now)) (facts (c .before .before .before) .reasons)))
 
 pub test-round-spec : {M : Type 1} → statement M
 test-round-spec =

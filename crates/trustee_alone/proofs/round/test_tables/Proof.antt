@@ -1,38 +1,28 @@
 -- `trustee_alone::round::test_tables` meets its contract: each answer is the first test that fails.
 -- Assumes nothing.
 use borrow.Author.Needs.{needs}
-use mathlib.Core.Path.{_≡_, _∙_, refl, sym, ap}
-use mathlib.Core.Bool.{Bool, true, false, _&&_}
-use mathlib.Core.Option.{Option, none, some}
-use mathlib.Core.List.{List, [], _∷_, _++_}
-use Prim.Native.Nat.{ℕ, _+_, _*_, _≤_, _<_}
+use mathlib.Core.Path.{_≡_, _∙_, sym, ap}
+use mathlib.Core.Bool.{true, false}
+use mathlib.Core.List.{[]}
+use Prim.Native.Nat.{ℕ, _*_}
 use native.Mathlib.Omega.{arith}
 use lib.Dec.{eqb, leb}
-use lib.ListN.{length, take, drop, replicate}
-use borrow.Author.Tests.{eq-eqb, ne-eqb, eqb-true, le-leb, lt-leb, leb-true, not-true, not-false}
+use lib.ListN.{length}
+use borrow.Author.Tests.{eq-eqb, ne-eqb, le-leb, lt-leb, not-true, not-false}
 use Rattle.gates.specs.Gate.{gatesOf}
 use Rattle.gates.specs.Board.{conditionalCount}
 use Rattle.gates.proofs.Counting.{count-most}
 use Rattle.gate_levels.specs.Levels.{levelsOf, roundsOf}
-use Rattle.gate_levels.specs.Compared.{sameNumbers, compared}
-use Rattle.gate_levels.proofs.Laws.{length-levels, rounds-most}
-use Rattle.gate_levels.proofs.Filling.{same-true}
-use Rattle.jury.specs.Shape.{withinLimits, ballotBytes}
-use Rattle.jury.specs.Reason.{Reason, reasonAt, reasonOf, refusedFor, unless, firstOf}
-use Rattle.jury.proofs.Flags.{true-T, and-first, and-second}
-use Rattle.jury.proofs.Limits.{bounds, inputs-bound}
-use Rattle.tally.specs.Answer.{Size, accepted, said, saidBy, sizeOf}
-use Rattle.tally.specs.Test.{testReasons, testSaid}
-use Rattle.tally.proofs.TestReasons.{test-passed}
-use Rattle.levels.specs.Answer.{Depths, depthsOf, depthsSaid, levelReasonOf}
-use Rattle.levels.proofs.Reasons.{said-refused, said-accepted, ListFacts, list-facts, depths-are}
+use Rattle.gate_levels.specs.Compared.{sameNumbers}
+use Rattle.jury.specs.Reason.{reasonAt, reasonOf, firstOf}
+use Rattle.tally.specs.Answer.{Size, sizeOf}
+use Rattle.levels.specs.Answer.{depthsOf, depthsSaid, levelReasonOf}
+use Rattle.levels.proofs.Reasons.{depths-are}
 use Rattle.trustee_gates.specs.Dealing.{onlyBits}
-use Rattle.trustee_rounds.specs.Rounds.{Turn, enters, publishes, closes, startWires, startPublished}
 use Rattle.trustee_alone.specs.Own.{isTrustee, tablesFit}
-use Rattle.trustee_alone.specs.Start.{ownReasons, startReasons, startSaid, startedWires, startedPublished}
-use Rattle.trustee_alone.specs.Rounds.{tableReasons, roundReasons, roundSaid, ownTurn, wiresMade, publishedMade, roundedWires, roundedPublished}
-use Rattle.trustee_alone.proofs.Tests.{pass, fail, passed, end, before, behind, both-passed, and-both, and-not, said-some, said-none, left-old, left-new}
-use Rattle.trustee_alone.proofs.Sizes.{tables-ready, small-sizes, size-is, Fit, fit, own-same, other-same, other-long, started, started-published}
+use Rattle.trustee_alone.specs.Rounds.{tableReasons}
+use Rattle.trustee_alone.proofs.Tests.{pass, fail, end, before, and-both, and-not, outcome-some, outcome-none}
+use Rattle.trustee_alone.proofs.Sizes.{small-sizes, size-is, own-same, other-same, other-long}
 use Rattle.trustee_alone.proofs.round.test_tables.Statement.{statement}
 use Rattle.trustee_alone.proofs.round.test_tables.Tie as tie
 
@@ -75,7 +65,7 @@ unfolding depthsSaid levelReasonOf reasonOf tableReasons
 returns c =
     let s = c .before .before .before .before .before .before .before .before in
     let a = s .args in
-    said-some (firstOf (tableReasons (a .inputs) (a .k) (gatesOf (a .table .now)) (a .t) (a .p) (a .round) (a .levels .now) (a .dealt .now) (a .heard .now) (a .wires .now) (a .published .now))) (depthsOf (a .inputs) (gatesOf (a .table .now))) (reasonAt 16 0) (fail _ 16 _ (sym (c .before .is-trustee .ensures) ∙ not-true (c .before .is-trustee .result) (c .if1 .taken)))
+    outcome-some (firstOf (tableReasons (a .inputs) (a .k) (gatesOf (a .table .now)) (a .t) (a .p) (a .round) (a .levels .now) (a .dealt .now) (a .heard .now) (a .wires .now) (a .published .now))) (depthsOf (a .inputs) (gatesOf (a .table .now))) (reasonAt 16 0) (fail _ 16 _ (sym (c .before .is-trustee .ensures) ∙ not-true (c .before .is-trustee .result) (c .if1 .taken)))
 
 tables-fit-requires : tie.Need-tables-fit-requires
 tables-fit-requires c κs = let s = c .before .before .before .before .before .before .before .before in small-sizes (s .args .inputs) (s .args .k) (s .args .gates) (s .args .conditional) (s .args .table .now) (s .pre)
@@ -85,7 +75,7 @@ unfolding depthsSaid levelReasonOf reasonOf tableReasons
 returns-2 c =
     let s = c .before .before .before .before .before .before .before .before .before .before in
     let a = s .args in
-    said-some (firstOf (tableReasons (a .inputs) (a .k) (gatesOf (a .table .now)) (a .t) (a .p) (a .round) (a .levels .now) (a .dealt .now) (a .heard .now) (a .wires .now) (a .published .now))) (depthsOf (a .inputs) (gatesOf (a .table .now))) (reasonAt 17 0) (pass _ 16 _ (trustee (c .before .before)) ∙ fail _ 17 _ (sym (fit-is (c .before)) ∙ not-true (c .before .tables-fit .result) (c .if2 .taken)))
+    outcome-some (firstOf (tableReasons (a .inputs) (a .k) (gatesOf (a .table .now)) (a .t) (a .p) (a .round) (a .levels .now) (a .dealt .now) (a .heard .now) (a .wires .now) (a .published .now))) (depthsOf (a .inputs) (gatesOf (a .table .now))) (reasonAt 17 0) (pass _ 16 _ (trustee (c .before .before)) ∙ fail _ 17 _ (sym (fit-is (c .before)) ∙ not-true (c .before .tables-fit .result) (c .if2 .taken)))
 
 only-bits-requires : tie.Need-only-bits-requires
 only-bits-requires c κs = search needs
@@ -95,14 +85,14 @@ unfolding depthsSaid levelReasonOf reasonOf tableReasons
 returns-3 c =
     let s = c .before .before .before .before .before .before .before .before .before .before .before .before in
     let a = s .args in
-    said-some (firstOf (tableReasons (a .inputs) (a .k) (gatesOf (a .table .now)) (a .t) (a .p) (a .round) (a .levels .now) (a .dealt .now) (a .heard .now) (a .wires .now) (a .published .now))) (depthsOf (a .inputs) (gatesOf (a .table .now))) (reasonAt 18 0) (pass _ 16 _ (trustee (c .before .before .before .before)) ∙ pass _ 17 _ (fits (c .before .before)) ∙ fail _ 18 _ (sym (c .before .only-bits .ensures) ∙ not-true (c .before .only-bits .result) (c .if3 .taken)))
+    outcome-some (firstOf (tableReasons (a .inputs) (a .k) (gatesOf (a .table .now)) (a .t) (a .p) (a .round) (a .levels .now) (a .dealt .now) (a .heard .now) (a .wires .now) (a .published .now))) (depthsOf (a .inputs) (gatesOf (a .table .now))) (reasonAt 18 0) (pass _ 16 _ (trustee (c .before .before .before .before)) ∙ pass _ 17 _ (fits (c .before .before)) ∙ fail _ 18 _ (sym (c .before .only-bits .ensures) ∙ not-true (c .before .only-bits .result) (c .if3 .taken)))
 
 returns-4 : tie.Need-returns-4
 unfolding depthsSaid levelReasonOf reasonOf tableReasons
 returns-4 c =
     let s = c .before .before .before .before .before .before .before .before .before .before .before .before .before in
     let a = s .args in
-    said-some (firstOf (tableReasons (a .inputs) (a .k) (gatesOf (a .table .now)) (a .t) (a .p) (a .round) (a .levels .now) (a .dealt .now) (a .heard .now) (a .wires .now) (a .published .now))) (depthsOf (a .inputs) (gatesOf (a .table .now))) (reasonAt 200 0) (pass _ 16 _ (trustee (c .before .before .before .before .before)) ∙ pass _ 17 _ (fits (c .before .before .before)) ∙ pass _ 18 _ (bits (c .before)) ∙ fail _ 200 _ (other-long (a .inputs) (gatesOf (a .table .now)) (a .levels .now) (λ e. c .if4 .taken (e ∙ sym (s .pre .gates-are)))))
+    outcome-some (firstOf (tableReasons (a .inputs) (a .k) (gatesOf (a .table .now)) (a .t) (a .p) (a .round) (a .levels .now) (a .dealt .now) (a .heard .now) (a .wires .now) (a .published .now))) (depthsOf (a .inputs) (gatesOf (a .table .now))) (reasonAt 200 0) (pass _ 16 _ (trustee (c .before .before .before .before .before)) ∙ pass _ 17 _ (fits (c .before .before .before)) ∙ pass _ 18 _ (bits (c .before)) ∙ fail _ 200 _ (other-long (a .inputs) (gatesOf (a .table .now)) (a .levels .now) (λ e. c .if4 .taken (e ∙ sym (s .pre .gates-are)))))
 
 compare-requires : tie.Need-compare-requires
 compare-requires c κs =
@@ -120,14 +110,14 @@ unfolding depthsSaid levelReasonOf reasonOf tableReasons
 returns-5 c =
     let s = c .before .before .before .before .before .before .before .before .before .before .before .before .before .before .before .before in
     let a = s .args in
-    said-some (firstOf (tableReasons (a .inputs) (a .k) (gatesOf (a .table .now)) (a .t) (a .p) (a .round) (a .levels .now) (a .dealt .now) (a .heard .now) (a .wires .now) (a .published .now))) (depthsOf (a .inputs) (gatesOf (a .table .now))) (reasonAt 200 0) (pass _ 16 _ (trustee (c .before .before .before .before .before .before .before .before)) ∙ pass _ 17 _ (fits (c .before .before .before .before .before .before)) ∙ pass _ 18 _ (bits (c .before .before .before .before)) ∙ fail _ 200 _ (other-same (a .inputs) (gatesOf (a .table .now)) (a .levels .now) (sym (c .before .before .compare .ensures) ∙ c .enum-told .given .1)))
+    outcome-some (firstOf (tableReasons (a .inputs) (a .k) (gatesOf (a .table .now)) (a .t) (a .p) (a .round) (a .levels .now) (a .dealt .now) (a .heard .now) (a .wires .now) (a .published .now))) (depthsOf (a .inputs) (gatesOf (a .table .now))) (reasonAt 200 0) (pass _ 16 _ (trustee (c .before .before .before .before .before .before .before .before)) ∙ pass _ 17 _ (fits (c .before .before .before .before .before .before)) ∙ pass _ 18 _ (bits (c .before .before .before .before)) ∙ fail _ 200 _ (other-same (a .inputs) (gatesOf (a .table .now)) (a .levels .now) (sym (c .before .before .compare .ensures) ∙ c .enum-told .given .1)))
 
 returns-6 : tie.Need-returns-6
 unfolding depthsSaid levelReasonOf reasonOf tableReasons
 returns-6 c =
     let s = c .before .before .before .before .before .before .before .before .before .before .before .before .before .before .before .before .before .before in
     let a = s .args in
-    said-some (firstOf (tableReasons (a .inputs) (a .k) (gatesOf (a .table .now)) (a .t) (a .p) (a .round) (a .levels .now) (a .dealt .now) (a .heard .now) (a .wires .now) (a .published .now))) (depthsOf (a .inputs) (gatesOf (a .table .now))) (reasonAt 201 0) (pass _ 16 _ (trustee (c .before .before .before .before .before .before .before .before .before .before)) ∙ pass _ 17 _ (fits (c .before .before .before .before .before .before .before .before)) ∙ pass _ 18 _ (bits (c .before .before .before .before .before .before)) ∙ pass _ 200 _ (same (c .before .before) .0) ∙ fail _ 201 _ (lt-leb (a .round) (roundsOf (a .inputs) (gatesOf (a .table .now))) (omega (arith, c .if5 .taken, same (c .before .before) .1))))
+    outcome-some (firstOf (tableReasons (a .inputs) (a .k) (gatesOf (a .table .now)) (a .t) (a .p) (a .round) (a .levels .now) (a .dealt .now) (a .heard .now) (a .wires .now) (a .published .now))) (depthsOf (a .inputs) (gatesOf (a .table .now))) (reasonAt 201 0) (pass _ 16 _ (trustee (c .before .before .before .before .before .before .before .before .before .before)) ∙ pass _ 17 _ (fits (c .before .before .before .before .before .before .before .before)) ∙ pass _ 18 _ (bits (c .before .before .before .before .before .before)) ∙ pass _ 200 _ (same (c .before .before) .0) ∙ fail _ 201 _ (lt-leb (a .round) (roundsOf (a .inputs) (gatesOf (a .table .now))) (omega (arith, c .if5 .taken, same (c .before .before) .1))))
 
 mul-if6 : tie.Need-mul-if6
 mul-if6 c = let s = c .before .before .before .before .before .before .before .before .before .before .before .before .before .before .before .before .before .before in omega (arith, s .pre .few, s .pre .conditional-are, count-most (gatesOf (s .args .table .now)))
@@ -137,7 +127,7 @@ unfolding depthsSaid levelReasonOf reasonOf tableReasons
 returns-7 c =
     let s = c .before .before .before .before .before .before .before .before .before .before .before .before .before .before .before .before .before .before .before in
     let a = s .args in
-    said-some (firstOf (tableReasons (a .inputs) (a .k) (gatesOf (a .table .now)) (a .t) (a .p) (a .round) (a .levels .now) (a .dealt .now) (a .heard .now) (a .wires .now) (a .published .now))) (depthsOf (a .inputs) (gatesOf (a .table .now))) (reasonAt 202 0) (pass _ 16 _ (trustee (c .before .before .before .before .before .before .before .before .before .before .before)) ∙ pass _ 17 _ (fits (c .before .before .before .before .before .before .before .before .before)) ∙ pass _ 18 _ (bits (c .before .before .before .before .before .before .before)) ∙ pass _ 200 _ (same (c .before .before .before) .0) ∙ pass _ 201 _ (early (c .before)) ∙ fail _ 202 [] (and-not _ _ (ne-eqb (length (a .heard .now)) (2 * conditionalCount (gatesOf (a .table .now))) (λ e. c .if6 .taken (e ∙ ap (λ (n : ℕ). 2 * n) (sym (s .pre .conditional-are)))))))
+    outcome-some (firstOf (tableReasons (a .inputs) (a .k) (gatesOf (a .table .now)) (a .t) (a .p) (a .round) (a .levels .now) (a .dealt .now) (a .heard .now) (a .wires .now) (a .published .now))) (depthsOf (a .inputs) (gatesOf (a .table .now))) (reasonAt 202 0) (pass _ 16 _ (trustee (c .before .before .before .before .before .before .before .before .before .before .before)) ∙ pass _ 17 _ (fits (c .before .before .before .before .before .before .before .before .before)) ∙ pass _ 18 _ (bits (c .before .before .before .before .before .before .before)) ∙ pass _ 200 _ (same (c .before .before .before) .0) ∙ pass _ 201 _ (early (c .before)) ∙ fail _ 202 [] (and-not _ _ (ne-eqb (length (a .heard .now)) (2 * conditionalCount (gatesOf (a .table .now))) (λ e. c .if6 .taken (e ∙ ap (λ (n : ℕ). 2 * n) (sym (s .pre .conditional-are)))))))
 
 only-bits-requires-2 : tie.Need-only-bits-requires-2
 only-bits-requires-2 c κs = search needs
@@ -147,14 +137,14 @@ unfolding depthsSaid levelReasonOf reasonOf tableReasons
 returns-8 c =
     let s = c .before .before .before .before .before .before .before .before .before .before .before .before .before .before .before .before .before .before .before .before .before in
     let a = s .args in
-    said-some (firstOf (tableReasons (a .inputs) (a .k) (gatesOf (a .table .now)) (a .t) (a .p) (a .round) (a .levels .now) (a .dealt .now) (a .heard .now) (a .wires .now) (a .published .now))) (depthsOf (a .inputs) (gatesOf (a .table .now))) (reasonAt 202 0) (pass _ 16 _ (trustee (c .before .before .before .before .before .before .before .before .before .before .before .before .before)) ∙ pass _ 17 _ (fits (c .before .before .before .before .before .before .before .before .before .before .before)) ∙ pass _ 18 _ (bits (c .before .before .before .before .before .before .before .before .before)) ∙ pass _ 200 _ (same (c .before .before .before .before .before) .0) ∙ pass _ 201 _ (early (c .before .before .before)) ∙ fail _ 202 [] (and-both _ _ false (long (c .before .before)) (sym (c .before .only-bits2 .ensures) ∙ not-true (c .before .only-bits2 .result) (c .if7 .taken))))
+    outcome-some (firstOf (tableReasons (a .inputs) (a .k) (gatesOf (a .table .now)) (a .t) (a .p) (a .round) (a .levels .now) (a .dealt .now) (a .heard .now) (a .wires .now) (a .published .now))) (depthsOf (a .inputs) (gatesOf (a .table .now))) (reasonAt 202 0) (pass _ 16 _ (trustee (c .before .before .before .before .before .before .before .before .before .before .before .before .before)) ∙ pass _ 17 _ (fits (c .before .before .before .before .before .before .before .before .before .before .before)) ∙ pass _ 18 _ (bits (c .before .before .before .before .before .before .before .before .before)) ∙ pass _ 200 _ (same (c .before .before .before .before .before) .0) ∙ pass _ 201 _ (early (c .before .before .before)) ∙ fail _ 202 [] (and-both _ _ false (long (c .before .before)) (sym (c .before .only-bits2 .ensures) ∙ not-true (c .before .only-bits2 .result) (c .if7 .taken))))
 
 returns-9 : tie.Need-returns-9
 unfolding depthsSaid levelReasonOf reasonOf tableReasons
 returns-9 c =
     let s = c .before .before .before .before .before .before .before .before .before .before .before .before .before .before .before .before .before .before .before .before .before in
     let a = s .args in
-    said-none (firstOf (tableReasons (a .inputs) (a .k) (gatesOf (a .table .now)) (a .t) (a .p) (a .round) (a .levels .now) (a .dealt .now) (a .heard .now) (a .wires .now) (a .published .now))) (depthsOf (a .inputs) (gatesOf (a .table .now))) _ (pass _ 16 _ (trustee (c .before .before .before .before .before .before .before .before .before .before .before .before .before)) ∙ pass _ 17 _ (fits (c .before .before .before .before .before .before .before .before .before .before .before)) ∙ pass _ 18 _ (bits (c .before .before .before .before .before .before .before .before .before)) ∙ pass _ 200 _ (same (c .before .before .before .before .before) .0) ∙ pass _ 201 _ (early (c .before .before .before)) ∙ pass _ 202 [] (and-both _ _ true (long (c .before .before)) (sym (c .before .only-bits2 .ensures) ∙ not-false (c .before .only-bits2 .result) (c .if7 .left))) ∙ end)
+    outcome-none (firstOf (tableReasons (a .inputs) (a .k) (gatesOf (a .table .now)) (a .t) (a .p) (a .round) (a .levels .now) (a .dealt .now) (a .heard .now) (a .wires .now) (a .published .now))) (depthsOf (a .inputs) (gatesOf (a .table .now))) _ (pass _ 16 _ (trustee (c .before .before .before .before .before .before .before .before .before .before .before .before .before)) ∙ pass _ 17 _ (fits (c .before .before .before .before .before .before .before .before .before .before .before)) ∙ pass _ 18 _ (bits (c .before .before .before .before .before .before .before .before .before)) ∙ pass _ 200 _ (same (c .before .before .before .before .before) .0) ∙ pass _ 201 _ (early (c .before .before .before)) ∙ pass _ 202 [] (and-both _ _ true (long (c .before .before)) (sym (c .before .only-bits2 .ensures) ∙ not-false (c .before .only-bits2 .result) (c .if7 .left))) ∙ end)
     (depths-are (a .inputs) (a .table .now) _ _ _ (s .pre .gates-are) (s .pre .conditional-are) (same (c .before .before .before .before .before) .1))
 
 pub test-tables-spec : {M : Type 1} → statement M

@@ -1,47 +1,37 @@
 -- `trustee_alone::start::start` meets its contract: nothing is touched before all tests have passed.
 -- Assumes nothing.
 use borrow.Author.Needs.{needs}
-use mathlib.Core.Path.{_≡_, _∙_, refl, sym, ap}
-use mathlib.Core.Bool.{Bool, true, false, _&&_}
-use mathlib.Core.Option.{Option, none, some}
-use mathlib.Core.List.{List, [], _∷_, _++_}
-use Prim.Native.Nat.{ℕ, _+_, _*_, _≤_, _<_}
+use mathlib.Core.Path.{_≡_, _∙_, sym, ap}
+use mathlib.Core.Option.{none}
+use mathlib.Core.List.{List, _++_}
+use Prim.Native.Nat.{ℕ, _+_}
 use native.Mathlib.Omega.{arith}
-use lib.Dec.{eqb, leb}
-use lib.ListN.{length, take, drop, replicate, length-replicate}
-use borrow.Author.Tests.{eq-eqb, ne-eqb, eqb-true, le-leb, lt-leb, leb-true, not-true, not-false}
+use lib.Dec.{eqb}
+use lib.ListN.{length, take, drop, length-replicate}
+use borrow.Author.Tests.{eqb-true}
 use Rattle.gates.specs.Gate.{gatesOf}
 use Rattle.gates.specs.Board.{conditionalCount}
-use Rattle.gates.proofs.Counting.{count-most}
-use Rattle.gate_levels.specs.Levels.{levelsOf, roundsOf}
-use Rattle.gate_levels.specs.Compared.{sameNumbers, compared}
-use Rattle.gate_levels.proofs.Laws.{length-levels, rounds-most}
-use Rattle.gate_levels.proofs.Filling.{same-true}
 use Rattle.jury.specs.Shape.{withinLimits, ballotBytes}
-use Rattle.jury.specs.Reason.{Reason, reasonAt, reasonOf, refusedFor, unless, firstOf}
-use Rattle.jury.proofs.Flags.{true-T, and-first, and-second}
-use Rattle.jury.proofs.Limits.{bounds, inputs-bound}
-use Rattle.tally.specs.Answer.{Size, accepted, said, saidBy, sizeOf}
-use Rattle.tally.specs.Test.{testReasons, testSaid}
+use Rattle.jury.specs.Reason.{reasonOf, refusedFor, firstOf}
+use Rattle.basics.proofs.Flags.{true-T, and-first, and-second}
+use Rattle.tally.specs.Answer.{Size, outcomeOf, sizeOf}
+use Rattle.tally.specs.Test.{testReasons, testOutcome}
 use Rattle.tally.proofs.TestReasons.{test-passed}
-use Rattle.levels.specs.Answer.{Depths, depthsOf, depthsSaid, levelReasonOf}
-use Rattle.levels.proofs.Reasons.{said-refused, said-accepted, ListFacts, list-facts, depths-are}
-use Rattle.trustee_gates.specs.Dealing.{onlyBits}
-use Rattle.trustee_rounds.specs.Rounds.{Turn, enters, publishes, closes, startWires, startPublished}
-use Rattle.trustee_alone.specs.Own.{isTrustee, tablesFit}
+use Rattle.levels.proofs.Reasons.{outcome-refused, ListFacts, list-facts}
+use Rattle.trustee_rounds.specs.Rounds.{startWires, startPublished}
+use Rattle.trustee_alone.specs.Own.{tablesFit}
 use Rattle.trustee_alone.specs.Start.{ownReasons, startReasons, startSaid, startedWires, startedPublished}
-use Rattle.trustee_alone.specs.Rounds.{tableReasons, roundReasons, roundSaid, ownTurn, wiresMade, publishedMade, roundedWires, roundedPublished}
-use Rattle.trustee_alone.proofs.Tests.{pass, fail, passed, end, before, behind, both-passed, and-both, and-not, said-some, said-none, left-old, left-new}
-use Rattle.trustee_alone.proofs.Sizes.{tables-ready, small-sizes, size-is, Fit, fit, own-same, other-same, other-long, started, started-published}
+use Rattle.trustee_alone.proofs.Tests.{passed, before, behind, both-passed, outcome-some, outcome-none, left-old, left-new}
+use Rattle.trustee_alone.proofs.Sizes.{tables-ready, small-sizes, size-is, Fit, fit, started, started-published}
 use Rattle.trustee_alone.proofs.start.start.Statement.{statement}
 use Rattle.trustee_alone.proofs.start.start.Tie as tie
 
 -- the list has passed its test
 facts : (c : tie.After-answer) → let a = c .before .before .before .before .before .before .before .before .args in ListFacts (a .shape) (a .table .now) (c .answer .given .0 .0) (c .answer .given .0 .1 .0)
-unfolding saidBy
+unfolding outcomeOf
 facts c =
     let a = c .before .before .before .before .before .before .before .before .args in
-    list-facts (a .shape) (a .table .now) _ _ (test-passed (a .shape) (a .table .now) _ (sym (c .before .before .test .ensures) ∙ ap saidBy (c .answer .given .1)))
+    list-facts (a .shape) (a .table .now) _ _ (test-passed (a .shape) (a .table .now) _ (sym (c .before .before .test .ensures) ∙ ap outcomeOf (c .answer .given .1)))
 
 -- what the tests 16 to 18 answer is what the whole answers
 own-answer : (c : tie.After-test-own) → let a = c .before .before .before .before .before .before .before .before .before .before .before .before .before .args in firstOf (startReasons (a .shape) (a .table .now) (a .t) (a .p) (a .parts .now) (a .dealt .now) (a .wires .now) (a .published .now)) ≡ refusedFor (c .test-own .result)
@@ -80,13 +70,13 @@ enum-told : tie.Need-enum-told
 enum-told c = search needs
 
 returns : tie.Need-returns
-unfolding saidBy startReasons startSaid startedWires startedPublished testSaid
+unfolding outcomeOf startReasons startSaid startedWires startedPublished testOutcome
 returns c =
     let a = c .before .before .before .before .before .before .before .before .args in
     let r = reasonOf (c .enum-told .given .0 .0) in
-    let e = ap saidBy (c .enum-told .given .1) in
-    let why = before (testReasons (a .shape) (a .table .now)) (ownReasons (ballotBytes (a .shape)) (a .shape .candidates) (sizeOf (gatesOf (a .table .now))) (a .t) (a .p) (a .parts .now) (a .dealt .now) (a .wires .now) (a .published .now)) r (said-refused (firstOf (testReasons (a .shape) (a .table .now))) (sizeOf (gatesOf (a .table .now))) r (sym (c .before .before .test .ensures) ∙ e)) in
-    (e ∙ said-some (firstOf (startReasons (a .shape) (a .table .now) (a .t) (a .p) (a .parts .now) (a .dealt .now) (a .wires .now) (a .published .now))) (sizeOf (gatesOf (a .table .now))) r why, (left-old (firstOf (startReasons (a .shape) (a .table .now) (a .t) (a .p) (a .parts .now) (a .dealt .now) (a .wires .now) (a .published .now))) (startWires (length (gatesOf (a .table .now))) (a .parts .now)) (a .wires .now) r why, left-old (firstOf (startReasons (a .shape) (a .table .now) (a .t) (a .p) (a .parts .now) (a .dealt .now) (a .wires .now) (a .published .now))) (startPublished (conditionalCount (gatesOf (a .table .now))) (a .shape .candidates)) (a .published .now) r why))
+    let e = ap outcomeOf (c .enum-told .given .1) in
+    let why = before (testReasons (a .shape) (a .table .now)) (ownReasons (ballotBytes (a .shape)) (a .shape .candidates) (sizeOf (gatesOf (a .table .now))) (a .t) (a .p) (a .parts .now) (a .dealt .now) (a .wires .now) (a .published .now)) r (outcome-refused (firstOf (testReasons (a .shape) (a .table .now))) (sizeOf (gatesOf (a .table .now))) r (sym (c .before .before .test .ensures) ∙ e)) in
+    (e ∙ outcome-some (firstOf (startReasons (a .shape) (a .table .now) (a .t) (a .p) (a .parts .now) (a .dealt .now) (a .wires .now) (a .published .now))) (sizeOf (gatesOf (a .table .now))) r why, (left-old (firstOf (startReasons (a .shape) (a .table .now) (a .t) (a .p) (a .parts .now) (a .dealt .now) (a .wires .now) (a .published .now))) (startWires (length (gatesOf (a .table .now))) (a .parts .now)) (a .wires .now) r why, left-old (firstOf (startReasons (a .shape) (a .table .now) (a .t) (a .p) (a .parts .now) (a .dealt .now) (a .wires .now) (a .published .now))) (startPublished (conditionalCount (gatesOf (a .table .now))) (a .shape .candidates)) (a .published .now) r why))
 
 ballot-bytes-requires : tie.Need-ballot-bytes-requires
 ballot-bytes-requires c κs = true-T (withinLimits (c .before .before .before .before .before .before .before .before .before .args .shape)) (facts (c .before) .within)
@@ -107,12 +97,12 @@ same-length-2 : tie.Need-same-length-2
 same-length-2 c = search needs
 
 returns-2 : tie.Need-returns-2
-unfolding saidBy refusedFor startSaid startedWires startedPublished
+unfolding outcomeOf refusedFor startSaid startedWires startedPublished
 returns-2 c =
     let a = c .before .before .before .before .before .before .before .before .before .before .before .before .before .before .before .before .args in
     let r = reasonOf (c .before .reason .given .0 .0) in
     let why = own-answer (c .before .before .before) ∙ ap refusedFor (c .before .reason .given .1) in
-    (said-some (firstOf (startReasons (a .shape) (a .table .now) (a .t) (a .p) (a .parts .now) (a .dealt .now) (a .wires .now) (a .published .now))) (sizeOf (gatesOf (a .table .now))) r why, (left-old (firstOf (startReasons (a .shape) (a .table .now) (a .t) (a .p) (a .parts .now) (a .dealt .now) (a .wires .now) (a .published .now))) (startWires (length (gatesOf (a .table .now))) (a .parts .now)) (a .wires .now) r why, left-old (firstOf (startReasons (a .shape) (a .table .now) (a .t) (a .p) (a .parts .now) (a .dealt .now) (a .wires .now) (a .published .now))) (startPublished (conditionalCount (gatesOf (a .table .now))) (a .shape .candidates)) (a .published .now) r why))
+    (outcome-some (firstOf (startReasons (a .shape) (a .table .now) (a .t) (a .p) (a .parts .now) (a .dealt .now) (a .wires .now) (a .published .now))) (sizeOf (gatesOf (a .table .now))) r why, (left-old (firstOf (startReasons (a .shape) (a .table .now) (a .t) (a .p) (a .parts .now) (a .dealt .now) (a .wires .now) (a .published .now))) (startWires (length (gatesOf (a .table .now))) (a .parts .now)) (a .wires .now) r why, left-old (firstOf (startReasons (a .shape) (a .table .now) (a .t) (a .p) (a .parts .now) (a .dealt .now) (a .wires .now) (a .published .now))) (startPublished (conditionalCount (gatesOf (a .table .now))) (a .shape .candidates)) (a .published .now) r why))
 
 enum-told-2 : tie.Need-enum-told-2
 enum-told-2 c = search needs
@@ -136,14 +126,14 @@ same-length-4 : tie.Need-same-length-4
 same-length-4 c = search needs
 
 returns-3 : tie.Need-returns-3
-unfolding saidBy startSaid startedWires startedPublished
+unfolding outcomeOf startSaid startedWires startedPublished
 returns-3 c =
     let a = c .before .before .before .before .before .before .before .before .before .before .before .before .before .before .before .before .before .before .before .before .before .before .before .before .before .before .before .args in
     let told = c .before .before .before .before .before .before .before .before .before .before .before .before in
     let known = c .before .before .before .before .before .before .before .before .before .before .before .before .before .before .before .before .before .before .before in
     let why = none-applies told in
     let l = lengths told in (
-      said-none (firstOf (startReasons (a .shape) (a .table .now) (a .t) (a .p) (a .parts .now) (a .dealt .now) (a .wires .now) (a .published .now))) (sizeOf (gatesOf (a .table .now))) _ why (size-is _ _ (a .table .now) (facts known .gates-are) (facts known .conditional-are)),
+      outcome-none (firstOf (startReasons (a .shape) (a .table .now) (a .t) (a .p) (a .parts .now) (a .dealt .now) (a .wires .now) (a .published .now))) (sizeOf (gatesOf (a .table .now))) _ why (size-is _ _ (a .table .now) (facts known .gates-are) (facts known .conditional-are)),
       (
         c .before .before .before .before .before .before .copy .ensures .1 ∙ ap (λ (z : List ℕ). take (length (a .parts .now)) (a .parts .now) ++ drop (length (a .parts .now)) z) (c .before .before .before .before .before .before .before .before .before .before .empty .ensures)
             ∙ started (a .parts .now) (a .wires .now) (ballotBytes (a .shape)) (length (gatesOf (a .table .now))) (l .0) (l .1 .wires-length) ∙ left-new (firstOf (startReasons (a .shape) (a .table .now) (a .t) (a .p) (a .parts .now) (a .dealt .now) (a .wires .now) (a .published .now))) (startWires (length (gatesOf (a .table .now))) (a .parts .now)) (a .wires .now) why,

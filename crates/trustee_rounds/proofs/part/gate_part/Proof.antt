@@ -1,10 +1,8 @@
 -- `trustee_rounds::part::gate_part` meets its contract: a conditional gate takes its bit of the product, and a free one ignores it.
 -- Assumes nothing.
 use borrow.Author.Needs.{needs}
-use mathlib.Core.Path.{_≡_, _∙_, sym, ap}
-use mathlib.Core.Bool.{true, false}
+use mathlib.Core.Path.{_∙_, sym, ap}
 use Prim.Native.Nat.{ℕ}
-use Rattle.gates.specs.Kind.{conditionalOf}
 use Rattle.trustee_shares.specs.Shares.{part, partOfKind}
 use Rattle.trustee_shares.proofs.Exchange.{ignores}
 use Rattle.trustee_rounds.proofs.part.gate_part.Statement.{statement}

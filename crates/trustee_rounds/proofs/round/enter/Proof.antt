@@ -1,16 +1,14 @@
 -- `trustee_rounds::round::enter` meets its contract: what is left is one gate less with each turn.
 -- Assumes nothing.
 use borrow.Author.Needs.{needs}
-use mathlib.Core.Path.{_≡_, _∙_, refl, sym, ap}
-use mathlib.Core.List.{List}
-use Prim.Native.Nat.{ℕ, suc, _+_, _-_, _*_, _<_}
+use mathlib.Core.Path.{_∙_, refl, sym}
+use Prim.Native.Nat.{_-_, _<_}
 use native.Mathlib.Numerals.{add-one}
 use native.Mathlib.Omega.{arith}
 use lib.ListN.{length}
 use Rattle.gates.specs.Gate.{gatesOf}
 use Rattle.gates.proofs.Table.{length-gates}
 use Rattle.gates.proofs.Counting.{count-most}
-use Rattle.trustee_rounds.specs.Rounds.{Turn}
 use Rattle.trustee_rounds.proofs.Passing.{EnterLeft, enter-start, enter-turn, enter-end, part-ready, mark-small}
 use Rattle.trustee_rounds.proofs.round.enter.Statement.{statement}
 use Rattle.trustee_rounds.proofs.round.enter.Tie as tie

@@ -8,7 +8,6 @@ use Rattle.jury.specs.Shape.{withinLimits}
 use Rattle.jury.specs.Reason.{Reason, reasonOf, refusedFor, firstOf}
 use Rattle.jury.specs.Ballots.{ballotReasons}
 use Rattle.basics.proofs.Flags.{true-T}
-use Rattle.jury.proofs.AcceptedLaws as ballots-laws
 use Rattle.tally.specs.Answer.{Size, refused, outcome, outcomeOf, sizeOf}
 use Rattle.tally.specs.Test.{testOutcome}
 use Rattle.tally.proofs.TestReasons.{TestPassed, test-passed}

@@ -4,7 +4,7 @@ use mathlib.Core.Path.{_≡_, _∙_, sym, ap}
 use mathlib.Core.Bool.{not}
 use mathlib.Core.Option.{none}
 use Rattle.jury.specs.Reason.{firstOf}
-use Rattle.jury.proofs.Flags.{and-first, true-T}
+use Rattle.basics.proofs.Flags.{and-first, true-T}
 use Rattle.urn_chains.specs.Sound.{goodJuror}
 use Rattle.urn.specs.Facts.{factsOf, countedBy}
 use Rattle.urn.specs.Admit.{admitReasons, admitAnswer, admitted}

@@ -4,7 +4,7 @@ use mathlib.Core.Path.{_∙_, sym, ap}
 use mathlib.Core.Bool.{not}
 use borrow.Author.Tests.{not-true, not-false}
 use Rattle.jury.specs.Reason.{reasonOf, refusedFor}
-use Rattle.jury.proofs.Flags.{T-true}
+use Rattle.basics.proofs.Flags.{T-true}
 use Rattle.jury.proofs.Limits.{graded-T}
 use Rattle.urn_chains.specs.Sound.{juryOfOne, goodJuror}
 use Rattle.urn.specs.Facts.{countedBy}

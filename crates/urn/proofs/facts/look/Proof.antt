@@ -5,7 +5,8 @@ use mathlib.Core.Bool.{true}
 use Prim.Native.Nat.{ℕ, _*_, _<_}
 use lib.ListN.{length}
 use Rattle.urn_chains.specs.Slots.{slotBytes}
-use Rattle.urn_chains.specs.Sound.{entriesOf, member, slotCount, urnSlots, sound}
+use Rattle.urn_chains.specs.Sound.{entriesOf, slotCount, urnSlots, sound}
+use Rattle.basics.specs.Lists.{member}
 use Rattle.urn.specs.inner.Position.{positionIn}
 use Rattle.urn_chains.proofs.SlotLaws.{size-least}
 use Rattle.urn_chains.proofs.SlotTests.{few-bytes, soundness-sound, soundness-unsound}

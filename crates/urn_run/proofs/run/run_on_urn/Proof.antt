@@ -12,7 +12,7 @@ use Rattle.gates.specs.Board.{boardOf}
 use Rattle.gates.specs.inner.Step.{FinishReady}
 use Rattle.jury.specs.Shape.{withinLimits}
 use Rattle.jury.specs.Reason.{Reason, reasonOf, firstOf}
-use Rattle.jury.proofs.Flags.{true-T}
+use Rattle.basics.proofs.Flags.{true-T}
 use Rattle.tally.specs.Answer.{Outcome, Size, outcome, outcomeOf, sizeOf}
 use Rattle.tally.specs.Run.{RunResult, runResultAfter}
 use Rattle.tally.proofs.RunReasons.{outcome-refused, outcome-accepted}

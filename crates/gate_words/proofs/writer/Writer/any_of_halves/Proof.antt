@@ -1,18 +1,15 @@
 -- `gate_words::writer::Writer::any_of_halves` meets its contract: two chains, and the gate that joins them.
 -- Assumes nothing.
-use mathlib.Core.Path.{_≡_, _∙_, refl, sym, ap}
-use mathlib.Core.List.{List, [], _∷_, _++_}
-use Prim.Native.Nat.{ℕ, suc, _+_, _-_, _<_}
+use mathlib.Core.Path.{refl, ap}
+use Prim.Native.Nat.{ℕ, _+_, _-_}
 use native.Mathlib.Omega.{arith}
 use borrow.Author.Needs.{needs}
-use Rattle.gate_words.specs.Choice.{anyOf, chainEnd}
-use Rattle.gate_words.specs.Comparison.{above}
+use Rattle.gate_words.specs.Choice.{anyOf}
 use Rattle.gate_words.proofs.ChoiceSteps.{length-chain}
-use Rattle.gate_words.proofs.WordSteps.{length-above}
 use Rattle.gate_words.proofs.Writing.{wrote-as, room-less}
-use Rattle.gate_words.proofs.Emitting.{or-wrote, mux-wrote}
+use Rattle.gate_words.proofs.Emitting.{or-wrote}
 use Rattle.gate_words.proofs.Standing.{Stands, stands, stands-after, room-of, wrote-then, one-gate}
-use Rattle.gate_words.proofs.HalvesLaws.{beside, any-halves-none, any-halves-some, above-halves-none, above-halves-some}
+use Rattle.gate_words.proofs.HalvesLaws.{beside, any-halves-none, any-halves-some}
 use Rattle.gate_words.proofs.writer.Writer.any_of_halves.Statement.{statement}
 use Rattle.gate_words.proofs.writer.Writer.any_of_halves.Tie as tie
 

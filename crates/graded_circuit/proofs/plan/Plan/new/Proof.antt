@@ -1,14 +1,14 @@
 -- `graded_circuit::plan::Plan::new` meets its contract: within the limits every number fits, and it computes the definition.
 -- Assumes nothing.
-use mathlib.Core.Path.{_≡_, _∙_, refl, sym, ap}
-use Prim.Native.Nat.{ℕ, suc, _+_, _-_, _*_, _/_, _^_, _≤_, _<_}
+use mathlib.Core.Path.{_≡_, _∙_, ap}
+use Prim.Native.Nat.{ℕ, _+_, _-_, _/_, _^_, _≤_}
 use native.Mathlib.Omega.{arith}
 use lib.Dec.{T}
 use borrow.Author.Needs.{needs}
 use Rattle.jury.specs.declared.shape.Shape.{Shape}
 use Rattle.jury.specs.Shape.{gradedLimits, ballotBytes}
 use Rattle.jury.specs.Width.{widthOf}
-use Rattle.jury.proofs.Limits.{Within, within-T, graded-T, bytes-are, bytes-bound}
+use Rattle.jury.proofs.Limits.{within-T, graded-T, bytes-are, bytes-bound}
 use Rattle.jury.proofs.WidthLaws.{width-half, width-most}
 use Rattle.graded_circuit.specs.declared.plan.Plan.{Plan}
 use Rattle.graded_circuit.specs.Plan.{planOf}
