@@ -8,7 +8,6 @@ use Rattle.gates.specs.Gate.{gatesOf}
 use Rattle.tally.specs.Answer.{accepted, sizeOf}
 use Rattle.tally.specs.Run.{runResult}
 use Rattle.tally.specs.Hiding.{closingBytes}
-use Rattle.tally.specs.Demands.{listIn}
 use Rattle.tally.specs.SaysWhoWins.{SaysWhoWins}
 use Rattle.tally.proofs.Demands.{three-demands}
 use Rattle.dispatch_rounds.specs.Tables.{shapeOf}

@@ -1,13 +1,12 @@
 -- The lent buffers are long enough for every list that fits the table, and what the run answers is what the rehearsal answers.
 -- Assumes nothing.
-use mathlib.Core.Path.{_≡_, _∙_, refl, sym, ap, subst}
-use mathlib.Core.Bool.{true, false}
-use mathlib.Core.Option.{Option, none, some}
+use mathlib.Core.Path.{_≡_, _∙_, refl, sym, ap}
+use mathlib.Core.Bool.{false}
+use mathlib.Core.Option.{Option, none}
 use mathlib.Core.List.{List, [], _∷_, _++_}
 use Prim.Native.Nat.{ℕ, zero, suc, _+_, _-_, _*_, _≤_, _<_}
 use native.Mathlib.Omega.{arith}
-use lib.Dec.{T}
-use lib.ListN.{length, getD, take, drop, length-take, length-drop, length-append, drop-of-length-le}
+use lib.ListN.{length, take, drop, length-take, length-drop, length-append, drop-of-length-le}
 use lib.Seq.{drop-append-le, take-at, take-all}
 use Rattle.gates.specs.Gate.{numbersOf}
 use Rattle.gates.specs.Board.{conditionalCount, Bits, MaskTape}
@@ -23,7 +22,7 @@ use Rattle.jury.proofs.Limits.{bounds-T, inputs-bound}
 use Rattle.tally.specs.Rule.{closingFor}
 use Rattle.tally.specs.OwnList.{ownList}
 use Rattle.tally.proofs.Rules.{closing-length}
-use Rattle.tally.specs.Answer.{Outcome, refused, accepted, outcome, Size, sizeOf, outcomeOf}
+use Rattle.tally.specs.Answer.{refused, accepted, outcome, Size, sizeOf, outcomeOf}
 use Rattle.tally.specs.declared.answer.Answer.the-variants as answer
 use Rattle.tally.specs.Run.{runResult}
 use Rattle.tally.specs.Write.{writeReasons, writeOutcome, written}

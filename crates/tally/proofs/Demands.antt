@@ -11,7 +11,6 @@ use lib.ListN.{length, take, length-replicate}
 use Rattle.gates.specs.Gate.{Gate, gatesOf}
 use Rattle.gates.specs.Wires.{wiresOf, outputsOf}
 use Rattle.gates.specs.Board.{MaskTape}
-use Rattle.gates.specs.Test.{firstAboveOne}
 use Rattle.gates.specs.declared.place.Place.{Place}
 use Rattle.gates.specs.declared.place.Place.the-variants.{At, Nowhere}
 use Rattle.jury.specs.declared.shape.Shape.{Shape}
@@ -29,7 +28,7 @@ use Rattle.tally.specs.Memory.{Each, KeepsMemory, BoardKeepsMemory}
 use Rattle.tally.specs.OwnList.{ownList}
 use Rattle.tally.specs.Count.{countReason, plainClosing, countOutcome}
 use Rattle.tally.specs.Test.{testReasons, testOutcome}
-use Rattle.tally.specs.Write.{writeReasons, writeOutcome, written, OwnListHolds}
+use Rattle.tally.specs.Write.{writeReasons, writeOutcome}
 use Rattle.tally.specs.Run.{RunResult, bufferReasons, runReasons, runResultAfter, runResult}
 use Rattle.tally.specs.Hiding.{closingBytes}
 use Rattle.tally.specs.Demands.{Memory, listIn, RunAccuracy, CountAccuracy, ThreeDemands}

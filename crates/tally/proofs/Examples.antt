@@ -15,9 +15,9 @@ use Rattle.gates.specs.HidingExample as gates
 use Rattle.gates.specs.declared.list.ListCheck.the-variants.{Accepted}
 use Rattle.jury.specs.Shape.{isRanking, gradedLimits, rankedLimits, withinLimits, columns, ballotBytes}
 use Rattle.jury.specs.Reason.{unless, foundAt, firstOf}
-use Rattle.jury.specs.Ballots.{ones, rowsOf, firstBadRow, gradedReasons, rankedReasons, ballotReasons}
-use Rattle.tally.specs.Answer.{accepted, Size, sizeOf}
-use Rattle.tally.specs.Run.{RunResult, bufferReasons, runReasons, runResultAfter, runResult}
+use Rattle.jury.specs.Ballots.{ones, rowsOf, firstBadRow, gradedReasons, ballotReasons}
+use Rattle.tally.specs.Answer.{accepted, Size}
+use Rattle.tally.specs.Run.{RunResult, bufferReasons, runResultAfter, runResult}
 use Rattle.tally.specs.Examples.{oneBallot, PairOfRuns}
 use Rattle.tally.proofs.TestReasons.{TestPassed, list-accepted, test-passed}
 use Rattle.tally.proofs.RunReasons.{by-lent, ran-by}

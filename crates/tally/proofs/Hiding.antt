@@ -3,7 +3,7 @@
 use mathlib.Core.Path.{_≡_, _∙_, refl, sym, ap, subst}
 use mathlib.Core.Option.{Option, none, some}
 use mathlib.Core.List.{List}
-use Prim.Native.Nat.{ℕ, _+_, _-_, _≤_}
+use Prim.Native.Nat.{ℕ, _-_, _≤_}
 use native.Mathlib.Omega.{arith}
 use lib.ListN.{length, drop, replicate}
 use Rattle.gates.specs.Gate.{gatesOf}
@@ -16,7 +16,7 @@ use Rattle.gates.proofs.Hiding.{board-finished, one-tape}
 use Rattle.jury.specs.declared.shape.Shape.{Shape}
 use Rattle.jury.specs.Shape.{ballotBytes}
 use Rattle.jury.specs.Reason.{Reason, firstOf}
-use Rattle.tally.specs.Answer.{Outcome, refused, accepted, Size, sizeOf}
+use Rattle.tally.specs.Answer.{accepted, Size, sizeOf}
 use Rattle.tally.specs.Run.{RunResult, runReasons, runResultAfter, runResult}
 use Rattle.tally.specs.Hiding.{closingBytes, RunTellsNoMore}
 use Rattle.tally.proofs.TestReasons.{never}

@@ -10,13 +10,10 @@ use Rattle.jury.specs.declared.shape.Shape.{Shape}
 use Rattle.jury.specs.Accepted.{AcceptedBallots}
 use Rattle.jury.specs.Shape.{isRanking}
 use Rattle.jury.proofs.Limits.{within, graded-is}
-use Rattle.rule_judgment.specs.Raised.{Raised, RaisedOften, unchanged, once-more, byteFor}
+use Rattle.rule_judgment.specs.Raised.{RaisedOften, unchanged, once-more, byteFor}
 use Rattle.rule_judgment.proofs.Raising.{liked-more}
 use Rattle.tally.specs.Answer.{accepted, Size}
 use Rattle.tally.specs.Count.{plainClosing}
-use Rattle.tally.specs.Write.{writeOutcome}
-use Rattle.tally.specs.Run.{runResult}
-use Rattle.tally.specs.Hiding.{closingBytes}
 use Rattle.tally.specs.Demands.{listIn, RunAccuracy}
 use Rattle.tally.specs.Monotone.{TwoRuns, byteIn, MonotoneOnGates}
 use Rattle.tally.proofs.RunReasons.{run-passed}

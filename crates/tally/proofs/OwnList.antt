@@ -12,7 +12,7 @@ use Rattle.gates.specs.Test.{tested}
 use Rattle.gates.specs.declared.list.ListCheck.the-variants.{Accepted}
 use Rattle.gates.proofs.Accepting.{good-list-accepted}
 use Rattle.jury.specs.declared.shape.Shape.{Shape}
-use Rattle.jury.specs.Shape.{isRanking, gradedLimits, withinLimits, ballotBytes}
+use Rattle.jury.specs.Shape.{isRanking, withinLimits, ballotBytes}
 use Rattle.jury.specs.Width.{widthOf}
 use Rattle.jury.specs.Accepted.{AcceptedBallots}
 use Rattle.jury.proofs.AcceptedLaws as ballots-laws

@@ -1,6 +1,6 @@
 -- A run of the own list with a mask tape and buffers of the right lengths: only its ballots can turn it away, and its closing bytes are majority judgment's.
 -- Assumes nothing.
-use mathlib.Core.Path.{_≡_, _∙_, refl, sym, ap, subst}
+use mathlib.Core.Path.{_≡_, _∙_, refl, sym, ap}
 use mathlib.Core.Bool.{true}
 use mathlib.Core.Option.{Option, none, some}
 use mathlib.Core.List.{List}
@@ -18,7 +18,7 @@ use Rattle.jury.specs.Reason.{Reason, firstOf}
 use Rattle.jury.specs.Ballots.{ballotReasons}
 use Rattle.tally.specs.Rule.{closingFor}
 use Rattle.tally.specs.OwnList.{ownList}
-use Rattle.tally.specs.Answer.{accepted, outcome, Size, sizeOf}
+use Rattle.tally.specs.Answer.{accepted, outcome, sizeOf}
 use Rattle.tally.specs.Test.{testReasons}
 use Rattle.tally.specs.Run.{RunResult, bufferReasons, runReasons, runResultAfter, runResult}
 use Rattle.tally.proofs.TestReasons.{orElse, TestPassed, test-passed}

@@ -16,7 +16,7 @@ use Rattle.gates.proofs.Evaluating.{accepted-list}
 use Rattle.jury.specs.declared.shape.Shape.{Shape}
 use Rattle.jury.specs.Shape.{withinLimits, ballotBytes}
 use Rattle.jury.specs.Reason.{Reason, reasonAt, unless, listReason, firstOf}
-use Rattle.tally.specs.Answer.{Outcome, refused, accepted, outcome, Size, sizeOf}
+use Rattle.tally.specs.Answer.{refused, accepted, outcome, Size, sizeOf}
 use Rattle.tally.specs.Test.{testReasons, testOutcome}
 
 -- the first reason of tests one after the other

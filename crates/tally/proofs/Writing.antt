@@ -20,7 +20,6 @@ use Rattle.tally.specs.Answer.{refused, accepted, outcome, Size, sizeOf}
 use Rattle.tally.specs.Write.{writeReasons, writeOutcome, writtenAfter, written}
 use Rattle.tally.specs.Demands.{listIn}
 use Rattle.tally.proofs.TestReasons.{never}
-use Rattle.tally.proofs.RunReasons.{outcome-refused}
 
 module _ (s : Shape) (table : List ℕ) where
   by : Bool → Bool → Option Reason

@@ -1,8 +1,7 @@
 -- Demand 3 on two concrete runs: different ballots, equal closing bytes, two tapes, one board. One candidate, two
 -- grades, one ballot; the list is a stranger's, one gate that says whether wire 0 and wire 1 are both 1.
 use mathlib.Core.Path.{_≡_}
-use mathlib.Core.List.{List, [], _∷_}
-use Prim.Native.Nat.{ℕ}
+use mathlib.Core.List.{[], _∷_}
 use Rattle.gates.specs.HidingExample.{oneGate}
 use Rattle.jury.specs.declared.shape.Shape.{Shape}
 use Rattle.tally.specs.Answer.{accepted}

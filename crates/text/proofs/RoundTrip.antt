@@ -7,32 +7,31 @@ use mathlib.Core.List.{List, [], _∷_, _++_}
 use Prim.Native.Nat.{ℕ, _+_, _*_, _≤_}
 use native.Mathlib.Nat.{add-zero}
 use native.Mathlib.Omega.{arith}
-use lib.Dec.{T, leb}
+use lib.Dec.{leb}
 use lib.ListN.{length, take, drop, length-append, length-drop}
 use lib.Seq.{take-at}
 use borrow.Author.Tests.{leb-true}
-use Rattle.gates.specs.Gate.{Gate, gatesOf, numbersOf}
+use Rattle.gates.specs.Gate.{gatesOf, numbersOf}
 use Rattle.gates.specs.Board.{conditionalCount}
-use Rattle.gates.specs.Test.{firstBad, tested}
+use Rattle.gates.specs.Test.{firstBad}
 use Rattle.gates.specs.declared.place.Place.{Place}
 use Rattle.gates.specs.declared.place.Place.the-variants.{At, Nowhere}
-use Rattle.gates.specs.declared.list.ListCheck.the-variants.{Accepted}
 use Rattle.gates.proofs.Laws.{AllGood, all-good, read-whole, length-numbers}
 use Rattle.gates.proofs.Accepting.{good-list-accepted}
 use Rattle.gates.proofs.Evaluating.{accepted-list}
 use Rattle.gates.proofs.Reading.{whole-table}
 use Rattle.jury.specs.declared.shape.Shape.{Shape}
 use Rattle.jury.specs.Shape.{withinLimits, ballotBytes}
-use Rattle.jury.specs.Reason.{Reason, reasonAt, unless, foundAt, firstOf}
+use Rattle.jury.specs.Reason.{Reason, unless, foundAt, firstOf}
 use Rattle.jury.proofs.Limits.{bounds, inputs-bound}
-use Rattle.tally.specs.Answer.{refused, accepted, outcome, hasNumberIn, Size, sizeOf}
+use Rattle.tally.specs.Answer.{accepted, outcome, sizeOf}
 use Rattle.tally.specs.Test.{testReasons, testOutcome}
 use Rattle.tally.proofs.TestReasons.{orElse, first-append, test-passed, test-passed-back}
 use Rattle.tally.specs.Memory.{Each}
 use Rattle.tally.proofs.RunReasons.{outcome-refused}
 use Rattle.text.proofs.Numbering.{text-number, read-number}
 use Rattle.text.specs.Text.{textOf, linesOf, firstMalformed, gatesIn}
-use Rattle.text.specs.Write.{textReasons, textOutcome, outputAfter, textWritten}
+use Rattle.text.specs.Write.{textReasons, textOutcome, textWritten}
 use Rattle.text.specs.Read.{readReasons, readOutcome, numbersRead}
 use Rattle.text.specs.RoundTrip.{RoundTrip}
 use Rattle.text.specs.Demands.{TextMemory}

@@ -1,21 +1,20 @@
 -- A text and its lines: where a gate stands at the start, it is the first line; where none does, the first line is no gate.
 -- Assumes nothing.
-use mathlib.Core.Path.{_≡_, _∙_, refl, sym, ap, subst}
+use mathlib.Core.Path.{_≡_, _∙_, refl, sym, ap}
 use mathlib.Core.Bool.{Bool, true, false, cond}
-use mathlib.Core.Option.{Option, none, some, Option·some-injective, Option·none-ne-some}
-use mathlib.Core.List.{List, [], _∷_, _++_, append-assoc, append-nil, flatten}
-use Prim.Native.Nat.{ℕ, zero, suc, _+_, _/_, _%_, _≤_, _<_}
+use mathlib.Core.Option.{Option, none, some, Option·none-ne-some}
+use mathlib.Core.List.{List, [], _∷_, _++_, append-assoc, flatten}
+use Prim.Native.Nat.{ℕ, zero, suc, _+_, _/_, _%_, _<_}
 use native.Mathlib.Omega.{arith}
 use lib.Dec.{ltb, eqb}
 use lib.ListN.{length, length-append}
 use borrow.Author.Tests.{ne-eqb}
 use Rattle.gates.specs.Kind.{operandsOf}
 use Rattle.gates.specs.Gate.{Gate}
-use Rattle.gates.specs.declared.place.Place.{Place}
-use Rattle.gates.specs.declared.place.Place.the-variants.{At, Nowhere}
-use Rattle.text_lines.specs.Decimal.{decimalWithin, decimal, Taken, taken}
+use Rattle.gates.specs.declared.place.Place.the-variants.{At}
+use Rattle.text_lines.specs.Decimal.{decimalWithin, decimal, Taken}
 use Rattle.text_lines.specs.Line.{operandText, lineOf, gateIn, gateOf}
-use Rattle.text.specs.Text.{textOf, inFront, linesOf, malformedAt, firstMalformed, gateBefore, gatesIn}
+use Rattle.text.specs.Text.{inFront, linesOf, malformedAt, firstMalformed, gateBefore, gatesIn}
 use Rattle.text_lines.proofs.LineLaws.{Writable, read-line, wrote-line, line-read, line-wrote}
 
 -- no line feed among these characters

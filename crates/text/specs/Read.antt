@@ -5,7 +5,7 @@ use mathlib.Core.List.{List, [], _∷_}
 use Prim.Native.Nat.{ℕ, _*_}
 use lib.Dec.{leb}
 use lib.ListN.{length}
-use Rattle.gates.specs.Gate.{Gate, numbersOf}
+use Rattle.gates.specs.Gate.{numbersOf}
 use Rattle.gates.specs.Test.{firstBad}
 use Rattle.jury.specs.declared.shape.Shape.{Shape}
 use Rattle.jury.specs.Shape.{withinLimits, ballotBytes}

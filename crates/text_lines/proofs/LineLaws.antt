@@ -12,7 +12,7 @@ use Rattle.gates.specs.Kind.{operandsOf}
 use Rattle.gates.specs.Gate.{Gate}
 use Rattle.text_lines.specs.Decimal.{decimal, isDigit, Taken, taken, numberIn}
 use Rattle.text_lines.specs.Line.{operandText, lineOf, knownKind, operandIn, endIn, gateIn, only, gateOf}
-use Rattle.text_lines.proofs.DecimalLaws.{Apart, read-decimal, Wrote, wrote-number}
+use Rattle.text_lines.proofs.DecimalLaws.{Apart, read-decimal, wrote-number}
 
 -- what a step of a reading found
 bind-some : {A B : Type 0} (o : Option A) (f : A → Option B) (y : B) → bind o f ≡ some y → (a : A) × (o ≡ some a) × (f a ≡ some y)

@@ -1,14 +1,12 @@
 -- `c_tally::measure::jugy_measure` meets its contract: where the answer array is long enough, it says what the entry point says, or what it would say of a shape outside the limits.
 -- Assumes nothing.
-use mathlib.Core.Path.{_≡_, _∙_, refl, sym, ap}
-use mathlib.Core.List.{List, [], _∷_}
-use Prim.Native.Nat.{ℕ}
+use mathlib.Core.Path.{_∙_, refl, sym, ap}
+use mathlib.Core.List.{[]}
 use borrow.Author.Needs.{needs}
 use Rattle.jury.specs.Shape.{withinLimits}
 use Rattle.jury.specs.Reason.{reasonOf}
 use Rattle.jury.proofs.Constructed.{shape-is, outside-is}
-use Rattle.tally.specs.Answer.{Outcome}
-use Rattle.tally.specs.Measure.{Measures, measuredBy, measureOutcome}
+use Rattle.tally.specs.Measure.{measuredBy, measureOutcome}
 use Rattle.tally.proofs.Outside.{outside-measure}
 use Rattle.c_answers.specs.Numbers.{shapeOf, measureNumbers}
 use Rattle.c_answers.proofs.Answering.{short-call, put-call}

@@ -1,6 +1,6 @@
 -- `c_tally::write::jugy_write` meets its contract: where the answer array is long enough, it says what the entry point says, or what it would say of a shape outside the limits.
 -- Assumes nothing.
-use mathlib.Core.Path.{_≡_, _∙_, refl, sym, ap}
+use mathlib.Core.Path.{_∙_, sym, ap}
 use mathlib.Core.List.{List, [], _∷_}
 use Prim.Native.Nat.{ℕ}
 use borrow.Author.Needs.{needs}
@@ -9,7 +9,7 @@ use Rattle.jury.specs.Shape.{withinLimits}
 use Rattle.jury.specs.Reason.{reasonOf, reasonAt}
 use Rattle.jury.proofs.Flags.{T-true}
 use Rattle.jury.proofs.Constructed.{shape-is, outside-is}
-use Rattle.tally.specs.Answer.{Outcome, outcomeOf, Size}
+use Rattle.tally.specs.Answer.{outcomeOf}
 use Rattle.tally.specs.Write.{writeOutcome, written}
 use Rattle.tally.proofs.OwnList.{own-list-holds}
 use Rattle.tally.proofs.Writing.{write-refused, outside as outside-write}

@@ -4,7 +4,6 @@ use mathlib.Core.Path.{_∙_, sym}
 use native.Mathlib.Omega.{arith}
 use borrow.Author.Needs.{needs}
 use Rattle.jury.specs.Shape.{withinLimits}
-use Rattle.jury.specs.Reason.{reasonOf}
 use Rattle.jury.proofs.Constructed.{shape-is, outside-is}
 use Rattle.rehearsal.specs.Rehearsal.{shapeIn, outcomeOn}
 use Rattle.rehearsal.specs.inner.Rehearses.{endOn}

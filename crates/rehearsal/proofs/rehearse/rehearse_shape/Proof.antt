@@ -1,15 +1,15 @@
 -- `rehearsal::rehearse::rehearse_shape` meets its contract: a refused write decides, and else the run of what was written.
 -- Assumes nothing.
-use mathlib.Core.Path.{_≡_, _∙_, refl, sym, ap}
+use mathlib.Core.Path.{_≡_, _∙_, sym, ap}
 use mathlib.Core.List.{List, []}
-use Prim.Native.Nat.{ℕ, _+_, _*_, _-_, _≤_}
+use Prim.Native.Nat.{ℕ, _*_, _-_, _≤_}
 use native.Mathlib.Omega.{arith}
 use lib.ListN.{length, take, drop}
 use borrow.Author.Needs.{needs}
-use Rattle.tally.specs.Answer.{Outcome, outcomeOf}
+use Rattle.tally.specs.Answer.{outcomeOf}
 use Rattle.tally.specs.declared.answer.Answer.the-variants as answer
 use Rattle.tally.specs.Write.{writeOutcome, written}
-use Rattle.rehearsal.specs.Rehearsal.{shapeIn, ballotsIn, rehearsalOutcome, outcomeOn}
+use Rattle.rehearsal.specs.Rehearsal.{ballotsIn, rehearsalOutcome, outcomeOn}
 use Rattle.rehearsal.specs.inner.Buffers.{Cut}
 use Rattle.rehearsal.specs.inner.Rehearses.{runOutcome, endOn}
 use Rattle.rehearsal.proofs.Rehearsing.{cut-long, gates-few, list-fits, write-cut, by-the-run, by-the-write, no-ballots, some-ballots}

@@ -1,11 +1,10 @@
 -- `rehearsal::rehearse::run_list` meets its contract: the buffers are long enough to be cut, and the run answers by the ballots alone.
 -- Assumes nothing.
-use mathlib.Core.Path.{_≡_, _∙_, refl, sym, ap}
-use Prim.Native.Nat.{ℕ, _+_, _≤_}
+use mathlib.Core.Path.{_∙_, sym, ap}
+use Prim.Native.Nat.{_+_, _≤_}
 use native.Mathlib.Omega.{arith}
-use lib.ListN.{length, take}
+use lib.ListN.{length}
 use borrow.Author.Needs.{needs}
-use Rattle.jury.specs.Shape.{withinLimits}
 use Rattle.tally.specs.Answer.{outcomeOf}
 use Rattle.tally.specs.Run.{RunResult}
 use Rattle.rehearsal.specs.Rehearsal.{outcomeOn}

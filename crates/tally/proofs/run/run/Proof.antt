@@ -2,13 +2,12 @@
 -- Assumes nothing.
 use mathlib.Core.Path.{_≡_, _∙_, refl, sym, ap}
 use mathlib.Core.Option.{Option, none, some}
-use mathlib.Core.List.{List}
 use Prim.Native.Nat.{ℕ}
 use lib.ListN.{replicate}
 use borrow.Author.Needs.{needs}
 use Rattle.gates.specs.Gate.{gatesOf}
 use Rattle.jury.specs.Reason.{Reason, reasonOf, firstOf}
-use Rattle.tally.specs.Answer.{Size, outcome, outcomeOf, sizeOf}
+use Rattle.tally.specs.Answer.{outcome, outcomeOf, sizeOf}
 use Rattle.tally.specs.Run.{runReasons, runResultAfter}
 use Rattle.tally.proofs.RunReasons.{same-result, outcome-refused, outcome-accepted, run-passed, run-ready, ran-by}
 use Rattle.tally.proofs.run.run.Statement.{statement}

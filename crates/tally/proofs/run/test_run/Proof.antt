@@ -1,7 +1,6 @@
 -- `tally::run::test_run` meets its contract: the list is tested first, then the ballots, then what else is lent.
 -- Assumes nothing.
 use mathlib.Core.Path.{_≡_, _∙_, sym, ap}
-use mathlib.Core.Bool.{true}
 use mathlib.Core.Option.{Option, none, some}
 use Prim.Native.Nat.{ℕ}
 use borrow.Author.Needs.{needs}
@@ -11,7 +10,7 @@ use Rattle.jury.specs.Reason.{Reason, reasonOf, refusedFor, firstOf}
 use Rattle.jury.specs.Ballots.{ballotReasons}
 use Rattle.jury.proofs.Flags.{true-T}
 use Rattle.tally.specs.Answer.{Size, refused, outcome, outcomeOf, sizeOf}
-use Rattle.tally.specs.Test.{testReasons, testOutcome}
+use Rattle.tally.specs.Test.{testOutcome}
 use Rattle.tally.specs.Run.{bufferReasons, runReasons}
 use Rattle.tally.proofs.TestReasons.{TestPassed, test-passed}
 use Rattle.tally.proofs.RunReasons.{by-test, by-ballots, by-lent}

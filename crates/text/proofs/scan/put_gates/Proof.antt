@@ -1,11 +1,10 @@
 -- `text::scan::put_gates` meets its contract.
 -- Assumes nothing.
 use mathlib.Core.Path.{_≡_, _∙_, refl, sym, ap}
-use mathlib.Core.List.{List}
-use Prim.Native.Nat.{ℕ, _+_, _-_, _*_, _≤_}
-use lib.ListN.{length, drop, set, length-set}
+use Prim.Native.Nat.{_+_, _-_, _*_, _≤_}
+use lib.ListN.{length, drop, length-set}
 use lib.Seq.{sets}
-use Rattle.gates.specs.Gate.{Gate, numbersOf}
+use Rattle.gates.specs.Gate.{numbersOf}
 use Rattle.gates.specs.declared.place.Place.the-variants.{Nowhere}
 use Rattle.gates.proofs.Reading.{numbers-cons}
 use Rattle.gates.proofs.Laws.{numbers-nil}

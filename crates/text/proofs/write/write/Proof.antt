@@ -1,17 +1,15 @@
 -- `text::write::write` meets its contract.
 -- Assumes nothing.
-use mathlib.Core.Path.{_≡_, _∙_, refl, sym, ap}
-use mathlib.Core.Option.{none, some}
-use Prim.Native.Nat.{ℕ, _<_, _≤_}
+use mathlib.Core.Path.{_∙_, sym, ap}
+use Prim.Native.Nat.{ℕ, _≤_}
 use native.Mathlib.Omega.{arith}
 use lib.ListN.{length}
 use lib.Seq.{length-sets}
 use Rattle.gates.specs.Gate.{gatesOf}
 use Rattle.gates.proofs.Evaluating.{accepted-list}
 use Rattle.jury.specs.Shape.{ballotBytes}
-use Rattle.jury.specs.Reason.{reasonOf, reasonAt, firstOf}
-use Rattle.tally.specs.Answer.{refused, accepted, outcomeOf}
-use Rattle.tally.specs.Test.{testReasons, testOutcome}
+use Rattle.jury.specs.Reason.{reasonOf, reasonAt}
+use Rattle.tally.specs.Answer.{accepted, outcomeOf}
 use Rattle.tally.proofs.TestReasons.{TestPassed, test-passed}
 use Rattle.text.specs.Text.{textOf}
 use Rattle.text.specs.Answer.{textReasonOf, lengthOutcome}

@@ -8,7 +8,6 @@ use native.Mathlib.Nat.{pow-suc}
 use native.Mathlib.Numerals.{add-one}
 use Rattle.text_lines.proofs.DecimalLaws.{Least, count-is}
 use native.Mathlib.Omega.{arith}
-use borrow.Author.Needs.{needs}
 use Rattle.text_lines.proofs.decimal.count.Statement.{statement}
 use Rattle.text_lines.proofs.decimal.count.Tie as tie
 

@@ -1,10 +1,7 @@
 -- `text::decimal::is_digit` meets its contract.
 -- Assumes nothing.
 use borrow.Author.Tests.{le-leb, lt-leb}
-use mathlib.Core.Path.{_∙_, refl, sym, ap}
 use Rattle.text_lines.specs.Decimal.{isDigit}
-use native.Mathlib.Omega.{arith}
-use borrow.Author.Needs.{needs}
 use Rattle.text_lines.proofs.decimal.is_digit.Statement.{statement}
 use Rattle.text_lines.proofs.decimal.is_digit.Tie as tie
 

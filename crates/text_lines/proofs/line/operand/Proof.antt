@@ -10,7 +10,6 @@ use Rattle.text_lines.specs.Decimal.{numberIn}
 use Rattle.text_lines.specs.Line.{operandIn}
 use Rattle.text_lines.specs.inner.Found.{numberFound}
 use Rattle.text_lines.proofs.Found.{operand-none, operand-other, operand-number}
-use native.Mathlib.Omega.{arith}
 use borrow.Author.Needs.{needs}
 use Rattle.text_lines.proofs.line.operand.Statement.{statement}
 use Rattle.text_lines.proofs.line.operand.Tie as tie

@@ -1,6 +1,5 @@
 -- `text::print::line_length` meets its contract.
 -- Assumes nothing.
-use mathlib.Core.Path.{_≡_}
 use Prim.Native.Nat.{_≤_}
 use lib.Dec.{ltb}
 use Rattle.text_lines.proofs.Storing.{decimal-most, operand-most, line-long}

@@ -1,6 +1,6 @@
 -- `text::print::operand_length` meets its contract.
 -- Assumes nothing.
-use mathlib.Core.Path.{_≡_, sym, ap}
+use mathlib.Core.Path.{sym, ap}
 use lib.ListN.{length}
 use Rattle.text_lines.proofs.Storing.{decimal-most, text-used, text-unused}
 use native.Mathlib.Omega.{arith}

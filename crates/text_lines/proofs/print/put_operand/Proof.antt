@@ -11,7 +11,6 @@ use Rattle.text_lines.specs.Decimal.{decimal}
 use Rattle.text_lines.specs.Line.{operandText}
 use Rattle.text_lines.proofs.Storing.{text-used, text-unused}
 use native.Mathlib.Omega.{arith}
-use borrow.Author.Needs.{needs}
 use Rattle.text_lines.proofs.print.put_operand.Statement.{statement}
 use Rattle.text_lines.proofs.print.put_operand.Tie as tie
 
