@@ -1,17 +1,23 @@
 -- What a call leaves, by whether its answer array is long enough.
 -- Assumes nothing.
 use mathlib.Core.Path.{_≡_, _∙_, sym, ap}
+use mathlib.Core.Option.{Option}
 use mathlib.Core.Bool.{Bool, cond}
 use mathlib.Core.List.{List, _∷_, _++_}
 use Prim.Native.Nat.{ℕ, _<_, _≤_}
 use lib.ListN.{length, drop}
 use borrow.Author.Tests.{lt-ltb, le-ltb}
-use Rattle.c_answers.specs.Numbers.{statusOf, shortAnswer, status, answered, altered, CallResult, callResult}
+use Rattle.jury.specs.Reason.{Reason}
+use Rattle.c_answers.specs.Numbers.{answerNumbers, statusOf, shortAnswer, status, answered, altered, CallResult, callResult}
 use Rattle.c_answers.specs.inner.Puts.{Puts}
 
 -- two numbers and the rest
 pub two : (a b c d : ℕ) (rest : List ℕ) → a ≡ c → b ≡ d → a ∷ b ∷ rest ≡ c ∷ d ∷ rest
 two a b c d rest e f = ap (λ (n : ℕ). n ∷ b ∷ rest) e ∙ ap (λ (n : ℕ). c ∷ n ∷ rest) f
+
+-- the numbers of an answer follow its two parts
+pub counted : (o q : Option Reason) (bytes closing : List ℕ) → o ≡ q → bytes ≡ closing → answerNumbers o bytes ≡ answerNumbers q closing
+counted o q bytes closing e f = ap (λ (r : Option Reason). answerNumbers r bytes) e ∙ ap (answerNumbers q) f
 
 -- what was put are these numbers
 pub puts-same : {needed result : ℕ} {numbers others before after : List ℕ} → numbers ≡ others

@@ -5,3 +5,4 @@ pub mod Filling
 pub mod Tables
 pub mod Counting
 pub mod LastDetour
+pub mod Theorems

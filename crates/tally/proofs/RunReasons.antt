@@ -77,7 +77,7 @@ module _ (i k : ℕ) (size : Size) (tape wires board : List ℕ) where
 unfoldable pub firstOfThree : Option Reason → Option Reason → Option Reason → Option Reason
 firstOfThree test ballots lent = orElse (orElse test ballots) lent
 
-three-passed : (a b c : Option Reason) → firstOfThree a b c ≡ none → (a ≡ none) × (b ≡ none) × (c ≡ none)
+pub three-passed : (a b c : Option Reason) → firstOfThree a b c ≡ none → (a ≡ none) × (b ≡ none) × (c ≡ none)
 unfolding firstOfThree orElse
 three-passed none none none e = (refl, refl, refl)
 three-passed none none (some r) e = let z : _≡_ {A = ℕ} 0 1 = cc in absurd (omega arith)

@@ -1,26 +1,20 @@
 -- `c_tally::count::jugy_count` meets its contract: where the answer array is long enough, it says what the entry point says, or what it would say of a shape outside the limits.
 -- Assumes nothing.
-use mathlib.Core.Path.{_≡_, _∙_, refl, sym, ap}
-use mathlib.Core.Option.{Option}
-use mathlib.Core.List.{List, []}
-use Prim.Native.Nat.{ℕ}
+use mathlib.Core.Path.{_∙_, refl, sym, ap}
+use mathlib.Core.List.{[]}
 use borrow.Author.Needs.{needs}
 use Rattle.jury.specs.declared.shape.Shape.{Shape}
 use Rattle.jury.specs.Shape.{withinLimits}
-use Rattle.jury.specs.Reason.{Reason, reasonOf, refusedFor}
+use Rattle.jury.specs.Reason.{reasonOf, refusedFor}
 use Rattle.jury.specs.ClosingBytes.{eightBytes}
 use Rattle.jury.proofs.Constructed.{shape-is, outside-is}
 use Rattle.tally.specs.Count.{countReason, plainClosing}
 use Rattle.tally.proofs.CountReason.{outside-reason}
 use Rattle.tally.proofs.Outside.{outside-closing}
 use Rattle.c_answers.specs.Numbers.{shapeOf, answerNumbers}
-use Rattle.c_answers.proofs.Answering.{short-call, put-call}
+use Rattle.c_answers.proofs.Answering.{counted, short-call, put-call}
 use Rattle.c_tally.proofs.count.jugy_count.Statement.{statement}
 use Rattle.c_tally.proofs.count.jugy_count.Tie as tie
-
--- the numbers of an answer follow its two parts
-counted : (o q : Option Reason) (bytes closing : List ℕ) → o ≡ q → bytes ≡ closing → answerNumbers o bytes ≡ answerNumbers q closing
-counted o q bytes closing e f = ap (λ (r : Option Reason). answerNumbers r bytes) e ∙ ap (answerNumbers q) f
 
 returns : tie.Need-returns
 unfolding shapeOf
