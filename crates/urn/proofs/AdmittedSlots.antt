@@ -10,11 +10,10 @@ use lib.ListN.{length, set, length-set}
 use Rattle.basics.specs.Lists.{tabulate}
 use Rattle.basics.proofs.Flags.{and-first, and-second, or-first, or-second, never-true}
 use Rattle.urn_chains.specs.Slots.{Slot, slotAt, freeSlot}
-use Rattle.urn_chains.specs.Chains.{Entry, firstEntry, firstFree, entrySlot, headSlot, layout}
-use Rattle.basics.specs.Lists.{all, member, distinct}
-use Rattle.urn_chains.specs.Sound.{inUrn}
-use Rattle.urn_chains.proofs.Lists.{all-member, all-move, all-weaken, member-move, distinct-move, distinct-first, all-append, all-first, all-rest, member-append}
-use Rattle.urn_chains.proofs.Linked.{slotsIn, Linked, FreeLinked, more, at-set, at-other, linked-set, free-set, positive, below}
+use Rattle.urn_chains.specs.Chains.{Entry, chain, firstEntry, firstFree, entrySlot, headSlot, layout}
+use Rattle.urn_chains.specs.Sound.{all, member, distinct, inUrn}
+use Rattle.urn_chains.proofs.Lists.{all-move, all-weaken, member-move, distinct-move, distinct-first, all-append, all-first, all-rest, member-append}
+use Rattle.urn_chains.proofs.Linked.{no-zero, slotsIn, Linked, FreeLinked, more, at-set, at-other, linked-set, free-set, positive, below}
 use Rattle.urn_chains.proofs.Layouts.{Fit, layout-unique}
 use Rattle.urn_chains.proofs.SlotTests.{clash}
 
@@ -46,9 +45,6 @@ module _ (n b : ℕ) (S : List Slot) (es : List Entry) (i : ℕ) (is : List ℕ)
   in-urn-i : inUrn n i ≡ true
   in-urn-i = all-first (inUrn n) i (slotsIn es ++ is) (sym (all-move (inUrn n) (slotsIn es) i is) ∙ fit .inside)
 
-  no-head : (js : List ℕ) → all (inUrn n) js ≡ true → member 0 js ≡ false
-  no-head js a = never-true (member 0 js) (λ m. let q = positive n 0 (all-member (inUrn n) 0 js a m) in omega arith)
-
   in-es : all (inUrn n) (slotsIn es) ≡ true
   in-es = and-first (all (inUrn n) (slotsIn es)) (all (inUrn n) (i ∷ is)) (sym (all-append (inUrn n) (slotsIn es) (i ∷ is)) ∙ fit .inside)
 
@@ -76,5 +72,5 @@ module _ (n b : ℕ) (S : List Slot) (es : List Entry) (i : ℕ) (is : List ℕ)
       ∙ ap (λ (m : ℕ). record { next = i; juror = m; ballot = slotAt S 0 .ballot }) (ap (λ (s : Slot). s .next) (r .0))
       ∙ ap (λ (ys : List ℕ). record { next = i; juror = firstFree is; ballot = ys }) (ap (λ (s : Slot). s .ballot) h))
       (more (at-other S₁ 0 i top nonzero ∙ at-set S i (record { next = firstEntry es; juror = j; ballot = x }) big)
-      (linked-set S₁ 0 top es (no-head (slotsIn es) in-es) (linked-set S i (record { next = firstEntry es; juror = j; ballot = x }) es not-ballot l)))
-      (free-set b S₁ 0 top is (no-head is in-is) (free-set b S i (record { next = firstEntry es; juror = j; ballot = x }) is not-free (r .1)))
+      (linked-set S₁ 0 top es (no-zero n (slotsIn es) in-es) (linked-set S i (record { next = firstEntry es; juror = j; ballot = x }) es not-ballot l)))
+      (free-set b S₁ 0 top is (no-zero n is in-is) (free-set b S i (record { next = firstEntry es; juror = j; ballot = x }) is not-free (r .1)))

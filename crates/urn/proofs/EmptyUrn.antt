@@ -20,7 +20,7 @@ use Rattle.basics.specs.Lists.{all, member, distinct}
 use Rattle.urn_chains.specs.Sound.{inUrn, urnLength}
 use Rattle.urn_chains.proofs.SlotLaws.{size-is}
 use Rattle.urn_chains.proofs.Lists.{member-all, distinct-cons}
-use Rattle.urn_chains.proofs.Linked.{at-other, neitherAfterNorBefore, apart-rest}
+use Rattle.urn_chains.proofs.Linked.{at-other, not-first, apart-rest}
 use Rattle.urn_chains.proofs.Layouts.{Fit}
 use Rattle.urn_chains.proofs.BytesLaws.{bytes-back}
 use Rattle.urn_chains.specs.Sound.{gradedShape}
@@ -94,7 +94,7 @@ zero-slots b (suc n) =
 free-other : (b : ℕ) (is : List ℕ) (S : List Slot) (i : ℕ) → member i is ≡ false → slotAt (withFree b is S) i ≡ slotAt S i
 unfolding withFree
 free-other b [] S i h = refl
-free-other b (j ∷ is) S i h = at-other (withFree b is S) j i (freeSlot b (firstFree is)) (λ e. neitherAfterNorBefore i j is h (sym e)) ∙ free-other b is S i (apart-rest i j is h)
+free-other b (j ∷ is) S i h = at-other (withFree b is S) j i (freeSlot b (firstFree is)) (λ e. not-first i j is h (sym e)) ∙ free-other b is S i (apart-rest i j is h)
 
 same-at : (b n i : ℕ) → i < n → slotAt (replicate n (freeSlot b 0)) i ≡ freeSlot b 0
 unfolding slotAt

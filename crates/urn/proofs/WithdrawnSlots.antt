@@ -22,7 +22,7 @@ use Rattle.urn_chains.specs.inner.Position.{positionOf}
 use Rattle.urn_chains.proofs.Lists.{all-append, all-move, all-member, all-weaken, member-move, member-append, distinct-move, distinct-first, distinct-rest, distinct-left, distinct-apart}
 use Rattle.urn_chains.proofs.Marks.{true-or-false}
 use Rattle.urn_chains.proofs.SlotTests.{clash}
-use Rattle.urn_chains.proofs.Linked.{slotsIn, Linked, FreeLinked, none, more, at-set, at-other, apart-rest, linked-set, free-set, positive, below}
+use Rattle.urn_chains.proofs.Linked.{no-zero, slotsIn, Linked, FreeLinked, none, more, at-set, at-other, apart-rest, linked-set, free-set, positive, below}
 use Rattle.urn_chains.proofs.Layouts.{Fit, layout-unique}
 
 -- The last slot of these ballots, or `before` where there are none.
@@ -180,9 +180,6 @@ module _ (n b : ℕ) (S : List Slot) (pre : List Entry) (e : Entry) (post : List
   in-is : all (inUrn n) is ≡ true
   in-is = and-second (all (inUrn n) (slotsIn (pre ++ (e ∷ post)))) (all (inUrn n) is) (sym (all-append (inUrn n) (slotsIn (pre ++ (e ∷ post))) is) ∙ fit .inside)
 
-  no-zero : (js : List ℕ) → all (inUrn n) js ≡ true → member 0 js ≡ false
-  no-zero js a = never-true (member 0 js) (λ m. let q = positive n 0 (all-member (inUrn n) 0 js a m) in omega arith)
-
   once : distinct (slotsIn (pre ++ (e ∷ post))) ≡ true
   once = distinct-left (slotsIn (pre ++ (e ∷ post))) is (fit .once)
 
@@ -219,11 +216,11 @@ module _ (n b : ℕ) (S : List Slot) (pre : List Entry) (e : Entry) (post : List
       layout-unique n b (pre ++ post) (e .slot ∷ is) fit₂ (set Q 0 top)
       (length-set Q 0 top ∙ l₂ ∙ l₁ ∙ size)
       (at-set Q 0 top (omega (arith, fit .least)))
-      (linked-set Q 0 top (pre ++ post) (no-zero (slotsIn (pre ++ post)) in-left)
+      (linked-set Q 0 top (pre ++ post) (no-zero n (slotsIn (pre ++ post)) in-left)
       (linked-set R (e .slot) (freeSlot b (firstFree is)) (pre ++ post) not-left
-      (relink S pre e post 0 l once (no-zero (slotsIn (pre ++ post)) in-left) (λ x m. let k = below n x (all-member (inUrn n) x (slotsIn (pre ++ (e ∷ post))) in-es m) in omega arith))))
+      (relink S pre e post 0 l once (no-zero n (slotsIn (pre ++ post)) in-left) (λ x m. let k = below n x (all-member (inUrn n) x (slotsIn (pre ++ (e ∷ post))) in-es m) in omega arith))))
       (more (at-other Q 0 (e .slot) top (λ z. omega (arith, positive n (e .slot) its-place)) ∙ at-set R (e .slot) (freeSlot b (firstFree is)) (omega (arith, below n (e .slot) its-place)))
-      (free-set b Q 0 top is (no-zero is in-is) (free-set b R (e .slot) (freeSlot b (firstFree is)) is not-free (free-set b S (lastSlot 0 pre) (renext (slotAt S (lastSlot 0 pre)) (firstEntry post)) is link-free f))))
+      (free-set b Q 0 top is (no-zero n is in-is) (free-set b R (e .slot) (freeSlot b (firstFree is)) is not-free (free-set b S (lastSlot 0 pre) (renext (slotAt S (lastSlot 0 pre)) (firstEntry post)) is link-free f))))
 
   -- slot 0 after the ballot was passed over
   pub passed-next : slotAt (set S (lastSlot 0 pre) (renext (slotAt S (lastSlot 0 pre)) (firstEntry post))) 0 .next ≡ firstEntry (pre ++ post)

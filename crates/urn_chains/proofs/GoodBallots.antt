@@ -14,7 +14,7 @@ use Rattle.jury.specs.declared.shape.Shape.{Shape}
 use Rattle.jury.specs.Shape.{gradedLimits}
 use Rattle.jury.specs.Reason.{Reason, firstOf}
 use Rattle.jury.specs.Ballots.{ballotReasons}
-use Rattle.basics.proofs.Flags.{and-second, and-both, and-second-fails, T-true}
+use Rattle.jury.proofs.Flags.{and-second, and-both, and-second-fails, T-true}
 use Rattle.jury.proofs.Limits.{within-T, graded-within, bytes-are}
 use Rattle.jury.proofs.AcceptedLaws.{accepted}
 use Rattle.urn_chains.specs.Sound.{juryOfOne, noReason, goodBallot, goodJuror}
@@ -32,7 +32,7 @@ unfolding goodJuror
 juror-most j e = let l = leb-true j 255 (and-second (leb 1 j) (leb j 255) e) in omega arith
 
 -- of a jury that grades, the tests say the length
-no-reason : (o : Option Reason) → noReason o ≡ true → o ≡ none
+pub no-reason : (o : Option Reason) → noReason o ≡ true → o ≡ none
 unfolding noReason
 no-reason none e = refl
 no-reason (some r) e = let z : _≡_ {A = ℕ} 0 1 = cc in absurd (omega arith)

@@ -10,16 +10,16 @@ use lib.Dec.{eqb}
 use lib.ListN.{length, replicate, length-set, length-replicate, length-append, length-map}
 use lib.Seq.{ext-getD}
 use borrow.Author.Tests.{eq-eqb}
-use Rattle.basics.specs.Lists.{tabulate}
-use Rattle.basics.proofs.Flags.{and-first, and-second, and-both, or-either, or-first, or-second, never-true}
+use Rattle.jury.specs.Counts.{tabulate}
+use Rattle.jury.proofs.Flags.{and-first, and-second, and-both, or-either, or-first, or-second}
 use Rattle.urn_chains.specs.Slots.{Slot, slotAt, freeSlot}
 use Rattle.urn_chains.specs.Chains.{Entry, chain, entryAt, ballotSlots, ballotChain, freeChain, firstFree, entrySlot, withBallots, withFree, headSlot, layout}
 use Rattle.basics.specs.Lists.{all, member, distinct}
 use Rattle.urn_chains.specs.Sound.{goodJuror, goodBallot, inUrn, eachOnce, goodChains, emptySlot, soundSlots}
 use Rattle.urn_chains.proofs.Zeros.{zeros-zero}
-use Rattle.urn_chains.proofs.Lists.{all-first, all-rest, all-append, all-member, member-append, distinct-first, distinct-rest, distinct-left, distinct-right, distinct-apart, tabulate-all}
+use Rattle.urn_chains.proofs.Lists.{all-first, all-rest, all-append, member-append, distinct-first, distinct-rest, distinct-left, distinct-right, distinct-apart, tabulate-all}
 use Rattle.urn_chains.proofs.Marks.{once-most}
-use Rattle.urn_chains.proofs.Linked.{slotsIn, Linked, FreeLinked, none, more, at-set, linked-set, free-set, positive, below, linked-chain, linked-ends, free-chain, free-ends, linked-entries, linked-agree, free-agree}
+use Rattle.urn_chains.proofs.Linked.{no-zero, slotsIn, Linked, FreeLinked, none, more, at-set, linked-set, free-set, below, linked-chain, linked-ends, free-chain, free-ends, linked-entries, linked-agree, free-agree}
 
 pub ballots-length : (es : List Entry) (slots : List Slot) → length (withBallots es slots) ≡ length slots
 unfolding withBallots
@@ -79,19 +79,16 @@ module _ (n b : ℕ) (es : List Entry) (is : List ℕ) (fit : Fit n es is) where
   pub in-free : all (inUrn n) is ≡ true
   in-free = and-second (all (inUrn n) (slotsIn es)) (all (inUrn n) is) (sym (all-append (inUrn n) (slotsIn es) is) ∙ fit .inside)
 
-  no-zero : (js : List ℕ) → all (inUrn n) js ≡ true → member 0 js ≡ false
-  no-zero js h = never-true (member 0 js) (λ m. let l = positive n 0 (all-member (inUrn n) 0 js h m) in omega arith)
-
   pub layout-linked : Linked (layout n b es is) es
   unfolding layout
   layout-linked =
-      linked-set (withBallots es (withFree b is (replicate n (freeSlot b 0)))) 0 (headSlot b es is) es (no-zero (slotsIn es) in-ballots)
+      linked-set (withBallots es (withFree b is (replicate n (freeSlot b 0)))) 0 (headSlot b es is) es (no-zero n (slotsIn es) in-ballots)
       (put-linked n es (withFree b is (replicate n (freeSlot b 0))) (free-length b is (replicate n (freeSlot b 0)) ∙ length-replicate n (freeSlot b 0)) in-ballots (distinct-left (slotsIn es) is (fit .once)))
 
   pub layout-free : FreeLinked b (layout n b es is) is
   unfolding layout
   layout-free =
-      free-set b (withBallots es (withFree b is (replicate n (freeSlot b 0)))) 0 (headSlot b es is) is (no-zero is in-free)
+      free-set b (withBallots es (withFree b is (replicate n (freeSlot b 0)))) 0 (headSlot b es is) is (no-zero n is in-free)
       (keep-free b es (withFree b is (replicate n (freeSlot b 0))) is (λ x h. distinct-apart x (slotsIn es) is (fit .once) h)
       (put-free n b is (replicate n (freeSlot b 0)) (length-replicate n (freeSlot b 0)) in-free (distinct-right (slotsIn es) is (fit .once))))
 

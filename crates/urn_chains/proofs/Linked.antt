@@ -13,9 +13,8 @@ use borrow.Author.Tests.{eqb-true, eq-eqb, ltb-true}
 use Rattle.basics.proofs.Flags.{and-first, and-second, or-either, or-first, or-second, never-true}
 use Rattle.urn_chains.specs.Slots.{Slot, slotAt, freeSlot}
 use Rattle.urn_chains.specs.Chains.{Entry, chain, ends, entryAt, firstEntry, firstFree, entrySlot}
-use Rattle.basics.specs.Lists.{all, member}
-use Rattle.urn_chains.specs.Sound.{inUrn}
-use Rattle.urn_chains.proofs.Lists.{all-first, all-rest}
+use Rattle.urn_chains.specs.Sound.{all, member, inUrn}
+use Rattle.urn_chains.proofs.Lists.{all-member, all-first, all-rest}
 use Rattle.urn_chains.proofs.Walks.{chain-step, ends-step, chain-end, ends-end}
 
 abbrev pub slotsIn : List Entry → List ℕ
@@ -41,9 +40,9 @@ unfolding slotAt
 at-other slots i j s h = getD-set-other slots i j s _ h
 
 -- the first of a list is not among those that are not in it
-pub neitherAfterNorBefore : (x y : ℕ) (ys : List ℕ) → member x (y ∷ ys) ≡ false → y ≢ x
+pub not-first : (x y : ℕ) (ys : List ℕ) → member x (y ∷ ys) ≡ false → y ≢ x
 unfolding member
-neitherAfterNorBefore x y ys e q = let t = sym (or-first (eqb x y) (member x ys) (eq-eqb x y (sym q))) ∙ e in let z : _≡_ {A = ℕ} 0 1 = cc in omega arith
+not-first x y ys e q = let t = sym (or-first (eqb x y) (member x ys) (eq-eqb x y (sym q))) ∙ e in let z : _≡_ {A = ℕ} 0 1 = cc in omega arith
 
 pub apart-rest : (x y : ℕ) (ys : List ℕ) → member x (y ∷ ys) ≡ false → member x ys ≡ false
 unfolding member
@@ -52,12 +51,12 @@ apart-rest x y ys e = never-true (member x ys) (λ h. let t = sym (or-second (eq
 pub linked-set : (slots : List Slot) (x : ℕ) (s : Slot) (es : List Entry) → member x (slotsIn es) ≡ false → Linked slots es → Linked (set slots x s) es
 linked-set slots x s [] h none = none
 linked-set slots x s (e ∷ es) h (more q l) =
-    more (at-other slots x (e .slot) s (neitherAfterNorBefore x (e .slot) (slotsIn es) h) ∙ q) (linked-set slots x s es (apart-rest x (e .slot) (slotsIn es) h) l)
+    more (at-other slots x (e .slot) s (not-first x (e .slot) (slotsIn es) h) ∙ q) (linked-set slots x s es (apart-rest x (e .slot) (slotsIn es) h) l)
 
 pub free-set : (b : ℕ) (slots : List Slot) (x : ℕ) (s : Slot) (is : List ℕ) → member x is ≡ false → FreeLinked b slots is → FreeLinked b (set slots x s) is
 free-set b slots x s [] h none = none
 free-set b slots x s (i ∷ is) h (more q l) =
-    more (at-other slots x i s (neitherAfterNorBefore x i is h) ∙ q) (free-set b slots x s is (apart-rest x i is h) l)
+    more (at-other slots x i s (not-first x i is h) ∙ q) (free-set b slots x s is (apart-rest x i is h) l)
 
 -- the chain of slots that hold these ballots
 pub positive : (n i : ℕ) → inUrn n i ≡ true → 0 < i
@@ -150,3 +149,7 @@ free-agree b S R [] i none none h = let z : _≡_ {A = ℕ} 0 1 = cc in absurd (
 free-agree b S R (j ∷ is) i (more p k) (more q l) h =
     ⊎-elim (λ t. ap (slotAt S) (eqb-true i j t) ∙ p ∙ sym q ∙ ap (slotAt R) (sym (eqb-true i j t))) (λ t. free-agree b S R is i k l t)
     (or-either (eqb i j) (member i is) h)
+
+-- slot 0 is in no chain
+pub no-zero : (n : ℕ) (js : List ℕ) → all (inUrn n) js ≡ true → member 0 js ≡ false
+no-zero n js h = never-true (member 0 js) (λ m. let l = positive n 0 (all-member (inUrn n) 0 js h m) in omega arith)

@@ -1,9 +1,8 @@
 -- Ballots one after the other: good ballots of a jury of one make good ballots of a jury of as many.
 -- Assumes nothing.
-use mathlib.Core.Path.{_≡_, _∙_, refl, sym, ap, subst}
+use mathlib.Core.Path.{_≡_, _∙_, sym, ap, subst}
 use mathlib.Core.Logic.{⊎-elim}
 use mathlib.Core.Bool.{Bool, true, true≢false}
-use mathlib.Core.Option.{Option, none, some}
 use mathlib.Core.List.{List, [], _∷_, _++_, map}
 use Prim.Native.Nat.{ℕ, zero, suc, _+_, _*_, _-_, _≤_, _<_}
 use native.Mathlib.Nat.{zero-mul, suc-mul, add-mul, mul-assoc, mul-le-mul-right}
@@ -13,7 +12,7 @@ use lib.ListN.{length, getD, take, drop, length-append, length-drop, List·getD-
 use lib.Seq.{take-append-le, drop-append-le, drop-append-add, getD-append-add}
 use Rattle.jury.specs.declared.shape.Shape.{Shape}
 use Rattle.jury.specs.Shape.{gradedLimits}
-use Rattle.jury.specs.Reason.{Reason, firstOf}
+use Rattle.jury.specs.Reason.{firstOf}
 use Rattle.jury.specs.Ballots.{ones, ballotReasons}
 use Rattle.jury.specs.Accepted.{AcceptedBallots}
 use Rattle.basics.proofs.Flags.{and-second}
@@ -21,8 +20,8 @@ use Rattle.jury.proofs.Limits.{within, graded-within, graded-is, bytes-are}
 use Rattle.jury.proofs.AcceptedLaws as ballots-laws
 use Rattle.urn_chains.specs.Slots.{Slot, slotAt}
 use Rattle.urn_chains.specs.Chains.{entryAt}
-use Rattle.basics.specs.Lists.{all}
-use Rattle.urn_chains.specs.Sound.{juryOfOne, noReason, goodBallot}
+use Rattle.urn_chains.proofs.GoodBallots.{no-reason}
+use Rattle.urn_chains.specs.Sound.{all, juryOfOne, noReason, goodBallot}
 use Rattle.urn_chains.proofs.Lists.{all-first, all-rest}
 use Rattle.basics.proofs.Cases.{below-or-not}
 use Rattle.urn_run.specs.Run.{joined}
@@ -87,16 +86,11 @@ module _ (k d m n : ℕ) (xs ys : List ℕ) (g : Good k d m xs) (h : Good k d n 
       }
 
 -- a good ballot of a jury of one
-nothing-outcome : (o : Option Reason) → noReason o ≡ true → o ≡ none
-unfolding noReason
-nothing-outcome none e = refl
-nothing-outcome (some r) e = let z : _≡_ {A = ℕ} 0 1 = cc in absurd (omega arith)
-
 pub good-one : (k d : ℕ) (x : List ℕ) → gradedLimits (juryOfOne k d) ≡ true → goodBallot k d x ≡ true → Good k d 1 x
 unfolding goodBallot juryOfOne
 good-one k d x w e =
     let o = firstOf (ballotReasons (juryOfOne k d) x) in
-    let a = ballots-laws.accepted (juryOfOne k d) x (graded-within (juryOfOne k d) w) (nothing-outcome o (and-second (eqb (length x) (k * d)) (noReason o) e)) in
+    let a = ballots-laws.accepted (juryOfOne k d) x (graded-within (juryOfOne k d) w) (no-reason o (and-second (eqb (length x) (k * d)) (noReason o) e)) in
     let b = ballots-laws.graded (juryOfOne k d) x a w in
     record {
       size = b .size ∙ bytes-are (juryOfOne k d) (within (juryOfOne k d) w) ∙ mul-assoc 1 k d;
