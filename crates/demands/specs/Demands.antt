@@ -2,7 +2,8 @@
 use Rattle.rule_judgment.specs.Theorems.{GaugeKept, SomebodyWins}
 use Rattle.tally.specs.Demands as run
 use Rattle.tally.specs.Monotone.{MonotoneOnGates}
-use Rattle.text.specs.RoundTrip.{RoundTrip, TextMemory}
+use Rattle.text.specs.RoundTrip.{RoundTrip}
+use Rattle.text.specs.Demands.{TextMemory}
 use Rattle.season.specs.Season.{SheetMemory}
 use Rattle.urn.specs.Memory.{UrnMemory}
 use Rattle.urn.specs.Theorems.{UrnHolds, PreviewsTell}
