@@ -14,7 +14,7 @@ use Rattle.tally.specs.Demands as run
 use Rattle.tally.specs.Monotone.{MonotoneOnGates}
 use Rattle.text.specs.RoundTrip.{RoundTrip}
 use Rattle.text.specs.Demands.{TextMemory}
-use Rattle.season.specs.Theorems.{SheetMemory, SheetSums}
+use Rattle.season.specs.Season.{SheetMemory}
 use Rattle.urn.specs.Memory.{UrnMemory}
 use Rattle.urn.specs.Theorems.{UrnHolds, PreviewsTell}
 use Rattle.urn_run.specs.Theorems.{UrnRunMemory, UrnRunHolds}

@@ -1,9 +1,9 @@
--- `c_dispatch::calls::header_at` meets its contract, number by number.
+-- `c_dispatch::by_rounds::header_at` meets its contract, number by number.
 -- Assumes nothing.
 use borrow.Author.Needs.{needs}
 use Rattle.c_dispatch.specs.Numbers.{headerAt}
-use Rattle.c_dispatch.proofs.calls.header_at.Statement.{statement}
-use Rattle.c_dispatch.proofs.calls.header_at.Tie as tie
+use Rattle.c_dispatch.proofs.by_rounds.header_at.Statement.{statement}
+use Rattle.c_dispatch.proofs.by_rounds.header_at.Tie as tie
 
 mul-at : tie.Need-mul-at
 mul-at c = search needs

@@ -1,12 +1,12 @@
--- `c_dispatch::calls::headers_in` meets its contract, jury by jury.
+-- `c_dispatch::by_rounds::headers_in` meets its contract, jury by jury.
 -- Assumes nothing.
 use mathlib.Core.Path.{_≡_, _∙_, refl, ap}
 use mathlib.Core.List.{List, _∷_}
 use borrow.Author.Needs.{needs}
 use Rattle.dispatch_rounds.specs.declared.header.JuryHeader.{JuryHeader}
 use Rattle.c_dispatch.specs.Numbers.{headersIn}
-use Rattle.c_dispatch.proofs.calls.headers_in.Statement.{statement}
-use Rattle.c_dispatch.proofs.calls.headers_in.Tie as tie
+use Rattle.c_dispatch.proofs.by_rounds.headers_in.Statement.{statement}
+use Rattle.c_dispatch.proofs.by_rounds.headers_in.Tie as tie
 
 cons : (a b : JuryHeader) (xs ys : List JuryHeader) → a ≡ b → xs ≡ ys → a ∷ xs ≡ b ∷ ys
 cons a b xs ys e f = ap (λ (s : JuryHeader). s ∷ xs) e ∙ ap (λ (l : List JuryHeader). b ∷ l) f

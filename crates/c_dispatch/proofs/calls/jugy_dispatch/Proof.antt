@@ -1,4 +1,4 @@
--- `c_dispatch::calls::jugy_dispatch` meets its contract: where the answer array is long enough, it says what the
+-- `c_dispatch::by_rounds::jugy_dispatch` meets its contract: where the answer array is long enough, it says what the
 -- dispatcher says.
 -- Assumes nothing.
 use mathlib.Core.Path.{_∙_, ap}
@@ -10,8 +10,8 @@ use Rattle.dispatch.specs.Call.{Call}
 use Rattle.dispatch.specs.Result.{DispatchResult, dispatchResult}
 use Rattle.c_dispatch.specs.Numbers.{headersIn, dispatchNumbers, dispatchAnswer}
 use Rattle.c_answers.proofs.Answering.{short-call, put-call}
-use Rattle.c_dispatch.proofs.calls.jugy_dispatch.Statement.{statement}
-use Rattle.c_dispatch.proofs.calls.jugy_dispatch.Tie as tie
+use Rattle.c_dispatch.proofs.by_rounds.jugy_dispatch.Statement.{statement}
+use Rattle.c_dispatch.proofs.by_rounds.jugy_dispatch.Tie as tie
 
 -- The call that this is with these headers, from where the function starts.
 abbrev with-headers : tie.Start → List JuryHeader → Call

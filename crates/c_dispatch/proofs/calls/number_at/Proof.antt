@@ -1,10 +1,10 @@
--- `c_dispatch::calls::number_at` meets its contract: past the end there is the default.
+-- `c_dispatch::by_rounds::number_at` meets its contract: past the end there is the default.
 -- Assumes nothing.
 use mathlib.Core.Path.{sym}
 use lib.ListN.{List·getD-eq-default}
 use borrow.Author.Needs.{needs}
-use Rattle.c_dispatch.proofs.calls.number_at.Statement.{statement}
-use Rattle.c_dispatch.proofs.calls.number_at.Tie as tie
+use Rattle.c_dispatch.proofs.by_rounds.number_at.Statement.{statement}
+use Rattle.c_dispatch.proofs.by_rounds.number_at.Tie as tie
 
 mul-result : tie.Need-mul-result
 mul-result c = search needs

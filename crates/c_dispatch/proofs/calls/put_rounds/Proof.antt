@@ -1,4 +1,4 @@
--- `c_dispatch::calls::put_rounds` meets its contract: reason and jury stand before the eight numbers of rounds.
+-- `c_dispatch::by_rounds::put_rounds` meets its contract: reason and jury stand before the eight numbers of rounds.
 -- Assumes nothing.
 use mathlib.Core.Path.{_≡_, _∙_, sym, ap}
 use mathlib.Core.List.{List, _∷_, _++_}
@@ -10,8 +10,8 @@ use Rattle.jury.specs.Reason.{reasonAt}
 use Rattle.dispatch.specs.declared.verdict.JuriesVerdict.{JuriesVerdict}
 use Rattle.dispatch.specs.Reasons.{verdictReason}
 use Rattle.c_answers.specs.Numbers.{answerNumbers, statusOf}
-use Rattle.c_dispatch.proofs.calls.put_rounds.Statement.{statement}
-use Rattle.c_dispatch.proofs.calls.put_rounds.Tie as tie
+use Rattle.c_dispatch.proofs.by_rounds.put_rounds.Statement.{statement}
+use Rattle.c_dispatch.proofs.by_rounds.put_rounds.Tie as tie
 
 enum-told : tie.Need-enum-told
 enum-told c = search needs

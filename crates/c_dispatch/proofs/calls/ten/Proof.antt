@@ -1,4 +1,4 @@
--- `c_dispatch::calls::ten` meets its contract: two numbers, and eight behind them.
+-- `c_dispatch::by_rounds::ten` meets its contract: two numbers, and eight behind them.
 -- Assumes nothing.
 use mathlib.Core.Path.{ap}
 use mathlib.Core.List.{List, _∷_}
@@ -6,8 +6,8 @@ use Prim.Native.Nat.{ℕ}
 use native.Mathlib.Omega.{arith}
 use borrow.Author.Needs.{needs}
 use Rattle.c_answers.proofs.Copying.{eight}
-use Rattle.c_dispatch.proofs.calls.ten.Statement.{statement}
-use Rattle.c_dispatch.proofs.calls.ten.Tie as tie
+use Rattle.c_dispatch.proofs.by_rounds.ten.Statement.{statement}
+use Rattle.c_dispatch.proofs.by_rounds.ten.Tie as tie
 
 array-read-t7 : tie.Need-array-read-t7
 array-read-t7 c = search needs
