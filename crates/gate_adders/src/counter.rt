@@ -11,7 +11,8 @@ ghost use lib.ListN.{length};
 ghost use Rattle.gate_words.specs.Limits.{writerLimit};
 ghost use Rattle.gate_words.specs.Word.{Below};
 ghost use Rattle.gate_words.specs.Writing.{Room, Wrote};
-ghost use Rattle.gate_words.specs.Counter.{level, adders, levelSum, countLevels, countDigits, counter, addLevels, addDigits, accumulator, countSize, addSize, Countable};
+ghost use Rattle.gate_words.specs.Counter.{level, adders, levelSum, countLevels, countDigits, counter, addLevels};
+ghost use Rattle.gate_words.specs.Counter.{addDigits, accumulator, countSize, addSize, Countable};
 
 // The number of a level's adders.
 pub(crate) fn adders_of(count: u32, e: u32) -> u32

@@ -1,42 +1,24 @@
--- What constants, copies, complements, choices and chains spell.
+-- What copies, complements, choices and chains spell.
 -- Assumes nothing.
 use mathlib.Core.Path.{_≡_, _∙_, sym, ap}
-use Prim.Native.Nat.{ℕ, zero, suc, _+_, _/_, _^_, _≤_, _<_}
-use native.Mathlib.Nat.{add-zero, pow-succ'}
+use Prim.Native.Nat.{ℕ, zero, suc, _+_, _^_, _<_}
+use native.Mathlib.Nat.{pow-succ'}
 use native.Mathlib.Omega.{arith}
 use Rattle.gates.proofs.Laws.{Holds, mux-zero, mux-one}
-use Rattle.gate_words.specs.Gates.{constant, copyOf, notOf, andOf, orOf, muxOf}
+use Rattle.gate_words.specs.Gates.{copyOf, notOf, andOf, orOf, muxOf}
 use Rattle.gate_words.specs.Word.{ones, number}
-use Rattle.gate_words.specs.Choice.{constants, each, copies, complements, choose, masked, chain, chainEnd, anyOf}
+use Rattle.gate_words.specs.Choice.{each, copies, complements, choose, masked, chain, chainEnd, anyOf}
 use Rattle.gate_words.proofs.Numbers.{Binary, number-none, number-more, ones-none, ones-more}
-use Rattle.gate_words.proofs.GateValues.{holds-first, holds-rest, constant-is, copy-is, not-is, and-is, or-is}
+use Rattle.gate_words.proofs.GateValues.{holds-first, holds-rest, copy-is, not-is, and-is, or-is}
 use Rattle.gate_words.proofs.ChoiceSteps.{chain-next}
 
 module _ (W : ℕ → ℕ) (b : Binary W) where
-  pub constants-law : (n v w : ℕ) → v < 2 ^ w → Holds W n (constants v w) → number W n 1 w ≡ v
-  unfolding constants
-  constants-law n v zero l h = omega (arith, number-none W n 1)
-  constants-law n v (suc w) l h =
-      let e = pow-succ' 2 w in
-      let r = constants-law (n + 1) (v / 2) w (omega arith) (holds-rest W n (constant v) (constants (v / 2) w) h) in
-      omega (arith, r, number-more W n 1 w, holds-first W n (constant v) (constants (v / 2) w) h, constant-is W b v)
-
   pub copies-law : (n x w : ℕ) → Holds W n (copies x w) → number W n 1 w ≡ number W x 1 w
   unfolding each
   copies-law n x zero h = omega (arith, number-none W n 1, number-none W x 1)
   copies-law n x (suc w) h =
       let r = copies-law (n + 1) (x + 1) w (holds-rest W n (copyOf x) (copies (x + 1) w) h) in
       omega (arith, r, number-more W n 1 w, number-more W x 1 w, holds-first W n (copyOf x) (copies (x + 1) w) h, copy-is W b x)
-
-  -- digit by digit
-  pub copy-law : (n x w i : ℕ) → i < w → Holds W n (copies x w) → W (n + i) ≡ W (x + i)
-  unfolding each
-  copy-law n x zero i l h = absurd (omega arith)
-  copy-law n x (suc w) zero l h = rw (add-zero n, add-zero x) (holds-first W n (copyOf x) (copies (x + 1) w) h ∙ copy-is W b x)
-  copy-law n x (suc w) (suc i) l h =
-      let p : n + suc i ≡ n + 1 + i = omega arith in
-      let q : x + suc i ≡ x + 1 + i = omega arith in
-      rw (p, q) (copy-law (n + 1) (x + 1) w i (omega arith) (holds-rest W n (copyOf x) (copies (x + 1) w) h))
 
   pub complements-law : (n x w : ℕ) → Holds W n (complements x w) → number W n 1 w + number W x 1 w + 1 ≡ 2 ^ w
   unfolding each
@@ -90,12 +72,3 @@ module _ (W : ℕ → ℕ) (b : Binary W) where
       let g = holds-first W n (orOf s at) (anyOf (n + 1) n (at + d) d m) h ∙ or-is W b s at in
       let r = any-zero (n + 1) n (at + d) d m (omega (arith, g, ones-more W at d m)) (holds-rest W n (orOf s at) (anyOf (n + 1) n (at + d) d m) h) in
       sym (ap W (chain-next n s m)) ∙ r
-
--- a word is 0 exactly where none of its digits is 1
-pub ones-number : (W : ℕ → ℕ) (at d w : ℕ) → ones W at d w ≤ number W at d w
-ones-number W at d zero = omega (arith, ones-none W at d)
-ones-number W at d (suc w) = omega (arith, ones-more W at d w, number-more W at d w, ones-number W (at + d) d w)
-
-pub none-number : (W : ℕ → ℕ) (at d w : ℕ) → ones W at d w ≡ 0 → number W at d w ≡ 0
-none-number W at d zero e = number-none W at d
-none-number W at d (suc w) e = let m = ones-more W at d w in omega (arith, m, number-more W at d w, none-number W (at + d) d w (omega arith))

@@ -2,14 +2,8 @@
 -- Assumes nothing.
 use Prim.Native.Nat.{ℕ, zero, suc, _+_, _*_, _≤_, _<_}
 use native.Mathlib.Omega.{arith}
-use Rattle.gate_words.specs.Adder.{topCarry}
 use Rattle.gate_words.specs.Choice.{chainEnd}
 use Rattle.gate_words.specs.Comparison.{upEnd, downEnd}
-
-pub top-below : (n c w m : ℕ) → c < m → n + 3 * w ≤ m → topCarry n c w < m
-unfolding topCarry
-top-below n c zero m h l = h
-top-below n c (suc w) m h l = omega arith
 
 pub chain-below : (n s w m : ℕ) → s < m → n + w ≤ m → chainEnd n s w < m
 unfolding chainEnd

@@ -36,16 +36,6 @@ number-split W at (suc v) w =
     let twice : 2 ^ suc v * high ≡ 2 * (2 ^ v * high) = ap (λ (x : ℕ). x * high) (pow-succ' 2 v) ∙ mul-assoc 2 (2 ^ v) high in
     rw (suc-add v w, place) (omega (arith, number-split W (at + 1) v w, twice))
 
--- the top digit, and those below it
-pub number-top : (W : ℕ → ℕ) (at d w : ℕ) → number W at d (suc w) ≡ number W at d w + 2 ^ w * W (at + d * w)
-unfolding number
-number-top W at d zero = let place : at + d * 0 ≡ at = omega arith in rw place (omega arith)
-number-top W at d (suc w) =
-    let top = W (at + d + d * w) in
-    let place : at + d * suc w ≡ at + d + d * w = omega (arith, mul-suc d w) in
-    let twice : 2 ^ suc w * top ≡ 2 * (2 ^ w * top) = ap (λ (x : ℕ). x * top) (pow-succ' 2 w) ∙ mul-assoc 2 (2 ^ w) top in
-    rw place (omega (arith, number-top W (at + d) d w, twice))
-
 -- a word of one digit, and of none
 pub number-one : (W : ℕ → ℕ) (at d : ℕ) → number W at d 1 ≡ W at
 unfolding number

@@ -15,7 +15,7 @@ use Rattle.gates.specs.Test.{goodGate}
 use Rattle.gates.proofs.Laws.{AllGood, good-none, good-one, good-two, good-three, good-append, operand-counts}
 use Rattle.gate_words.specs.Gates.{constant, copyOf, notOf, andOf, orOf, xorOf, muxOf}
 use Rattle.gate_words.specs.Word.{Below}
-use Rattle.gate_words.specs.Adder.{fullAdder, halfAdder, increment, addWords, addWithBit}
+use Rattle.gate_words.specs.Adder.{fullAdder, halfAdder, increment}
 use Rattle.gate_words.specs.Choice.{constants, each, choose, masked, chain, chainEnd}
 use Rattle.gate_words.specs.Comparison.{firstDigit, compareWords, differences, above}
 use Rattle.gate_words.specs.Counter.{level, adders, levelSum, countLevels, countDigits, counter, countSize, Countable, addLevels, addDigits, accumulator, addSize}
@@ -71,20 +71,6 @@ half-good n s u e hs hu =
 pub increment-good : (n s : ℕ) → s < n → AllGood n (increment n s)
 unfolding increment
 increment-good n s hs = (good-not n s hs, (good-copy (suc n) n (omega arith), (good-copy (suc (suc n)) s (omega arith), tt)))
-
-pub add-good : (n x y c w : ℕ) → x + w ≤ n → y + w ≤ n → c < n → AllGood n (addWords n x y c w)
-unfolding addWords
-add-good n x y c zero hx hy hc = tt
-add-good n x y c (suc w) hx hy hc =
-    behind n 3 (fullAdder n x y c) (addWords (n + 3) (x + 1) (y + 1) (n + 2) w) (length-full n x y c) (full-good n x y c (omega arith) (omega arith) hc)
-    (add-good (n + 3) (x + 1) (y + 1) (n + 2) w (omega arith) (omega arith) (omega arith))
-
-pub add-bit-good : (n x y e w : ℕ) → x + w ≤ n → y + w ≤ n → AllGood n (addWithBit n x y e w)
-unfolding addWithBit
-add-bit-good n x y e zero hx hy = tt
-add-bit-good n x y e (suc w) hx hy =
-    behind n 3 (halfAdder n x y e) (addWords (n + 3) (x + 1) (y + 1) (n + 2) w) (length-half n x y e) (half-good n x y e (omega arith) (omega arith))
-    (add-good (n + 3) (x + 1) (y + 1) (n + 2) w (omega arith) (omega arith) (omega arith))
 
 pub constants-good : (n v w : ℕ) → AllGood n (constants v w)
 unfolding constants

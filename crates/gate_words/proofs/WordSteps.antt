@@ -9,17 +9,9 @@ use lib.Dec.{eqb}
 use lib.ListN.{length, length-append}
 use Rattle.gates.specs.Gate.{Gate}
 use Rattle.gate_words.specs.Gates.{copyOf, notOf, andOf, orOf, xorOf, muxOf}
-use Rattle.gate_words.specs.Adder.{fullAdder, halfAdder, increment, addWords, addWithBit}
+use Rattle.gate_words.specs.Adder.{fullAdder, halfAdder, increment}
 use Rattle.gate_words.specs.Comparison.{firstDigit, compareWords, differences, above}
 use Rattle.gate_words.proofs.ChoiceSteps.{left-one, next-place}
-
-pub add-step : (n x y c i w : ℕ) → i < w → addWords n (x + i) (y + i) c (w - i) ≡ fullAdder n (x + i) (y + i) c ++ addWords (n + 3) (x + (i + 1)) (y + (i + 1)) (n + 2) (w - (i + 1))
-unfolding addWords
-add-step n x y c i w h = rw (left-one i w h, next-place x i, next-place y i)
-
-pub add-none : (n x y c i w : ℕ) → w ≤ i → addWords n x y c (w - i) ≡ []
-unfolding addWords
-add-none n x y c i w h = let e : w - i ≡ 0 = omega arith in rw e
 
 pub compare-step : (n x y up down i w : ℕ) → i < w
     → compareWords n (x + i) (y + i) up down (w - i) ≡ compareWords n (x + i) (y + i) up down 1 ++ compareWords (n + 3) (x + (i + 1)) (y + (i + 1)) (n + 1) (n + 2) (w - (i + 1))
@@ -61,16 +53,6 @@ length-half n s u e = either (eqb e 0) (xorOf s u ∷ copyOf n ∷ andOf s u ∷
 pub length-increment : (n s : ℕ) → length (increment n s) ≡ 3
 unfolding increment
 length-increment n s = refl
-
-pub length-add : (n x y c w : ℕ) → length (addWords n x y c w) ≡ 3 * w
-unfolding addWords
-length-add n x y c zero = refl
-length-add n x y c (suc w) = omega (arith, length-append (fullAdder n x y c) (addWords (n + 3) (x + 1) (y + 1) (n + 2) w), length-full n x y c, length-add (n + 3) (x + 1) (y + 1) (n + 2) w)
-
-pub length-add-bit : (n x y e w : ℕ) → length (addWithBit n x y e w) ≡ 3 * w
-unfolding addWithBit
-length-add-bit n x y e zero = refl
-length-add-bit n x y e (suc w) = omega (arith, length-append (halfAdder n x y e) (addWords (n + 3) (x + 1) (y + 1) (n + 2) w), length-half n x y e, length-add (n + 3) (x + 1) (y + 1) (n + 2) w)
 
 pub length-compare : (n x y up down w : ℕ) → length (compareWords n x y up down w) ≡ 3 * w
 unfolding compareWords

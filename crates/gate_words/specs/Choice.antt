@@ -1,4 +1,5 @@
--- Blocks of one gate a wire: constants, copies, complements, one of two words, a word or 0; whether one of some wires is 1, and their sum modulo 2.
+-- Blocks of one gate a wire: constants, copies, complements, one of two words, a word or 0; whether one of some wires
+-- is 1, and their sum modulo 2.
 use mathlib.Core.List.{List, [], _∷_}
 use Prim.Native.Nat.{ℕ, zero, suc, _+_, _/_}
 use Rattle.gates.specs.Gate.{Gate}
@@ -30,7 +31,8 @@ unfoldable pub masked : ℕ → ℕ → ℕ → List Gate
 masked f x zero = []
 masked f x (suc w) = andOf f x ∷ masked f (x + 1) w
 
--- A chain of m gates of a kind with two operands, the first making wire n: it takes the wires s and `at`, and each next one the wire made before it and the next of the wires a stride d apart.
+-- A chain of m gates of a kind with two operands, the first making wire n: it takes the wires s and `at`, and each
+-- next one the wire made before it and the next of the wires a stride d apart.
 unfoldable pub chain : ℕ → ℕ → ℕ → ℕ → ℕ → ℕ → List Gate
 chain kind n s at d zero = []
 chain kind n s at d (suc m) = gate kind s at 0 ∷ chain kind (n + 1) n (at + d) d m

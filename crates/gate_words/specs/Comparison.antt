@@ -4,11 +4,13 @@ use Prim.Native.Nat.{ℕ, zero, suc, _+_, _*_}
 use Rattle.gates.specs.Gate.{Gate}
 use Rattle.gate_words.specs.Gates.{andOf, xorOf, muxOf}
 
--- Two digits compared both ways, with one conditional gate: wire n + 1 says that x is above y, wire n + 2 that it is below.
+-- Two digits compared both ways, with one conditional gate: wire n + 1 says that x is above y, wire n + 2 that it is
+-- below.
 unfoldable pub firstDigit : ℕ → ℕ → ℕ → List Gate
 firstDigit n x y = xorOf x y ∷ andOf x n ∷ xorOf n (n + 1) ∷ []
 
--- Two words compared both ways, above digits of which the wires up and down say that x is above y, and below it. Both ways share each digit's difference.
+-- Two words compared both ways, above digits of which the wires up and down say that x is above y, and below it. Both
+-- ways share each digit's difference.
 unfoldable pub compareWords : ℕ → ℕ → ℕ → ℕ → ℕ → ℕ → List Gate
 compareWords n x y up down zero = []
 compareWords n x y up down (suc w) =
@@ -28,7 +30,9 @@ unfoldable pub differences : ℕ → ℕ → ℕ → List Gate
 differences x y zero = []
 differences x y (suc w) = xorOf x y ∷ differences (x + 1) (y + 1) w
 
--- A word compared one way with another, from which it differs where the wires from f on say so. The highest such digit decides: from the lowest of w digits up, x's digit where they differ in it, else what wire s says of the digits before. The last wire made says that x is above.
+-- A word compared one way with another, from which it differs where the wires from f on say so. The highest such
+-- digit decides: from the lowest of w digits up, x's digit where they differ in it, else what wire s says of the
+-- digits before. The last wire made says that x is above.
 unfoldable pub above : ℕ → ℕ → ℕ → ℕ → ℕ → List Gate
 above n f x s zero = []
 above n f x s (suc w) = muxOf f x s ∷ above (n + 1) (f + 1) (x + 1) n w

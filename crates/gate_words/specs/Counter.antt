@@ -9,7 +9,8 @@ use Rattle.gate_words.specs.Gates.{copyOf}
 use Rattle.gate_words.specs.Adder.{fullAdder, halfAdder, increment}
 use Rattle.gate_words.specs.Choice.{parity, chainEnd}
 
--- One level: adds to the wire s the m bits at `at`, at + d, and so on, two at a time, and at the end the public bit e. Each adder hands its sum on to the next.
+-- One level: adds to the wire s the m bits at `at`, at + d, and so on, two at a time, and at the end the public bit
+-- e. Each adder hands its sum on to the next.
 unfoldable pub level : ℕ → ℕ → ℕ → ℕ → ℕ → ℕ → List Gate
 level n s at d e zero = cond (eqb e 0) [] (increment n s)
 level n s at d e (suc zero) = halfAdder n s at e
@@ -30,7 +31,8 @@ countLevels n at d m extra (suc r) =
     level n at (at + d) d (extra % 2) (m - 1)
     ++ countLevels (n + 3 * adders (m - 1) (extra % 2)) (n + 2) 3 (adders (m - 1) (extra % 2)) (extra / 2) r
 
--- Copies of the levels' sums, and of the one bit that is left: the digits of the count, side by side. The levels start at wire n.
+-- Copies of the levels' sums, and of the one bit that is left: the digits of the count, side by side. The levels
+-- start at wire n.
 unfoldable pub countDigits : ℕ → ℕ → ℕ → ℕ → ℕ → List Gate
 countDigits n at m extra zero = copyOf at ∷ []
 countDigits n at m extra (suc r) =
@@ -40,7 +42,8 @@ countDigits n at m extra (suc r) =
 unfoldable pub counter : ℕ → ℕ → ℕ → ℕ → ℕ → ℕ → List Gate
 counter n at d m extra r = countLevels n at d m extra r ++ countDigits n at m extra r
 
--- Adds m bits to the word of r + 1 digits at a: each level starts from a digit, and the top digit, which hands no carry on, is a sum modulo 2.
+-- Adds m bits to the word of r + 1 digits at a: each level starts from a digit, and the top digit, which hands no
+-- carry on, is a sum modulo 2.
 unfoldable pub addLevels : ℕ → ℕ → ℕ → ℕ → ℕ → ℕ → List Gate
 addLevels n a at d m zero = parity n a at d m
 addLevels n a at d m (suc r) = level n a at d 0 m ++ addLevels (n + 3 * adders m 0) (a + 1) (n + 2) 3 (adders m 0) r
@@ -62,7 +65,8 @@ unfoldable pub addSize : ℕ → ℕ → ℕ
 addSize m zero = m
 addSize m (suc r) = 3 * adders m 0 + addSize (adders m 0) r
 
--- m bits and the number `extra` can be counted in r + 1 digits: each of r levels has a bit to start from, and one bit and nothing else is left for the top digit.
+-- m bits and the number `extra` can be counted in r + 1 digits: each of r levels has a bit to start from, and one bit
+-- and nothing else is left for the top digit.
 abbrev pub Countable : ℕ → ℕ → ℕ → Type 0
 Countable m extra zero = (m ≡ 1) × (extra ≡ 0)
 Countable m extra (suc r) = (0 < m) × Countable (adders (m - 1) (extra % 2)) (extra / 2) r

@@ -1,6 +1,6 @@
 -- Words compared in two halves, both at the same time, in half as many rounds. The low half has l digits above its
--- lowest one, the high half h digits; where h is 0 there is one half. Neither the number of gates nor that of conditional
--- gates depends on where a word is cut.
+-- lowest one, the high half h digits; where h is 0 there is one half. Neither the number of gates nor that of
+-- conditional gates depends on where a word is cut.
 use mathlib.Core.List.{List, [], _∷_, _++_}
 use Prim.Native.Nat.{ℕ, zero, suc, _+_, _-_}
 use Rattle.gates.specs.Gate.{Gate}

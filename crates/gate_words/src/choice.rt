@@ -7,7 +7,8 @@ ghost use Rattle.gates.specs.Kind.{operandsOf};
 ghost use Rattle.gate_words.specs.Limits.{writerLimit};
 ghost use Rattle.gate_words.specs.Word.{Below};
 ghost use Rattle.gate_words.specs.Writing.{Room, Wrote};
-ghost use Rattle.gate_words.specs.Choice.{constants, each, copies, complements, choose, masked, chain, chainEnd, anyOf, allOf, parity};
+ghost use Rattle.gate_words.specs.Choice.{constants, each, copies, complements, choose, masked, chain};
+ghost use Rattle.gate_words.specs.Choice.{chainEnd, anyOf, allOf, parity};
 
 // The last wire of a chain of so many gates.
 pub fn chain_end(n: u32, s: u32, count: u32) -> u32

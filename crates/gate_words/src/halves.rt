@@ -1,5 +1,5 @@
-// Words compared in two halves, both at the same time: the low half has `low` digits above its lowest one, the high half
-// has `high` digits.
+// Words compared in two halves, both at the same time: the low half has `low` digits above its lowest one, the high
+// half has `high` digits.
 use crate::choice::chain_end;
 use crate::writer::Writer;
 use gates::kind;
@@ -55,7 +55,8 @@ impl Writer {
         upper.emit(table, kind::OR, end, chain_end(n, s, low), 0)
     }
 
-    // Which of two words is above: wires from f on say in which digits they differ, wire e that they do in the high half.
+    // Which of two words is above: wires from f on say in which digits they differ, wire e that they do in the high
+    // half.
     fn above_halves(self, table: &mut [u32], f: u32, x: u32, e: u32, low: u32, high: u32) -> Writer
         requires { ⌜ Room self (low + high) ⌝ }
         requires { ⌜ (f + suc (low + high) ≤ self .wire) × (x + suc (low + high) ≤ self .wire) ⌝ }

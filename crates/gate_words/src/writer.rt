@@ -50,8 +50,8 @@ impl Writer {
         }
     }
 
-    // Writes one gate where the table has room for it, and counts it in any case: writing into an empty table measures a
-    // list. Its kind says which operands it uses; the others are written as 0.
+    // Writes one gate where the table has room for it, and counts it in any case: writing into an empty table
+    // measures a list. Its kind says which operands it uses; the others are written as 0.
     pub fn emit(self, table: &mut [u32], kind: u32, a: u32, b: u32, c: u32) -> Writer
         requires { ⌜ Room self 1 ⌝ }
         ensures { λ r. ⌜ Wrote self (now (table .entry)) (emitted kind a b c ∷ []) (now (table .exit)) r ⌝ }

@@ -9,10 +9,10 @@ use Rattle.graded_circuit.specs.RunningSums.{wordSpan}
 use Rattle.graded_circuit.specs.Median.{median, medianSize}
 use Rattle.graded_circuit.specs.Outward.{outward, resolveAt}
 
--- Which of two keys comes first, where wires e and s tell of their medians: sums of so many low digits, of which the h
--- highest are gone through by themselves, of the best grade and t grades more. The last two wires say whether the keys
--- differ, and, where they do, that x comes first. Without a low digit there is one ballot, and its grade is the median. One
--- sum alone is compared as it is.
+-- Which of two keys comes first, where wires e and s tell of their medians: sums of so many low digits, of which the
+-- h highest are gone through by themselves, of the best grade and t grades more. The last two wires say whether the
+-- keys differ, and, where they do, that x comes first. Without a low digit there is one ballot, and its grade is the
+-- median. One sum alone is compared as it is.
 unfoldable pub lower : Plan → ℕ → ℕ → ℕ → ℕ → ℕ → ℕ → ℕ → ℕ → List Gate
 lower p n x y e s zero h t = copyOf e ∷ copyOf s ∷ []
 lower p n x y e s (suc r) h zero = compareCut n x y r h ++ (orOf e (unequalAt n r) ∷ muxOf e s (aboveAt n x r) ∷ [])
@@ -24,8 +24,8 @@ lowerSpan zero t = 0
 lowerSpan (suc r) zero = compareSpan r
 lowerSpan (suc r) (suc t) = resolveAt 0 r t + 14
 
--- The numbers of both median grades, y's first; whether they differ, and y's is larger, which is worse; and what they and
--- the sums say.
+-- The numbers of both median grades, y's first; whether they differ, and y's is larger, which is worse; and what they
+-- and the sums say.
 abbrev pub medianSpan : Plan → ℕ
 medianSpan p = medianSize (p .grades - 1) (suc (p .places)) + suc (p .places)
 

@@ -8,7 +8,8 @@ use Rattle.graded_circuit.specs.declared.plan.Plan.{Plan}
 use Rattle.gate_words.specs.Counter.{countSize}
 use Rattle.graded_circuit.specs.RunningSums.{wordSpan, firstSum, firstGrade, middleSpan, laterGrades, laterSpan}
 
--- Of the sum at a: its low digits, and then whether twice the number of grades is below n. Where it is, the median grade is worse than this grade.
+-- Of the sum at a: its low digits, and then whether twice the number of grades is below n. Where it is, the median
+-- grade is worse than this grade.
 unfoldable pub keyWord : Plan → ℕ → List Gate
 keyWord p a = copies a (p .digits) ++ (notOf (a + p .digits) ∷ [])
 

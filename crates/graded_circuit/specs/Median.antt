@@ -1,4 +1,5 @@
--- The number of a median grade, from the wires that say which grades it is worse than: they are 1 for just the first so many grades.
+-- The number of a median grade, from the wires that say which grades it is worse than: they are 1 for just the first
+-- so many grades.
 use mathlib.Core.List.{List, [], _∷_, _++_}
 use Prim.Native.Nat.{ℕ, zero, suc, _+_, _-_, _*_, _/_, _^_, _≤_, _<_}
 use Rattle.gates.specs.Gate.{Gate}
@@ -10,7 +11,8 @@ pub record Fits (m w : ℕ) : Type 0 where
   pub enough : m < 2 ^ w
   pub needed : 2 ^ w ≤ 2 * m + 1
 
--- Of m wires d apart, the first at `at`, the lowest digit of the number of ones is the sum modulo 2 of them all; the next digit is that of every second of them, and so on, for w digits.
+-- Of m wires d apart, the first at `at`, the lowest digit of the number of ones is the sum modulo 2 of them all; the
+-- next digit is that of every second of them, and so on, for w digits.
 unfoldable pub medianLevels : ℕ → ℕ → ℕ → ℕ → ℕ → List Gate
 medianLevels n at d m zero = []
 medianLevels n at d m (suc w) = parity n at (at + d) d (m - 1) ++ medianLevels (n + (m - 1)) (at + d) (d + d) (m / 2) w

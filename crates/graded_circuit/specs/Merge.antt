@@ -1,4 +1,5 @@
--- Two groups of candidates are merged, each with the key of its best candidate and, for more than one, a wire a candidate that says who is as good as that.
+-- Two groups of candidates are merged, each with the key of its best candidate and, for more than one, a wire a
+-- candidate that says who is as good as that.
 use mathlib.Core.Bool.{cond}
 use mathlib.Core.List.{List, [], _∷_, _++_}
 use Prim.Native.Nat.{ℕ, zero, suc, _+_, _/_}
@@ -10,7 +11,8 @@ use Rattle.graded_circuit.specs.declared.plan.Plan.{Plan}
 use Rattle.graded_circuit.specs.Key.{keySpan}
 use Rattle.graded_circuit.specs.Contest.{contest, contestSpan, resultAt}
 
--- Who of a group's m candidates, whose wires stand at `at`, stays if the wire `stays` says that the group does. A group of one has no wires.
+-- Who of a group's m candidates, whose wires stand at `at`, stays if the wire `stays` says that the group does. A
+-- group of one has no wires.
 unfoldable pub bothOf : ℕ → ℕ → ℕ → List Gate
 bothOf at stays zero = []
 bothOf at stays (suc m) = andOf at stays ∷ bothOf (at + 1) stays m
@@ -33,7 +35,8 @@ leftStays p n = resultAt p n + 4
 abbrev pub rightStays : Plan → ℕ → ℕ
 rightStays p n = resultAt p n + 5
 
--- The merge of groups of l and m candidates, whose wires stand at u and v. The wires of both groups together stand at `wonAt`.
+-- The merge of groups of l and m candidates, whose wires stand at u and v. The wires of both groups together stand at
+-- `wonAt`.
 abbrev pub wonAt : Plan → ℕ → ℕ
 wonAt p n = resultAt p n + 6
 

@@ -11,10 +11,12 @@ use Rattle.gate_words.specs.Halves.{unequalCut, unequalSpan, unequalAt}
 abbrev pub stride : ℕ → ℕ
 stride r = r + 2
 
--- Of one grade: whether the words at x and y differ, and the median is worse, as the wire behind the word at x says; and
--- whether they differ and it is not. The words' h highest digits are gone through by themselves.
+-- Of one grade: whether the words at x and y differ, and the median is worse, as the wire behind the word at x says;
+-- and whether they differ and it is not. The words' h highest digits are gone through by themselves.
 unfoldable pub side : ℕ → ℕ → ℕ → ℕ → ℕ → List Gate
-side n x y r h = unequalCut n x y r h ++ (andOf (unequalAt n r) (x + suc r) ∷ xorOf (unequalAt n r) (n + unequalSpan r) ∷ [])
+side n x y r h =
+    unequalCut n x y r h
+    ++ (andOf (unequalAt n r) (x + suc r) ∷ xorOf (unequalAt n r) (n + unequalSpan r) ∷ [])
 
 abbrev pub sideSpan : ℕ → ℕ
 sideSpan r = unequalSpan r + 2

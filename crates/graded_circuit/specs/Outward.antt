@@ -6,11 +6,12 @@ use Rattle.gates.specs.Gate.{Gate}
 use Rattle.gate_words.specs.Gates.{notOf, andOf, orOf, xorOf, muxOf}
 use Rattle.gate_words.specs.Halves.{unequalAt, compareCut, compareSpan, aboveAt}
 use Rattle.gate_words.specs.Reach.{reach, reachLast, reachSpan}
-use Rattle.graded_circuit.specs.Nearest.{stride, sides, sideSpan, belowAt, fromAt, lastOf, firstOf, eitherSpan, leftEnd, rightEnd}
+use Rattle.graded_circuit.specs.Nearest.{stride, sides, sideSpan, belowAt, fromAt, lastOf, firstOf, eitherSpan}
+use Rattle.graded_circuit.specs.Nearest.{leftEnd, rightEnd}
 
--- Words have r + 1 digits, of which the h highest are gone through by themselves, and t grades stand between the best one
--- and the worst one but one. Wire after wire: the sides of those t grades; the words at the last one below the median, or
--- at the best grade; those at the first one from the median on, or at the last grade of the key.
+-- Words have r + 1 digits, of which the h highest are gone through by themselves, and t grades stand between the best
+-- one and the worst one but one. Wire after wire: the sides of those t grades; the words at the last one below the
+-- median, or at the best grade; those at the first one from the median on, or at the last grade of the key.
 abbrev pub downAt : ℕ → ℕ → ℕ → ℕ
 downAt n r t = n + t * sideSpan r
 
@@ -47,8 +48,8 @@ unfoldable pub chosenHigh : ℕ → ℕ → ℕ → ℕ
 chosenHigh r h zero = h
 chosenHigh r h (suc t) = suc r / 2
 
--- The words at a and c, below the median, and those at u and v, from it on, are compared; and of each key both are added,
--- with the bit e, which says whether the two sums reach n.
+-- The words at a and c, below the median, and those at u and v, from it on, are compared; and of each key both are
+-- added, with the bit e, which says whether the two sums reach n.
 unfoldable pub compareAndReach : ℕ → ℕ → ℕ → ℕ → ℕ → ℕ → ℕ → ℕ → List Gate
 compareAndReach n a c u v e r h =
     compareCut n a c r h
@@ -66,14 +67,14 @@ leftCarry n r = n + 2 * compareSpan r + reachLast r
 abbrev pub rightCarry : ℕ → ℕ → ℕ
 rightCarry n r = n + 2 * compareSpan r + reachSpan r + reachLast r
 
--- Which decides. Wires e and s tell of the medians whether the keys differ in them and whether x comes first, e₁ and s₁ of
--- the grade below the median, e₂ and s₂ of the other one; j and k are the carries of x and y; the median is worse than the
--- best grade where wire f is 1, and than the last where g is. In order: the sums of the key that is larger below the
--- median reach n (wire n); the grades lie on both sides of the median (n + 2); the lower one is struck first (n + 3), which
--- is so for grades that are all from the median on, and not for grades that are all below it; both differ (n + 4), or one
--- does (n + 6); x comes first if the upper one decides, where it differs (n + 7); both differ, they say the opposite and
--- the medians are equal (n + 11), and the lower one decides then (n + 12). Wire n + 14 says that the keys differ, and
--- n + 15, where they do, that x comes first.
+-- Which decides. Wires e and s tell of the medians whether the keys differ in them and whether x comes first, e₁ and
+-- s₁ of the grade below the median, e₂ and s₂ of the other one; j and k are the carries of x and y; the median is
+-- worse than the best grade where wire f is 1, and than the last where g is. In order: the sums of the key that is
+-- larger below the median reach n (wire n); the grades lie on both sides of the median (n + 2); the lower one is
+-- struck first (n + 3), which is so for grades that are all from the median on, and not for grades that are all below
+-- it; both differ (n + 4), or one does (n + 6); x comes first if the upper one decides, where it differs (n + 7);
+-- both differ, they say the opposite and the medians are equal (n + 11), and the lower one decides then (n + 12).
+-- Wire n + 14 says that the keys differ, and n + 15, where they do, that x comes first.
 unfoldable pub resolve : ℕ → ℕ → ℕ → ℕ → ℕ → ℕ → ℕ → ℕ → ℕ → ℕ → ℕ → List Gate
 resolve n e s e₁ s₁ e₂ s₂ j k f g =
     muxOf s₁ j k

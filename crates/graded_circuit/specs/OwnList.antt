@@ -19,15 +19,20 @@ candidates p n c (suc m) = candidate p n c ++ candidates p (n + candidateSpan p)
 abbrev pub keyAt : Plan → ℕ → ℕ
 keyAt p c = keyOf p (p .inputs + c * candidateSpan p)
 
--- The best of m candidates from candidate c on, in r levels of merges: the best of the first half and that of the other half are compared, and the better key is kept. A single candidate is compared with nobody.
+-- The best of m candidates from candidate c on, in r levels of merges: the best of the first half and that of the
+-- other half are compared, and the better key is kept. A single candidate is compared with nobody.
 unfoldable pub levelsSpan : Plan → ℕ → ℕ → ℕ
 levelsSpan p zero m = 0
-levelsSpan p (suc r) m = cond (leb m 1) 0 (levelsSpan p r (m / 2) + levelsSpan p r (m - m / 2) + mergeSpan p (m / 2) (m - m / 2) + keySpan p)
+levelsSpan p (suc r) m =
+    cond (leb m 1) 0
+    (levelsSpan p r (m / 2) + levelsSpan p r (m - m / 2) + mergeSpan p (m / 2) (m - m / 2) + keySpan p)
 
 -- Where the group's key and its candidates' wires stand, the levels being written from wire n on.
 unfoldable pub bestKey : Plan → ℕ → ℕ → ℕ → ℕ → ℕ
 bestKey p zero n c m = keyAt p c
-bestKey p (suc r) n c m = cond (leb m 1) (keyAt p c) (n + levelsSpan p r (m / 2) + levelsSpan p r (m - m / 2) + mergeSpan p (m / 2) (m - m / 2))
+bestKey p (suc r) n c m =
+    cond (leb m 1) (keyAt p c)
+    (n + levelsSpan p r (m / 2) + levelsSpan p r (m - m / 2) + mergeSpan p (m / 2) (m - m / 2))
 
 unfoldable pub groupWon : Plan → ℕ → ℕ → ℕ → ℕ
 groupWon p zero n m = 0
@@ -48,7 +53,8 @@ halvesMerge p r n c m =
     (m / 2) (m - m / 2)
 
 unfoldable pub halvesBetter : Plan → ℕ → ℕ → ℕ → ℕ → List Gate
-halvesBetter p r n c m = better p (mergeAt p r n m) (bestKey p r n c (m / 2)) (bestKey p r (otherAt p r n m) (c + m / 2) (m - m / 2))
+halvesBetter p r n c m =
+    better p (mergeAt p r n m) (bestKey p r n c (m / 2)) (bestKey p r (otherAt p r n m) (c + m / 2) (m - m / 2))
 
 unfoldable pub levels : Plan → ℕ → ℕ → ℕ → ℕ → List Gate
 levels p zero n c m = []
@@ -56,7 +62,8 @@ levels p (suc r) n c m =
     cond (leb m 1) []
     (levels p r n c (m / 2) ++ levels p r (otherAt p r n m) (c + m / 2) (m - m / 2) ++ halvesMerge p r n c m ++ halvesBetter p r n c m)
 
--- Eight candidates need three levels. The last one keeps no key, and its wires are the last k gates: they say who has won.
+-- Eight candidates need three levels. The last one keeps no key, and its wires are the last k gates: they say who has
+-- won.
 abbrev pub lowLevels : ℕ
 lowLevels = 2
 

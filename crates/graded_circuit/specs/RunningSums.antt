@@ -7,7 +7,8 @@ use Rattle.gate_words.specs.Counter.{counter, countSize, accumulator, addSize}
 use Rattle.graded_circuit.specs.declared.plan.Plan.{Plan}
 use Rattle.graded_circuit.specs.Plan.{bitsAt, apart}
 
--- A sum is a word of digits + 1 wires: the offset plus the number of grades. Its top digit is 1 exactly where twice that number is at least n.
+-- A sum is a word of digits + 1 wires: the offset plus the number of grades. Its top digit is 1 exactly where twice
+-- that number is at least n.
 abbrev pub wordSpan : Plan → ℕ
 wordSpan p = p .digits + 1
 
@@ -30,7 +31,8 @@ unfoldable pub middleGrades : Plan → ℕ → ℕ → ℕ → ℕ → List Gate
 middleGrades p a c g zero = []
 middleGrades p a c g (suc t) = middleGrade p a c g ++ middleGrades p (a + middleSpan p) c (g + 1) t
 
--- The worst grade but one, behind the sum at a. Its sum is n less the count of the worst grade, since each ballot gives one grade.
+-- The worst grade but one, behind the sum at a. Its sum is n less the count of the worst grade, since each ballot
+-- gives one grade.
 unfoldable pub lastSpan : Plan → ℕ
 lastSpan p = wordSpan p + countSize (p .ballots) (p .worst) (p .digits) + wordSpan p
 

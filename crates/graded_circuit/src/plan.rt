@@ -6,7 +6,8 @@ ghost use lib.Dec.{T};
 ghost use Rattle.jury.specs.Shape.{gradedLimits};
 ghost use Rattle.graded_circuit.specs.Plan.{planOf};
 
-// A sum of grades has `digits` low digits and a top one, and the number of a median grade `places` low digits and a top one; `offset` and `worst` are added to sums, as their definition says.
+// A sum of grades has `digits` low digits and a top one, and the number of a median grade `places` low digits and a
+// top one; `offset` and `worst` are added to sums, as their definition says.
 pub struct Plan {
     pub candidates: u32,
     pub grades: u32,

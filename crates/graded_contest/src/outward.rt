@@ -1,5 +1,5 @@
-// Two keys compared below their medians. Words have `above` digits above the lowest, of which the highest `high` are gone
-// through by themselves, and `between` grades stand between the first and the last of a key.
+// Two keys compared below their medians. Words have `above` digits above the lowest, of which the highest `high` are
+// gone through by themselves, and `between` grades stand between the first and the last of a key.
 use gate_adders::reach::reach;
 use gate_words::halves::above_at;
 use gate_words::halves::unequal_at;
@@ -89,8 +89,8 @@ fn compare_and_reach(
     reach(left, table, c, v, bit, above)
 }
 
-// Whether the lower grade is struck first, from wire q on. Wires j and k are the carries of x and y, of which s says that x
-// is above at the lower grade; f and g say on which side of the median the first and the last grade are.
+// Whether the lower grade is struck first, from wire q on. Wires j and k are the carries of x and y, of which s says
+// that x is above at the lower grade; f and g say on which side of the median the first and the last grade are.
 fn lower_first(
     w: Writer,
     table: &mut [u32],

@@ -1,4 +1,5 @@
-// The words of two keys at the grades nearest to the median where they differ. Words have `above` digits above the lowest.
+// The words of two keys at the grades nearest to the median where they differ. Words have `above` digits above the
+// lowest.
 use gate_words::halves::unequal_at;
 use gate_words::writer::Writer;
 use gates::kind;
@@ -6,7 +7,8 @@ ghost use mathlib.Core.Path.{_≡_};
 ghost use Prim.Native.Nat.{suc, _+_, _*_, _≤_, _<_};
 ghost use Rattle.gate_words.specs.Limits.{writerLimit};
 ghost use Rattle.gate_words.specs.Writing.{Room, Wrote};
-ghost use Rattle.graded_circuit.specs.Nearest.{stride, side, sideSpan, sides, either, eitherSpan, lastOf, firstOf, leftEnd, rightEnd};
+ghost use Rattle.graded_circuit.specs.Nearest.{stride, side, sideSpan, sides, either, eitherSpan, lastOf, firstOf};
+ghost use Rattle.graded_circuit.specs.Nearest.{leftEnd, rightEnd};
 
 // Of one grade: whether the words, of which the highest `high` digits are gone through by themselves, differ on either
 // side of the median.

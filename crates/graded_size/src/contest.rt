@@ -36,10 +36,10 @@ fn reach_span(digits: u32) -> u32
     2 * low + 3 * (digits - 2 - low) + 3
 }
 
-// What stands before the result of a contest and behind the medians' comparison. Without a low digit it is nothing. The one
-// sum of two grades is compared as it is, with three gates a digit less two. Else each grade between the first and the last
-// has its side, two gates a digit and one, and two choices of two words, four a digit; the chosen words are compared and
-// told to reach n twice, and fourteen gates come before the two that say the result.
+// What stands before the result of a contest and behind the medians' comparison. Without a low digit it is nothing.
+// The one sum of two grades is compared as it is, with three gates a digit less two. Else each grade between the
+// first and the last has its side, two gates a digit and one, and two choices of two words, four a digit; the chosen
+// words are compared and told to reach n twice, and fourteen gates come before the two that say the result.
 fn lower_span(digits: u32, grades: u32) -> u32
     requires { ⌜ (digits ≤ 7) × (2 ≤ grades) × (grades ≤ 7) ⌝ }
     ensures { λ r. ⌜ r ≡ lowerSpan digits (grades - 2) ⌝ }

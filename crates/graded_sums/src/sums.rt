@@ -9,7 +9,8 @@ ghost use Prim.Native.Nat.{_+_, _-_, _*_, _≤_, _<_};
 ghost use Rattle.gate_words.specs.Writing.{Room, Wrote};
 ghost use Rattle.gate_words.specs.Counter.{counter, countSize, accumulator, addSize, Countable};
 ghost use Rattle.graded_circuit.specs.Plan.{Planned, bitsAt, apart};
-ghost use Rattle.graded_circuit.specs.RunningSums.{wordSpan, middleSpan, middleGrades, lastSpan, lastGrade, laterGrades, laterSpan};
+ghost use Rattle.graded_circuit.specs.RunningSums.{wordSpan, middleSpan, middleGrades, lastSpan, lastGrade};
+ghost use Rattle.graded_circuit.specs.RunningSums.{laterGrades, laterSpan};
 
 // The first of a candidate's bits of a grade.
 fn bits_at(p: Plan, c: u32, g: u32) -> u32

@@ -13,14 +13,14 @@ ghost use mathlib.Core.List.{_++_};
 ghost use Prim.Native.Nat.{_+_, _-_, _*_, _/_, _≤_, _<_};
 ghost use lib.Dec.{T, leb};
 ghost use lib.ListN.{length};
-ghost use Rattle.gates.specs.Board.{conditionalCount};
 ghost use Rattle.gate_words.specs.Limits.{writerLimit};
 ghost use Rattle.gate_words.specs.Writing.{Room, Wrote};
 ghost use Rattle.jury.specs.Shape.{gradedLimits, ballotBytes};
 ghost use Rattle.graded_circuit.specs.Plan.{Planned};
 ghost use Rattle.graded_circuit.specs.Key.{keySpan, candidateSpan};
 ghost use Rattle.graded_circuit.specs.Merge.{merge, mergeSpan};
-ghost use Rattle.graded_circuit.specs.OwnList.{candidates, keyAt, levelsSpan, levels, otherAt, halvesMerge, lowLevels, levelsAt, circuit, ownList};
+ghost use Rattle.graded_circuit.specs.OwnList.{candidates, keyAt, levelsSpan, levels, otherAt, halvesMerge};
+ghost use Rattle.graded_circuit.specs.OwnList.{lowLevels, levelsAt, circuit, ownList};
 
 // The circuits of all candidates.
 fn candidates(w: Writer, table: &mut [u32], p: Plan) -> Writer
@@ -181,12 +181,4 @@ pub fn own_list(shape: Shape, table: &mut [u32]) -> Writer
         return w.emit(table, kind::ONE, 0, 0, 0);
     }
     circuit(w, table, p)
-}
-
-// G and C of the own list of a shape: what the writer counts while it writes into a table without a place.
-pub fn measure(shape: Shape) -> Writer
-    requires { ⌜ T (gradedLimits shape) ⌝ }
-    ensures { λ r. ⌜ (r .gate ≡ length (ownList shape)) × (r .conditional ≡ conditionalCount (ownList shape)) ⌝ }
-{
-    own_list(shape, &mut [])
 }
