@@ -20,7 +20,7 @@ use Rattle.gates.proofs.Reading.{gate-numbers}
 use Rattle.gates.proofs.Counting.{mark-at-most-one}
 use Rattle.gates.proofs.Laws.{AllGood, all-good}
 use Rattle.gate_levels.specs.Levels.{wireLevel, gateLevel, levelsFrom, levelsOf, largest, roundsOf}
-use Rattle.gate_levels.specs.Inner.{LevelReady}
+use Rattle.gate_levels.specs.inner.Filling.{LevelReady}
 use Rattle.gate_levels.specs.Compared.{sameNumbers, compared}
 use Rattle.gate_levels.specs.declared.level.Compared.the-variants.{Own, Other}
 use Rattle.gate_levels.proofs.Laws.{Below, operands-below, levels-keep, gate-level-same, largest-most, largest-more, gate-most}

@@ -1,3 +1,3 @@
 pub mod Levels
-pub mod Inner
+pub mod inner
 pub mod Compared

@@ -8,7 +8,7 @@ ghost use Rattle.gates.specs.Kind.{conditionalMarks};
 ghost use Rattle.gates.specs.Gate.{gatesOf};
 ghost use Rattle.gates.specs.inner.Step.{gateAt};
 ghost use Rattle.gate_levels.specs.Levels.{wireLevel, gateLevel, levelsOf, roundsOf};
-ghost use Rattle.gate_levels.specs.Inner.{LevelReady, LevelsReady};
+ghost use Rattle.gate_levels.specs.inner.Filling.{LevelReady, LevelsReady};
 ghost use Rattle.gate_levels.specs.Compared.{compared};
 
 // Whether a lent table holds the list's own levels, and then how many rounds they make.

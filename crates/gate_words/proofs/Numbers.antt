@@ -3,7 +3,7 @@
 use mathlib.Core.Path.{_≡_, _∙_, refl, ap}
 use mathlib.Core.Logic.{_⊎_, inl, inr}
 use Prim.Native.Nat.{ℕ, zero, suc, _+_, _*_, _^_, _≤_, _<_}
-use native.Mathlib.Nat.{pow-succ', zero-add, add-zero, suc-add, mul-suc, mul-assoc}
+use native.Mathlib.Nat.{pow-succ', zero-add, add-zero, suc-add, mul-assoc}
 use native.Mathlib.Omega.{arith}
 use Rattle.gate_words.specs.Word.{ones, number}
 

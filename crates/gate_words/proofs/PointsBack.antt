@@ -21,7 +21,7 @@ use Rattle.gate_words.specs.Comparison.{firstDigit, compareWords, differ
 use Rattle.gate_words.specs.Counter.{level, adders, levelSum, countLevels, countDigits, counter, countSize, Countable, addLevels, addDigits, accumulator, addSize}
 use Rattle.gate_words.proofs.Places.{below-more, below-first}
 use Rattle.gate_words.proofs.Emitting.{bit-none-used}
-use Rattle.gate_words.proofs.WordSteps.{length-full, length-half}
+use Rattle.gate_words.proofs.WordSteps.{length-full}
 use Rattle.gate_words.proofs.CounterSteps.{length-level, length-count, length-add-levels, below-carries, count-size-step, add-size-step, add-size-last}
 
 pub good-constant : (n v : ℕ) → T (goodGate n (constant v))

@@ -18,7 +18,7 @@ use Rattle.basics.proofs.Tabulate.{upTo, upTo-new, upTo-old, length-tabulate, g
 use Rattle.rule_schulze.specs.Schulze.{link, strongest, candidates, every, wins, closingBytes}
 use Rattle.rule_schulze.specs.Closure.{closure}
 use Rattle.rule_schulze.specs.Winner.{On}
-use Rattle.rule_schulze.specs.Inner.{entry, Holds, HoldsPairs, unbeatenIn}
+use Rattle.rule_schulze.specs.inner.Tables.{entry, Holds, HoldsPairs, unbeatenIn}
 use Rattle.rule_schulze.proofs.Members.{of-candidates}
 use Rattle.rule_schulze.proofs.Paths.{closure-strongest}
 use Rattle.rule_schulze.proofs.Tables.{AgreePairs, closure-agree}

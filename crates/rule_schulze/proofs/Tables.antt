@@ -17,7 +17,7 @@ use Rattle.basics.proofs.Flags.{never-true, or-first, or-second}
 use Rattle.rule_schulze.specs.Schulze.{candidates}
 use Rattle.rule_schulze.specs.Closure.{detour, closure}
 use Rattle.rule_schulze.specs.Votes.{votes}
-use Rattle.rule_schulze.specs.Inner.{entry, unbeatenIn, RankedSize}
+use Rattle.rule_schulze.specs.inner.Tables.{entry, unbeatenIn, RankedSize}
 use Rattle.rule_schulze.proofs.Members.{in-candidates, of-candidates}
 use Rattle.rule_schulze.proofs.Paths.{detour-over}
 use Rattle.rule_schulze.proofs.Winning.{every-holds, holds-every}

@@ -3,5 +3,5 @@ pub mod Closure
 pub mod Winner
 pub mod Panels
 pub mod Votes
-pub mod Inner
+pub mod inner
 pub mod Theorems

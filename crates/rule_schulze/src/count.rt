@@ -5,7 +5,7 @@ ghost use mathlib.Core.Path.{_≡_};
 ghost use Rattle.jury.specs.ClosingBytes.{eightBytes};
 ghost use Rattle.rule_schulze.specs.Schulze.{closingBytes};
 ghost use Rattle.rule_schulze.specs.Votes as spec;
-ghost use Rattle.rule_schulze.specs.Inner.{RankedSize};
+ghost use Rattle.rule_schulze.specs.inner.Tables.{RankedSize};
 
 // The closing bytes of n ranked ballots of k candidates.
 pub fn closing_bytes(ballots: &[u8], k: usize, n: usize) -> [u8; 8]

@@ -7,7 +7,7 @@ ghost use lib.ListN.{getD};
 ghost use Rattle.jury.specs.ClosingBytes.{eightBytes};
 ghost use Rattle.rule_schulze.specs.Schulze as spec;
 ghost use Rattle.rule_schulze.specs.Closure as closure;
-ghost use Rattle.rule_schulze.specs.Inner.{entry, Holds, HoldsPairs, unbeatenIn};
+ghost use Rattle.rule_schulze.specs.inner.Tables.{entry, Holds, HoldsPairs, unbeatenIn};
 
 // The closing bytes: 1 for a winner, 0 for any other and from place k on.
 pub fn winners(votes: [[u16; 8]; 8], k: usize) -> [u8; 8]

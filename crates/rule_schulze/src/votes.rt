@@ -3,7 +3,7 @@ ghost use mathlib.Core.Path.{_≡_};
 ghost use Prim.Native.Nat.{ℕ, _<_};
 ghost use lib.ListN.{getD};
 ghost use Rattle.rule_schulze.specs.Votes as spec;
-ghost use Rattle.rule_schulze.specs.Inner.{Holds, RankedSize};
+ghost use Rattle.rule_schulze.specs.inner.Tables.{Holds, RankedSize};
 
 // Row i has the numbers of those that put i before the others. Rows and columns from k on stay 0.
 pub fn matrix(ballots: &[u8], k: usize, n: usize) -> [[u16; 8]; 8]

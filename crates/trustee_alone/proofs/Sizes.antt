@@ -27,7 +27,7 @@ use Rattle.levels.proofs.Reasons.{ListFacts}
 use Rattle.trustees.specs.Inner.{SmallSizes}
 use Rattle.trustee_rounds.specs.Rounds.{startWires, startPublished}
 use Rattle.trustee_alone.specs.Own.{tablesFit}
-use Rattle.trustee_alone.specs.Inner.{TablesReady}
+use Rattle.trustee_alone.specs.inner.Ready.{TablesReady}
 
 pub tables-ready : (s : Shape) (table : List ℕ) (gates conditional : ℕ) → ListFacts s table gates conditional → TablesReady (ballotBytes s) (s .candidates) gates conditional table
 tables-ready s table gates conditional f =

@@ -1,5 +1,5 @@
 pub mod Own
-pub mod Inner
+pub mod inner
 pub mod Start
 pub mod Rounds
 pub mod Finish

@@ -13,7 +13,7 @@ ghost use Rattle.jury.specs.Reason.{firstOf};
 ghost use Rattle.gates.specs.Gate.{gatesOf};
 ghost use Rattle.tally.specs.Answer.{outcome};
 ghost use Rattle.levels.specs.Answer.{depthsOf, depthsSaid};
-ghost use Rattle.trustee_alone.specs.Inner.{TablesReady};
+ghost use Rattle.trustee_alone.specs.inner.Ready.{TablesReady};
 ghost use Rattle.trustee_alone.specs.Rounds.{tableReasons, roundReasons, roundSaid, roundedWires, roundedPublished};
 ghost use Rattle.jury.specs.Shape.{ballotBytes};
 

@@ -25,7 +25,7 @@ use Rattle.trustee_shares.proofs.Accuracy.{count-mark, mark-one}
 use Rattle.trustee_gates.specs.declared.gate.Numbers.{Numbers}
 use Rattle.trustee_gates.specs.Gate.{gateOf}
 use Rattle.trustee_rounds.specs.Rounds.{Turn, heardPart, entersGate, enters, publishesGate, publishes}
-use Rattle.trustee_rounds.specs.Inner.{GateIn, PartReady, PublishReady}
+use Rattle.trustee_rounds.specs.inner.Passes.{GateIn, PartReady, PublishReady}
 
 -- a table that is one trustee's own is its piece 0
 pub own-piece : (l : List ℕ) → piece (length l) l 0 ≡ l

@@ -1,3 +1,3 @@
 pub mod Rounds
 pub mod Together
-pub mod Inner
+pub mod inner

@@ -14,7 +14,7 @@ ghost use lib.Seq.{sets};
 ghost use Rattle.gates.specs.Kind.{conditionalMarks, conditionalOf};
 ghost use Rattle.trustee_shares.specs.Shares.{part, maskedFirst, maskedSecond, productPart, partOfKind};
 ghost use Rattle.trustee_gates.specs.Gate.{gateOf};
-ghost use Rattle.trustee_rounds.specs.Inner.{GateIn, PartReady, EnterReady, PublishReady};
+ghost use Rattle.trustee_rounds.specs.inner.Passes.{GateIn, PartReady, EnterReady, PublishReady};
 
 // The part of a gate's wire, from the trustee's parts of the operands and its bit z of the product.
 fn own_part(p: usize, gate: Numbers, z: u8, wires: &[u8]) -> u8

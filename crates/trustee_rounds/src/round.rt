@@ -8,7 +8,7 @@ ghost use mathlib.Core.List.{List};
 ghost use Prim.Native.Nat.{ℕ, _*_};
 ghost use Rattle.gates.specs.Gate.{gatesOf};
 ghost use Rattle.trustee_rounds.specs.Rounds.{enters, publishes, closes};
-ghost use Rattle.trustee_rounds.specs.Inner.{turnBy, EnterPass, PublishPass, RoundReady};
+ghost use Rattle.trustee_rounds.specs.inner.Passes.{turnBy, EnterPass, PublishPass, RoundReady};
 
 // Who computes, in which round, for a list over how many inputs.
 pub struct Seat {

@@ -2,7 +2,6 @@
 -- gate, which says whether wire 0 and wire 1 are both 1, and trustee 1 is left out.
 use mathlib.Core.Path.{_≡_}
 use mathlib.Core.List.{List, [], _∷_}
-use Prim.Native.Nat.{ℕ}
 use Rattle.gates.specs.Gate.{Gate}
 use Rattle.trustee_shares.specs.Views.{Dealing, View, viewOf}
 

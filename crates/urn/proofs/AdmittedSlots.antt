@@ -10,8 +10,9 @@ use lib.ListN.{length, set, length-set}
 use Rattle.basics.specs.Lists.{tabulate}
 use Rattle.basics.proofs.Flags.{and-first, and-second, or-first, or-second, never-true}
 use Rattle.urn_chains.specs.Slots.{Slot, slotAt, freeSlot}
-use Rattle.urn_chains.specs.Chains.{Entry, chain, firstEntry, firstFree, entrySlot, headSlot, layout}
-use Rattle.urn_chains.specs.Sound.{all, member, distinct, inUrn}
+use Rattle.urn_chains.specs.Chains.{Entry, firstEntry, firstFree, entrySlot, headSlot, layout}
+use Rattle.basics.specs.Lists.{all, member, distinct}
+use Rattle.urn_chains.specs.Sound.{inUrn}
 use Rattle.urn_chains.proofs.Lists.{all-move, all-weaken, member-move, distinct-move, distinct-first, all-append, all-first, all-rest, member-append}
 use Rattle.urn_chains.proofs.Linked.{no-zero, slotsIn, Linked, FreeLinked, more, at-set, at-other, linked-set, free-set, positive, below}
 use Rattle.urn_chains.proofs.Layouts.{Fit, layout-unique}

@@ -14,7 +14,7 @@ use Rattle.jury.specs.declared.shape.Shape.{Shape}
 use Rattle.jury.specs.Shape.{gradedLimits}
 use Rattle.jury.specs.Reason.{Reason, firstOf}
 use Rattle.jury.specs.Ballots.{ballotReasons}
-use Rattle.jury.proofs.Flags.{and-second, and-both, and-second-fails, T-true}
+use Rattle.basics.proofs.Flags.{and-second, and-both, and-second-fails, T-true}
 use Rattle.jury.proofs.Limits.{within-T, graded-within, bytes-are}
 use Rattle.jury.proofs.AcceptedLaws.{accepted}
 use Rattle.urn_chains.specs.Sound.{juryOfOne, noReason, goodBallot, goodJuror}

@@ -10,8 +10,8 @@ use lib.Dec.{eqb}
 use lib.ListN.{length, replicate, length-set, length-replicate, length-append, length-map}
 use lib.Seq.{ext-getD}
 use borrow.Author.Tests.{eq-eqb}
-use Rattle.jury.specs.Counts.{tabulate}
-use Rattle.jury.proofs.Flags.{and-first, and-second, and-both, or-either, or-first, or-second}
+use Rattle.basics.specs.Lists.{tabulate}
+use Rattle.basics.proofs.Flags.{and-first, and-second, and-both, or-either, or-first, or-second}
 use Rattle.urn_chains.specs.Slots.{Slot, slotAt, freeSlot}
 use Rattle.urn_chains.specs.Chains.{Entry, chain, entryAt, ballotSlots, ballotChain, freeChain, firstFree, entrySlot, withBallots, withFree, headSlot, layout}
 use Rattle.basics.specs.Lists.{all, member, distinct}

@@ -13,7 +13,8 @@ use borrow.Author.Tests.{eqb-true, eq-eqb, ltb-true}
 use Rattle.basics.proofs.Flags.{and-first, and-second, or-either, or-first, or-second, never-true}
 use Rattle.urn_chains.specs.Slots.{Slot, slotAt, freeSlot}
 use Rattle.urn_chains.specs.Chains.{Entry, chain, ends, entryAt, firstEntry, firstFree, entrySlot}
-use Rattle.urn_chains.specs.Sound.{all, member, inUrn}
+use Rattle.basics.specs.Lists.{all, member}
+use Rattle.urn_chains.specs.Sound.{inUrn}
 use Rattle.urn_chains.proofs.Lists.{all-member, all-first, all-rest}
 use Rattle.urn_chains.proofs.Walks.{chain-step, ends-step, chain-end, ends-end}
 

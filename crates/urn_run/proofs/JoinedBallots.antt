@@ -21,7 +21,8 @@ use Rattle.jury.proofs.AcceptedLaws as ballots-laws
 use Rattle.urn_chains.specs.Slots.{Slot, slotAt}
 use Rattle.urn_chains.specs.Chains.{entryAt}
 use Rattle.urn_chains.proofs.GoodBallots.{no-reason}
-use Rattle.urn_chains.specs.Sound.{all, juryOfOne, noReason, goodBallot}
+use Rattle.basics.specs.Lists.{all}
+use Rattle.urn_chains.specs.Sound.{juryOfOne, noReason, goodBallot}
 use Rattle.urn_chains.proofs.Lists.{all-first, all-rest}
 use Rattle.basics.proofs.Cases.{below-or-not}
 use Rattle.urn_run.specs.Run.{joined}

@@ -8,7 +8,7 @@ use lib.ListN.{length, take, drop}
 use borrow.Author.Needs.{needs}
 use Rattle.tally.specs.Answer.{outcomeOf}
 use Rattle.tally.specs.declared.answer.Answer.the-variants as answer
-use Rattle.tally.specs.Write.{writeOutcome, written}
+use Rattle.tally.specs.Write.{writeOutcome}
 use Rattle.rehearsal.specs.Rehearsal.{ballotsIn, rehearsalOutcome, outcomeOn}
 use Rattle.rehearsal.specs.inner.Buffers.{Cut}
 use Rattle.rehearsal.specs.inner.Rehearses.{runOutcome, endOn}

@@ -5,7 +5,7 @@ use Prim.Native.Nat.{_-_}
 use borrow.Author.Needs.{needs}
 use Rattle.jury.specs.ClosingBytes.{eightBytes}
 use Rattle.rule_schulze.specs.Votes.{votes}
-use Rattle.rule_schulze.specs.Inner.{entry}
+use Rattle.rule_schulze.specs.inner.Tables.{entry}
 use Rattle.rule_schulze.proofs.Counting.{closing-agree}
 use Rattle.rule_schulze.proofs.count.closing_bytes.Statement.{statement}
 use Rattle.rule_schulze.proofs.count.closing_bytes.Tie as tie

@@ -6,7 +6,7 @@ use native.Mathlib.Omega.{arith}
 use native.Mathlib.Numerals.{add-one}
 use borrow.Author.Needs.{needs}
 use Rattle.rule_schulze.specs.Closure.{detour, closure}
-use Rattle.rule_schulze.specs.Inner.{entry, HoldsPairs}
+use Rattle.rule_schulze.specs.inner.Tables.{entry, HoldsPairs}
 use Rattle.rule_schulze.proofs.Tables.{detour-agree}
 use Rattle.rule_schulze.proofs.rule.strongest_paths.Statement.{statement}
 use Rattle.rule_schulze.proofs.rule.strongest_paths.Tie as tie

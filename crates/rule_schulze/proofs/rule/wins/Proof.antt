@@ -9,7 +9,7 @@ use borrow.Author.Count.{below-more}
 use borrow.Author.Tests.{le-leb, ltb-true, ltb-false, eq-eqb}
 use Rattle.basics.proofs.Flags.{or-first, or-second}
 use lib.Dec.{leb, eqb}
-use Rattle.rule_schulze.specs.Inner.{entry}
+use Rattle.rule_schulze.specs.inner.Tables.{entry}
 use Rattle.rule_schulze.proofs.Tables.{unbeaten-holds, unbeaten-fails}
 use Rattle.rule_schulze.proofs.rule.wins.Statement.{statement}
 use Rattle.rule_schulze.proofs.rule.wins.Tie as tie
