@@ -8,6 +8,8 @@ use Rattle.urn.specs.Memory.{UrnMemory}
 use Rattle.urn.specs.Theorems.{UrnHolds, PreviewsTell}
 use Rattle.urn_run.specs.Theorems.{UrnRunMemory, UrnRunHolds}
 use Rattle.trustees.specs.Demands as trustees
+use Rattle.levels.specs.Demands as levels
+use Rattle.trustee_alone.specs.Demands as alone
 use Rattle.dispatch.specs.Theorems.{Refusals, Lengths, Dispatching}
 use Rattle.demands.specs.Dispatched.{DispatchAccuracy}
 use Rattle.batch.specs.Theorems.{EachAsAlone, AcceptedAsAll, RefusedAsAlone, FaultAsAlone, BatchMemory, BatchAccuracy, BatchHiding}
@@ -52,3 +54,6 @@ pub record AllDemands : Type 0 where
   pub lanes-fault : FaultAsAlone
   pub lanes-accuracy : BatchAccuracy
   pub lanes-hiding : BatchHiding
+  -- ours, beyond the requests: the levels of a list; a trustee on a machine of its own, and that all of them end as the one call does
+  pub levels : levels.Demands
+  pub trustees-apart : alone.Demands
