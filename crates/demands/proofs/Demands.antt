@@ -10,6 +10,8 @@ use Rattle.urn.proofs.UrnMemory.{urn-memory}
 use Rattle.urn.proofs.UrnTheorems.{urn-holds, previews-tell}
 use Rattle.urn_run.proofs.Theorems.{urn-run-holds}
 use Rattle.trustees.proofs.Demands as trustees
+use Rattle.levels.proofs.Demands as levels
+use Rattle.trustee_alone.proofs.Demands as alone
 use Rattle.dispatch.proofs.Theorems.{dispatching}
 use Rattle.batch.proofs.Theorems.{each-as-alone, accepted-as-all, batch-memory, batch-accuracy, batch-hiding}
 use Rattle.batch.proofs.Refusals.{refused-as-alone, fault-as-alone}
@@ -49,4 +51,6 @@ all-demands =
       lanes-fault = fault-as-alone;
       lanes-accuracy = batch-accuracy;
       lanes-hiding = batch-hiding;
+      levels = levels.demands;
+      trustees-apart = alone.demands;
     }

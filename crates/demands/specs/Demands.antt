@@ -20,7 +20,10 @@ use Rattle.urn.specs.Theorems.{UrnHolds, PreviewsTell}
 use Rattle.urn_run.specs.Theorems.{UrnRunMemory, UrnRunHolds}
 use Rattle.trustees.specs.Call.{Call}
 use Rattle.trustees.specs.Demands as trustees
-use Rattle.dispatch.specs.Theorems.{Dispatching}
+use Rattle.levels.specs.Demands as levels
+use Rattle.trustee_alone.specs.Demands as alone
+use Rattle.dispatch.specs.Theorems.{Refusals, Lengths, Dispatching}
+use Rattle.demands.specs.Dispatched.{DispatchAccuracy}
 use Rattle.batch.specs.Theorems.{EachAsAlone, AcceptedAsAll, RefusedAsAlone, FaultAsAlone, BatchMemory, BatchAccuracy, BatchHiding}
 
 -- The demand [memory], where no record below has it: the five entry points, the calls on a text, the season sheet, the
@@ -77,3 +80,6 @@ pub record AllDemands : Type 0 where
   pub lanes-fault : FaultAsAlone
   pub lanes-accuracy : BatchAccuracy
   pub lanes-hiding : BatchHiding
+  -- ours, beyond the requests: the levels of a list; a trustee on a machine of its own, and that all of them end as the one call does
+  pub levels : levels.Demands
+  pub trustees-apart : alone.Demands

@@ -28,6 +28,7 @@ use Rattle.trustees.specs.Shared.{Shared, sharedReasons, sharedAfter, shared, c
 use Rattle.trustees.proofs.Reasons.{CallPassed, call-passed, shared-by}
 use Rattle.trustee_alone.specs.Demands.{AsTheOneCall, OwnTablesOnly, Demands}
 use Rattle.trustee_alone.proofs.Memory.{memory}
+use Rattle.trustee_alone.proofs.Apart.{calls-of}
 
 -- the turn by what it is made of
 turn-same : (t inputs : ℕ) (gs : List Gate) (d e : Dealing) (r : ℕ) (one other : Held) (p : ℕ) → dealtOf gs d p ≡ dealtOf gs e p → sumsOf t (conditionalCount gs) one ≡ sumsOf t (conditionalCount gs) other
@@ -95,4 +96,10 @@ module _ (s : Shape) (table ballots : List ℕ) (t : ℕ) (d : Dealing) (ws publ
       closing-after = unfold sharedAfter in refl
 
 pub demands : Demands
-demands = record { memory = memory; own-tables-only = own-tables-only; as-the-one-call = as-the-one-call }
+demands =
+    record {
+      memory = memory;
+      own-tables-only = own-tables-only;
+      as-the-one-call = as-the-one-call;
+      calls = λ s table ballots t d ws published size e p l. calls-of s table ballots t d ws published (passed s table ballots t d ws published size e) p l;
+    }

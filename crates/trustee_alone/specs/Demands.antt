@@ -1,17 +1,18 @@
 -- What is shown of a trustee's calls, over the definitions that their contracts equate with the program's answers and tables.
 use mathlib.Core.Path.{_≡_}
 use mathlib.Core.List.{List, [], _∷_}
-use Prim.Native.Nat.{ℕ, suc}
+use Prim.Native.Nat.{ℕ, suc, _+_, _*_, _≤_, _<_}
 use lib.Dec.{T}
 use lib.ListN.{length, replicate}
 use Rattle.gates.specs.Gate.{Gate, gatesOf}
 use Rattle.gates.specs.Board.{conditionalCount}
-use Rattle.gate_levels.specs.Levels.{roundsOf}
+use Rattle.gate_levels.specs.Levels.{levelsOf, roundsOf}
 use Rattle.jury.specs.declared.shape.Shape.{Shape}
 use Rattle.jury.specs.Shape.{ballotBytes}
 use Rattle.jury.specs.Reason.{Reason}
-use Rattle.tally.specs.Answer.{refused, accepted, hasNumberIn, Size}
-use Rattle.trustee_shares.specs.Views.{joined, Dealing, dealtOf}
+use Rattle.tally.specs.Answer.{refused, accepted, hasNumberIn, Size, sizeOf}
+use Rattle.levels.specs.Answer.{depthsOf}
+use Rattle.trustee_shares.specs.Views.{joined, Dealing, ballotsOf, dealtOf}
 use Rattle.trustee_rounds.specs.Together.{sumsOf, Holdings, publishedAfter, holdingsAfter}
 use Rattle.trustees.specs.Shared.{shared, closingSums}
 use Rattle.trustee_alone.specs.Start.{startSaid, startedWires, startedPublished}
@@ -32,10 +33,25 @@ pub record Memory : Type 0 where
   pub finish-refused : (s : Shape) (table ws : List ℕ) (r : Reason) → finishSaid s table ws ≡ refused r → finishedWires s table ws ≡ ws
   pub finish-empties : (s : Shape) (table ws : List ℕ) (size : Size) → finishSaid s table ws ≡ accepted size → finishedWires s table ws ≡ replicate (length ws) 0
 
+-- The sums of what all published before round r.
+unfoldable pub heardBefore : Shape → List ℕ → ℕ → Dealing → ℕ → List ℕ
+heardBefore s table t d r = sumsOf t (conditionalCount (gatesOf table)) (holdingsAfter t (ballotBytes s) (gatesOf table) (s .candidates) d r .published)
+
 -- Trustees apart end as the one call of request 2.7 does on the joined tables: after the rounds 0 to R their published bits, trustee after trustee, are that call's, and the sums of their closing bits its eight bytes. So its accuracy and its hiding are theirs.
 pub record AsTheOneCall (s : Shape) (table ballots : List ℕ) (t : ℕ) (d : Dealing) (ws published : List ℕ) : Type 0 where
   pub same-published : joined t (holdingsAfter t (ballotBytes s) (gatesOf table) (s .candidates) d (suc (roundsOf (ballotBytes s) (gatesOf table))) .published) ≡ shared s table ballots t d ws published .published
   pub same-closing : closingSums t (s .candidates) (holdingsAfter t (ballotBytes s) (gatesOf table) (s .candidates) d (suc (roundsOf (ballotBytes s) (gatesOf table))) .wireParts) ≡ shared s table ballots t d ws published .closing
+
+-- Trustee p of such an election: its start, on any tables of its lengths, and every round up to R are accepted, and leave what the trustees together hold. So the program's calls are the rounds that are spoken of here.
+pub record CallsOf (s : Shape) (table : List ℕ) (t : ℕ) (d : Dealing) (p : ℕ) : Type 0 where
+  pub start : (ws published : List ℕ) → length ws ≡ ballotBytes s + length (gatesOf table) → length published ≡ 2 * conditionalCount (gatesOf table) + s .candidates
+      → (startSaid s table t p (ballotsOf (ballotBytes s) d p) (dealtOf (gatesOf table) d p) ws published ≡ accepted (sizeOf (gatesOf table)))
+      × (startedWires s table t p (ballotsOf (ballotBytes s) d p) (dealtOf (gatesOf table) d p) ws published ≡ holdingsAfter t (ballotBytes s) (gatesOf table) (s .candidates) d 0 .wireParts p)
+      × (startedPublished s table t p (ballotsOf (ballotBytes s) d p) (dealtOf (gatesOf table) d p) ws published ≡ holdingsAfter t (ballotBytes s) (gatesOf table) (s .candidates) d 0 .published p)
+  pub round : (r : ℕ) → r ≤ roundsOf (ballotBytes s) (gatesOf table)
+      → (roundSaid s table t p r (levelsOf (ballotBytes s) (gatesOf table)) (dealtOf (gatesOf table) d p) (heardBefore s table t d r) (holdingsAfter t (ballotBytes s) (gatesOf table) (s .candidates) d r .wireParts p) (holdingsAfter t (ballotBytes s) (gatesOf table) (s .candidates) d r .published p) ≡ accepted (depthsOf (ballotBytes s) (gatesOf table)))
+      × (roundedWires s table t p r (levelsOf (ballotBytes s) (gatesOf table)) (dealtOf (gatesOf table) d p) (heardBefore s table t d r) (holdingsAfter t (ballotBytes s) (gatesOf table) (s .candidates) d r .wireParts p) (holdingsAfter t (ballotBytes s) (gatesOf table) (s .candidates) d r .published p) ≡ holdingsAfter t (ballotBytes s) (gatesOf table) (s .candidates) d (suc r) .wireParts p)
+      × (roundedPublished s table t p r (levelsOf (ballotBytes s) (gatesOf table)) (dealtOf (gatesOf table) d p) (heardBefore s table t d r) (holdingsAfter t (ballotBytes s) (gatesOf table) (s .candidates) d r .wireParts p) (holdingsAfter t (ballotBytes s) (gatesOf table) (s .candidates) d r .published p) ≡ holdingsAfter t (ballotBytes s) (gatesOf table) (s .candidates) d (suc r) .published p)
 
 -- What a trustee sends depends on its own tables and on the sums that were heard, and on nothing else: over any two elections that agree on these.
 abbrev pub OwnTablesOnly : Type 0
@@ -50,3 +66,5 @@ pub record Demands : Type 0 where
   pub own-tables-only : OwnTablesOnly
   pub as-the-one-call : (s : Shape) (table ballots : List ℕ) (t : ℕ) (d : Dealing) (ws published : List ℕ) (size : Size) → shared s table ballots t d ws published .answer ≡ accepted size
       → AsTheOneCall s table ballots t d ws published
+  pub calls : (s : Shape) (table ballots : List ℕ) (t : ℕ) (d : Dealing) (ws published : List ℕ) (size : Size) → shared s table ballots t d ws published .answer ≡ accepted size
+      → (p : ℕ) → p < t → CallsOf s table t d p

@@ -1,0 +1,175 @@
+-- The calls of trustees apart, in an election that the one call accepts: each is accepted, and leaves what they together hold.
+-- Assumes nothing.
+use mathlib.Core.Path.{_≡_, _∙_, refl, sym, ap}
+use mathlib.Core.Bool.{Bool, true, false, cond, _&&_}
+use mathlib.Core.Option.{Option, none}
+use mathlib.Core.List.{List, [], _∷_, _++_}
+use Prim.Native.Nat.{ℕ, zero, suc, _+_, _*_, _%_, _≤_, _<_}
+use native.Mathlib.Omega.{arith}
+use lib.Dec.{eqb, leb, ltb}
+use lib.ListN.{length, getD, take, drop, replicate, length-append, length-replicate}
+use lib.Seq.{sets, length-sets, getD-drop}
+use borrow.Author.Tests.{eq-eqb, le-leb, lt-ltb}
+use Rattle.gates.specs.Gate.{Gate, gatesOf}
+use Rattle.gates.specs.Board.{conditionalCount, Bits}
+use Rattle.gate_levels.specs.Levels.{levelsOf, roundsOf}
+use Rattle.gate_levels.specs.Compared.{sameNumbers}
+use Rattle.gate_levels.proofs.Filling.{same-refl}
+use Rattle.jury.specs.declared.shape.Shape.{Shape}
+use Rattle.jury.specs.Shape.{ballotBytes}
+use Rattle.jury.specs.Reason.{Reason, firstOf}
+use Rattle.tally.specs.Answer.{accepted, said, sizeOf}
+use Rattle.tally.specs.Test.{testReasons}
+use Rattle.levels.specs.Answer.{depthsOf}
+use Rattle.trustee_shares.specs.Shares.{opened, sumOf, part, Held}
+use Rattle.trustee_shares.specs.Views.{piece, Dealing, ballotsOf, dealtOf, closingParts, GoodDealing}
+use Rattle.trustee_shares.proofs.Tables.{length-piece}
+use Rattle.trustee_gates.specs.Dealing.{onlyBits}
+use Rattle.trustee_gates.proofs.Tests.{all-pass}
+use Rattle.trustee_rounds.specs.Rounds.{Turn, enters, publishes, closes, startWires, startPublished}
+use Rattle.trustee_rounds.specs.Together.{sumsFrom, sumsOf, Holdings, turnOf, wiresAfter, publishedAfter, holdingsAfter}
+use Rattle.trustee_rounds.proofs.Publishing.{length-sums}
+use Rattle.trustee_rounds.proofs.Closing.{length-enters, length-publishes}
+use Rattle.trustees.proofs.Reasons.{CallPassed, passed-dealing}
+use Rattle.trustee_alone.specs.Own.{isTrustee, tablesFit}
+use Rattle.trustee_alone.specs.Start.{ownReasons, startReasons, startSaid, startedWires, startedPublished}
+use Rattle.trustee_alone.specs.Rounds.{tableReasons, roundReasons, roundSaid, ownTurn, wiresMade, publishedMade, roundedWires, roundedPublished}
+use Rattle.trustee_alone.specs.Demands.{heardBefore, CallsOf}
+use Rattle.trustee_alone.proofs.Tests.{pass, end, behind, and-both, said-none, left-new}
+
+-- pieces of bits are bits
+take-bits : (n : ℕ) (xs : List ℕ) → Bits xs → Bits (take n xs)
+take-bits zero xs b i = omega arith
+take-bits (suc n) [] b i = omega arith
+take-bits (suc n) (x ∷ xs) b zero = b 0
+take-bits (suc n) (x ∷ xs) b (suc i) = take-bits n xs (λ (j : ℕ). b (suc j)) i
+
+drop-bits : (n : ℕ) (xs : List ℕ) → Bits xs → Bits (drop n xs)
+drop-bits n xs b i = omega (arith, getD-drop n xs i 0, b (n + i))
+
+piece-bits : (size : ℕ) (xs : List ℕ) (p : ℕ) → Bits xs → Bits (piece size xs p)
+unfolding piece
+piece-bits size xs p b = take-bits size (drop (p * size) xs) (drop-bits (p * size) xs b)
+
+only : (xs : List ℕ) → Bits xs → onlyBits xs ≡ true
+unfolding onlyBits
+only xs b = sym (all-pass (λ j. leb (getD xs j 0) 1) (length xs) (λ (i : ℕ) h. le-leb (getD xs i 0) 1 (b i)))
+
+-- sums modulo 2 are bits
+opened-bit : (t : ℕ) (f : ℕ → ℕ) → opened t f ≤ 1
+unfolding opened
+opened-bit t f = omega arith
+
+sums-bits : (t n j : ℕ) (published : Held) → Bits (sumsFrom t n j published)
+unfolding sumsFrom
+sums-bits t zero j published i = omega arith
+sums-bits t (suc n) j published zero = opened-bit t (λ p. part (published p) j)
+sums-bits t (suc n) j published (suc i) = sums-bits t n (suc j) published i
+
+length-closes : (round last conditional k : ℕ) (ws published : List ℕ) → length (closes round last conditional k ws published) ≡ length published
+unfolding closes
+length-closes round last conditional k ws published = go (eqb round last)
+  where
+    go : (b : Bool) → length (cond b (sets published (2 * conditional) (closingParts k ws)) published) ≡ length published
+    go true = length-sets published (2 * conditional) (closingParts k ws)
+    go false = refl
+
+module _ (s : Shape) (table ballots : List ℕ) (t : ℕ) (d : Dealing) (ws₀ published₀ : List ℕ) (passed : CallPassed s table ballots t d ws₀ published₀) (p : ℕ) (l : p < t) where
+  good : GoodDealing t (gatesOf table) ballots d
+  good = passed-dealing s table ballots t d ws₀ published₀ passed
+
+  trustee : isTrustee t p ≡ true
+  unfolding isTrustee
+  trustee = rw (le-leb 2 t (passed .parts .least), le-leb t 5 (passed .parts .most), lt-ltb p t l)
+
+  parts-long : length (ballotsOf (ballotBytes s) d p) ≡ ballotBytes s
+  unfolding ballotsOf
+  parts-long = length-piece t (ballotBytes s) (d .ballotParts) p (good .ballot-size ∙ ap (λ (n : ℕ). t * n) (passed .ballotsPassed .size)) l
+
+  dealt-long : length (dealtOf (gatesOf table) d p) ≡ 3 * conditionalCount (gatesOf table)
+  unfolding dealtOf
+  dealt-long = length-piece t (3 * conditionalCount (gatesOf table)) (d .dealerParts) p (good .dealer-size) l
+
+  parts-bits : onlyBits (ballotsOf (ballotBytes s) d p) ≡ true
+  unfolding ballotsOf
+  parts-bits = only (piece (ballotBytes s) (d .ballotParts) p) (piece-bits (ballotBytes s) (d .ballotParts) p (good .ballot-bits))
+
+  dealt-bits : onlyBits (dealtOf (gatesOf table) d p) ≡ true
+  unfolding dealtOf
+  dealt-bits = only (piece (3 * conditionalCount (gatesOf table)) (d .dealerParts) p) (piece-bits (3 * conditionalCount (gatesOf table)) (d .dealerParts) p (good .dealer-bits))
+
+  fits : (ws published : List ℕ) → length ws ≡ ballotBytes s + length (gatesOf table) → length published ≡ 2 * conditionalCount (gatesOf table) + s .candidates
+      → tablesFit (ballotBytes s) (s .candidates) (sizeOf (gatesOf table)) (dealtOf (gatesOf table) d p) ws published ≡ true
+  unfolding tablesFit sizeOf
+  fits ws published e f =
+      rw (
+        eq-eqb (length (dealtOf (gatesOf table) d p)) (3 * conditionalCount (gatesOf table)) dealt-long,
+        eq-eqb (length ws) (ballotBytes s + length (gatesOf table)) e,
+        eq-eqb (length published) (2 * conditionalCount (gatesOf table) + s .candidates) f,
+      )
+
+  -- the start
+  start-passes : (ws published : List ℕ) → length ws ≡ ballotBytes s + length (gatesOf table) → length published ≡ 2 * conditionalCount (gatesOf table) + s .candidates
+      → firstOf (startReasons s table t p (ballotsOf (ballotBytes s) d p) (dealtOf (gatesOf table) d p) ws published) ≡ none
+  unfolding startReasons ownReasons
+  start-passes ws published e f =
+      behind (testReasons s table) _ (passed .test .reasons) ∙ pass _ 16 _ trustee
+      ∙ pass _ 17 _ (and-both _ _ true (eq-eqb (length (ballotsOf (ballotBytes s) d p)) (ballotBytes s) parts-long) (fits ws published e f))
+      ∙ pass _ 18 [] (and-both _ _ true parts-bits dealt-bits) ∙ end
+
+  -- no round changes a length
+  lengths : (r : ℕ) → (length (holdingsAfter t (ballotBytes s) (gatesOf table) (s .candidates) d r .wireParts p) ≡ ballotBytes s + length (gatesOf table))
+      × (length (holdingsAfter t (ballotBytes s) (gatesOf table) (s .candidates) d r .published p) ≡ 2 * conditionalCount (gatesOf table) + s .candidates)
+  unfolding holdingsAfter startWires startPublished wiresAfter publishedAfter
+  lengths zero = (
+    length-append (ballotsOf (ballotBytes s) d p) (replicate (length (gatesOf table)) 0) ∙ ap (λ (n : ℕ). n + length (replicate {A = ℕ} (length (gatesOf table)) 0)) parts-long ∙ ap (λ (n : ℕ). ballotBytes s + n) (length-replicate {A = ℕ} (length (gatesOf table)) 0),
+    length-replicate {A = ℕ} (2 * conditionalCount (gatesOf table) + s .candidates) 0,
+  )
+  lengths (suc r) =
+      let h = holdingsAfter t (ballotBytes s) (gatesOf table) (s .candidates) d r in
+      let u = turnOf t (ballotBytes s) (gatesOf table) d r (h .published) p in
+      let W = enters u (gatesOf table) 0 0 (h .wireParts p) in
+      let before = lengths r in (
+        length-enters u (gatesOf table) 0 0 (h .wireParts p) ∙ before .0,
+        length-closes r (roundsOf (ballotBytes s) (gatesOf table)) (conditionalCount (gatesOf table)) (s .candidates) W (publishes u W (gatesOf table) 0 0 (h .published p))
+            ∙ length-publishes u W (gatesOf table) 0 0 (h .published p) ∙ before .1,
+      )
+
+  heard-long : (r : ℕ) → length (heardBefore s table t d r) ≡ 2 * conditionalCount (gatesOf table)
+  unfolding heardBefore sumsOf
+  heard-long r = length-sums t (2 * conditionalCount (gatesOf table)) 0 (holdingsAfter t (ballotBytes s) (gatesOf table) (s .candidates) d r .published)
+
+  heard-bits : (r : ℕ) → onlyBits (heardBefore s table t d r) ≡ true
+  unfolding heardBefore sumsOf
+  heard-bits r =
+      let all = holdingsAfter t (ballotBytes s) (gatesOf table) (s .candidates) d r .published in
+      only (sumsFrom t (2 * conditionalCount (gatesOf table)) 0 all) (sums-bits t (2 * conditionalCount (gatesOf table)) 0 all)
+
+  -- a round
+  round-passes : (r : ℕ) → r ≤ roundsOf (ballotBytes s) (gatesOf table)
+      → firstOf (roundReasons s table t p r (levelsOf (ballotBytes s) (gatesOf table)) (dealtOf (gatesOf table) d p) (heardBefore s table t d r) (holdingsAfter t (ballotBytes s) (gatesOf table) (s .candidates) d r .wireParts p) (holdingsAfter t (ballotBytes s) (gatesOf table) (s .candidates) d r .published p)) ≡ none
+  unfolding roundReasons tableReasons
+  round-passes r e =
+      let h = lengths r in
+      behind (testReasons s table) _ (passed .test .reasons) ∙ pass _ 16 _ trustee ∙ pass _ 17 _ (fits _ _ (h .0) (h .1)) ∙ pass _ 18 _ dealt-bits
+      ∙ pass _ 200 _ (same-refl (levelsOf (ballotBytes s) (gatesOf table))) ∙ pass _ 201 _ (le-leb r (roundsOf (ballotBytes s) (gatesOf table)) e)
+      ∙ pass _ 202 [] (and-both _ _ true (eq-eqb (length (heardBefore s table t d r)) (2 * conditionalCount (gatesOf table)) (heard-long r)) (heard-bits r)) ∙ end
+
+  pub calls-of : CallsOf s table t d p
+  unfolding startSaid startedWires startedPublished roundSaid roundedWires roundedPublished wiresMade publishedMade ownTurn holdingsAfter wiresAfter publishedAfter turnOf heardBefore
+  calls-of =
+      record {
+        start = λ ws published e f.
+            let why = start-passes ws published e f in (
+              sym (said-none _ (sizeOf (gatesOf table)) (sizeOf (gatesOf table)) why refl),
+              sym (left-new _ (startWires (length (gatesOf table)) (ballotsOf (ballotBytes s) d p)) ws why),
+              sym (left-new _ (startPublished (conditionalCount (gatesOf table)) (s .candidates)) published why),
+            );
+        round = λ r e.
+            let why = round-passes r e in
+            let h = holdingsAfter t (ballotBytes s) (gatesOf table) (s .candidates) d r in (
+              sym (said-none _ (depthsOf (ballotBytes s) (gatesOf table)) (depthsOf (ballotBytes s) (gatesOf table)) why refl),
+              sym (left-new _ (wiresMade s table p r (levelsOf (ballotBytes s) (gatesOf table)) (dealtOf (gatesOf table) d p) (heardBefore s table t d r) (h .wireParts p)) (h .wireParts p) why),
+              sym (left-new _ (publishedMade s table p r (levelsOf (ballotBytes s) (gatesOf table)) (dealtOf (gatesOf table) d p) (heardBefore s table t d r) (h .wireParts p) (h .published p)) (h .published p) why),
+            );
+      }
