@@ -22,8 +22,7 @@ use Rattle.trustees.specs.Call.{Call}
 use Rattle.trustees.specs.Demands as trustees
 use Rattle.levels.specs.Demands as levels
 use Rattle.trustee_alone.specs.Demands as alone
-use Rattle.dispatch.specs.Theorems.{Refusals, Lengths, Dispatching}
-use Rattle.demands.specs.Dispatched.{DispatchAccuracy}
+use Rattle.dispatch.specs.Theorems.{Dispatching}
 use Rattle.batch.specs.Theorems.{EachAsAlone, AcceptedAsAll, RefusedAsAlone, FaultAsAlone, BatchMemory, BatchAccuracy, BatchHiding}
 
 -- The demand [memory], where no record below has it: the five entry points, the calls on a text, the season sheet, the

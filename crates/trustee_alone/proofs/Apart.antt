@@ -1,33 +1,32 @@
 -- The calls of trustees apart, in an election that the one call accepts: each is accepted, and leaves what they together hold.
 -- Assumes nothing.
 use mathlib.Core.Path.{_≡_, _∙_, refl, sym, ap}
-use mathlib.Core.Bool.{Bool, true, false, cond, _&&_}
-use mathlib.Core.Option.{Option, none}
-use mathlib.Core.List.{List, [], _∷_, _++_}
-use Prim.Native.Nat.{ℕ, zero, suc, _+_, _*_, _%_, _≤_, _<_}
+use mathlib.Core.Bool.{Bool, true, false, cond}
+use mathlib.Core.Option.{none}
+use mathlib.Core.List.{List, [], _∷_}
+use Prim.Native.Nat.{ℕ, zero, suc, _+_, _*_, _≤_, _<_}
 use native.Mathlib.Omega.{arith}
-use lib.Dec.{eqb, leb, ltb}
+use lib.Dec.{eqb, leb}
 use lib.ListN.{length, getD, take, drop, replicate, length-append, length-replicate}
 use lib.Seq.{sets, length-sets, getD-drop}
 use borrow.Author.Tests.{eq-eqb, le-leb, lt-ltb}
-use Rattle.gates.specs.Gate.{Gate, gatesOf}
+use Rattle.gates.specs.Gate.{gatesOf}
 use Rattle.gates.specs.Board.{conditionalCount, Bits}
 use Rattle.gate_levels.specs.Levels.{levelsOf, roundsOf}
-use Rattle.gate_levels.specs.Compared.{sameNumbers}
 use Rattle.gate_levels.proofs.Filling.{same-refl}
 use Rattle.jury.specs.declared.shape.Shape.{Shape}
 use Rattle.jury.specs.Shape.{ballotBytes}
-use Rattle.jury.specs.Reason.{Reason, firstOf}
-use Rattle.tally.specs.Answer.{accepted, said, sizeOf}
+use Rattle.jury.specs.Reason.{firstOf}
+use Rattle.tally.specs.Answer.{sizeOf}
 use Rattle.tally.specs.Test.{testReasons}
 use Rattle.levels.specs.Answer.{depthsOf}
-use Rattle.trustee_shares.specs.Shares.{opened, sumOf, part, Held}
+use Rattle.trustee_shares.specs.Shares.{opened, part, Held}
 use Rattle.trustee_shares.specs.Views.{piece, Dealing, ballotsOf, dealtOf, closingParts, GoodDealing}
 use Rattle.trustee_shares.proofs.Tables.{length-piece}
 use Rattle.trustee_gates.specs.Dealing.{onlyBits}
 use Rattle.trustee_gates.proofs.Tests.{all-pass}
-use Rattle.trustee_rounds.specs.Rounds.{Turn, enters, publishes, closes, startWires, startPublished}
-use Rattle.trustee_rounds.specs.Together.{sumsFrom, sumsOf, Holdings, turnOf, wiresAfter, publishedAfter, holdingsAfter}
+use Rattle.trustee_rounds.specs.Rounds.{enters, publishes, closes, startWires, startPublished}
+use Rattle.trustee_rounds.specs.Together.{sumsFrom, sumsOf, turnOf, wiresAfter, publishedAfter, holdingsAfter}
 use Rattle.trustee_rounds.proofs.Publishing.{length-sums}
 use Rattle.trustee_rounds.proofs.Closing.{length-enters, length-publishes}
 use Rattle.trustees.proofs.Reasons.{CallPassed, passed-dealing}
@@ -35,7 +34,7 @@ use Rattle.trustee_alone.specs.Own.{isTrustee, tablesFit}
 use Rattle.trustee_alone.specs.Start.{ownReasons, startReasons, startSaid, startedWires, startedPublished}
 use Rattle.trustee_alone.specs.Rounds.{tableReasons, roundReasons, roundSaid, ownTurn, wiresMade, publishedMade, roundedWires, roundedPublished}
 use Rattle.trustee_alone.specs.Demands.{heardBefore, CallsOf}
-use Rattle.trustee_alone.proofs.Tests.{pass, end, behind, and-both, said-none, left-new}
+use Rattle.trustee_alone.proofs.Tests.{pass, end, behind, and-both, outcome-none, left-new}
 
 -- pieces of bits are bits
 take-bits : (n : ℕ) (xs : List ℕ) → Bits xs → Bits (take n xs)
@@ -161,14 +160,14 @@ module _ (s : Shape) (table ballots : List ℕ) (t : ℕ) (d : Dealing) (ws₀ p
       record {
         start = λ ws published e f.
             let why = start-passes ws published e f in (
-              sym (said-none _ (sizeOf (gatesOf table)) (sizeOf (gatesOf table)) why refl),
+              sym (outcome-none _ (sizeOf (gatesOf table)) (sizeOf (gatesOf table)) why refl),
               sym (left-new _ (startWires (length (gatesOf table)) (ballotsOf (ballotBytes s) d p)) ws why),
               sym (left-new _ (startPublished (conditionalCount (gatesOf table)) (s .candidates)) published why),
             );
         round = λ r e.
             let why = round-passes r e in
             let h = holdingsAfter t (ballotBytes s) (gatesOf table) (s .candidates) d r in (
-              sym (said-none _ (depthsOf (ballotBytes s) (gatesOf table)) (depthsOf (ballotBytes s) (gatesOf table)) why refl),
+              sym (outcome-none _ (depthsOf (ballotBytes s) (gatesOf table)) (depthsOf (ballotBytes s) (gatesOf table)) why refl),
               sym (left-new _ (wiresMade s table p r (levelsOf (ballotBytes s) (gatesOf table)) (dealtOf (gatesOf table) d p) (heardBefore s table t d r) (h .wireParts p)) (h .wireParts p) why),
               sym (left-new _ (publishedMade s table p r (levelsOf (ballotBytes s) (gatesOf table)) (dealtOf (gatesOf table) d p) (heardBefore s table t d r) (h .wireParts p) (h .published p)) (h .published p) why),
             );

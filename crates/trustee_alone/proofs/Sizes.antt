@@ -24,7 +24,7 @@ use Rattle.basics.proofs.Flags.{and-first, and-second}
 use Rattle.jury.proofs.Limits.{bounds, inputs-bound}
 use Rattle.tally.specs.Answer.{sizeOf}
 use Rattle.levels.proofs.Reasons.{ListFacts}
-use Rattle.trustees.specs.Inner.{SmallSizes}
+use Rattle.trustees.specs.inner.Sizes.{SmallSizes}
 use Rattle.trustee_rounds.specs.Rounds.{startWires, startPublished}
 use Rattle.trustee_alone.specs.Own.{tablesFit}
 use Rattle.trustee_alone.specs.inner.Ready.{TablesReady}

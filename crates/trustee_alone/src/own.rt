@@ -2,7 +2,7 @@
 use trustees::test::LEAST_TRUSTEES;
 use trustees::test::MOST_TRUSTEES;
 ghost use mathlib.Core.Path.{_≡_};
-ghost use Rattle.trustees.specs.Inner.{SmallSizes};
+ghost use Rattle.trustees.specs.inner.Sizes.{SmallSizes};
 ghost use Rattle.trustee_alone.specs.Own.{isTrustee, tablesFit};
 
 // Whether p is one of t trustees, counted from 0, and there may be so many.

@@ -8,7 +8,7 @@ use trustee_gates::dealing;
 ghost use mathlib.Core.Path.{_≡_};
 ghost use Rattle.jury.specs.Reason.{refusedFor, firstOf};
 ghost use Rattle.tally.specs.Answer.{outcomeOf};
-ghost use Rattle.trustees.specs.Inner.{SmallSizes};
+ghost use Rattle.trustees.specs.inner.Sizes.{SmallSizes};
 ghost use Rattle.trustee_alone.specs.Start.{ownReasons, startSaid, startedWires, startedPublished};
 
 // Reasons 16 to 18.
