@@ -10,9 +10,6 @@ from typing import NamedTuple, Union
 from .library import Buffer, call, wipe
 from .shape import Shape, winners_of
 
-# By kind: operands in use, and whether the gate is conditional, that is, takes a tape byte and shows a bit.
-OPERANDS = (0, 0, 1, 1, 2, 2, 2, 3)
-CONDITIONAL = (False, False, False, False, True, True, False, True)
 # The longest line of a list as text: a kind, three operands of ten digits, three spaces and a line feed.
 LONGEST_LINE = 44
 
@@ -113,12 +110,8 @@ class GateList:
     def levels(self) -> int:
         """The multiplicative depth: how many conditional gates the longest chain has. Openings of one level can be made
         together, so this is the number of rounds that a sealing layer needs."""
-        # the one place to call the library's own levels from, once it exports them
-        depth = [0] * self.shape.inputs
-        for kind, *operands in self:
-            deepest = max((depth[wire] for wire in operands[:OPERANDS[kind]]), default=0)
-            depth.append(deepest + CONDITIONAL[kind])
-        return max(depth)
+        table = array.array("I", bytes(4 * len(self)))
+        return call("jugy_levels", *self.shape, self._table, table, answers=5)[2]
 
     def run(self, ballots: bytes, tape: Tape = None) -> Board:
         """Runs the list on a jury's ballots. The board may be published.

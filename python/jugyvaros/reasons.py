@@ -40,6 +40,7 @@ ADVICE = {
     22: "remove that run from the file",
     23: "write a kind and its operands in decimal, single spaces, a line feed after each line",
     24: "lend a longer output",
+    200: "take the levels that the core writes for this list",
 }
 
 
