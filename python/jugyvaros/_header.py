@@ -24,7 +24,7 @@ WORDS: dict[int, tuple[str, str, str]] = {
     ),
     5: (
         "BALLOT_BYTE",
-        "a byte of a ballot is no bit",
+        "a byte of a ballot is neither 0 nor 1",
         "the byte",
     ),
     6: (
@@ -39,7 +39,7 @@ WORDS: dict[int, tuple[str, str, str]] = {
     ),
     8: (
         "TAPE_BYTE",
-        "a byte of the tape is no bit",
+        "a byte of the tape is neither 0 nor 1",
         "the byte",
     ),
     9: (
@@ -53,13 +53,13 @@ WORDS: dict[int, tuple[str, str, str]] = {
         "",
     ),
     11: (
-        "BALLOT_CLASH",
-        "ranked: a byte and its opposite, or one of the diagonal, are 1",
-        "the earliest such byte",
+        "NOT_ASYMMETRIC",
+        "ranked: two before each other, or one before itself",
+        "the first such byte",
     ),
     12: (
-        "BALLOT_GAP",
-        "ranked: i is before j, a third one is not behind i and not before j",
+        "NOT_WEAK_ORDER",
+        "ranked: i is before j, a third is neither behind i nor before j",
         "the ballot",
     ),
     13: (
@@ -69,7 +69,7 @@ WORDS: dict[int, tuple[str, str, str]] = {
     ),
     14: (
         "JUROR",
-        "none of a juror's numbers, 1 to 255; or in already (admission), or not in (withdrawal)",
+        "the juror is not 1 to 255, or is in already (admission), or not in (withdrawal)",
         "",
     ),
     15: (
@@ -89,7 +89,7 @@ WORDS: dict[int, tuple[str, str, str]] = {
     ),
     18: (
         "DEALING",
-        "a ballot or dealer part is no bit, or the sum modulo 2 of parts is not their ballot byte or product",
+        "a part is neither 0 nor 1, or parts do not add up to their ballot byte or product",
         "",
     ),
     19: (
@@ -99,17 +99,32 @@ WORDS: dict[int, tuple[str, str, str]] = {
     ),
     20: (
         "GATES_PER_ROUND",
-        "the share, a jury's gates of a round, is 0 or above 65,536",
+        "a jury's gates of a round are 0 or above 65,536",
         "",
     ),
     23: (
         "LINE",
-        "a line of text of another form, of a kind that is none, or with a number of 2^32 or more",
+        "not a line of a gate, by form, kind or a number of 2^32 or more",
         "the line",
     ),
     24: (
         "OUTPUT",
         "what would be written has no room in the output",
+        "",
+    ),
+    200: (
+        "LEVELS",
+        "the level table has not G numbers, or not the list's own levels where they are read",
+        "",
+    ),
+    201: (
+        "ROUND",
+        "the round is above R",
+        "",
+    ),
+    202: (
+        "HEARD",
+        "the sums are not 2 C bits",
         "",
     ),
 }
@@ -132,4 +147,8 @@ SIGNATURES: dict[str, str] = {
     "jugy_run_urn": "nnnIBBBBL",
     "jugy_trustees": "nnnIBnBBBBL",
     "jugy_dispatch": "nnLIBBBBL",
+    "jugy_levels": "nnnIIL",
+    "jugy_trustee_start": "nnnInnBBBBL",
+    "jugy_trustee_round": "nnnInnnIBBBBL",
+    "jugy_trustee_finish": "nnnIBL",
 }
