@@ -16,9 +16,9 @@ use Rattle.ranked_circuit.specs.Blocks.{compare, smaller, larger, larger
 use Rattle.ranked_circuit.specs.Table.{blocks, entries, table}
 use Rattle.ranked_circuit.specs.Stages.{votesBlock, linksBlock, stays, newWord, pathBlock}
 use Rattle.ranked_circuit.specs.Paths.{votesAt, votesTable, linksFrom, linksTable, linkWire, nextPaths, pathsTo}
-use Rattle.ranked_circuit.specs.RankedList.{joined, loserRow, loserRows, outputGates, contestsFrom, contests, beatsAt, losersFrom, rankedList}
+use Rattle.ranked_circuit.specs.RankedList.{joined, loserRow, loserRows, outputGates, contestsFrom, contests, beatsAt, losersFrom, pairFrom, rankedList}
 use Rattle.ranked_circuit.proofs.TableLaws.{startOf}
-use Rattle.ranked_circuit.proofs.Accuracy.{pathGates, contestGates, rowGates, lastGates, list-is}
+use Rattle.ranked_circuit.proofs.Accuracy.{pathGates, contestGates, rowGates, lastGates, list-is, pair-is}
 
 -- the sum of m numbers, and of the numbers of a table
 pub sumBelow : (ℕ → ℕ) → ℕ → ℕ
@@ -27,6 +27,10 @@ sumBelow f (suc m) = sumBelow f m + f m
 
 pub tableSum : (ℕ → ℕ → ℕ) → ℕ → ℕ
 tableSum f k = sumBelow (λ e. f (e / k) (e % k)) (k * k)
+
+none-below : (f : ℕ → ℕ) → sumBelow f 0 ≡ 0
+unfolding sumBelow
+none-below f = refl
 
 same-sum : (x m : ℕ) → sumBelow (λ e. x) m ≡ m * x
 unfolding sumBelow
@@ -125,12 +129,12 @@ module _ (f : List Gate → ℕ) (g : Figure f) where
         blocks-figure (λ wire i. notOf (joined beats (suc r) (from + i * r) i (2 * r)) ∷ []) (λ i. x) (λ wire i. a .lasts (joined beats (suc r) (from + i * r) i (2 * r))) (from + k * r) k ∙ same-sum x k
 
     -- all of the list
-    pub by-tables : (r : ℕ) → f (rankedList (suc (suc r)) n w) ≡
-        tableSum (apartOf c) (suc (suc r)) + tableSum (linkedOf p) (suc (suc r)) + sumBelow (λ l. tableSum (stageOf (stageFigure s d e l) l) (suc (suc r))) (suc (suc (suc r)))
-        + tableSum (linkedOf p) (suc (suc r)) + suc (suc r) * (r * o) + suc (suc r) * x
+    pub by-tables : (r : ℕ) → f (rankedList (suc (suc (suc r))) n w) ≡
+        tableSum (apartOf c) (suc (suc (suc r))) + tableSum (linkedOf p) (suc (suc (suc r))) + sumBelow (λ l. tableSum (stageOf (stageFigure s d e l) l) (suc (suc (suc r)))) (suc (suc (suc (suc r))))
+        + tableSum (linkedOf p) (suc (suc (suc r))) + suc (suc (suc r)) * (suc r * o) + suc (suc (suc r)) * x
     unfolding pathGates contestGates contests rowGates lastGates
     by-tables r =
-        let k = suc (suc r) in
+        let k = suc (suc (suc r)) in
         omega (
           arith,
           ap f (list-is r n w),
@@ -139,56 +143,67 @@ module _ (f : List Gate → ℕ) (g : Figure f) where
           g .both (pathGates r n w) (contestGates r n w),
           paths-figure k (suc k),
           table-figure k (linksBlock (pathsTo k n w (suc k) .words) w) (linkedOf p) (links-figure (pathsTo k n w (suc k) .words)) (contestsFrom k n w),
-          rows-figure (beatsAt k n w) r (losersFrom k n w) k,
-          outputs-figure (beatsAt k n w) r (losersFrom k n w) k,
+          rows-figure (beatsAt k n w) (suc r) (losersFrom k n w) k,
+          outputs-figure (beatsAt k n w) (suc r) (losersFrom k n w) k,
         )
 
--- the sums of the tables of r + 2 candidates
+    -- of the list of two candidates
+    pub pair-figure : f (rankedList 2 n w) ≡ tableSum (apartOf c) 2 + tableSum (linkedOf p) 2 + 2 * x
+    pair-figure =
+        omega (
+          arith,
+          ap f (pair-is n w),
+          g .both (pathsTo 2 n w 0 .gates) (outputGates (linkWire 2 n w) 0 (pairFrom n w) 2),
+          paths-figure 2 0,
+          none-below (λ l. tableSum (stageOf (stageFigure s d e l) l) 2),
+          outputs-figure (linkWire 2 n w) 0 (pairFrom n w) 2,
+        )
+
+-- the sums of the tables of r + 3 candidates
 abbrev Sums : ℕ → ℕ → ℕ → ℕ → ℕ → ℕ → Type 0
 Sums r c p s d e =
-    tableSum (apartOf c) (suc (suc r)) + tableSum (linkedOf p) (suc (suc r)) + sumBelow (λ l. tableSum (stageOf (stageFigure s d e l) l) (suc (suc r))) (suc (suc (suc r)))
-    + tableSum (linkedOf p) (suc (suc r))
-    ≡ suc (suc r) * suc r * c + suc (suc r) * suc r * p + 2 * suc r * s + suc r * r * d + suc r * (suc r * r) * e
+    tableSum (apartOf c) (suc (suc (suc r))) + tableSum (linkedOf p) (suc (suc (suc r))) + sumBelow (λ l. tableSum (stageOf (stageFigure s d e l) l) (suc (suc (suc r)))) (suc (suc (suc (suc r))))
+    + tableSum (linkedOf p) (suc (suc (suc r)))
+    ≡ suc (suc (suc r)) * suc (suc r) * c + suc (suc (suc r)) * suc (suc r) * p + 2 * suc (suc r) * s + suc (suc r) * suc r * d + suc (suc r) * (suc (suc r) * suc r) * e
 
-sums-two : (c p s d e : ℕ) → Sums 0 c p s d e
-unfolding tableSum sumBelow apartOf linkedOf stageOf stageFigure stays
-sums-two c p s d e = omega arith
-
-sums-three : (c p s d e : ℕ) → Sums 1 c p s d e
+sums-three : (c p s d e : ℕ) → Sums 0 c p s d e
 unfolding tableSum sumBelow apartOf linkedOf stageOf stageFigure stays
 sums-three c p s d e = omega arith
 
-sums-four : (c p s d e : ℕ) → Sums 2 c p s d e
+sums-four : (c p s d e : ℕ) → Sums 1 c p s d e
 unfolding tableSum sumBelow apartOf linkedOf stageOf stageFigure stays
 sums-four c p s d e = omega arith
 
-sums-five : (c p s d e : ℕ) → Sums 3 c p s d e
+sums-five : (c p s d e : ℕ) → Sums 2 c p s d e
 unfolding tableSum sumBelow apartOf linkedOf stageOf stageFigure stays
 sums-five c p s d e = omega arith
 
-sums-six : (c p s d e : ℕ) → Sums 4 c p s d e
+sums-six : (c p s d e : ℕ) → Sums 3 c p s d e
 unfolding tableSum sumBelow apartOf linkedOf stageOf stageFigure stays
 sums-six c p s d e = omega arith
 
-sums-seven : (c p s d e : ℕ) → Sums 5 c p s d e
+sums-seven : (c p s d e : ℕ) → Sums 4 c p s d e
 unfolding tableSum sumBelow apartOf linkedOf stageOf stageFigure stays
 sums-seven c p s d e = omega arith
 
-sums-eight : (c p s d e : ℕ) → Sums 6 c p s d e
+sums-eight : (c p s d e : ℕ) → Sums 5 c p s d e
 unfolding tableSum sumBelow apartOf linkedOf stageOf stageFigure stays
 sums-eight c p s d e = omega arith
 
-sums : (r c p s d e : ℕ) → r ≤ 6 → Sums r c p s d e
-sums zero c p s d e h = sums-two c p s d e
-sums (suc zero) c p s d e h = sums-three c p s d e
-sums (suc (suc zero)) c p s d e h = sums-four c p s d e
-sums (suc (suc (suc zero))) c p s d e h = sums-five c p s d e
-sums (suc (suc (suc (suc zero)))) c p s d e h = sums-six c p s d e
-sums (suc (suc (suc (suc (suc zero))))) c p s d e h = sums-seven c p s d e
-sums (suc (suc (suc (suc (suc (suc zero)))))) c p s d e h = sums-eight c p s d e
-sums (suc (suc (suc (suc (suc (suc (suc r))))))) c p s d e h = absurd (omega arith)
+sums : (r c p s d e : ℕ) → r ≤ 5 → Sums r c p s d e
+sums zero c p s d e h = sums-three c p s d e
+sums (suc zero) c p s d e h = sums-four c p s d e
+sums (suc (suc zero)) c p s d e h = sums-five c p s d e
+sums (suc (suc (suc zero))) c p s d e h = sums-six c p s d e
+sums (suc (suc (suc (suc zero)))) c p s d e h = sums-seven c p s d e
+sums (suc (suc (suc (suc (suc zero))))) c p s d e h = sums-eight c p s d e
+sums (suc (suc (suc (suc (suc (suc r)))))) c p s d e h = absurd (omega arith)
 
--- what is counted of the list of r + 2 candidates
-pub figure-is : (f : List Gate → ℕ) → Figure f → (n w c p s d e o x : ℕ) → Each f n w c p s d e o x → (r : ℕ) → r ≤ 6 → f (rankedList (suc (suc r)) n w) ≡
-    suc (suc r) * suc r * c + suc (suc r) * suc r * p + 2 * suc r * s + suc r * r * d + suc r * (suc r * r) * e + suc (suc r) * (r * o) + suc (suc r) * x
+-- what is counted of the list of r + 3 candidates, and of two
+pub figure-is : (f : List Gate → ℕ) → Figure f → (n w c p s d e o x : ℕ) → Each f n w c p s d e o x → (r : ℕ) → r ≤ 5 → f (rankedList (suc (suc (suc r))) n w) ≡
+    suc (suc (suc r)) * suc (suc r) * c + suc (suc (suc r)) * suc (suc r) * p + 2 * suc (suc r) * s + suc (suc r) * suc r * d + suc (suc r) * (suc (suc r) * suc r) * e + suc (suc (suc r)) * (suc r * o) + suc (suc (suc r)) * x
 figure-is f g n w c p s d e o x a r h = omega (arith, by-tables f g n w c p s d e o x a r, sums r c p s d e h)
+
+pub pair-figure-is : (f : List Gate → ℕ) → Figure f → (n w c p s d e o x : ℕ) → Each f n w c p s d e o x → f (rankedList 2 n w) ≡ 2 * c + p + 2 * x
+unfolding tableSum sumBelow apartOf linkedOf
+pair-figure-is f g n w c p s d e o x a = pair-figure f g n w c p s d e o x a ∙ omega arith

@@ -25,10 +25,10 @@ use Rattle.jury.proofs.WidthLaws.{width-half, below-width, least-width, width-m
 use Rattle.rule_schulze.specs.Schulze.{wins, closingBytes}
 use Rattle.rule_schulze.specs.Votes.{votes}
 use Rattle.rule_schulze.proofs.Winning.{unbeaten-wins}
-use Rattle.ranked_circuit.specs.RankedList.{contestsFrom, losersFrom, rankedList}
+use Rattle.ranked_circuit.specs.RankedList.{rankedList}
 use Rattle.ranked_circuit.specs.OwnRanking.{ownRanking, rankingBound, OwnRankingHolds}
 use Rattle.ranked_circuit.proofs.Columns.{column}
-use Rattle.ranked_circuit.proofs.Accuracy.{list-end, circuit-good, closing-law}
+use Rattle.ranked_circuit.proofs.Accuracy.{outputsFrom, list-end, inputs-before, circuit-good, closing-law}
 use Rattle.ranked_circuit.proofs.SizeLaws.{gates-most, bound-small}
 
 -- n ballots can be counted in words as wide as n
@@ -69,10 +69,7 @@ single n xs bits =
     ap (wire (wiresOf xs gs)) at ∙ w ∙ sym (ap (λ (c : Bool). cond {A = ℕ} c 1 0) alone))
 
 outputs-in : (m n w : ℕ) → suc (suc m) ≤ length (rankedList (suc (suc m)) n w)
-outputs-in m n w = omega (arith, list-end m n w, begins)
-  where
-    begins : n * suc (suc m) * suc (suc m) ≤ losersFrom (suc (suc m)) n w
-    begins = unfold losersFrom contestsFrom in (omega arith)
+outputs-in m n w = omega (arith, list-end m n w, inputs-before m n w)
 
 -- two or more
 several : (m n w : ℕ) (xs : List ℕ) → Countable n 0 w → length xs ≡ n * suc (suc m) * suc (suc m) → ((p : ℕ) → getD xs p 0 ≤ 1) →
@@ -87,7 +84,7 @@ several m n w xs count size bits =
     let end = list-end m n w in
     closing-from k n xs gs (outputs-in m n w)
     (λ i h.
-    let at : length xs + length gs - k + i ≡ losersFrom k n w + k * m + i = omega arith in
+    let at : length xs + length gs - k + i ≡ outputsFrom m n w + i = omega arith in
     ap W at ∙ closing-law m n w W (bits-of xs gs bits good) (votes k n xs) count counted holds i h)
 
 single-holds : (n : ℕ) → OwnRankingHolds 1 n

@@ -78,7 +78,7 @@ module _ (k n w : ℕ) (W : ℕ → ℕ) (b : Binary W) (v : ℕ → ℕ → ℕ
       let p = pathsTo k n w m in
       first-holds m (holds-append W (n * k * k) (p .gates) (table (n * k * k + length (p .gates)) k (pathBlock (linkWire k n w) (p .words) w m)) h .0)
 
-  links-told : (m : ℕ) → Holds W (n * k * k) (pathsTo k n w m .gates) → (i j : ℕ) → i < k → j < k → i ≢ j → (v j i < v i j → W (linkWire k n w i j) ≡ 1) × (v i j ≤ v j i → W (linkWire k n w i j) ≡ 0)
+  pub links-told : (m : ℕ) → Holds W (n * k * k) (pathsTo k n w m .gates) → (i j : ℕ) → i < k → j < k → i ≢ j → (v j i < v i j → W (linkWire k n w i j) ≡ 1) × (v i j ≤ v j i → W (linkWire k n w i j) ≡ 0)
   unfolding linksTable linkWire
   links-told m h = let p = first-holds m h in link-told W b (votesAt k n w) v k w (votes-spelled (p .0)) (linksFrom k n w) (p .1)
 

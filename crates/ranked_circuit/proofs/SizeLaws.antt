@@ -12,7 +12,7 @@ use Rattle.ranked_circuit.specs.Blocks.{smaller, larger, largerIf}
 use Rattle.ranked_circuit.specs.RankedList.{rankedList}
 use Rattle.ranked_circuit.specs.OwnRanking.{rankingBound}
 use Rattle.ranked_circuit.proofs.BlockLaws.{length-whole, length-smaller, length-larger, length-larger-if}
-use Rattle.ranked_circuit.proofs.Figures.{Each, figure-is}
+use Rattle.ranked_circuit.proofs.Figures.{Figure, Each, figure-is, pair-figure-is}
 
 -- the levels' bound by products of two numbers
 levels-product : (r n : ℕ) → r * (2 * n + 2) + 2 * n + 2 ≡ 2 * (n * suc r) + 2 * suc r
@@ -38,40 +38,45 @@ sizes n w =
     }
 
 -- G: a counter for each two candidates either way, two comparisons for both, a word for each link to or from the first, and so on
-pub gates-are : (r n w : ℕ) → r ≤ 6 → length (rankedList (suc (suc r)) n w) ≡
-    suc (suc r) * suc r * (countSize n 0 w + suc w) + suc (suc r) * suc r * (3 + 3 * w) + 2 * suc r * suc w + suc r * r * (6 * w + 3) + suc r * (suc r * r) * (6 * w + 2) + suc (suc r) * suc r
+pub gates-are : (r n w : ℕ) → r ≤ 5 → length (rankedList (suc (suc (suc r))) n w) ≡
+    suc (suc (suc r)) * suc (suc r) * (countSize n 0 w + suc w) + suc (suc (suc r)) * suc (suc r) * (3 + 3 * w) + 2 * suc (suc r) * suc w + suc (suc r) * suc r * (6 * w + 3) + suc (suc r) * (suc (suc r) * suc r) * (6 * w + 2) + suc (suc (suc r)) * suc (suc r)
 gates-are r n w h =
     let total = figure-is length (record { none = refl; both = length-append }) n w (countSize n 0 w + suc w) (3 + 3 * w) (suc w) (6 * w + 3) (6 * w + 2) 1 1 (sizes n w) r h in
+    omega arith
+
+pub pair-gates-are : (n w : ℕ) → length (rankedList 2 n w) ≡ 2 * (countSize n 0 w + suc w) + (3 + 3 * w) + 2
+pair-gates-are n w =
+    let total = pair-figure-is length (record { none = refl; both = length-append }) n w (countSize n 0 w + suc w) (3 + 3 * w) (suc w) (6 * w + 3) (6 * w + 2) 1 1 (sizes n w) in
     omega arith
 
 module _ (n w : ℕ) (h : 0 < n) where
   bounded-two : length (rankedList 2 n w) ≤ rankingBound 2 n (suc w)
   unfolding rankingBound
-  bounded-two = omega (arith, gates-are 0 n w (omega arith), counter-most n w h)
+  bounded-two = omega (arith, pair-gates-are n w, counter-most n w h)
 
   bounded-three : length (rankedList 3 n w) ≤ rankingBound 3 n (suc w)
   unfolding rankingBound
-  bounded-three = omega (arith, gates-are 1 n w (omega arith), counter-most n w h)
+  bounded-three = omega (arith, gates-are 0 n w (omega arith), counter-most n w h)
 
   bounded-four : length (rankedList 4 n w) ≤ rankingBound 4 n (suc w)
   unfolding rankingBound
-  bounded-four = omega (arith, gates-are 2 n w (omega arith), counter-most n w h)
+  bounded-four = omega (arith, gates-are 1 n w (omega arith), counter-most n w h)
 
   bounded-five : length (rankedList 5 n w) ≤ rankingBound 5 n (suc w)
   unfolding rankingBound
-  bounded-five = omega (arith, gates-are 3 n w (omega arith), counter-most n w h)
+  bounded-five = omega (arith, gates-are 2 n w (omega arith), counter-most n w h)
 
   bounded-six : length (rankedList 6 n w) ≤ rankingBound 6 n (suc w)
   unfolding rankingBound
-  bounded-six = omega (arith, gates-are 4 n w (omega arith), counter-most n w h)
+  bounded-six = omega (arith, gates-are 3 n w (omega arith), counter-most n w h)
 
   bounded-seven : length (rankedList 7 n w) ≤ rankingBound 7 n (suc w)
   unfolding rankingBound
-  bounded-seven = omega (arith, gates-are 5 n w (omega arith), counter-most n w h)
+  bounded-seven = omega (arith, gates-are 4 n w (omega arith), counter-most n w h)
 
   bounded-eight : length (rankedList 8 n w) ≤ rankingBound 8 n (suc w)
   unfolding rankingBound
-  bounded-eight = omega (arith, gates-are 6 n w (omega arith), counter-most n w h)
+  bounded-eight = omega (arith, gates-are 5 n w (omega arith), counter-most n w h)
 
   pub gates-most : (r : ℕ) → r ≤ 6 → length (rankedList (suc (suc r)) n w) ≤ rankingBound (suc (suc r)) n (suc w)
   gates-most zero l = bounded-two

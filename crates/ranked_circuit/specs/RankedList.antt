@@ -9,7 +9,7 @@ use Rattle.gates.specs.Gate.{Gate}
 use Rattle.gate_words.specs.Gates.{constant, notOf, orOf}
 use Rattle.ranked_circuit.specs.Table.{blocks, table}
 use Rattle.ranked_circuit.specs.Stages.{linksBlock, linkAt}
-use Rattle.ranked_circuit.specs.Paths.{pathsTo}
+use Rattle.ranked_circuit.specs.Paths.{linkWire, pathsTo}
 
 -- The candidates but i, in order: number s of them.
 unfoldable pub other : ℕ → ℕ → ℕ
@@ -43,10 +43,18 @@ beatsAt k n w = linkAt (contestsFrom k n w) k (linksBlock (pathsTo k n w (suc k)
 unfoldable pub losersFrom : ℕ → ℕ → ℕ → ℕ
 losersFrom k n w = contestsFrom k n w + length (contests k n w)
 
--- The list for r + 2 candidates, and for one alone, who wins.
+-- Where the output gates of two candidates start: behind their links, which tell at once who is beaten.
+unfoldable pub pairFrom : ℕ → ℕ → ℕ
+pairFrom n w = n * 2 * 2 + length (pathsTo 2 n w 0 .gates)
+
+-- The list for one candidate alone, who wins, for two, and for r + 3.
 unfoldable pub rankedList : ℕ → ℕ → ℕ → List Gate
 rankedList zero n w = []
 rankedList (suc zero) n w = constant 1 ∷ []
-rankedList (suc (suc r)) n w =
-    let k = suc (suc r) in
-    pathsTo k n w (suc k) .gates ++ contests k n w ++ loserRows (beatsAt k n w) r (losersFrom k n w) k ++ outputGates (beatsAt k n w) r (losersFrom k n w) k
+rankedList (suc (suc zero)) n w = pathsTo 2 n w 0 .gates ++ outputGates (linkWire 2 n w) 0 (pairFrom n w) 2
+rankedList (suc (suc (suc r))) n w =
+    let k = suc (suc (suc r)) in
+    pathsTo k n w (suc k) .gates
+    ++ contests k n w
+    ++ loserRows (beatsAt k n w) (suc r) (losersFrom k n w) k
+    ++ outputGates (beatsAt k n w) (suc r) (losersFrom k n w) k

@@ -15,7 +15,7 @@ use Rattle.basics.proofs.Cases.{below-or-not}
 use Rattle.ranked_circuit.specs.Table.{blocks, table, entryEnd}
 use Rattle.ranked_circuit.specs.Stages.{votesBlock, linksBlock, linkAt, stays, pathBlock}
 use Rattle.ranked_circuit.specs.Paths.{votesAt, votesTable, linksFrom, linksTable, linkWire, nextPaths, pathsTo}
-use Rattle.ranked_circuit.specs.RankedList.{other, joined, loserRow, loserRows, outputGates, contestsFrom, contests, beatsAt, losersFrom, rankedList}
+use Rattle.ranked_circuit.specs.RankedList.{other, joined, loserRow, loserRows, outputGates, contestsFrom, contests, beatsAt, losersFrom, pairFrom, rankedList}
 use Rattle.ranked_circuit.proofs.StageLaws.{apart-all, apart-zero}
 use Rattle.ranked_circuit.proofs.GoodLaws.{endOf, words-below, votes-below}
 use Rattle.ranked_circuit.proofs.LoserLaws.{other-low, other-apart}
@@ -136,24 +136,28 @@ module _ (k n w : ℕ) where
   pub stage-end : (m : ℕ) → endOf k n w (suc m) ≡ endOf k n w m + length (table (endOf k n w m) k (pathBlock (linkWire k n w) (pathsTo k n w m .words) w m))
   stage-end m = omega (arith, stages-long m, stages-long (suc m), stages-next m)
 
-  -- the whole list for two or more candidates
-  pub list-parts : (r : ℕ) → k ≡ suc (suc r) → rankedList k n w ≡
+  -- the whole list for three or more candidates, and for two
+  pub list-parts : (r : ℕ) → 1 ≤ r → k ≡ suc (suc r) → rankedList k n w ≡
       pathsTo k n w (suc k) .gates ++ contests k n w ++ loserRows (beatsAt k n w) r (losersFrom k n w) k ++ outputGates (beatsAt k n w) r (losersFrom k n w) k
-  list-parts r e = rw e (unfold rankedList in refl)
+  list-parts zero l e = absurd (omega arith)
+  list-parts (suc r) l e = rw e (unfold rankedList in refl)
+
+  pub pair-parts : k ≡ 2 → rankedList k n w ≡ pathsTo k n w 0 .gates ++ outputGates (linkWire k n w) (k - 2) (endOf k n w 0) k
+  pair-parts e = rw e (unfold rankedList pairFrom in refl)
 
   pub rows-long : (beats : ℕ → ℕ → ℕ) (r from : ℕ) → k ≡ suc (suc r) → length (loserRows beats r from k) ≡ k * r
   rows-long beats r from e = subst (λ (x : ℕ). length (loserRows beats r from x) ≡ x * r) (sym e) (rows-length beats r from)
 
-  outputs-long : (beats : ℕ → ℕ → ℕ) (r from : ℕ) → k ≡ suc (suc r) → length (outputGates beats r from k) ≡ k
+  pub outputs-long : (beats : ℕ → ℕ → ℕ) (r from : ℕ) → k ≡ suc (suc r) → length (outputGates beats r from k) ≡ k
   outputs-long beats r from e = subst (λ (x : ℕ). length (outputGates beats r from x) ≡ x) (sym e) (outputs-length beats r from)
 
-  pub list-long : (r : ℕ) → k ≡ suc (suc r) → length (rankedList k n w) ≡ length (pathsTo k n w (suc k) .gates) + length (contests k n w) + k * r + k
-  list-long r e =
+  pub list-long : (r : ℕ) → 1 ≤ r → k ≡ suc (suc r) → length (rankedList k n w) ≡ length (pathsTo k n w (suc k) .gates) + length (contests k n w) + k * r + k
+  list-long r l e =
       let a = pathsTo k n w (suc k) .gates in
       let b = contests k n w in
       let c = loserRows (beatsAt k n w) r (losersFrom k n w) k in
       let d = outputGates (beatsAt k n w) r (losersFrom k n w) k in
-      ap length (list-parts r e)
+      ap length (list-parts r l e)
       ∙ omega (arith, length-append (a ++ b ++ c) d, length-append (a ++ b) c, length-append a b, rows-long (beatsAt k n w) r (losersFrom k n w) e, outputs-long (beatsAt k n w) r (losersFrom k n w) e)
 
   pub contests-are : contests k n w ≡ table (endOf k n w (suc k)) k (linksBlock (pathsTo k n w (suc k) .words) w)

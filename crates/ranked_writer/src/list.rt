@@ -55,11 +55,24 @@ fn path_tables(w: Writer, table: &mut [u32], words: &mut [u32], p: Ranks) -> Wri
     next
 }
 
-// The list for two or more candidates.
+// The list for two candidates: their links tell who is beaten.
+fn pair_circuit(w: Writer, table: &mut [u32], p: Ranks) -> Writer
+    requires { ⌜ Ranked p ⌝ }
+    requires { ⌜ Room w (length (rankedList (p .candidates) (p .ballots) (p .digits))) ⌝ }
+    requires { ⌜ (p .candidates ≡ 2) × (w .wire ≡ p .ballots * p .candidates * p .candidates) ⌝ }
+    ensures { λ r. ⌜ Wrote w (now (table .entry)) (rankedList (p .candidates) (p .ballots) (p .digits)) (now (table .exit)) r ⌝ }
+{
+    let mut links = [0u32; 64];
+    let mut words = [0u32; 64];
+    let linked = first_tables(w, table, &mut links, &mut words, p);
+    output_gates(linked, table, &links, p.candidates, linked.wire)
+}
+
+// The list for three or more candidates.
 fn circuit(w: Writer, table: &mut [u32], p: Ranks) -> Writer
     requires { ⌜ Ranked p ⌝ }
     requires { ⌜ Room w (length (rankedList (p .candidates) (p .ballots) (p .digits))) ⌝ }
-    requires { ⌜ w .wire ≡ p .ballots * p .candidates * p .candidates ⌝ }
+    requires { ⌜ (3 ≤ p .candidates) × (w .wire ≡ p .ballots * p .candidates * p .candidates) ⌝ }
     ensures { λ r. ⌜ Wrote w (now (table .entry)) (rankedList (p .candidates) (p .ballots) (p .digits)) (now (table .exit)) r ⌝ }
 {
     let mut words = [0u32; 64];
@@ -86,5 +99,8 @@ pub fn ranked_list(candidates: u32, ballots: u32, table: &mut [u32]) -> Writer
         ballots,
         digits,
     };
+    if candidates == 2 {
+        return pair_circuit(w, table, p);
+    }
     circuit(w, table, p)
 }

@@ -24,16 +24,16 @@ use Rattle.ranked_writer.proofs.list.circuit.Tie as tie
 two : {k : ℕ} → 2 ≤ k → k ≡ suc (suc (k - 2))
 two {k} h = omega arith
 
-long : (p : Ranks) → 2 ≤ p .candidates → length (rankedList (p .candidates) (p .ballots) (p .digits)) ≡ length (pathsTo (p .candidates) (p .ballots) (p .digits) (suc (p .candidates)) .gates) + length (contests (p .candidates) (p .ballots) (p .digits)) + p .candidates * (p .candidates - 2) + p .candidates
-long p h = list-long (p .candidates) (p .ballots) (p .digits) (p .candidates - 2) (two h)
+long : (p : Ranks) → 3 ≤ p .candidates → length (rankedList (p .candidates) (p .ballots) (p .digits)) ≡ length (pathsTo (p .candidates) (p .ballots) (p .digits) (suc (p .candidates)) .gates) + length (contests (p .candidates) (p .ballots) (p .digits)) + p .candidates * (p .candidates - 2) + p .candidates
+long p h = list-long (p .candidates) (p .ballots) (p .digits) (p .candidates - 2) (omega arith) (two (omega arith))
 
 path-tables-requires : tie.Need-path-tables-requires
 path-tables-requires c κs =
     let a = (c .before .before .before .args) in
-    ((c .before .before .before .pre) .0, (room-less (a .w) _ _ (omega (arith, long (a .p) ((c .before .before .before .pre) .0 .k-least))) ((c .before .before .before .pre) .1 .0), ((c .before .before .before .pre) .1 .1, refl)))
+    ((c .before .before .before .pre) .0, (room-less (a .w) _ _ (omega (arith, long (a .p) ((c .before .before .before .pre) .1 .1 .0))) ((c .before .before .before .pre) .1 .0), ((c .before .before .before .pre) .1 .1 .1, refl)))
 
 paths-end : (c : tie.After-path-tables) → (c .path-tables) .result .wire ≡ endOf ((c .before .before .before .before .args) .p .candidates) ((c .before .before .before .before .args) .p .ballots) ((c .before .before .before .before .args) .p .digits) (suc ((c .before .before .before .before .args) .p .candidates))
-paths-end c = omega (arith, (c .path-tables) .ensures .0 .wires, (c .before .before .before .before .pre) .1 .1)
+paths-end c = omega (arith, (c .path-tables) .ensures .0 .wires, (c .before .before .before .before .pre) .1 .1 .1)
 
 met : (c : tie.After-path-tables) → table ((c .path-tables) .result .wire) ((c .before .before .before .before .args) .p .candidates) (linksBlock (keptOf ((c .path-tables) .last .1 .1 .0) ((c .before .before .before .before .args) .p .candidates)) ((c .before .before .before .before .args) .p .digits)) ≡ contests ((c .before .before .before .before .args) .p .candidates) ((c .before .before .before .before .args) .p .ballots) ((c .before .before .before .before .args) .p .digits)
 met c =
@@ -45,7 +45,7 @@ room-met : (c : tie.After-path-tables) → Room ((c .path-tables) .result) (leng
 room-met c =
     let a = (c .before .before .before .before .args) in
     let h = (c .path-tables) in
-    room-after (a .w) (a .table .now) _ (h .last .1 .0) (h .result) _ _ (h .ensures .0) (omega (arith, long (a .p) ((c .before .before .before .before .pre) .0 .k-least))) ((c .before .before .before .before .pre) .1 .0)
+    room-after (a .w) (a .table .now) _ (h .last .1 .0) (h .result) _ _ (h .ensures .0) (omega (arith, long (a .p) ((c .before .before .before .before .pre) .1 .1 .0))) ((c .before .before .before .before .pre) .1 .0)
 
 links-table-requires : tie.Need-links-table-requires
 links-table-requires c κs =
@@ -121,7 +121,7 @@ returns c =
     let paths = pathsTo k n w (suc k) .gates in
     let rows = loserRows (beatsAt k n w) (k - 2) (losersFrom k n w) k in
     let outputs = outputGates (beatsAt k n w) (k - 2) (losersFrom k n w) k in
-    wrote-as (a .w) (a .table .now) _ _ (o .last .1 .0) (o .result) (sym (list-parts k n w (k - 2) (two ((c .before .before .before .before .before .before .before .before .before .before .before .before .before .before .before .before .before .before .before .before .before .before .before .before .pre) .0 .k-least))))
+    wrote-as (a .w) (a .table .now) _ _ (o .last .1 .0) (o .result) (sym (list-parts k n w (k - 2) (omega (arith, (c .before .before .before .before .before .before .before .before .before .before .before .before .before .before .before .before .before .before .before .before .before .before .before .before .pre) .1 .1 .0)) (two ((c .before .before .before .before .before .before .before .before .before .before .before .before .before .before .before .before .before .before .before .before .before .before .before .before .pre) .0 .k-least))))
     (wrote-both (a .w) (a .table .now) (paths ++ contests k n w ++ rows) (r .last .1 .0) (r .result) outputs (o .last .1 .0) (o .result)
     (wrote-both (a .w) (a .table .now) (paths ++ contests k n w) (l .last .1 .0) (l .result) rows (r .last .1 .0) (r .result)
     (wrote-both (a .w) (a .table .now) paths (h .last .1 .0) (h .result) (contests k n w) (l .last .1 .0) (l .result) (h .ensures .0)

@@ -16,6 +16,7 @@ use Rattle.gate_words.proofs.Writing.{wrote-as}
 use Rattle.gate_words.proofs.Emitting.{constant-wrote}
 use Rattle.jury.specs.Width.{widthOf}
 use Rattle.jury.proofs.WidthLaws.{width-half, width-most}
+use Rattle.ranked_blocks.specs.Ranked.{Ranked}
 use Rattle.ranked_circuit.specs.RankedList.{rankedList}
 use Rattle.ranked_circuit.specs.OwnRanking.{ownRanking}
 use Rattle.ranked_circuit.proofs.SizeLaws.{bound-small}
@@ -81,33 +82,48 @@ can-count c = subst (Countable ((c .before .before .before .before .args) .ballo
 same-list : (c : tie.After-width) → rankedList ((c .before .before .before .before .args) .candidates) ((c .before .before .before .before .args) .ballots) ((c .width) .result - 1) ≡ ownRanking ((c .before .before .before .before .args) .candidates) ((c .before .before .before .before .args) .ballots)
 same-list c = list-is ((c .before .before .before .before .args) .candidates) ((c .before .before .before .before .args) .ballots) ((c .width) .result - 1) (digits-are (c))
 
-circuit-requires : tie.Need-circuit-requires
-circuit-requires c κs =
-    let a = (c .before .before .before .before .before .args) in
-    let few = short (a .candidates) (a .ballots) ((c .before .before .before .before .before .pre) .0) ((c .before .before .before .before .before .pre) .1) ((c .before .before .before .before .before .pre) .2) ((c .before .before .before .before .before .pre) .3) in (
-      record {
-        k-least = two (a .candidates) ((c .before .before .before .before .before .pre) .0) ((c .before .before .if1) .left);
-        k-most = (c .before .before .before .before .before .pre) .1;
-        n-least = (c .before .before .before .before .before .pre) .2;
-        n-most = (c .before .before .before .before .before .pre) .3;
-        w-most = omega (arith, (c .before .width) .ensures, widths (a .ballots) ((c .before .before .before .before .before .pre) .2) ((c .before .before .before .before .before .pre) .3));
-        countable = can-count (c .before);
-      },
-      (
-        first-room ((c .before .before .before .new) .result) _ _ ((c .before .before .before .new) .ensures) (bytes (a .candidates) (a .ballots) ((c .before .before .before .before .before .pre) .1) ((c .before .before .before .before .before .pre) .3) .1) (omega (arith, few, ap (λ (gs : List Gate). length gs) (same-list (c .before)))),
-        ap (λ (v : Writer). v .wire) ((c .before .before .before .new) .ensures),
-      ),
-    )
+room : (c : tie.After-width) → Room ((c .before .before .new) .result) (length (rankedList ((c .before .before .before .before .args) .candidates) ((c .before .before .before .before .args) .ballots) ((c .width) .result - 1)))
+room c =
+    let a = (c .before .before .before .before .args) in
+    let few = short (a .candidates) (a .ballots) ((c .before .before .before .before .pre) .0) ((c .before .before .before .before .pre) .1) ((c .before .before .before .before .pre) .2) ((c .before .before .before .before .pre) .3) in
+    first-room ((c .before .before .new) .result) _ _ ((c .before .before .new) .ensures) (bytes (a .candidates) (a .ballots) ((c .before .before .before .before .pre) .1) ((c .before .before .before .before .pre) .3) .1) (omega (arith, few, ap (λ (gs : List Gate). length gs) (same-list (c))))
+
+ranked : (c : tie.After-width) → Ranked (record { candidates = (c .before .before .before .before .args) .candidates; ballots = (c .before .before .before .before .args) .ballots; digits = (c .width) .result - 1 })
+ranked c =
+    record {
+      k-least = two ((c .before .before .before .before .args) .candidates) ((c .before .before .before .before .pre) .0) ((c .before .if1) .left);
+      k-most = (c .before .before .before .before .pre) .1;
+      n-least = (c .before .before .before .before .pre) .2;
+      n-most = (c .before .before .before .before .pre) .3;
+      w-most = omega (arith, (c .width) .ensures, widths ((c .before .before .before .before .args) .ballots) ((c .before .before .before .before .pre) .2) ((c .before .before .before .before .pre) .3));
+      countable = can-count (c);
+    }
   where
     two : (k : ℕ) → 1 ≤ k → (k ≡ 1 → ⊥) → 2 ≤ k
     two k l h = omega arith
 
+pair-circuit-requires : tie.Need-pair-circuit-requires
+pair-circuit-requires c κs = (ranked (c .before .before), (room (c .before .before), ((c .before .if2) .taken, ap (λ (v : Writer). v .wire) ((c .before .before .before .before .new) .ensures))))
+
+circuit-requires : tie.Need-circuit-requires
+circuit-requires c κs = (ranked (c .before .before), (room (c .before .before), (three ((c .before .before .before .before .before .before .args) .candidates) ((c .before .before .before .before .before .before .pre) .0) ((c .before .before .before .if1) .left) ((c .before .if2) .left), ap (λ (v : Writer). v .wire) ((c .before .before .before .before .new) .ensures))))
+  where
+    three : (k : ℕ) → 1 ≤ k → (k ≡ 1 → ⊥) → (k ≡ 2 → ⊥) → 3 ≤ k
+    three k l h g = omega arith
+
 returns-2 : tie.Need-returns-2
 returns-2 c =
-    let a = (c .before .before .before .before .before .before .before .before .args) in
+    let a = (c .before .before .before .before .before .before .before .before .before .args) in
+    let e = (c .before .before .pair-circuit) in
+    subst (λ (v : Writer). Wrote v (a .table .now) (ownRanking (a .candidates) (a .ballots)) (e .last .1 .0) (e .result)) ((c .before .before .before .before .before .before .before .new) .ensures)
+    (wrote-as ((c .before .before .before .before .before .before .before .new) .result) (a .table .now) _ _ (e .last .1 .0) (e .result) (same-list (c .before .before .before .before .before)) (e .ensures))
+
+returns-3 : tie.Need-returns-3
+returns-3 c =
+    let a = (c .before .before .before .before .before .before .before .before .before .args) in
     let e = (c .before .before .circuit) in
-    subst (λ (v : Writer). Wrote v (a .table .now) (ownRanking (a .candidates) (a .ballots)) (e .last .1 .0) (e .result)) ((c .before .before .before .before .before .before .new) .ensures)
-    (wrote-as ((c .before .before .before .before .before .before .new) .result) (a .table .now) _ _ (e .last .1 .0) (e .result) (same-list (c .before .before .before .before)) (e .ensures))
+    subst (λ (v : Writer). Wrote v (a .table .now) (ownRanking (a .candidates) (a .ballots)) (e .last .1 .0) (e .result)) ((c .before .before .before .before .before .before .before .new) .ensures)
+    (wrote-as ((c .before .before .before .before .before .before .before .new) .result) (a .table .now) _ _ (e .last .1 .0) (e .result) (same-list (c .before .before .before .before .before)) (e .ensures))
 
 new-requires : tie.Need-new-requires
 new-requires c κs = search needs
@@ -121,5 +137,8 @@ width-requires c κs = search needs
 same-length-2 : tie.Need-same-length-2
 same-length-2 c = search needs
 
+same-length-3 : tie.Need-same-length-3
+same-length-3 c = search needs
+
 pub ranked-list-spec : {M : Type 1} → statement M
-ranked-list-spec = tie.close (tie.spec mul-new mul-new-2 new-requires emit-requires same-length returns width-requires cast-digits sub-digits circuit-requires same-length-2 returns-2)
+ranked-list-spec = tie.close (tie.spec mul-new mul-new-2 new-requires emit-requires same-length returns width-requires cast-digits sub-digits pair-circuit-requires same-length-2 returns-2 circuit-requires same-length-3 returns-3)
