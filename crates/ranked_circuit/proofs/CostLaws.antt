@@ -17,7 +17,7 @@ use Rattle.gate_words.specs.Adder.{fullAdder, halfAdder}
 use Rattle.gate_words.specs.Counter.{level, adders, levelSum, countLevels, countDigits, counter, countSize}
 use Rattle.ranked_circuit.specs.Blocks.{compare, order, orderEnd, smaller, larger, largerIf}
 use Rattle.ranked_circuit.specs.RankedList.{rankedList}
-use Rattle.ranked_circuit.proofs.Figures.{Figure, Each, figure-is, pair-figure-is}
+use Rattle.ranked_circuit.proofs.Figures.{Each, figure-is, pair-figure-is}
 
 -- a gate that counts, and one that does not
 marked : (g : Gate) (gs : List Gate) → conditionalOf (g .kind) ≡ true → conditionalCount (g ∷ gs) ≡ suc (conditionalCount gs)

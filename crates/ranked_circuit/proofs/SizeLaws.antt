@@ -12,7 +12,7 @@ use Rattle.ranked_circuit.specs.Blocks.{smaller, larger, largerIf}
 use Rattle.ranked_circuit.specs.RankedList.{rankedList}
 use Rattle.ranked_circuit.specs.OwnRanking.{rankingBound}
 use Rattle.ranked_circuit.proofs.BlockLaws.{length-whole, length-smaller, length-larger, length-larger-if}
-use Rattle.ranked_circuit.proofs.Figures.{Figure, Each, figure-is, pair-figure-is}
+use Rattle.ranked_circuit.proofs.Figures.{Each, figure-is, pair-figure-is}
 
 -- the levels' bound by products of two numbers
 levels-product : (r n : ℕ) → r * (2 * n + 2) + 2 * n + 2 ≡ 2 * (n * suc r) + 2 * suc r
