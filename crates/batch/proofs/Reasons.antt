@@ -32,6 +32,7 @@ use Rattle.batch_lanes.specs.Lane.{laneCount, laneOf}
 use Rattle.batch.specs.Call.{Call}
 use Rattle.batch.specs.Ballots.{inJury, firstJury, wordGradedReasons, wordRankedReasons, wordBallotReasons}
 use Rattle.batch.specs.Run.{wordBufferReasons, batchReasons, batchResultAfter, batchResult}
+use Rattle.tally.proofs.RunReasons.{three-passed}
 
 -- the tests 7, 9 and 10, from their outcomes
 unfoldable pub lentFound : Bool → Bool → Bool → Option Reason
@@ -213,13 +214,6 @@ module _ (s : Shape) (words : List ℕ) where
       ∙ ap (ballotsFound true)
       (word-kind
       ∙ juries-none (isRanking s) (λ j. badRow s (laneOf j words)) (λ j. clash s (laneOf j words)) (λ j. notWeakOrder s (laneOf j words)) (λ j h. sym (alone-kind s (laneOf j words)) ∙ b .kinds j h))
-
-three-passed : (a b c : Option Reason) → firstOfThree a b c ≡ none → (a ≡ none) × (b ≡ none) × (c ≡ none)
-unfolding firstOfThree orElse
-three-passed none none none e = (refl, refl, refl)
-three-passed none none (some r) e = let z : _≡_ {A = ℕ} 0 1 = cc in absurd (omega arith)
-three-passed none (some r) c e = let z : _≡_ {A = ℕ} 0 1 = cc in absurd (omega arith)
-three-passed (some r) b c e = let z : _≡_ {A = ℕ} 0 1 = cc in absurd (omega arith)
 
 module _ (c : Call) where
   pub batch-first : firstOf (batchReasons c)

@@ -110,7 +110,7 @@ pub fn run(
         conditional: _,
     } = answer {
         batch_lanes::step::run(ballots, table, shape.candidates, tape, wires, board);
-        word::empty(wires);
+        basics::table::empty_words(wires);
     }
     answer
 }

@@ -87,10 +87,6 @@ packed-lanes (suc m) w h =
     let rest : packed m (λ j. lane (suc j) w) ≡ w / 2 = packed-same m (λ j. lane (suc j) w) (λ j. lane j (w / 2)) (λ j l. lane-next j w) ∙ packed-lanes m (w / 2) (omega (arith, pow-suc 2 m)) in
     omega (arith, lane-first w, rest)
 
--- words of m bits with the same lanes are the same
-pub same-lanes : (m v w : ℕ) → v < 2 ^ m → w < 2 ^ m → ((j : ℕ) → j < m → lane j v ≡ lane j w) → v ≡ w
-same-lanes m v w hv hw e = sym (packed-lanes m v hv) ∙ packed-same m (λ j. lane j v) (λ j. lane j w) e ∙ packed-lanes m w hw
-
 -- lane j of what is packed is bit j
 pub lane-packed : (m j : ℕ) (bit : ℕ → ℕ) → j < m → ((i : ℕ) → bit i ≤ 1) → lane j (packed m bit) ≡ bit j
 unfolding packed

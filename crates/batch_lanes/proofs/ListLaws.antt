@@ -53,14 +53,6 @@ pub lanes-at : (j : ℕ) (ws : List ℕ) (i : ℕ) → getD (laneOf j ws) i 0 �
 unfolding laneOf
 lanes-at j ws i = ap (getD (map (lane j) ws) i) (sym (lane-none j)) ∙ List·getD-map (lane j) ws i 0
 
-pub lanes-cons : (j w : ℕ) (ws : List ℕ) → laneOf j (w ∷ ws) ≡ lane j w ∷ laneOf j ws
-unfolding laneOf
-lanes-cons j w ws = refl
-
-pub lanes-nil : (j : ℕ) → laneOf j [] ≡ []
-unfolding laneOf
-lanes-nil j = refl
-
 pub lanes-zeros : (j n : ℕ) → laneOf j (replicate n 0) ≡ replicate n 0
 unfolding laneOf
 lanes-zeros j zero = refl

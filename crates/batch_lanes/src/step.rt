@@ -79,7 +79,7 @@ fn close(outputs: usize, wires: &[u64], shown: usize, board: &mut [u64])
         ++ drop (length (now (wires .entry)) - outputs) (now (wires .entry)) ⌝ }
 {
     let first = wires.len() - outputs;
-    word::copy(&wires[first..], &mut board[shown..]);
+    basics::table::copy_words(&wires[first..], &mut board[shown..]);
 }
 
 // Evaluates a whole list for 64 juries: in each lane, the wires and the board of that lane's inputs and tape.
@@ -96,7 +96,7 @@ pub fn run(
         ⌜ RunDone (now (inputs .entry)) (now (table .entry)) outputs (now (tape .entry)) (now (wires .exit))
         (now (board .exit)) ⌝ }
 {
-    word::copy(inputs, wires);
+    basics::table::copy_words(inputs, wires);
     let shown = step(
         inputs.len(),
         table,

@@ -1,9 +1,8 @@
 // One word holds a bit for each of 64 juries, lowest first.
 ghost use mathlib.Core.Path.{_≡_};
-ghost use mathlib.Core.List.{_++_};
-ghost use Prim.Native.Nat.{ℕ, _+_, _<_, _≤_};
+ghost use Prim.Native.Nat.{ℕ, _+_, _<_};
 ghost use lib.Dec.{eqb};
-ghost use lib.ListN.{length, replicate, drop};
+ghost use lib.ListN.{length};
 ghost use Rattle.gates.specs.Kind.{valueOf};
 ghost use Rattle.batch_lanes.specs.Lane.{laneCount, lane};
 
@@ -36,28 +35,5 @@ pub fn has_length(words: &[u64], first: usize, second: usize) -> bool
         words.len() - first == second
     } else {
         false
-    }
-}
-
-// Copies the words of one slice to the front of another.
-pub fn copy(from: &[u64], to: &mut [u64])
-    requires { ⌜ length (now from) ≤ length (now to) ⌝ }
-    ensures { λ _. ⌜ now (to .exit) ≡ now (from .entry) ++ drop (length (now (from .entry))) (now (to .entry)) ⌝ }
-{
-    let mut i = 0;
-    while i < from.len() {
-        to[i] = from[i];
-        i += 1;
-    }
-}
-
-// Sets every word to 0.
-pub fn empty(words: &mut [u64])
-    ensures { λ _. ⌜ now (words .exit) ≡ replicate (length (now (words .entry))) 0 ⌝ }
-{
-    let mut i = 0;
-    while i < words.len() {
-        words[i] = 0;
-        i += 1;
     }
 }

@@ -98,9 +98,6 @@ module _ (f g : JuryHeader → Tables → ℕ) (rest : Tables → List ℕ) (s :
   unfolding through
   upto-read d = ap (λ (x : List ℕ). getD x at d) (u .hereIs) ∙ getD-at (u .front) (f s (piecesOf s t)) (through (oneOf f) rest ss (behind s t)) d at (u .long)
 
-  pub upto-below : at + 1 ≤ length here
-  upto-below = upto-room (oneOf f) (oneOf g) rest s ss t at 1 here final u refl
-
   pub upto-set : (v : ℕ) → v ≡ g s (piecesOf s t) → Upto (oneOf f) (oneOf g) rest ss (behind s t) (at + 1) (set here at v) final
   unfolding through
   upto-set v e =

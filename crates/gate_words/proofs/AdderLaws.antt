@@ -8,8 +8,9 @@ use native.Mathlib.Omega.{arith}
 use Rattle.gates.proofs.Laws.{Holds, mux-zero, mux-one}
 use Rattle.gate_words.specs.Gates.{copyOf, notOf, andOf, orOf, xorOf, muxOf}
 use Rattle.gate_words.specs.Adder.{fullAdder, halfAdder, increment}
-use Rattle.gate_words.proofs.Numbers.{Binary, bit-cases}
+use Rattle.gate_words.proofs.Numbers.{Binary}
 use Rattle.gate_words.proofs.GateValues.{holds-three, copy-is, not-is, and-is, or-is, xor-is}
+use Rattle.basics.proofs.Arithmetic.{bit-cases}
 
 -- three bits: x is the first two's sum modulo 2, t the sum modulo 2, and the carry is v where x is 1, s where it is 0
 full-sum : (s u v x t c : ℕ) → s ≤ 1 → u ≤ 1 → v ≤ 1 → x ≡ (s + u) % 2 → t ≡ (x + v) % 2 → (x ≡ 0 → c ≡ s) → (x ≡ 1 → c ≡ v) → t + 2 * c ≡ s + u + v

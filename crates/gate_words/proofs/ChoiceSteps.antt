@@ -9,6 +9,7 @@ use lib.ListN.{length}
 use Rattle.gates.specs.Gate.{Gate}
 use Rattle.gate_words.specs.Gates.{gate, constant, andOf, muxOf}
 use Rattle.gate_words.specs.Choice.{constants, each, choose, masked, chain, chainEnd}
+use Rattle.basics.proofs.Arithmetic.{count-down}
 
 -- digits that are left count down
 pub left-one : (i n : ℕ) → i < n → n - i ≡ suc (n - (i + 1))
@@ -53,10 +54,6 @@ pub length-chain : (kind n s at d m : ℕ) → length (chain kind n s at d m) �
 unfolding chain
 length-chain kind n s at d zero = refl
 length-chain kind n s at d (suc m) = ap suc (length-chain kind (n + 1) n (at + d) d m)
-
--- a countdown: the first gate, and the rest
-pub count-down : (n : ℕ) → 0 < n → n ≡ suc (n - 1)
-count-down n h = omega arith
 
 pub constants-step : (v n : ℕ) → 0 < n → constants v n ≡ (constant v ∷ []) ++ constants (v / 2) (n - 1)
 constants-step v n h = ap (constants v) (count-down n h) ∙ first v (n - 1)

@@ -10,9 +10,10 @@ use Rattle.gate_words.specs.Gates.{andOf, xorOf, muxOf}
 use Rattle.gate_words.specs.Word.{number}
 use Rattle.gate_words.specs.Choice.{chainEnd}
 use Rattle.gate_words.specs.Comparison.{firstDigit, compareWords, upEnd, downEnd, differences, above}
-use Rattle.gate_words.proofs.Numbers.{Binary, bit-cases, number-more}
+use Rattle.gate_words.proofs.Numbers.{Binary, number-more}
 use Rattle.gate_words.proofs.GateValues.{valueOn, holds-first, holds-rest, holds-three, and-is, xor-is}
 use Rattle.gate_words.proofs.ChoiceSteps.{chain-next}
+use Rattle.basics.proofs.Arithmetic.{bit-cases}
 
 -- a bit that would be the other one
 not-one : {y t s : ℕ} → y ≡ 0 → (t < s → y ≡ 1) → s ≤ t

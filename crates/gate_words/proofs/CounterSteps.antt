@@ -13,8 +13,9 @@ use Rattle.gate_words.specs.Gates.{copyOf}
 use Rattle.gate_words.specs.Word.{Below}
 use Rattle.gate_words.specs.Choice.{parity, chainEnd}
 use Rattle.gate_words.specs.Counter.{level, adders, levelSum, countLevels, countDigits, counter, countSize, Countable, addLevels, addDigits, accumulator, addSize}
-use Rattle.gate_words.proofs.ChoiceSteps.{length-chain, count-down}
+use Rattle.gate_words.proofs.ChoiceSteps.{length-chain}
 use Rattle.gate_words.proofs.WordSteps.{length-full, length-half, length-increment}
+use Rattle.basics.proofs.Arithmetic.{count-down}
 
 pub level-two : (n s at d e m : ℕ) → 1 < m → level n s at d e m ≡ fullAdder n s at (at + d) ++ level (n + 3) (n + 1) (at + d + d) d e (m - 2)
 unfolding level

@@ -10,7 +10,8 @@ use Rattle.gates.specs.Kind.{valueOf}
 use Rattle.gates.specs.Gate.{Gate}
 use Rattle.gates.proofs.Laws.{Holds, zero-value, one-value, copy-value, not-value, and-value, or-value, xor-value, mux-zero, mux-one}
 use Rattle.gate_words.specs.Gates.{constant, copyOf, notOf, andOf, orOf, xorOf, muxOf}
-use Rattle.gate_words.proofs.Numbers.{Binary, bit-cases}
+use Rattle.gate_words.proofs.Numbers.{Binary}
+use Rattle.basics.proofs.Arithmetic.{bit-cases}
 
 -- a gate's value on the wires W
 abbrev pub valueOn : (ℕ → ℕ) → Gate → ℕ

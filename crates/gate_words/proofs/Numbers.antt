@@ -1,7 +1,6 @@
 -- Sums of bits and the numbers that words spell.
 -- Assumes nothing.
 use mathlib.Core.Path.{_≡_, _∙_, refl, ap}
-use mathlib.Core.Logic.{_⊎_, inl, inr}
 use Prim.Native.Nat.{ℕ, zero, suc, _+_, _*_, _^_, _≤_, _<_}
 use native.Mathlib.Nat.{pow-succ', zero-add, add-zero, suc-add, mul-assoc}
 use native.Mathlib.Omega.{arith}
@@ -10,11 +9,6 @@ use Rattle.gate_words.specs.Word.{ones, number}
 -- every wire is a bit
 abbrev pub Binary : (ℕ → ℕ) → Type 0
 Binary W = (i : ℕ) → W i ≤ 1
-
-pub bit-cases : (x : ℕ) → x ≤ 1 → (x ≡ 0) ⊎ (x ≡ 1)
-bit-cases zero h = inl refl
-bit-cases (suc zero) h = inr refl
-bit-cases (suc (suc x)) h = absurd (omega arith)
 
 pub ones-most : (W : ℕ → ℕ) → Binary W → (at d m : ℕ) → ones W at d m ≤ m
 unfolding ones

@@ -23,14 +23,15 @@ use Rattle.gate_words.proofs.Places.{below-more, below-first}
 use Rattle.gate_words.proofs.Emitting.{bit-none-used}
 use Rattle.gate_words.proofs.WordSteps.{length-full}
 use Rattle.gate_words.proofs.CounterSteps.{length-level, length-count, length-add-levels, below-carries, count-size-step, add-size-step, add-size-last}
+use Rattle.gate_words.proofs.Ends.{chain-below}
 
 pub good-constant : (n v : ℕ) → T (goodGate n (constant v))
 good-constant n v = good-none n (v % 2) (omega arith) (bit-none-used (v % 2) (omega arith))
 
-good-copy : (n a : ℕ) → a < n → T (goodGate n (copyOf a))
+pub good-copy : (n a : ℕ) → a < n → T (goodGate n (copyOf a))
 good-copy n a h = good-one n 2 a (omega arith) (operand-counts .2) h
 
-good-not : (n a : ℕ) → a < n → T (goodGate n (notOf a))
+pub good-not : (n a : ℕ) → a < n → T (goodGate n (notOf a))
 good-not n a h = good-one n 3 a (omega arith) (operand-counts .3) h
 
 pub good-and : (n x y : ℕ) → x < n → y < n → T (goodGate n (andOf x y))
@@ -206,14 +207,9 @@ add-levels-good n a at d m (suc r) ha bl =
     behind n (3 * t) (level n a at d 0 m) (addLevels (n + 3 * t) (a + 1) (n + 2) 3 t r) (length-level n a at d 0 m (omega arith)) (level-good n a at d 0 m (omega arith) bl)
     (add-levels-good (n + 3 * t) (a + 1) (n + 2) 3 t r (omega arith) (below-carries n t))
 
-end-below : (n s m q : ℕ) → s < q → n + m ≤ q → chainEnd n s m < q
-unfolding chainEnd
-end-below n s zero q hs h = hs
-end-below n s (suc m) q hs h = omega arith
-
 pub add-digits-good : (n a m r q : ℕ) → a + r < q → n + addSize m r ≤ q → AllGood q (addDigits n a m r)
 unfolding addDigits
-add-digits-good n a m zero q ha h = (good-copy q (chainEnd n a m) (end-below n a m q (omega arith) (omega (arith, add-size-last m 0 (omega arith)))), tt)
+add-digits-good n a m zero q ha h = (good-copy q (chainEnd n a m) (chain-below n a m q (omega arith) (omega (arith, add-size-last m 0 (omega arith)))), tt)
 add-digits-good n a m (suc r) q ha h =
     let t = adders m 0 in
     let size = add-size-step m (suc r) (omega arith) in

@@ -17,13 +17,14 @@ use Rattle.gate_words.specs.Word.{number}
 use Rattle.gate_words.specs.Choice.{chain, allOf, chainEnd}
 use Rattle.gate_words.specs.Comparison.{differences}
 use Rattle.gate_words.specs.Reach.{carryBit, carries, carriesBy, highReach, reachHalves, reach, reachLast, reachSpan}
-use Rattle.gate_words.proofs.Numbers.{Binary, bit-cases, number-none, number-more}
+use Rattle.gate_words.proofs.Numbers.{Binary, number-none, number-more}
 use Rattle.gate_words.proofs.GateValues.{holds-first, holds-rest, and-is, or-is, xor-is}
 use Rattle.gate_words.proofs.ChoiceSteps.{length-chain, chain-next, left-one, next-place}
 use Rattle.gate_words.proofs.WordSteps.{length-differences}
 use Rattle.gate_words.proofs.Ends.{chain-below}
 use Rattle.gate_words.proofs.HalvesLaws.{beside}
 use Rattle.gate_words.proofs.PointsBack.{behind, good-and, good-or, good-xor, good-mux, chain-good, differences-good}
+use Rattle.basics.proofs.Arithmetic.{bit-cases}
 
 -- lengths
 

@@ -3,7 +3,7 @@
 use mathlib.Core.Path.{_≡_, _∙_, refl, sym, ap}
 use mathlib.Core.Bool.{Bool, true, false, cond}
 use mathlib.Core.List.{List, [], _∷_, _++_}
-use Prim.Native.Nat.{ℕ, suc, _+_, _*_, _≤_, _<_}
+use Prim.Native.Nat.{ℕ, _+_, _*_, _≤_, _<_}
 use native.Mathlib.Numerals.{add-one, add-two, add-three}
 use native.Mathlib.Omega.{arith}
 use lib.Dec.{ltb}
@@ -17,11 +17,7 @@ use Rattle.gates.proofs.Laws.{length-numbers, numbers-append, numbers-nil, numb
 use Rattle.gate_words.specs.Emitted.{emitted}
 use Rattle.gate_words.specs.Writing.{Room, Wrote}
 use Rattle.gate_words.specs.declared.writer.Writer.{Writer}
-
--- storing two lists one behind the other
-sets-append : (xs ys t : List ℕ) (i j : ℕ) → j ≡ i + length xs → sets (sets t i xs) j ys ≡ sets t i (xs ++ ys)
-sets-append [] ys t i j e = ap (λ (k : ℕ). sets t k ys) (omega arith)
-sets-append (x ∷ xs) ys t i j e = sets-append xs ys (set t i x) (suc i) j (omega arith)
+use Rattle.basics.proofs.Tables.{sets-append}
 
 -- nothing is written
 pub wrote-nothing : (w : Writer) (t : List ℕ) → Wrote w t [] t w

@@ -1,6 +1,6 @@
 -- Demand 2: the closing bytes of the own list are those of full majority judgment.
 -- Assumes nothing.
-use mathlib.Core.Path.{_≡_, _∙_, refl, sym, ap, subst}
+use mathlib.Core.Path.{_≡_, _∙_, sym, ap, subst}
 use mathlib.Core.Bool.{Bool, true, false, cond}
 use mathlib.Core.Logic.{_⊎_, inl, inr, ⊎-elim}
 use mathlib.Core.List.{List, [], _∷_}
@@ -41,11 +41,7 @@ use Rattle.graded_circuit.proofs.MergeLaws.{Same, Rule}
 use Rattle.graded_circuit.proofs.CircuitLaws.{circuit-block, wonFrom, won-end, Final, circuit-law}
 use Rattle.graded_circuit.proofs.RuleLaws.{Row, upTo, row-sums, same-sequence, judgment-rule}
 use Rattle.graded_circuit.proofs.Columns.{column}
-
--- a test that does not hold
-not-true : (t : Bool) → (t ≡ true → ⊥) → t ≡ false
-not-true true h = absurd (h refl)
-not-true false h = refl
+use Rattle.basics.proofs.Flags.{never-true}
 
 -- wires of the circuit, over candidates with these rows of counts
 module _ (W : ℕ → ℕ) (b : Binary W) (p : Plan) (f : Planned p) (two : 1 < p .candidates) (h : Holds W (p .inputs) (circuit p))
@@ -92,7 +88,7 @@ module _ (W : ℕ → ℕ) (b : Binary W) (p : Plan) (f : Planned p) (two : 1 < 
   unpreceded : (j : Judged) (c : ℕ) → c < p .candidates → precedes (sequenceOf (getD rows c [])) (sequenceOf (getD rows (j .best) [])) ≡ false
   unpreceded j c l = ⊎-elim
       (λ (z : (W (wonFrom p f two + c) ≡ 1) × (sequenceOf (getD rows c []) ≡ sequenceOf (getD rows (j .best) []))).
-      not-true (precedes (sequenceOf (getD rows c [])) (sequenceOf (getD rows (j .best) [])))
+      never-true (precedes (sequenceOf (getD rows c [])) (sequenceOf (getD rows (j .best) [])))
       (λ e. precedes-self (sequenceOf (getD rows (j .best) [])) (subst (λ (q : List ℕ). precedes q (sequenceOf (getD rows (j .best) [])) ≡ true) (z .1) e)))
       (λ (z : (W (wonFrom p f two + c) ≡ 0) × Precedes (getD rows (j .best) []) (getD rows c [])). precedes-one-way (sequenceOf (getD rows (j .best) [])) (sequenceOf (getD rows c [])) (z .1))
       (j .as-good c l)
@@ -109,7 +105,7 @@ module _ (W : ℕ → ℕ) (b : Binary W) (p : Plan) (f : Planned p) (two : 1 < 
       (j .as-good i l)
 
 -- a single candidate, and two or more
-own-single : (s : Shape) → s .candidates ≡ 1 → ownList s ≡ constant 1 ∷ []
+pub own-single : (s : Shape) → s .candidates ≡ 1 → ownList s ≡ constant 1 ∷ []
 unfolding ownList
 own-single s e = ap (λ (t : Bool). cond t (constant 1 ∷ []) (circuit (planOf s))) (eq-eqb (s .candidates) 1 e)
 
@@ -162,7 +158,7 @@ own-list-is-accurate s xs a = ⊎-elim many one (below-or-not 1 (s .candidates))
     only k j l =
         let e : j ≡ 0 = omega (arith, counts-length s xs) in
         let q = sequenceOf (getD (countsOf s xs) 0 []) in
-        ap (λ (i : ℕ). precedes (sequenceOf (getD (countsOf s xs) i [])) q) e ∙ not-true (precedes q q) (precedes-self q)
+        ap (λ (i : ℕ). precedes (sequenceOf (getD (countsOf s xs) i [])) q) e ∙ never-true (precedes q q) (precedes-self q)
 
     one : s .candidates ≤ 1 → outputsOf (s .candidates) (wiresOf xs (ownList s)) ≡ judgmentOf (countsOf s xs)
     one l =

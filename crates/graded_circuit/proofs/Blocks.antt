@@ -8,8 +8,7 @@ use lib.Dec.{T}
 use lib.ListN.{length, length-append}
 use Rattle.gates.specs.Gate.{Gate}
 use Rattle.gates.specs.Test.{goodGate}
-use Rattle.gates.proofs.Laws.{AllGood, good-append, Holds, holds-append, operand-counts, good-one, good-two, good-three}
-use Rattle.gate_words.specs.Gates.{copyOf, notOf, andOf, orOf, xorOf, muxOf}
+use Rattle.gates.proofs.Laws.{AllGood, good-append, Holds, holds-append, operand-counts}
 use Rattle.gate_words.specs.Word.{Below}
 use Rattle.gate_words.specs.Halves.{unequalCut, unequalSpan, compareCut, compareSpan}
 use Rattle.gate_words.specs.Reach.{reach, reachSpan}
@@ -82,22 +81,3 @@ counter-block n at d m x r bl k = record { long = length-counter n at d m x r; g
 
 pub accumulator-block : (n a at d m r : ℕ) → a + r < n → Below n at d m → Block n (accumulator n a at d m r) (addSize m r + (r + 1))
 accumulator-block n a at d m r ha bl = record { long = length-accumulator n a at d m r; good = accumulator-good n a at d m r ha bl }
-
--- single gates
-pub copy-good : (n a : ℕ) → a < n → T (goodGate n (copyOf a))
-copy-good n a h = good-one n 2 a (omega arith) (operand-counts .2) h
-
-pub not-good : (n a : ℕ) → a < n → T (goodGate n (notOf a))
-not-good n a h = good-one n 3 a (omega arith) (operand-counts .3) h
-
-pub or-good : (n a b : ℕ) → a < n → b < n → T (goodGate n (orOf a b))
-or-good n a b ha hb = good-two n 5 a b (omega arith) (operand-counts .5) ha hb
-
-pub xor-good : (n a b : ℕ) → a < n → b < n → T (goodGate n (xorOf a b))
-xor-good n a b ha hb = good-two n 6 a b (omega arith) (operand-counts .6) ha hb
-
-pub and-good : (n a b : ℕ) → a < n → b < n → T (goodGate n (andOf a b))
-and-good n a b ha hb = good-two n 4 a b (omega arith) (operand-counts .4) ha hb
-
-pub mux-good : (n a b c : ℕ) → a < n → b < n → c < n → T (goodGate n (muxOf a b c))
-mux-good n a b c ha hb hc = good-three n 7 a b c (omega arith) (operand-counts .7) ha hb hc

@@ -9,8 +9,9 @@ use Rattle.graded_circuit.specs.declared.plan.Plan.{Plan}
 use Rattle.graded_circuit.specs.Plan.{Planned, bitsAt, apart}
 use Rattle.graded_circuit.specs.RunningSums.{wordSpan, firstSum, firstGrade, middleSpan, middleGrade, middleGrades, lastSpan, lastGrade, laterGrades, laterSpan}
 use Rattle.graded_circuit.specs.Key.{keyWord, keyWords, candidate, keyOf, keySpan, candidateSpan}
-use Rattle.graded_circuit.proofs.Blocks.{Block, none-block, both-block, sized, gate-block, copies-block, complements-block, counter-block, accumulator-block, not-good}
+use Rattle.graded_circuit.proofs.Blocks.{Block, none-block, both-block, sized, gate-block, copies-block, complements-block, counter-block, accumulator-block}
 use Rattle.graded_circuit.proofs.PlanFacts.{bits-below, first-countable, worst-countable}
+use Rattle.gate_words.proofs.PointsBack.{good-not}
 
 pub middle-span : (p : Plan) → middleSpan p ≡ wordSpan p + addSize (p .ballots) (p .digits)
 unfolding middleSpan
@@ -69,7 +70,7 @@ module _ (p : Plan) (f : Planned p) where
   pub key-word-block : (n a : ℕ) → a + wordSpan p ≤ n → Block n (keyWord p a) (wordSpan p)
   unfolding keyWord
   key-word-block n a h =
-      both-block (copies-block n a (p .digits) (omega arith)) refl (gate-block (not-good (n + p .digits) (a + p .digits) (omega arith)) (none-block (suc (n + p .digits))))
+      both-block (copies-block n a (p .digits) (omega arith)) refl (gate-block (good-not (n + p .digits) (a + p .digits) (omega arith)) (none-block (suc (n + p .digits))))
 
   pub key-words-block : (n a t : ℕ) → a + t * middleSpan p + wordSpan p ≤ n + middleSpan p → Block n (keyWords p a t) (t * wordSpan p)
   unfolding keyWords

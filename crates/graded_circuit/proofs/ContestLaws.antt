@@ -23,13 +23,16 @@ use Rattle.graded_circuit.specs.Median.{Fits, median}
 use Rattle.graded_circuit.specs.Nearest.{stride}
 use Rattle.graded_circuit.specs.Outward.{resolveAt}
 use Rattle.graded_circuit.specs.Contest.{lower, lowerSpan, medianSpan, rightMedian, leftMedian, mediansAt, lowerAt, resultAt, contest, contestSpan}
-use Rattle.graded_circuit.proofs.Blocks.{Block, none-block, both-block, sized, gate-block, compare-block, copy-good, or-good, mux-good}
+use Rattle.graded_circuit.proofs.Blocks.{Block, none-block, both-block, sized, gate-block, compare-block}
 use Rattle.graded_circuit.proofs.Cutting.{cut2, cut4}
 use Rattle.graded_circuit.proofs.MedianLaws.{Unary, median-block, median-law}
 use Rattle.graded_circuit.proofs.SumLaws.{Sums, Word, Spells}
 use Rattle.graded_circuit.proofs.Near.{Decides}
 use Rattle.graded_circuit.proofs.OutwardBlocks.{outward-block}
 use Rattle.graded_circuit.proofs.OutwardLaws.{Ahead, Outcome, three-ways, outward-medians, outward-law}
+use Rattle.gate_words.proofs.PointsBack.{good-copy}
+use Rattle.gate_words.proofs.PointsBack.{good-or}
+use Rattle.gate_words.proofs.PointsBack.{good-mux}
 
 -- a key of t + 2 words ends where words of a stride end
 strided : (x t r m : ℕ) → x + suc (suc t) * (suc r + 1) ≤ m → x + suc (suc t) * stride r ≤ m
@@ -45,14 +48,14 @@ Leaves digits h = h ≤ digits - 1
 pub lower-block : (p : Plan) (n x y e s digits h t : ℕ) → Leaves digits h → e < n → s < n → x + suc t * (digits + 1) ≤ n → y + suc t * (digits + 1) ≤ n
     → Block n (lower p n x y e s digits h t) (lowerSpan digits t + 2)
 unfolding lower lowerSpan
-lower-block p n x y e s zero h t hr he hs hx hy = gate-block (copy-good n e he) (gate-block (copy-good (suc n) s (omega arith)) (none-block (suc (suc n))))
+lower-block p n x y e s zero h t hr he hs hx hy = gate-block (good-copy n e he) (gate-block (good-copy (suc n) s (omega arith)) (none-block (suc (suc n))))
 lower-block p n x y e s (suc r) h zero hr he hs hx hy =
     let q = n + compareSpan r in
     let fx = single x r n hx in
     let em = chain-below (n + suc r) n r q (omega arith) (omega arith) in
     let sm = chain-below (n + unequalSpan r) x r q (omega arith) (omega arith) in
     both-block (compare-block n x y r h (omega arith) fx (single y r n hy)) refl
-    (gate-block (or-good q e (unequalAt n r) (omega arith) em) (gate-block (mux-good (suc q) e s (aboveAt n x r) (omega arith) (omega arith) (omega arith)) (none-block (suc (suc q)))))
+    (gate-block (good-or q e (unequalAt n r) (omega arith) em) (gate-block (good-mux (suc q) e s (aboveAt n x r) (omega arith) (omega arith) (omega arith)) (none-block (suc (suc q)))))
 lower-block p n x y e s (suc r) h (suc t) hr he hs hx hy = sized (omega arith) (outward-block n x y r t (strided x t r n hx) (strided y t r n hy) (p .ballots % 2) h e s (omega arith) he hs)
 
 module _ (p : Plan) (f : Planned p) where

@@ -14,9 +14,11 @@ use Rattle.gate_words.proofs.ChoiceSteps.{length-chain}
 use Rattle.gate_words.proofs.CounterLaws.{parity-law}
 use Rattle.gate_words.proofs.Ends.{chain-below}
 use Rattle.graded_circuit.specs.Median.{Fits, medianLevels, medianDigits, medianSize, median}
-use Rattle.graded_circuit.proofs.Blocks.{Block, none-block, both-block, gate-block, parity-block, copy-good}
+use Rattle.graded_circuit.proofs.Blocks.{Block, none-block, both-block, gate-block, parity-block}
 use Rattle.graded_circuit.proofs.PlanFacts.{all-below}
 use Rattle.graded_circuit.proofs.Cutting.{cut2}
+use Rattle.basics.proofs.Arithmetic.{next-place}
+use Rattle.gate_words.proofs.PointsBack.{good-copy}
 
 -- so do every second of them with a digit less
 pub fits-half : (m w : ℕ) → Fits m (suc w) → Fits (m / 2) w
@@ -56,7 +58,7 @@ unfolding medianDigits medianSize
 digits-block q n at d m zero f a s = none-block q
 digits-block q n at d m (suc w) f a s =
     let k = first-of at d m q (fits-some m w f) a in
-    gate-block (copy-good q (chainEnd n at (m - 1)) (chain-below n at (m - 1) q (k .0) (omega arith)))
+    gate-block (good-copy q (chainEnd n at (m - 1)) (chain-below n at (m - 1) q (k .0) (omega arith)))
     (digits-block (suc q) (n + (m - 1)) (at + d) (d + d) (m / 2) w (fits-half m w f) (omega (arith, half-apart m d)) (omega arith))
 
 pub median-block : (n at d m w : ℕ) → Fits m w → at + m * d < n + d → Block n (median n at d m w) (medianSize m w + w)
@@ -68,9 +70,6 @@ pub record Unary (W : ℕ → ℕ) (at d m most : ℕ) : Type 0 where
   pub within : most ≤ m
   pub first : (i : ℕ) → i < most → W (at + i * d) ≡ 1
   pub rest : (i : ℕ) → i < m → most ≤ i → W (at + i * d) ≡ 0
-
-next-place : (at d i : ℕ) → at + d + i * d ≡ at + suc i * d
-next-place at d i = omega (arith, suc-mul i d)
 
 unary-rest : (W : ℕ → ℕ) (at d m most : ℕ) → Unary W at d (suc m) most → Unary W (at + d) d m (most - 1)
 unary-rest W at d m most u =

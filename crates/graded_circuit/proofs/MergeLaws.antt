@@ -13,7 +13,7 @@ use Rattle.basics.proofs.Cases.{below-or-not}
 use Rattle.gate_words.specs.Gates.{copyOf, notOf, andOf, xorOf, muxOf}
 use Rattle.gate_words.specs.Word.{number}
 use Rattle.gate_words.specs.Choice.{choose}
-use Rattle.gate_words.proofs.Numbers.{Binary, bit-cases, number-none, number-more}
+use Rattle.gate_words.proofs.Numbers.{Binary, number-none, number-more}
 use Rattle.gate_words.proofs.GateValues.{holds-first, holds-rest, holds-three, copy-is, not-is, and-is, xor-is}
 use Rattle.graded_circuit.specs.declared.plan.Plan.{Plan}
 use Rattle.graded_circuit.specs.Plan.{Planned}
@@ -21,30 +21,35 @@ use Rattle.graded_circuit.specs.RunningSums.{wordSpan}
 use Rattle.graded_circuit.specs.Key.{keySpan, lowAt}
 use Rattle.graded_circuit.specs.Contest.{contest, resultAt}
 use Rattle.graded_circuit.specs.Merge.{bothOf, stillWon, verdict, highDigits, leftStays, rightStays, wonAt, merge, mergeSpan, better}
-use Rattle.graded_circuit.proofs.Blocks.{Block, none-block, both-block, gate-block, choose-block, copy-good, not-good, and-good, xor-good}
+use Rattle.graded_circuit.proofs.Blocks.{Block, none-block, both-block, gate-block, choose-block}
 use Rattle.graded_circuit.proofs.Cutting.{cut4}
 use Rattle.graded_circuit.proofs.SumLaws.{Sums, Spells}
 use Rattle.graded_circuit.proofs.OutwardLaws.{Ahead, Outcome}
 use Rattle.graded_circuit.proofs.ContestLaws.{Leaves, contest-block, contest-law}
+use Rattle.basics.proofs.Arithmetic.{bit-cases}
+use Rattle.gate_words.proofs.PointsBack.{good-copy}
+use Rattle.gate_words.proofs.PointsBack.{good-not}
+use Rattle.gate_words.proofs.PointsBack.{good-and}
+use Rattle.gate_words.proofs.PointsBack.{good-xor}
 
 pub both-of-block : (n at stays m : ℕ) → at + m ≤ n → stays < n → Block n (bothOf at stays m) m
 unfolding bothOf
 both-of-block n at stays zero h s = none-block n
-both-of-block n at stays (suc m) h s = gate-block (and-good n at stays (omega arith) s) (both-of-block (suc n) (at + 1) stays m (omega arith) (omega arith))
+both-of-block n at stays (suc m) h s = gate-block (good-and n at stays (omega arith) s) (both-of-block (suc n) (at + 1) stays m (omega arith) (omega arith))
 
 pub still-won-block : (n at stays m : ℕ) → (1 < m → at + m ≤ n) → stays < n → Block n (stillWon at stays m) m
 unfolding stillWon
 still-won-block n at stays zero h s = none-block n
-still-won-block n at stays (suc zero) h s = gate-block (copy-good n stays s) (none-block (suc n))
+still-won-block n at stays (suc zero) h s = gate-block (good-copy n stays s) (none-block (suc n))
 still-won-block n at stays (suc (suc m)) h s = both-of-block n at stays (suc (suc m)) (h (omega arith)) s
 
 pub verdict-block : (q : ℕ) → Block (q + 2) (verdict q) 4
 unfolding verdict
 verdict-block q =
-    gate-block (and-good (q + 2) q (q + 1) (omega arith) (omega arith))
-    (gate-block (xor-good (suc (q + 2)) q (q + 2) (omega arith) (omega arith))
-    (gate-block (not-good (suc (suc (q + 2))) (q + 3) (omega arith))
-    (gate-block (not-good (suc (suc (suc (q + 2)))) (q + 2) (omega arith)) (none-block (suc (suc (suc (suc (q + 2)))))))))
+    gate-block (good-and (q + 2) q (q + 1) (omega arith) (omega arith))
+    (gate-block (good-xor (suc (q + 2)) q (q + 2) (omega arith) (omega arith))
+    (gate-block (good-not (suc (suc (q + 2))) (q + 3) (omega arith))
+    (gate-block (good-not (suc (suc (suc (q + 2)))) (q + 2) (omega arith)) (none-block (suc (suc (suc (suc (q + 2)))))))))
 
 pub high-leaves : (p : Plan) (both : ℕ) → Leaves (p .digits) (highDigits p both)
 unfolding highDigits

@@ -11,16 +11,20 @@ use Rattle.basics.proofs.Cases.{below-or-not, same-or-not}
 use Rattle.gate_words.specs.Gates.{andOf, xorOf}
 use Rattle.gate_words.specs.Word.{number}
 use Rattle.gate_words.specs.Choice.{choose}
-use Rattle.gate_words.proofs.Numbers.{Binary, bit-cases}
+use Rattle.gate_words.proofs.Numbers.{Binary}
 use Rattle.gate_words.proofs.GateValues.{holds-first, holds-rest, and-is, xor-is}
 use Rattle.gate_words.proofs.ChoiceSteps.{length-choose}
 use Rattle.gate_words.proofs.ChoiceLaws.{choose-one, choose-zero}
 use Rattle.gate_words.proofs.Ends.{chain-below}
 use Rattle.gate_words.specs.Halves.{unequalCut, unequalSpan, unequalAt}
 use Rattle.graded_circuit.specs.Nearest.{stride, side, sideSpan, belowAt, fromAt, sides, either, eitherSpan, lastOf, firstOf, leftEnd, rightEnd}
-use Rattle.graded_circuit.proofs.Blocks.{Block, none-block, both-block, sized, gate-block, choose-block, unequal-block, and-good, xor-good}
+use Rattle.graded_circuit.proofs.Blocks.{Block, none-block, both-block, sized, gate-block, choose-block, unequal-block}
 use Rattle.gate_words.proofs.HalvesLaws.{length-unequal-cut, unequal-cut-zero, unequal-cut-one}
 use Rattle.graded_circuit.proofs.Cutting.{cut2}
+use Rattle.basics.proofs.Arithmetic.{bit-cases}
+use Rattle.basics.proofs.Arithmetic.{next-place}
+use Rattle.gate_words.proofs.PointsBack.{good-and}
+use Rattle.gate_words.proofs.PointsBack.{good-xor}
 
 pub side-block : (n x y r h : ℕ) → h ≤ r → x + suc (suc r) ≤ n → y + suc r ≤ n → Block n (side n x y r h) (sideSpan r)
 unfolding side
@@ -28,8 +32,8 @@ side-block n x y r h hr hx hy =
     let q = n + unequalSpan r in
     let e = chain-below (n + suc r) n r q (omega arith) (omega arith) in
     both-block (unequal-block n x y r h hr (omega arith) (omega arith)) refl
-    (gate-block (and-good q (unequalAt n r) (x + suc r) e (omega arith))
-    (gate-block (xor-good (suc q) (unequalAt n r) q (omega arith) (omega arith)) (none-block (suc (suc q)))))
+    (gate-block (good-and q (unequalAt n r) (x + suc r) e (omega arith))
+    (gate-block (good-xor (suc q) (unequalAt n r) q (omega arith) (omega arith)) (none-block (suc (suc q)))))
 
 pub sides-block : (n x y r h t : ℕ) → h ≤ r → x + t * stride r ≤ n → y + t * stride r ≤ n → Block n (sides n x y r h t) (t * sideSpan r)
 unfolding sides
@@ -85,9 +89,6 @@ right-next : (n v r t : ℕ) → rightEnd (n + eitherSpan r) (n + suc r) r t ≡
 unfolding rightEnd
 right-next n v r zero = omega (arith, zero-mul (eitherSpan r))
 right-next n v r (suc t) = omega (arith, suc-mul t (eitherSpan r))
-
-next-place : (a d i : ℕ) → a + d + i * d ≡ a + suc i * d
-next-place a d i = omega (arith, suc-mul i d)
 
 first-place : (a d : ℕ) → a + 0 * d ≡ a
 first-place a d = omega (arith, zero-mul d)

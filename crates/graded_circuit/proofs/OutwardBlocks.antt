@@ -9,8 +9,13 @@ use Rattle.gate_words.specs.Halves.{unequalSpan, unequalAt, compareSpan, aboveA
 use Rattle.gate_words.specs.Reach.{reachSpan}
 use Rattle.graded_circuit.specs.Nearest.{stride, sideSpan, belowAt, fromAt, eitherSpan}
 use Rattle.graded_circuit.specs.Outward.{downAt, upAt, nearestEnd, farAt, nearest, downLeft, downRight, upLeft, upRight, chosenHigh, compareAndReach, compareAndReachSpan, leftCarry, rightCarry, resolve, resolveSpan, resolveAt, outward, outwardSpan}
-use Rattle.graded_circuit.proofs.Blocks.{Block, none-block, both-block, sized, gate-block, compare-block, reach-block, not-good, and-good, or-good, xor-good, mux-good}
+use Rattle.graded_circuit.proofs.Blocks.{Block, none-block, both-block, sized, gate-block, compare-block, reach-block}
 use Rattle.graded_circuit.proofs.NearestLaws.{sides-block, last-of-block, first-of-block, left-below, right-below}
+use Rattle.gate_words.proofs.PointsBack.{good-not}
+use Rattle.gate_words.proofs.PointsBack.{good-and}
+use Rattle.gate_words.proofs.PointsBack.{good-or}
+use Rattle.gate_words.proofs.PointsBack.{good-xor}
+use Rattle.gate_words.proofs.PointsBack.{good-mux}
 
 -- a word's high half leaves a digit for the low one
 pub chosen-high : (r h t : ℕ) → h ≤ r → chosenHigh r h t ≤ r
@@ -61,22 +66,22 @@ resolve-block n e s e₁ s₁ e₂ s₂ j k f g he hs a₁ b₁ a₂ b₂ hj hk 
     let p = place n in
     let old = earlier n in
     let new : (i m : ℕ) → i < m → n + i < p m = here n in
-    gate-block (mux-good n s₁ j k b₁ hj hk)
-    (gate-block (not-good (p 1) f (old 1 f hf))
-    (gate-block (xor-good (p 2) f g (old 2 f hf) (old 2 g hg))
-    (gate-block (mux-good (p 3) (n + 2) n (n + 1) (new 2 3 (omega arith)) (omega (arith, place-is n 3)) (new 1 3 (omega arith)))
-    (gate-block (and-good (p 4) e₁ e₂ (old 4 e₁ a₁) (old 4 e₂ a₂))
-    (gate-block (xor-good (p 5) e₁ e₂ (old 5 e₁ a₁) (old 5 e₂ a₂))
-    (gate-block (xor-good (p 6) (n + 5) (n + 4) (new 5 6 (omega arith)) (new 4 6 (omega arith)))
-    (gate-block (mux-good (p 7) e₂ s₂ s₁ (old 7 e₂ a₂) (old 7 s₂ b₂) (old 7 s₁ b₁))
-    (gate-block (xor-good (p 8) s₁ s₂ (old 8 s₁ b₁) (old 8 s₂ b₂))
-    (gate-block (not-good (p 9) e (old 9 e he))
-    (gate-block (and-good (p 10) (n + 8) (n + 9) (new 8 10 (omega arith)) (new 9 10 (omega arith)))
-    (gate-block (and-good (p 11) (n + 4) (n + 10) (new 4 11 (omega arith)) (new 10 11 (omega arith)))
-    (gate-block (and-good (p 12) (n + 11) (n + 3) (new 11 12 (omega arith)) (new 3 12 (omega arith)))
-    (gate-block (mux-good (p 13) e s (n + 7) (old 13 e he) (old 13 s hs) (new 7 13 (omega arith)))
-    (gate-block (or-good (p 14) e (n + 6) (old 14 e he) (new 6 14 (omega arith)))
-    (gate-block (xor-good (p 15) (n + 13) (n + 12) (new 13 15 (omega arith)) (new 12 15 (omega arith)))
+    gate-block (good-mux n s₁ j k b₁ hj hk)
+    (gate-block (good-not (p 1) f (old 1 f hf))
+    (gate-block (good-xor (p 2) f g (old 2 f hf) (old 2 g hg))
+    (gate-block (good-mux (p 3) (n + 2) n (n + 1) (new 2 3 (omega arith)) (omega (arith, place-is n 3)) (new 1 3 (omega arith)))
+    (gate-block (good-and (p 4) e₁ e₂ (old 4 e₁ a₁) (old 4 e₂ a₂))
+    (gate-block (good-xor (p 5) e₁ e₂ (old 5 e₁ a₁) (old 5 e₂ a₂))
+    (gate-block (good-xor (p 6) (n + 5) (n + 4) (new 5 6 (omega arith)) (new 4 6 (omega arith)))
+    (gate-block (good-mux (p 7) e₂ s₂ s₁ (old 7 e₂ a₂) (old 7 s₂ b₂) (old 7 s₁ b₁))
+    (gate-block (good-xor (p 8) s₁ s₂ (old 8 s₁ b₁) (old 8 s₂ b₂))
+    (gate-block (good-not (p 9) e (old 9 e he))
+    (gate-block (good-and (p 10) (n + 8) (n + 9) (new 8 10 (omega arith)) (new 9 10 (omega arith)))
+    (gate-block (good-and (p 11) (n + 4) (n + 10) (new 4 11 (omega arith)) (new 10 11 (omega arith)))
+    (gate-block (good-and (p 12) (n + 11) (n + 3) (new 11 12 (omega arith)) (new 3 12 (omega arith)))
+    (gate-block (good-mux (p 13) e s (n + 7) (old 13 e he) (old 13 s hs) (new 7 13 (omega arith)))
+    (gate-block (good-or (p 14) e (n + 6) (old 14 e he) (new 6 14 (omega arith)))
+    (gate-block (good-xor (p 15) (n + 13) (n + 12) (new 13 15 (omega arith)) (new 12 15 (omega arith)))
     (none-block (p 16)))))))))))))))))
 
 -- the words chosen end where the words are chosen

@@ -11,7 +11,7 @@ use Rattle.basics.proofs.Cases.{below-or-not}
 use Rattle.gate_words.specs.Gates.{notOf, andOf, orOf, xorOf, muxOf}
 use Rattle.gate_words.specs.Halves.{unequalAt, compareCut, compareSpan, aboveAt}
 use Rattle.gate_words.specs.Reach.{reach, reachLast, reachSpan}
-use Rattle.gate_words.proofs.Numbers.{Binary, bit-cases}
+use Rattle.gate_words.proofs.Numbers.{Binary}
 use Rattle.gate_words.proofs.GateValues.{valueOn, holds-first, holds-three, not-is, and-is, or-is, xor-is}
 use Rattle.gate_words.proofs.HalvesLaws.{Tells, compare-cut-law}
 use Rattle.gate_words.proofs.ReachLaws.{Reaches, length-reach, reach-law}
@@ -25,6 +25,7 @@ use Rattle.graded_circuit.proofs.SumLaws.{Sums, Word, Spells}
 use Rattle.graded_circuit.proofs.NearestLaws.{Side, sides-block, last-of-block, sides-law, spelled, flagAt, wordOf, Absent, LastAt, FirstAt, last-of-law, first-of-law}
 use Rattle.graded_circuit.proofs.Near.{Near, near-flip, Decides, lower-decides, upper-decides, all-same}
 use Rattle.graded_circuit.proofs.OutwardBlocks.{chosen-high, nearest-block, compare-and-reach-block, down-left-below, down-right-below, up-left-below, up-right-below}
+use Rattle.basics.proofs.Arithmetic.{bit-cases}
 
 -- some grade decides for the row A
 pub record Ahead (n d : ℕ) (A C : ℕ → ℕ) : Type 0 where

@@ -3,15 +3,14 @@
 use mathlib.Core.Path.{_≡_, subst, sym}
 use mathlib.Core.Bool.{true}
 use mathlib.Core.Logic.{⊎-elim}
-use mathlib.Core.List.{List, [], _∷_}
+use mathlib.Core.List.{List}
 use Prim.Native.Nat.{ℕ, suc, _-_, _≤_, _<_}
 use native.Mathlib.Omega.{arith}
 use lib.ListN.{length}
-use borrow.Author.Tests.{eq-eqb, ne-eqb}
+use borrow.Author.Tests.{ne-eqb}
 use Rattle.gates.specs.Gate.{Gate}
 use Rattle.gates.specs.Board.{conditionalCount}
 use Rattle.gates.proofs.Counting.{count-most}
-use Rattle.gate_words.specs.Gates.{constant}
 use Rattle.jury.specs.declared.shape.Shape.{Shape}
 use Rattle.jury.specs.Shape.{gradedLimits}
 use Rattle.jury.specs.Width.{widthOf}
@@ -22,11 +21,7 @@ use Rattle.graded_circuit.specs.OwnList.{circuit, ownList}
 use Rattle.graded_circuit.specs.Bound.{boundOf, gateBound}
 use Rattle.graded_circuit.proofs.Planning.{planned, top-width}
 use Rattle.graded_circuit.proofs.BoundLaws.{gates-most, gates-small}
-
--- a single candidate wins: one gate
-pub single-list : (s : Shape) → s .candidates ≡ 1 → ownList s ≡ constant 1 ∷ []
-unfolding ownList
-single-list s e = rw (eq-eqb (s .candidates) 1 e)
+use Rattle.graded_circuit.proofs.Accuracy.{own-single}
 
 -- else the circuit of the plan
 pub circuit-list : (s : Shape) → (s .candidates ≡ 1 → ⊥) → ownList s ≡ circuit (planOf s)
@@ -37,7 +32,7 @@ circuit-list s e = rw (ne-eqb (s .candidates) 1 e)
 either : (s : Shape) (bound : ℕ) → gradedLimits s ≡ true → 1 ≤ bound → (1 < s .candidates → length (circuit (planOf s)) ≤ bound) → length (ownList s) ≤ bound
 either s bound e one all = ⊎-elim
     (λ (l : 1 < s .candidates). subst (λ (gs : List Gate). length gs ≤ bound) (sym (circuit-list s (λ q. omega arith))) (all l))
-    (λ (l : s .candidates ≤ 1). subst (λ (gs : List Gate). length gs ≤ bound) (sym (single-list s (omega (arith, within s e .k-least)))) one)
+    (λ (l : s .candidates ≤ 1). subst (λ (gs : List Gate). length gs ≤ bound) (sym (own-single s (omega (arith, within s e .k-least)))) one)
     (below-or-not 1 (s .candidates))
 
 circuit-bound : (s : Shape) → gradedLimits s ≡ true → 1 < s .candidates → length (circuit (planOf s)) ≤ boundOf (s .candidates) (s .grades) (s .ballots) (suc (widthOf (s .ballots) - 1))

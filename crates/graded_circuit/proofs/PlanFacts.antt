@@ -16,10 +16,6 @@ all-below n at d (suc m) h =
     let e = suc-mul m d in
     (omega arith, all-below n (at + d) d m (omega arith))
 
-pub below-more : (n n′ at d m : ℕ) → n ≤ n′ → Below n at d m → Below n′ at d m
-below-more n n′ at d zero l h = tt
-below-more n n′ at d (suc m) l h = (omega (arith, h .0), below-more n n′ (at + d) d m l (h .1))
-
 module _ (p : Plan) (f : Planned p) where
   pub row-below : (c g : ℕ) → c < p .candidates → g < p .grades → bitsAt p c g < apart p
   row-below c g hc hg = omega (arith, mul-le-mul-right {m = suc c} {n = p .candidates} (p .grades) (omega arith), suc-mul c (p .grades))

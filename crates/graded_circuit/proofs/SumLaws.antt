@@ -14,7 +14,7 @@ use Rattle.gate_words.specs.Choice.{copies, complements}
 use Rattle.gate_words.specs.Counter.{counter, countSize, addSize}
 use Rattle.gate_words.proofs.ChoiceSteps.{length-each}
 use Rattle.gate_words.proofs.CounterSteps.{length-counter}
-use Rattle.gate_words.proofs.Numbers.{Binary, bit-cases, number-less, number-split, number-one}
+use Rattle.gate_words.proofs.Numbers.{Binary, number-less, number-split, number-one}
 use Rattle.gate_words.proofs.GateValues.{holds-first, not-is}
 use Rattle.gate_words.proofs.ChoiceLaws.{copies-law, complements-law}
 use Rattle.gate_words.proofs.CounterLaws.{counter-law, accumulator-law}
@@ -26,6 +26,7 @@ use Rattle.graded_circuit.proofs.PlanFacts.{first-countable, worst-coun
 use Rattle.basics.proofs.Cases.{below-or-not}
 use Rattle.graded_circuit.proofs.Cutting.{cut2, cut4}
 use Rattle.graded_circuit.proofs.CandidateBlocks.{middle-span, last-span, first-block, middle-block, middles-block, later-block, key-word-block, key-words-block, earlier-words}
+use Rattle.basics.proofs.Arithmetic.{bit-cases}
 
 -- Sums of n grades up to each of d grades, and the median grade among them.
 pub record Sums (n d : ℕ) (S : ℕ → ℕ) (median : ℕ) : Type 0 where

@@ -14,11 +14,6 @@ use Rattle.basics.proofs.Flags.{and-both, and-first-fails, and-second-fails}
 use Rattle.jury.proofs.Searches.{first-none, none-first, some-here, some-none, none-some, clash-here, clash-not-forth, clash-not-back}
 use Rattle.basics.proofs.Flags.{either}
 
--- who is before another is before those who are after that one
-pub transitive : (k : ℕ) (r : ℕ → ℕ → Bool) → StrictWeakOrder k r → (i j l : ℕ) → i < k → j < k → l < k → r i j ≡ true → r j l ≡ true → r i l ≡ true
-transitive k r w i j l hi hj hl f g =
-    either (r i l) (λ e. e) (λ e. absurd (true≢false (sym f ∙ w .negativelyTransitive i l j hi hl hj e (w .asymmetric j l hj hl g))))
-
 module _ (k : ℕ) (xs : List ℕ) (b : ℕ) where
   -- one ballot: no byte clashes
   abbrev NoClash : Type 0

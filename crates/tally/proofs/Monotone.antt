@@ -18,9 +18,10 @@ use Rattle.tally.specs.Demands.{listIn, RunAccuracy}
 use Rattle.tally.specs.Monotone.{TwoRuns, byteIn, MonotoneOnGates}
 use Rattle.tally.proofs.RunReasons.{run-passed}
 use Rattle.tally.proofs.Hiding.{ran-accepted}
-use Rattle.tally.proofs.Rules.{either, closing-graded}
+use Rattle.tally.proofs.Rules.{closing-graded}
 use Rattle.tally.proofs.PlainFacts.{plain-first}
 use Rattle.tally.proofs.Demands.{three-demands}
+use Rattle.basics.proofs.Flags.{either}
 
 -- only grades are raised: ballots of a ranking shape are what they were
 unraised : (s : Shape) (candidate : ℕ) → isRanking s ≡ true → {old new : List ℕ} → RaisedOften s candidate old new → old ≡ new

@@ -28,8 +28,9 @@ use Rattle.tally.specs.Rule.{closingFor}
 use Rattle.tally.specs.OwnList.{ownList, gateBound}
 use Rattle.tally.specs.Test.{testOutcome}
 use Rattle.tally.specs.Write.{OwnListHolds}
-use Rattle.tally.proofs.Rules.{either, closing-graded, closing-ranked}
+use Rattle.tally.proofs.Rules.{closing-graded, closing-ranked}
 use Rattle.tally.proofs.TestReasons.{list-accepted}
+use Rattle.basics.proofs.Flags.{either}
 
 -- the list and the bound of each kind
 pub own-graded : (s : Shape) → isRanking s ≡ false → ownList s ≡ graded.ownList s

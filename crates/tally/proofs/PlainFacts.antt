@@ -31,11 +31,6 @@ pub plain-length : (s : Shape) (xs : List ℕ) → length (plainClosing s xs) �
 unfolding plainClosing
 plain-length s xs = after-length (countReason s xs) (closingFor s xs)
 
--- a refusal has eight zeros
-pub plain-refused : (s : Shape) (xs : List ℕ) (r : Reason) → countReason s xs ≡ some r → plainClosing s xs ≡ replicate 8 0
-unfolding plainClosing closingAfter eightBytes
-plain-refused s xs r e = ap (λ (o : Option Reason). closingAfter o (closingFor s xs)) e
-
 module _ (s : Shape) (xs : List ℕ) (a : AcceptedBallots s xs) where
   pub plain-accepted : plainClosing s xs ≡ eightBytes (closingFor s xs)
   unfolding plainClosing closingAfter

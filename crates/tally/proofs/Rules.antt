@@ -1,6 +1,6 @@
 -- The rule of a shape by its kind: what its closing bytes are, and that they say who wins.
 -- Assumes nothing.
-use mathlib.Core.Path.{_≡_, _∙_, refl, sym, ap, subst}
+use mathlib.Core.Path.{_≡_, _∙_, sym, ap, subst}
 use mathlib.Core.Bool.{Bool, true, false, cond, true≢false}
 use mathlib.Core.Logic.{_⊎_, inl, inr, ⊎-elim, _↔_}
 use mathlib.Core.List.{List}
@@ -23,11 +23,8 @@ use Rattle.rule_schulze.specs.Votes.{votes}
 use Rattle.rule_schulze.proofs.Winning.{closing-at, closing-one}
 use Rattle.tally.specs.Rule.{closingFor, Wins}
 use Rattle.tally.specs.SaysWhoWins.{SaysWhoWins}
-
--- a test holds or fails
-pub either : (t : Bool) {A : Type 0} → (t ≡ true → A) → (t ≡ false → A) → A
-either true yes′ no′ = yes′ refl
-either false yes′ no′ = no′ refl
+use Rattle.basics.proofs.Flags.{either}
+use Rattle.basics.proofs.Flags.{bit-most}
 
 -- a byte that is 0 or 1, and 1 exactly where a statement holds, is 0 exactly where it does not
 none-exactly : {W : Type 0} (x : ℕ) → x ≤ 1 → (x ≡ 1) ↔ W → (x ≡ 0) ↔ (¬ W)
@@ -39,10 +36,6 @@ none-exactly x h iff = (
     zero-or-more : (x : ℕ) → (x ≤ 0) ⊎ (1 ≤ x)
     zero-or-more zero = inl (omega arith)
     zero-or-more (suc x) = inr (omega arith)
-
-bit-of : (t : Bool) → cond {A = ℕ} t 1 0 ≤ 1
-bit-of true = omega arith
-bit-of false = omega arith
 
 module _ (s : Shape) (xs : List ℕ) where
   pub closing-graded : isRanking s ≡ false → closingFor s xs ≡ judgmentOf (countsOf s xs)
@@ -96,7 +89,7 @@ module _ (s : Shape) (xs : List ℕ) where
       ranked-loser =
           let v = votes (s .candidates) (s .ballots) xs in
           let bit : getD (closingFor s xs) i 0 ≤ 1 =
-          subst (λ (x : ℕ). x ≤ 1) (sym (ranked-byte ∙ closing-at v (s .candidates) i h)) (bit-of (wins v (s .candidates) i)) in
+          subst (λ (x : ℕ). x ≤ 1) (sym (ranked-byte ∙ closing-at v (s .candidates) i h)) (bit-most (wins v (s .candidates) i)) in
           none-exactly (getD (closingFor s xs) i 0) bit ranked-winner
 
     -- the rule's bytes say who wins

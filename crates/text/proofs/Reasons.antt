@@ -38,9 +38,6 @@ outcome-accepted none v w e = (refl, cc)
 outcome-accepted (some q) v w e = let z : _≡_ {A = ℕ} 0 1 = cc in absurd (omega arith)
 
 module _ (s : Shape) (table output : List ℕ) where
-  longEnough : Bool → Option Reason
-  longEnough t = orElse (firstOf (testReasons s table)) (firstOf (unless t 24 ∷ []))
-
   -- the reasons of writing by those of the test and the room
   text-by : (o : Option Reason) (t : Bool) → firstOf (testReasons s table) ≡ o → leb (length (textOf (gatesOf table))) (length output) ≡ t
       → firstOf (textReasons s table output) ≡ orElse o (firstOf (unless t 24 ∷ []))

@@ -66,9 +66,6 @@ unfolding bind
 bind-none o f e = rw e
 
 module _ (k : Taken ℕ) where
-  n : ℕ
-  n = operandsOf (k .value)
-
   pub afterC : Taken ℕ → Taken ℕ → Taken ℕ → Option (Taken Gate)
   afterC a b c = bind (endIn (c .behind)) λ rest. taken (record { kind = k .value; a = a .value; b = b .value; c = c .value }) rest
 

@@ -5,6 +5,7 @@ use mathlib.Core.Path.{_≡_, _∙_, refl, sym, ap}
 use Prim.Native.Nat.{ℕ, zero, suc, _+_, _*_, _/_, _%_, _≤_}
 use native.Mathlib.Omega.{arith}
 use Rattle.trustee_shares.specs.Shares.{entered, opened, sumOf}
+use Rattle.trustee_shares.proofs.Exchange.{reduced}
 
 -- an even number times any is even, an odd one keeps what it is multiplied with
 even-times : (h b : ℕ) → 2 * h * b % 2 ≡ 0
@@ -35,9 +36,6 @@ entered-mod (suc p) x = refl
 pub plus-mod : (r m x s a : ℕ) → m % 2 ≡ s % 2 → x % 2 ≡ a % 2 → r ≡ (m + x) % 2 → r ≡ (s + a) % 2
 plus-mod r m x s a e f h = omega arith
 
-again : (r s : ℕ) → r ≡ s % 2 → r % 2 ≡ s % 2
-again r s e = omega arith
-
 pub three-mods : (a b z : ℕ) → (a % 2 + b % 2 + z % 2) % 2 ≡ (a + b + z) % 2
 three-mods a b z =
     let u = a % 2 + b % 2 in
@@ -50,9 +48,9 @@ pub product-sum : (p s a b c x y z e d m r : ℕ) → x ≡ a % 2 → y ≡ b % 
     → r ≡ (s + a + b + entered p c) % 2
 product-sum p s a b c x y z e d m r hx hy hz hd hm he hr =
     let k : e % 2 ≡ entered p c % 2 = ap (λ (n : ℕ). n % 2) he ∙ ap (λ (n : ℕ). entered p n % 2) hz ∙ entered-mod p c in
-    let f : d ≡ (s + a) % 2 = plus-mod d s x s a refl (again x a hx) hd in
-    let g : m ≡ (s + a + b) % 2 = plus-mod m d y (s + a) b (again d (s + a) f) (again y b hy) hm in
-    plus-mod r m e (s + a + b) (entered p c) (again m (s + a + b) g) k hr
+    let f : d ≡ (s + a) % 2 = plus-mod d s x s a refl (reduced x a hx) hd in
+    let g : m ≡ (s + a + b) % 2 = plus-mod m d y (s + a) b (reduced d (s + a) f) (reduced y b hy) hm in
+    plus-mod r m e (s + a + b) (entered p c) (reduced m (s + a + b) g) k hr
 
 -- one more summand
 pub opened-more : (t : ℕ) (f : ℕ → ℕ) (sum v r : ℕ) → sum ≡ opened t f → v ≡ f t → r ≡ (sum + v) % 2 → r ≡ opened (suc t) f

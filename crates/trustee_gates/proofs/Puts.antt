@@ -13,8 +13,8 @@ use lib.Seq.{getD-take, getD-drop, take-take, drop-drop, sets, length-sets, drop
 use borrow.Author.Tests.{eqb-true, eqb-false, ltb-true, ltb-false}
 use Rattle.trustee_shares.specs.Shares.{part, Held}
 use Rattle.trustee_shares.specs.Views.{piece}
-use Rattle.trustee_shares.proofs.Tables.{times-below}
 use Rattle.trustee_gates.specs.Tables.{eachPuts}
+use Rattle.basics.proofs.Arithmetic.{row-within}
 
 -- an entry of a piece, by its place in the table
 pub part-piece : (size : ℕ) (table : List ℕ) (p x : ℕ) → x < size → part (piece size table p) x ≡ getD table (p * size + x) 0
@@ -23,7 +23,7 @@ part-piece size table p x h = getD-take size (drop (p * size) table) x 0 h ∙ g
 
 -- a trustee's piece lies in its table
 pub reaches : (t size : ℕ) (table : List ℕ) (p : ℕ) → length table ≡ t * size → p < t → p * size + size ≤ length table
-reaches t size table p e h = omega (arith, times-below p t size h)
+reaches t size table p e h = omega (arith, row-within p t size h)
 
 -- one entry
 piece-set-same : (size : ℕ) (table : List ℕ) (p x v : ℕ) → x < size → piece size (set table (p * size + x) v) p ≡ set (piece size table p) x v
@@ -36,12 +36,12 @@ piece-set-other size table p q x v n h = go (ltb p q) refl
   where
     go : (b : Bool) → ltb p q ≡ b → take size (drop (q * size) (set table (p * size + x) v)) ≡ take size (drop (q * size) table)
     go true is =
-        let m = times-below p q size (ltb-true p q is) in
+        let m = row-within p q size (ltb-true p q is) in
         ap (take size) (drop-set-lt (q * size) table (p * size + x) v (omega arith))
     go false is =
         let l = ltb-false p q is in
         let below : q < p = omega arith in
-        let m = times-below q p size below in
+        let m = row-within q p size below in
         let j = p * size + x - q * size in
         let e : p * size + x ≡ q * size + j = omega arith in
         ap (λ (i : ℕ). take size (drop (q * size) (set table i v))) e

@@ -30,6 +30,7 @@ use Rattle.trustee_gates.specs.declared.gate.Pieces.{Pieces}
 use Rattle.trustee_gates.specs.Tables.{eachPuts}
 use Rattle.trustee_gates.specs.Gate.{gateOf, GateReady}
 use Rattle.trustee_gates.proofs.Puts.{length-puts, puts-at}
+use Rattle.trustee_shares.proofs.Publishing.{mark-none}
 
 -- all operands of a good gate are below its own wire, 0 being below any
 pub record Below (own : ℕ) (g : Gate) : Type 0 where
@@ -108,10 +109,6 @@ length-parts t dealt [] held i n p e = omega arith
 length-parts t dealt (g ∷ gs) held i n p e =
     let v = newPart t dealt held i g p in
     omega (arith, length-parts t dealt gs (λ q. held q ++ (newPart t dealt held i g q ∷ [])) (i + markOf g) (suc n) p (omega (arith, length-append (held p) (v ∷ []))))
-
-pub mark-none : (g : Gate) → conditionalOf (g .kind) ≡ false → markOf g ≡ 0
-unfolding markOf
-mark-none g e = rw e
 
 module _ (t sizeW sizeP inputs : ℕ) (dealt : Held) (table : List ℕ) (final finalPublished : Held) where
   -- The invariant: gates g and on are left, and what they will make of wire parts and published bits is what the whole list makes.

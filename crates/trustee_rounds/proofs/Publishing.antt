@@ -18,10 +18,10 @@ use Rattle.gate_levels.proofs.Laws.{operand-levels}
 use Rattle.trustee_shares.specs.Shares.{opened, part, firstFactor, secondFactor, maskedFirst, maskedSecond, Held, openedFirst, openedSecond, markOf}
 use Rattle.trustee_shares.specs.Views.{maskedFactors}
 use Rattle.trustee_shares.proofs.Accuracy.{opened-same, count-mark, mark-one}
-use Rattle.trustee_gates.proofs.Running.{mark-none}
 use Rattle.trustee_rounds.specs.Rounds.{publishesGate, publishes}
 use Rattle.trustee_rounds.specs.Together.{sumsFrom, sumsOf}
 use Rattle.trustee_rounds.proofs.Entering.{GateFits, Fits, Heard, turn, Stands, wire-there}
+use Rattle.trustee_shares.proofs.Publishing.{mark-none}
 
 -- masked factors follow from the parts of the operands
 first-same : (ws vs dealt : List ℕ) (i : ℕ) (x : Gate) → part ws (x .a) ≡ part vs (x .a) → maskedFirst ws dealt i x ≡ maskedFirst vs dealt i x

@@ -78,7 +78,7 @@ add-mods a b = omega arith
 add-mod : (a b : ℕ) → (a + b % 2) % 2 ≡ (a + b) % 2
 add-mod a b = omega arith
 
-reduced : (v s : ℕ) → v ≡ s % 2 → v % 2 ≡ s % 2
+pub reduced : (v s : ℕ) → v ≡ s % 2 → v % 2 ≡ s % 2
 reduced v s e = omega arith
 
 sums-differ : (a a′ b b′ x y : ℕ) → a′ ≡ (a + x) % 2 → b′ ≡ (b + y) % 2 → (a′ + b′) % 2 ≡ (a + b + (x + y) % 2) % 2

@@ -6,6 +6,7 @@ use Prim.Native.Nat.{ℕ, zero, suc, _+_, _*_, _%_, _≤_}
 use native.Mathlib.Omega.{arith}
 use Rattle.trustee_shares.specs.Shares.{sumOf, opened, entered, uOf, vOf, productOf, productPart}
 use Rattle.trustee_shares.proofs.SumLaws.{sum-mod, sum-add, sum-times, sum-entered}
+use Rattle.trustee_shares.proofs.Accuracy.{opened-two}
 
 -- what holds of both bits holds of any
 pub two : (P : ℕ → Type 0) → P 0 → P 1 → (x : ℕ) → x ≤ 1 → P x
@@ -54,11 +55,6 @@ sum-products t dealt i e f ht he hf =
 abbrev pub Triple : ℕ → (ℕ → List ℕ) → ℕ → Type 0
 Triple t dealt i = opened t (λ p. productOf (dealt p) i) ≡ opened t (λ p. uOf (dealt p) i) * opened t (λ p. vOf (dealt p) i)
 
--- a factor that is masked and opened
-pub masked-opens : (t : ℕ) (x u : ℕ → ℕ) → opened t (λ p. (x p + u p) % 2) ≡ (opened t x + opened t u) % 2
-unfolding opened
-masked-opens t x u = omega (arith, sum-mod t (λ p. x p + u p), sum-add t x u)
-
 -- two factors x and y, opened under their masks, give the product of what they spell
 pub product-opens : (t : ℕ) (dealt : ℕ → List ℕ) (i : ℕ) (x y : ℕ → ℕ) → 1 ≤ t → Triple t dealt i
     → opened t (λ p. productPart p (dealt p) i (opened t (λ q. (x q + uOf (dealt q) i) % 2)) (opened t (λ q. (y q + vOf (dealt q) i) % 2)))
@@ -68,8 +64,8 @@ product-opens t dealt i x y ht triple =
     let u : ℕ → ℕ = λ p. uOf (dealt p) i in
     let v : ℕ → ℕ = λ p. vOf (dealt p) i in
     let w : ℕ → ℕ = λ p. productOf (dealt p) i in
-    let e = masked-opens t x u in
-    let f = masked-opens t y v in
+    let e = opened-two t x u in
+    let f = opened-two t y v in
     sum-products t dealt i (sumOf t (λ q. (x q + u q) % 2) % 2) (sumOf t (λ q. (y q + v q) % 2) % 2) ht (omega arith) (omega arith)
     ∙ rw (e, f) (spelled (sumOf t x % 2) (sumOf t y % 2) (sumOf t u % 2) (sumOf t v % 2) (omega arith) (omega arith) (omega arith) (omega arith)
     (sumOf t x) (sumOf t y) (sumOf t u) (sumOf t v) (sumOf t w) refl refl refl refl triple)

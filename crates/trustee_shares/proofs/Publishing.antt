@@ -31,7 +31,7 @@ later n m g h good =
       c-below = λ u. omega (arith, good .c-below u);
     }
 
-mark-none : (g : Gate) → conditionalOf (g .kind) ≡ false → markOf g ≡ 0
+pub mark-none : (g : Gate) → conditionalOf (g .kind) ≡ false → markOf g ≡ 0
 unfolding markOf
 mark-none g e = rw e
 

@@ -4,8 +4,7 @@ use mathlib.Core.Path.{_≡_, _∙_, refl, sym, ap}
 use mathlib.Core.Bool.{Bool, true, false, cond}
 use mathlib.Core.Logic.{_≢_}
 use mathlib.Core.List.{List, [], _∷_, _++_, append-nil}
-use Prim.Native.Nat.{ℕ, zero, suc, _+_, _*_, _≤_, _<_}
-use native.Mathlib.Nat.{mul-le-mul-right}
+use Prim.Native.Nat.{ℕ, zero, suc, _+_, _*_, _<_}
 use native.Mathlib.Omega.{arith}
 use lib.Dec.{eqb}
 use lib.ListN.{length, take, drop, length-append, length-drop}
@@ -13,10 +12,7 @@ use lib.Seq.{length-take-le, take-all, take-add, take-append-le, drop-append-le,
 use borrow.Author.Tests.{eqb-true, eqb-false, ne-eqb}
 use Rattle.trustee_shares.specs.Shares.{Held}
 use Rattle.trustee_shares.specs.Views.{piece, joined, othersOf}
-
--- a trustee's piece lies in its table
-pub times-below : (p t s : ℕ) → p < t → p * s + s ≤ t * s
-times-below p t s h = omega (arith, mul-le-mul-right s h)
+use Rattle.basics.proofs.Arithmetic.{row-within}
 
 module _ (size : ℕ) (f : Held) where
   pub length-joined : (t : ℕ) → ((p : ℕ) → p < t → length (f p) ≡ size) → length (joined t f) ≡ t * size
@@ -39,7 +35,7 @@ module _ (size : ℕ) (f : Held) where
           let n = eqb-false p t is in
           let below : p < t = omega arith in
           let l = length-joined t (λ (q : ℕ) l. e q (omega arith)) in
-          let m = times-below p t size below in
+          let m = row-within p t size below in
           rw (drop-append-le (p * size) (joined t f) (f t) (omega arith))
           (rw (take-append-le size (drop (p * size) (joined t f)) (f t) (omega (arith, length-drop (p * size) (joined t f)))) (rest below))
 
@@ -57,7 +53,7 @@ whole-table t size table e = joined-pieces t size table ∙ take-all (t * size) 
 pub length-piece : (t size : ℕ) (table : List ℕ) (p : ℕ) → length table ≡ t * size → p < t → length (piece size table p) ≡ size
 unfolding piece
 length-piece t size table p e h =
-    length-take-le size (drop (p * size) table) (omega (arith, length-drop (p * size) table, times-below p t size h))
+    length-take-le size (drop (p * size) table) (omega (arith, length-drop (p * size) table, row-within p t size h))
 
 -- equal pieces, equal tables, and the other way
 pub joined-cong : (t : ℕ) (f g : Held) → ((p : ℕ) → p < t → f p ≡ g p) → joined t f ≡ joined t g

@@ -31,6 +31,7 @@ use Rattle.trustees.specs.inner.Sizes.{SmallSizes}
 use Rattle.trustees.specs.Call.{PartTables, Call, dealtAs}
 use Rattle.trustees.specs.Reasons.{tablesFit, partReasons, trusteesReasons}
 use Rattle.trustees.specs.Result.{TrusteesResult, trusteesResultAfter, trusteesResult}
+use Rattle.tally.proofs.RunReasons.{three-passed}
 
 -- what the tests 16 to 18 answer, from their outcomes
 unfoldable pub partFound : Bool → Bool → Bool → Option Reason
@@ -126,13 +127,6 @@ module _ (k : ℕ) (size : Size) (ballots : List ℕ) (t : ℕ) (lent : PartTabl
   pub parts-passed-back : PartsPassed → firstOf (partReasons k size ballots t lent) ≡ none
   unfolding partFound unless firstOf
   parts-passed-back l = part-by true true true (trustees-fit l) (fit-tables (length ballots) k size t lent (l .tables)) (l .dealt)
-
-three-passed : (a b c : Option Reason) → firstOfThree a b c ≡ none → (a ≡ none) × (b ≡ none) × (c ≡ none)
-unfolding firstOfThree orElse
-three-passed none none none e = (refl, refl, refl)
-three-passed none none (some r) e = let z : _≡_ {A = ℕ} 0 1 = cc in absurd (omega arith)
-three-passed none (some r) c e = let z : _≡_ {A = ℕ} 0 1 = cc in absurd (omega arith)
-three-passed (some r) b c e = let z : _≡_ {A = ℕ} 0 1 = cc in absurd (omega arith)
 
 module _ (c : Call) where
   pub first-reason : firstOf (trusteesReasons c)

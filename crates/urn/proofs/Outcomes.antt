@@ -144,9 +144,6 @@ juror-absent t p h i = rw (h, i)
 pub juror-gone : (t p : Bool) → t ≡ true → p ≡ false → (t && p) ≡ false
 juror-gone t p h i = rw (h, i)
 
-pub juror-bad : (t u : Bool) → t ≡ false → (t && u) ≡ false
-juror-bad t u h = rw h
-
 -- the first reason of a withdrawal
 module _ (a b c : Bool) where
   pub withdraw-1 : a ≡ false → withdrawFirst a b c ≡ some (reasonAt 1 0)

@@ -4,11 +4,11 @@ use mathlib.Core.Path.{_≡_, _∙_, refl, sym, ap, subst}
 use mathlib.Core.Logic.{_⊎_, inl, inr}
 use mathlib.Core.Bool.{true, false}
 use mathlib.Core.List.{List, [], _∷_, _++_, map, append-nil, append-assoc}
-use Prim.Native.Nat.{ℕ, suc, _+_, _*_, _-_, _≤_, _<_}
+use Prim.Native.Nat.{ℕ, _+_, _*_, _-_, _≤_, _<_}
 use native.Mathlib.Nat.{zero-mul, sub-zero, add-mul, one-mul}
 use native.Mathlib.Omega.{arith}
 use lib.Dec.{T}
-use lib.ListN.{length, getD, set, take, drop, length-append, length-take, length-drop, drop-of-length-le}
+use lib.ListN.{length, getD, take, drop, length-append, length-take, length-drop, drop-of-length-le}
 use lib.Seq.{sets, sets-eq, length-sets, take-all, take-length, drop-drop}
 use Rattle.jury.specs.Shape.{gradedLimits}
 use Rattle.basics.proofs.Cases.{below-or-not}
@@ -24,11 +24,7 @@ use Rattle.urn_chains.proofs.SlotTests.{head-next, slots-by-bytes, clash}
 use Rattle.urn_chains.proofs.SoundLayouts.{its-parts, its-length}
 use Rattle.urn.proofs.FactLaws.{its-table, can-find}
 use Rattle.urn_run.specs.Run.{joined, chainBallots}
-
--- two pieces written one behind the other are written at once
-pub sets-append : (xs ys t : List ℕ) (i j : ℕ) → j ≡ i + length xs → sets (sets t i xs) j ys ≡ sets t i (xs ++ ys)
-sets-append [] ys t i j e = ap (λ (k : ℕ). sets t k ys) (omega arith)
-sets-append (x ∷ xs) ys t i j e = sets-append xs ys (set t i x) (suc i) j (omega arith)
+use Rattle.basics.proofs.Tables.{sets-append}
 
 -- a copy into a part of a table writes what is copied there
 pub copied : (src ws last : List ℕ) (at : ℕ) → at + length src ≤ length ws

@@ -58,8 +58,8 @@ run-requires c κs =
     let told = c .before .before in
     batch-ready (call (started told)) (batch-passed (call (started told)) (no-reason told))
 
-empty-requires : tie.Need-empty-requires
-empty-requires c κs = search needs
+empty-words-requires : tie.Need-empty-words-requires
+empty-words-requires c κs = search needs
 
 enum-told-2 : tie.Need-enum-told-2
 enum-told-2 c = search needs
@@ -82,7 +82,7 @@ returns c =
     same-result _ _
     (told .before .before .test-run .ensures ∙ ap (λ (o : Option Reason). outcome o (sizeOf (gatesOf (of .table)))) (no-reason told)
     ∙ sym (ap (λ (r : RunResult). r .answer) e))
-    (emptied .empty .ensures ∙ ap (λ (n : ℕ). replicate n 0) (done .run .kept .1 .1 .1 .1 .0)
+    (emptied .empty-words .ensures ∙ ap (λ (n : ℕ). replicate n 0) (done .run .kept .1 .1 .1 .1 .0)
     ∙ sym (ap (λ (r : RunResult). r .wires) e))
     (words-are _ (boardAlone of) (λ i. c .before .before .before .before .slice-known4 .given i .fits) (done .run .ensures .board-is)
     ∙ ap (λ (n : ℕ). wordsOf n (boardAlone of)) (done .run .kept .1 .1 .1 .1 .1 .0 ∙ p .boardLength)
@@ -113,7 +113,7 @@ run-spec =
     test-run-requires
     enum-told
     run-requires
-    empty-requires
+    empty-words-requires
     enum-told-2
     same-length
     same-length-2

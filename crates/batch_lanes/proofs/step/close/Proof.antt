@@ -40,32 +40,32 @@ module _ (ws board last : List ℕ) (outputs shown : ℕ) (fits : outputs ≤ le
 sub-first : tie.Need-sub-first
 sub-first c = search needs
 
-mul-copy : tie.Need-mul-copy
-mul-copy c = search needs
+mul-copy-words : tie.Need-mul-copy-words
+mul-copy-words c = search needs
 
-sub-copy : tie.Need-sub-copy
-sub-copy c = search needs
+sub-copy-words : tie.Need-sub-copy-words
+sub-copy-words c = search needs
 
-part-copy-start : tie.Need-part-copy-start
-part-copy-start c = search needs
+part-copy-words-start : tie.Need-part-copy-words-start
+part-copy-words-start c = search needs
 
-part-copy-end : tie.Need-part-copy-end
-part-copy-end c = search needs
+part-copy-words-end : tie.Need-part-copy-words-end
+part-copy-words-end c = search needs
 
-mul-copy-2 : tie.Need-mul-copy-2
-mul-copy-2 c = search needs
+mul-copy-words-2 : tie.Need-mul-copy-words-2
+mul-copy-words-2 c = search needs
 
-sub-copy-2 : tie.Need-sub-copy-2
-sub-copy-2 c = search needs
+sub-copy-words-2 : tie.Need-sub-copy-words-2
+sub-copy-words-2 c = search needs
 
-part-copy-start-2 : tie.Need-part-copy-start-2
-part-copy-start-2 c = search needs
+part-copy-words-start-2 : tie.Need-part-copy-words-start-2
+part-copy-words-start-2 c = search needs
 
-part-copy-end-2 : tie.Need-part-copy-end-2
-part-copy-end-2 c = search needs
+part-copy-words-end-2 : tie.Need-part-copy-words-end-2
+part-copy-words-end-2 c = search needs
 
-copy-requires : tie.Need-copy-requires
-copy-requires c κs = search needs
+copy-words-requires : tie.Need-copy-words-requires
+copy-words-requires c κs = search needs
 
 same-length : tie.Need-same-length
 same-length c = search needs
@@ -74,21 +74,21 @@ returns : tie.Need-returns
 unfolding from to
 returns c =
     let s = c .before .before .before .before .before .before .before in
-    closed (s .args .wires .now) (s .args .board .now) (c .before .before .copy .last .1 .0) (s .args .outputs) (s .args .shown) (s .pre .enough) (s .pre .room) (c .before .before .copy .ensures)
+    closed (s .args .wires .now) (s .args .board .now) (c .before .before .copy-words .last .1 .0) (s .args .outputs) (s .args .shown) (s .pre .enough) (s .pre .room) (c .before .before .copy-words .ensures)
 
 pub close-spec : {M : Type 1} → statement M
 close-spec =
     tie.close
     (tie.spec
     sub-first
-    mul-copy
-    sub-copy
-    part-copy-start
-    part-copy-end
-    mul-copy-2
-    sub-copy-2
-    part-copy-start-2
-    part-copy-end-2
-    copy-requires
+    mul-copy-words
+    sub-copy-words
+    part-copy-words-start
+    part-copy-words-end
+    mul-copy-words-2
+    sub-copy-words-2
+    part-copy-words-start-2
+    part-copy-words-end-2
+    copy-words-requires
     same-length
     returns)

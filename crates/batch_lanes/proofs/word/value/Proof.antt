@@ -1,18 +1,12 @@
 -- `batch_lanes::word::value` meets its contract: each arm's word has in every lane its kind's value.
 -- Assumes nothing.
-use mathlib.Core.Logic.{_≢_}
-use Prim.Native.Nat.{ℕ, _≤_}
+use Prim.Native.Nat.{_≤_}
 use native.Mathlib.Omega.{arith}
 use Rattle.batch_lanes.proofs.ValueLaws.{zero-lane, one-lane, copy-lane, not-lane, and-lane, or-lane, xor-lane, choice-lane}
 use Rattle.batch_lanes.proofs.word.value.Statement.{statement}
 use Rattle.batch_lanes.proofs.word.value.Tie as tie
-
--- a number that is none of 0 to 7 is at least 8, in two steps, since `omega` splits at most six times
-above-3 : (k : ℕ) → k ≢ 0 → k ≢ 1 → k ≢ 2 → k ≢ 3 → 4 ≤ k
-above-3 k h₀ h₁ h₂ h₃ = omega arith
-
-above-7 : (k : ℕ) → 4 ≤ k → k ≢ 4 → k ≢ 5 → k ≢ 6 → k ≢ 7 → 8 ≤ k
-above-7 k l h₄ h₅ h₆ h₇ = omega arith
+use Rattle.basics.proofs.Arithmetic.{above-3}
+use Rattle.basics.proofs.Arithmetic.{above-7}
 
 returns : tie.Need-returns
 returns c = let x = c .before .args in λ j h. rw (c .match .keys1) (zero-lane j h (x .a) (x .b) (x .c))

@@ -11,9 +11,10 @@ use Rattle.gate_words.proofs.Emitting.{copy-wrote}
 use Rattle.gate_words.proofs.Going.{Goes, goes-start, goes-as, goes-on, goes-room, goes-end}
 use Rattle.graded_circuit.specs.Median.{Fits, medianDigits, medianSize}
 use Rattle.graded_circuit.proofs.MedianLaws.{half-apart, first-of, digits-block}
-use Rattle.graded_keys.proofs.Steps.{product-most, one-less, fits-step, digits-step, digits-none, size-step}
+use Rattle.graded_keys.proofs.Steps.{product-most, fits-step, digits-step, digits-none, size-step}
 use Rattle.graded_keys.proofs.median.median_digits.Statement.{statement}
 use Rattle.graded_keys.proofs.median.median_digits.Tie as tie
+use Rattle.basics.proofs.Arithmetic.{one-less}
 
 abbrev Inv-loop : tie.InvT-loop
 Inv-loop table₀ n first stride count digits next₀ from₀ at₀ step₀ many₀ left₀ table next from at step many left =

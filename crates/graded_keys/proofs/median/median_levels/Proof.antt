@@ -8,9 +8,10 @@ use Rattle.gate_words.proofs.Going.{Goes, goes-start, goes-as, goes-on, goes-ro
 use Rattle.graded_circuit.specs.Median.{Fits, medianLevels, medianSize}
 use Rattle.graded_circuit.proofs.PlanFacts.{all-below}
 use Rattle.graded_circuit.proofs.MedianLaws.{half-apart, first-of, levels-block}
-use Rattle.graded_keys.proofs.Steps.{product-most, one-less, fits-step, levels-step, levels-none, size-step}
+use Rattle.graded_keys.proofs.Steps.{product-most, fits-step, levels-step, levels-none, size-step}
 use Rattle.graded_keys.proofs.median.median_levels.Statement.{statement}
 use Rattle.graded_keys.proofs.median.median_levels.Tie as tie
+use Rattle.basics.proofs.Arithmetic.{one-less}
 
 abbrev Inv-loop : tie.InvT-loop
 Inv-loop table₀ first stride count digits next₀ at₀ step₀ many₀ left₀ table next at step many left =

@@ -8,9 +8,10 @@ use lib.ListN.{length}
 use Rattle.gate_words.proofs.Going.{Goes, goes-start, goes-as, goes-on, goes-room, goes-end}
 use Rattle.graded_circuit.specs.Nearest.{stride, sideSpan, either, eitherSpan, firstOf}
 use Rattle.graded_circuit.proofs.NearestLaws.{either-block, first-of-block}
-use Rattle.graded_keys.proofs.Steps.{product-most, one-less, fewer, first-step, first-none}
+use Rattle.graded_keys.proofs.Steps.{product-most, fewer, first-step, first-none}
 use Rattle.graded_keys.proofs.nearest.first_of.Statement.{statement}
 use Rattle.graded_keys.proofs.nearest.first_of.Tie as tie
+use Rattle.basics.proofs.Arithmetic.{one-less}
 
 abbrev Inv-loop : tie.InvT-loop
 Inv-loop table₀ f x y u v above count next₀ first₀ second₀ more₀ table next first second more =

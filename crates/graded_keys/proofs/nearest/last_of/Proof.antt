@@ -7,9 +7,10 @@ use lib.ListN.{length}
 use Rattle.gate_words.proofs.Going.{Goes, goes-start, goes-as, goes-on, goes-room, goes-end}
 use Rattle.graded_circuit.specs.Nearest.{stride, sideSpan, either, eitherSpan, lastOf}
 use Rattle.graded_circuit.proofs.NearestLaws.{either-block, last-of-block}
-use Rattle.graded_keys.proofs.Steps.{one-less, last-step, last-none}
+use Rattle.graded_keys.proofs.Steps.{last-step, last-none}
 use Rattle.graded_keys.proofs.nearest.last_of.Statement.{statement}
 use Rattle.graded_keys.proofs.nearest.last_of.Tie as tie
+use Rattle.basics.proofs.Arithmetic.{one-less}
 
 abbrev Inv-loop : tie.InvT-loop
 Inv-loop table₀ f x y u v above count next₀ flag₀ left₀ right₀ first₀ second₀ more₀ table next flag left right first second more =

@@ -6,9 +6,10 @@ use native.Mathlib.Omega.{arith}
 use Rattle.gate_words.proofs.Going.{Goes, goes-start, goes-as, goes-on, goes-room, goes-end}
 use Rattle.graded_circuit.specs.Nearest.{stride, side, sideSpan, sides}
 use Rattle.graded_circuit.proofs.NearestLaws.{side-block, sides-block}
-use Rattle.graded_keys.proofs.Steps.{one-less, sides-step, sides-none}
+use Rattle.graded_keys.proofs.Steps.{sides-step, sides-none}
 use Rattle.graded_keys.proofs.nearest.sides.Statement.{statement}
 use Rattle.graded_keys.proofs.nearest.sides.Tie as tie
+use Rattle.basics.proofs.Arithmetic.{one-less}
 
 abbrev Inv-loop : tie.InvT-loop
 Inv-loop table₀ x y above high count next₀ left₀ right₀ more₀ table next left right more =

@@ -10,9 +10,10 @@ use Rattle.graded_circuit.specs.declared.plan.Plan.{Plan}
 use Rattle.graded_circuit.specs.Plan.{Planned, planOf}
 use Rattle.graded_circuit.specs.OwnList.{circuit}
 use Rattle.graded_circuit.proofs.Planning.{planned}
-use Rattle.graded_circuit.proofs.OwnListLaws.{single-list, circuit-list}
+use Rattle.graded_circuit.proofs.OwnListLaws.{circuit-list}
 use Rattle.graded_size.proofs.list.gates.Statement.{statement}
 use Rattle.graded_size.proofs.list.gates.Tie as tie
+use Rattle.graded_circuit.proofs.Accuracy.{own-single}
 
 plan-planned : (c : tie.After-new) → Planned (c .new .result)
 plan-planned c =
@@ -26,7 +27,7 @@ plan-many c =
     omega (arith, ap (λ (p : Plan). p .candidates) (c .new .ensures), within-T s (c .before .before .before .pre) .k-least, c .before .if1 .left)
 
 returns : tie.Need-returns
-returns c = sym (ap length (single-list (c .before .before .args .shape) (c .if1 .taken)))
+returns c = sym (ap length (own-single (c .before .before .args .shape) (c .if1 .taken)))
 
 new-requires : tie.Need-new-requires
 new-requires c κs = search needs

@@ -3,7 +3,6 @@
 use mathlib.Core.Path.{_≡_, _∙_, refl, ap}
 use mathlib.Core.List.{[], _++_}
 use Prim.Native.Nat.{ℕ, suc, _+_, _-_, _*_, _≤_, _<_}
-use native.Mathlib.Nat.{suc-mul}
 use native.Mathlib.Omega.{arith}
 use Rattle.gate_words.proofs.Going.{Goes, goes-start, goes-as, goes-on, goes-room, goes-end}
 use Rattle.graded_circuit.specs.declared.plan.Plan.{Plan}
@@ -13,6 +12,7 @@ use Rattle.graded_circuit.proofs.CandidateBlocks.{key-word-block, key-words-blo
 use Rattle.graded_sums.proofs.Writers.{span-most}
 use Rattle.graded_sums.proofs.key.key_words.Statement.{statement}
 use Rattle.graded_sums.proofs.key.key_words.Tie as tie
+use Rattle.basics.proofs.Arithmetic.{one-less}
 
 abbrev Inv-loop : tie.InvT-loop
 Inv-loop table₀ p a count span next₀ at₀ left₀ table next at left =
@@ -30,10 +30,6 @@ word-step p a t h = let e : t ≡ suc (t - 1) = omega arith in ap (keyWords p a)
 word-none : (p : Plan) (a t : ℕ) → t ≤ 0 → keyWords p a t ≡ []
 unfolding keyWords
 word-none p a t h = let e : t ≡ 0 = omega arith in rw e
-
--- one word of those that are left
-one-less : (t k : ℕ) → 0 < t → t * k ≡ k + (t - 1) * k
-one-less t k h = let e : t ≡ suc (t - 1) = omega arith in omega (arith, ap (λ (x : ℕ). x * k) e, suc-mul (t - 1) k)
 
 middle-span-requires : tie.Need-middle-span-requires Inv-loop μ-loop
 middle-span-requires c κs =

@@ -2,7 +2,6 @@
 -- Assumes nothing.
 use borrow.Author.Needs.{needs}
 use mathlib.Core.Path.{_≡_, sym}
-use mathlib.Core.Logic.{_≢_}
 use mathlib.Core.List.{[], _∷_}
 use Prim.Native.Nat.{ℕ, _+_, _%_, _≤_}
 use native.Mathlib.Omega.{arith}
@@ -11,13 +10,8 @@ use Rattle.trustee_shares.specs.Shares.{entered, partOfKind}
 use Rattle.trustee_gates.proofs.Parity.{three-mods}
 use Rattle.trustee_gates.proofs.bits.part_of_kind.Statement.{statement}
 use Rattle.trustee_gates.proofs.bits.part_of_kind.Tie as tie
-
--- a number that is none of 0 to 7 is at least 8, in two steps, since `omega` splits at most six times
-above-3 : (k : ℕ) → k ≢ 0 → k ≢ 1 → k ≢ 2 → k ≢ 3 → 4 ≤ k
-above-3 k h₀ h₁ h₂ h₃ = omega arith
-
-above-7 : (k : ℕ) → 4 ≤ k → k ≢ 4 → k ≢ 5 → k ≢ 6 → k ≢ 7 → 8 ≤ k
-above-7 k l h₄ h₅ h₆ h₇ = omega arith
+use Rattle.basics.proofs.Arithmetic.{above-3}
+use Rattle.basics.proofs.Arithmetic.{above-7}
 
 no-kind : (p k a b c z : ℕ) → 8 ≤ k → 0 ≡ partOfKind p k a b c z
 unfolding partOfKind

@@ -13,9 +13,9 @@ use Rattle.trustee_shares.proofs.Accuracy.{mark-one}
 use Rattle.trustee_gates.specs.Tables.{eachPuts}
 use Rattle.trustee_gates.specs.Gate.{gateOf}
 use Rattle.trustee_gates.proofs.Entering.{products-entered, free-entered}
-use Rattle.trustee_gates.proofs.Running.{mark-none}
 use Rattle.trustee_gates.proofs.gate.run_gate.Statement.{statement}
 use Rattle.trustee_gates.proofs.gate.run_gate.Tie as tie
+use Rattle.trustee_shares.proofs.Publishing.{mark-none}
 
 taken : (c : tie.Then1) → conditionalOf (c .before .before .before .before .before .args .gate .kind) ≡ true
 taken c = sym (c .before .conditional .ensures) ∙ c .if1 .taken

@@ -9,11 +9,12 @@ use Rattle.jury.proofs.Limits.{graded-T}
 use Rattle.urn_chains.specs.Sound.{juryOfOne, goodJuror}
 use Rattle.urn.specs.Facts.{countedBy}
 use Rattle.urn.specs.Admit.{admitAnswer}
-use Rattle.urn.proofs.Outcomes.{admit-first, admit-13, admit-14, admit-ballot, admit-15, admit-none, outcome-refused, outcome-accepted, juror-present, juror-absent, juror-bad}
+use Rattle.urn.proofs.Outcomes.{admit-first, admit-13, admit-14, admit-ballot, admit-15, admit-none, outcome-refused, outcome-accepted, juror-present, juror-absent}
 use native.Mathlib.Omega.{arith}
 use borrow.Author.Needs.{needs}
 use Rattle.urn.proofs.admit.decide.Statement.{statement}
 use Rattle.urn.proofs.admit.decide.Tie as tie
+use Rattle.basics.proofs.Flags.{and-first-fails}
 
 returns : tie.Need-returns
 unfolding admitAnswer countedBy reasonOf
@@ -31,7 +32,7 @@ returns-2 c =
     let e = c .before .before in
     let s = e .before .before .before in
     let a = s .args in
-    outcome-refused _ _ _ (admit-first (a .k) (a .d) (a .facts) (a .juror) (a .ballot .now) ∙ admit-14 _ _ _ _ _ (T-true _ (s .pre .graded)) (not-false _ (e .if1 .left)) (juror-bad (goodJuror (a .juror)) (not (a .facts .present)) (sym (c .before .is-juror .ensures) ∙ not-true _ (c .if2 .taken))))
+    outcome-refused _ _ _ (admit-first (a .k) (a .d) (a .facts) (a .juror) (a .ballot .now) ∙ admit-14 _ _ _ _ _ (T-true _ (s .pre .graded)) (not-false _ (e .if1 .left)) (and-first-fails (goodJuror (a .juror)) (not (a .facts .present)) (sym (c .before .is-juror .ensures) ∙ not-true _ (c .if2 .taken))))
 
 returns-3 : tie.Need-returns-3
 unfolding admitAnswer countedBy reasonOf

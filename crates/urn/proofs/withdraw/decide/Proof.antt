@@ -9,11 +9,12 @@ use Rattle.tally.specs.Answer.{accepted}
 use Rattle.urn_chains.specs.Sound.{goodJuror}
 use Rattle.urn.specs.Facts.{countedBy}
 use Rattle.urn.specs.Withdraw.{withdrawAnswer}
-use Rattle.urn.proofs.Outcomes.{withdraw-first, withdraw-13, withdraw-14, withdraw-none, outcome-refused, outcome-accepted, juror-bad, juror-gone}
+use Rattle.urn.proofs.Outcomes.{withdraw-first, withdraw-13, withdraw-14, withdraw-none, outcome-refused, outcome-accepted, juror-gone}
 use native.Mathlib.Omega.{arith}
 use borrow.Author.Needs.{needs}
 use Rattle.urn.proofs.withdraw.decide.Statement.{statement}
 use Rattle.urn.proofs.withdraw.decide.Tie as tie
+use Rattle.basics.proofs.Flags.{and-first-fails}
 
 returns : tie.Need-returns
 unfolding withdrawAnswer countedBy reasonOf
@@ -31,7 +32,7 @@ returns-2 c =
     let e = c .before .before in
     let s = e .before .before in
     let a = s .args in
-    outcome-refused _ _ _ (withdraw-first (a .k) (a .d) (a .facts) (a .juror) ∙ withdraw-14 _ _ _ (T-true _ (s .pre)) (not-false _ (e .if1 .left)) (juror-bad (goodJuror (a .juror)) (a .facts .present) (sym (c .before .is-juror .ensures) ∙ not-true _ (c .if2 .taken))))
+    outcome-refused _ _ _ (withdraw-first (a .k) (a .d) (a .facts) (a .juror) ∙ withdraw-14 _ _ _ (T-true _ (s .pre)) (not-false _ (e .if1 .left)) (and-first-fails (goodJuror (a .juror)) (a .facts .present) (sym (c .before .is-juror .ensures) ∙ not-true _ (c .if2 .taken))))
 
 returns-3 : tie.Need-returns-3
 unfolding withdrawAnswer countedBy reasonOf

@@ -13,6 +13,7 @@ use native.Mathlib.Omega.{arith}
 use borrow.Author.Needs.{needs}
 use Rattle.urn_chains.proofs.walk.is_zero.Statement.{statement}
 use Rattle.urn_chains.proofs.walk.is_zero.Tie as tie
+use Rattle.basics.proofs.Flags.{and-second-fails}
 
 abbrev Inv-loop : tie.InvT-loop
 Inv-loop bytes zero₀ i₀ zero i =
@@ -21,11 +22,6 @@ Inv-loop bytes zero₀ i₀ zero i =
 abbrev μ-loop : tie.MeasureT-loop
 μ-loop bytes zero₀ i₀ zero i =
     length bytes - i
-
--- a byte that is not 0 decides
-spoilt : (z t : Bool) → t ≡ false → (z && t) ≡ false
-spoilt true t e = e
-spoilt false t e = refl
 
 -- nothing is left
 done : (z t : Bool) → t ≡ true → (z && t) ≡ z
@@ -51,7 +47,7 @@ loop-again c =
     let xs = at .before .args .bytes .now in
     let rest = allZero (drop (at .loop .i + 1) xs) in
     ⊎-elim
-    (λ w. (omega arith, ap (λ (z : Bool). z && rest) (w .1) ∙ sym (spoilt (at .loop .zero) (allZero (drop (at .loop .i) xs)) (zero-here xs (at .loop .i) (omega arith) (w .0 .taken))) ∙ at .loop .inv .1))
+    (λ w. (omega arith, ap (λ (z : Bool). z && rest) (w .1) ∙ sym (and-second-fails (at .loop .zero) (allZero (drop (at .loop .i) xs)) (zero-here xs (at .loop .i) (omega arith) (w .0 .taken))) ∙ at .loop .inv .1))
     (λ w. (
       omega arith,
       ap (λ (z : Bool). z && rest) (w .1)
