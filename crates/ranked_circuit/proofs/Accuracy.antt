@@ -1,7 +1,7 @@
 -- The own list of a ranked tasting is accurate: its last gates say who wins by Schulze's rule.
 -- Assumes nothing.
 use mathlib.Core.Path.{_≡_, _∙_, refl, sym, ap, subst}
-use mathlib.Core.Bool.{Bool, true, false, cond, _||_}
+use mathlib.Core.Bool.{Bool, true, cond, _||_}
 use mathlib.Core.Logic.{⊎-elim, _≢_}
 use mathlib.Core.List.{List, [], _∷_, _++_}
 use Prim.Native.Nat.{ℕ, zero, suc, _+_, _-_, _*_, _≤_, _<_}
@@ -24,13 +24,12 @@ use Rattle.rule_schulze.proofs.Winning.{wins-unbeaten, unbeaten-wins, link-won,
 use Rattle.rule_schulze.specs.Closure.{detour, closure}
 use Rattle.rule_schulze.proofs.Paths.{closure-strongest}
 use Rattle.rule_schulze.proofs.Tables.{detour-stays}
-use Rattle.ranked_circuit.specs.Table.{blocks, table}
-use Rattle.ranked_circuit.specs.Stages.{linksBlock, linkAt}
+use Rattle.ranked_circuit.specs.Table.{blocks}
 use Rattle.ranked_circuit.specs.Paths.{linkWire, pathsTo}
 use Rattle.ranked_circuit.specs.RankedList.{other, joined, loserRow, loserRows, outputGates, contestsFrom, contests, beatsAt, losersFrom, pairFrom, rankedList}
 use Rattle.ranked_circuit.proofs.TableLaws.{startOf, length-same, block-holds, blocks-good}
 use Rattle.ranked_circuit.proofs.StageLaws.{link-told}
-use Rattle.ranked_circuit.proofs.PathLaws.{strengthAfter, links-told, paths-spelled, all-strongest}
+use Rattle.ranked_circuit.proofs.PathLaws.{links-told, paths-spelled, all-strongest}
 use Rattle.ranked_circuit.proofs.GoodLaws.{WiresBelow, links-good, links-below, link-below, words-below, paths-good}
 use Rattle.ranked_circuit.proofs.LoserLaws.{other-apart, other-low, other-found, row-length, item-before, row-good, lost-zero, lost-one}
 

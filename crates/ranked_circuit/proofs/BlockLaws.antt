@@ -1,20 +1,19 @@
 -- What the wires of the blocks spell, for every width; their lengths, and that their operands point back.
 -- Assumes nothing.
-use mathlib.Core.Path.{_≡_, _∙_, refl, sym, ap, subst}
+use mathlib.Core.Path.{_≡_, _∙_, sym, subst}
 use mathlib.Core.Logic.{⊎-elim}
-use mathlib.Core.List.{List, [], _∷_, _++_}
-use Prim.Native.Nat.{ℕ, zero, suc, min, max, _+_, _-_, _*_, _≤_, _<_}
-use native.Mathlib.Numerals.{add-one}
+use mathlib.Core.List.{List, _∷_, _++_}
+use Prim.Native.Nat.{ℕ, suc, min, max, _+_, _-_, _*_, _≤_, _<_}
 use native.Mathlib.Omega.{arith}
 use lib.ListN.{length, length-append}
 use Rattle.gates.specs.Gate.{Gate}
 use Rattle.gates.proofs.Laws.{AllGood, Holds, holds-append, good-append, good-two, operand-counts}
 use Rattle.gate_words.specs.Gates.{andOf}
 use Rattle.gate_words.specs.Word.{number}
-use Rattle.gate_words.specs.Choice.{choose, chainEnd}
+use Rattle.gate_words.specs.Choice.{choose}
 use Rattle.gate_words.specs.Comparison.{firstDigit, compareWords, upEnd, downEnd, differences, above}
 use Rattle.gate_words.proofs.Laws.{Binary, bit-cases, number-more, choose-one, choose-zero, first-up, first-down, words-up, words-down, above-one, above-zero, length-choose, length-first-digit, length-compare, length-differences, length-above, first-digit-good, compare-good, differences-good, above-good, choose-good}
-use Rattle.gate_words.proofs.GateValues.{valueOn, holds-first, holds-rest, and-is}
+use Rattle.gate_words.proofs.GateValues.{holds-first, holds-rest, and-is}
 use Rattle.gate_words.proofs.Ends.{chain-below}
 use Rattle.ranked_circuit.specs.Blocks.{compare, order, orderEnd, smaller, larger, largerIf}
 

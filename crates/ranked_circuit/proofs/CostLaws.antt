@@ -1,8 +1,8 @@
 -- How many gates of a ranked tasting's own list are conditional.
 -- Assumes nothing.
-use mathlib.Core.Path.{_≡_, _∙_, refl, sym, ap, subst}
+use mathlib.Core.Path.{_≡_, _∙_, ap}
 use mathlib.Core.Bool.{Bool, true, false, cond}
-use mathlib.Core.List.{List, [], _∷_, _++_}
+use mathlib.Core.List.{List, [], _∷_}
 use Prim.Native.Nat.{ℕ, zero, suc, _+_, _-_, _*_, _/_, _≤_}
 use native.Mathlib.Omega.{arith}
 use Rattle.gates.specs.Kind.{conditionalOf}
@@ -17,7 +17,7 @@ use Rattle.gate_words.specs.Adder.{fullAdder, halfAdder}
 use Rattle.gate_words.specs.Counter.{level, adders, levelSum, countLevels, countDigits, counter, countSize}
 use Rattle.ranked_circuit.specs.Blocks.{compare, order, orderEnd, smaller, larger, largerIf}
 use Rattle.ranked_circuit.specs.RankedList.{rankedList}
-use Rattle.ranked_circuit.proofs.Figures.{Figure, Each, figure-is, pair-figure-is}
+use Rattle.ranked_circuit.proofs.Figures.{Each, figure-is, pair-figure-is}
 
 -- a gate that counts, and one that does not
 marked : (g : Gate) (gs : List Gate) → conditionalOf (g .kind) ≡ true → conditionalCount (g ∷ gs) ≡ suc (conditionalCount gs)

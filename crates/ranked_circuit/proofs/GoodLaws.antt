@@ -3,28 +3,27 @@
 use mathlib.Core.Path.{_≡_, _∙_, refl, sym, ap, subst}
 use mathlib.Core.Bool.{Bool, true, false, cond}
 use mathlib.Core.Logic.{⊎-elim, _≢_}
-use mathlib.Core.List.{List, [], _++_}
+use mathlib.Core.List.{List, []}
 use Prim.Native.Nat.{ℕ, zero, suc, _+_, _-_, _*_, _≤_, _<_}
 use native.Mathlib.Nat.{suc-mul}
 use native.Mathlib.Omega.{arith}
 use lib.Dec.{eqb, ltb}
 use lib.ListN.{length, length-append}
-use borrow.Author.Tests.{eqb-false, ltb-true, lt-ltb, le-ltb, ne-eqb}
+use borrow.Author.Tests.{lt-ltb, le-ltb}
 use Rattle.gates.specs.Gate.{Gate}
 use Rattle.gates.proofs.Laws.{AllGood, good-append}
 use Rattle.gate_words.specs.Word.{Below}
-use Rattle.gate_words.specs.Choice.{masked}
-use Rattle.gate_words.specs.Counter.{counter, countSize, Countable}
+use Rattle.gate_words.specs.Counter.{counter, Countable}
 use Rattle.gate_words.proofs.Laws.{masked-good, counter-good}
 use Rattle.jury.proofs.BallotLaws.{row-within}
-use Rattle.jury.proofs.Cases.{below-or-not, same-or-not}
+use Rattle.jury.proofs.Cases.{below-or-not}
 use Rattle.ranked_circuit.specs.Blocks.{compare, smaller, larger, largerIf}
 use Rattle.ranked_circuit.specs.Table.{table, entryEnd}
 use Rattle.ranked_circuit.specs.Stages.{votesBlock, linksBlock, linkAt, stays, newWord, pathBlock}
-use Rattle.ranked_circuit.specs.Paths.{votesAt, votesTable, linksFrom, linksTable, linkWire, Paths, nextPaths, pathsTo}
+use Rattle.ranked_circuit.specs.Paths.{votesAt, votesTable, linksFrom, linksTable, linkWire, nextPaths, pathsTo}
 use Rattle.ranked_circuit.proofs.BlockLaws.{good-behind, length-smaller, whole-good, smaller-good, larger-good, larger-if-good}
-use Rattle.ranked_circuit.proofs.TableLaws.{entryStart, entry-end, table-good, start-from, end-within}
-use Rattle.ranked_circuit.proofs.StageLaws.{apart-zero, apart-all, stage-moves, stage-stays, stagePad, stage-length, votes-moves, votes-length, links-moves, links-length}
+use Rattle.ranked_circuit.proofs.TableLaws.{entryStart, entry-end, table-good, end-within}
+use Rattle.ranked_circuit.proofs.StageLaws.{apart-zero, apart-all, stage-moves, stage-stays, stage-length, votes-length, links-moves, links-length}
 use Rattle.ranked_circuit.proofs.PathLaws.{bool-cases}
 
 -- a choice between no gate and a well-formed list

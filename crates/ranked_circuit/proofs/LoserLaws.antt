@@ -1,22 +1,19 @@
 -- Rows of gates that tell whether one of the others beats a candidate.
 -- Assumes nothing.
-use mathlib.Core.Path.{_≡_, _∙_, refl, sym, ap, subst}
+use mathlib.Core.Path.{_≡_, _∙_, refl, sym, ap}
 use mathlib.Core.Bool.{Bool, cond}
 use mathlib.Core.Logic.{⊎-elim, _≢_}
 use mathlib.Core.List.{List, [], _∷_}
 use Prim.Native.Nat.{ℕ, zero, suc, max, _+_, _-_, _*_, _/_, _%_, _≤_, _<_}
-use native.Mathlib.Nat.{zero-mul}
 use native.Mathlib.Omega.{arith}
-use lib.Dec.{ltb}
 use lib.ListN.{length}
 use borrow.Author.Tests.{lt-ltb, le-ltb}
 use Rattle.gates.specs.Gate.{Gate}
 use Rattle.gates.proofs.Laws.{AllGood, Holds, good-two, operand-counts}
 use Rattle.gate_words.specs.Gates.{orOf}
 use Rattle.gate_words.proofs.Laws.{Binary}
-use Rattle.gate_words.proofs.GateValues.{valueOn, or-is}
+use Rattle.gate_words.proofs.GateValues.{or-is}
 use Rattle.jury.proofs.Cases.{below-or-not}
-use Rattle.ranked_circuit.specs.Table.{blocks}
 use Rattle.ranked_circuit.specs.RankedList.{other, joined, loserRow}
 use Rattle.ranked_circuit.proofs.TableLaws.{startOf, length-same, block-holds, blocks-good}
 

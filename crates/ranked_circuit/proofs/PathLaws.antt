@@ -3,12 +3,12 @@
 use mathlib.Core.Path.{_≡_, _∙_, refl, sym, ap, subst}
 use mathlib.Core.Bool.{Bool, true, false, cond, _||_, not, true≢false}
 use mathlib.Core.Logic.{⊎-elim, _≢_}
-use mathlib.Core.List.{List, _++_}
-use Prim.Native.Nat.{ℕ, zero, suc, min, max, _+_, _-_, _*_, _≤_, _<_}
+use mathlib.Core.List.{List}
+use Prim.Native.Nat.{ℕ, zero, suc, _+_, _-_, _*_, _≤_, _<_}
 use native.Mathlib.Omega.{arith}
 use lib.Dec.{eqb}
 use lib.ListN.{length}
-use borrow.Author.Tests.{eq-eqb, ne-eqb}
+use borrow.Author.Tests.{ne-eqb}
 use Rattle.jury.proofs.Cases.{below-or-not}
 use Rattle.jury.proofs.Flags.{or-either, or-first, or-second}
 use Rattle.gates.specs.Gate.{Gate}
@@ -17,15 +17,15 @@ use Rattle.gate_words.specs.Word.{ones, number}
 use Rattle.gate_words.specs.Counter.{countSize, Countable}
 use Rattle.gate_words.proofs.Laws.{Binary}
 use Rattle.rule_schulze.specs.Schulze.{link, strongest}
-use Rattle.rule_schulze.specs.Closure.{detour, closure}
+use Rattle.rule_schulze.specs.Closure.{closure}
 use Rattle.rule_schulze.proofs.Paths.{detour-over, closure-strongest}
 use Rattle.rule_schulze.proofs.Tables.{detour-stays}
 use Rattle.rule_schulze.proofs.Winning.{link-won, link-lost}
 use Rattle.ranked_circuit.specs.Table.{table, entryEnd}
-use Rattle.ranked_circuit.specs.Stages.{votesBlock, linksBlock, stays, newWord, pathBlock}
+use Rattle.ranked_circuit.specs.Stages.{votesBlock, stays, newWord, pathBlock}
 use Rattle.ranked_circuit.specs.Paths.{votesAt, votesTable, linksFrom, linksTable, linkWire, Paths, nextPaths, pathsTo}
 use Rattle.ranked_circuit.proofs.TableLaws.{entryStart, entry-end, entry-holds}
-use Rattle.ranked_circuit.proofs.StageLaws.{neither, apart-all, stage-moves, stagePad, stage-length, votes-length, votes-law, link-told, strength-law, way-law, first-way-law}
+use Rattle.ranked_circuit.proofs.StageLaws.{apart-all, stage-moves, stagePad, stage-length, votes-length, votes-law, link-told, strength-law, way-law, first-way-law}
 
 -- a test holds or not
 pub bool-cases : {A : Type 0} (c : Bool) → (c ≡ true → A) → (c ≡ false → A) → A

@@ -1,12 +1,10 @@
 -- The number of gates of a ranked tasting's own list, and its bound.
 -- Assumes nothing.
-use mathlib.Core.Path.{_≡_, _∙_, refl, sym, ap, subst}
-use mathlib.Core.List.{List, [], _++_}
+use mathlib.Core.Path.{_≡_, _∙_, refl}
 use Prim.Native.Nat.{ℕ, zero, suc, _+_, _-_, _*_, _≤_, _<_}
 use native.Mathlib.Nat.{suc-mul, mul-add, mul-comm, mul-assoc, mul-le-mul}
 use native.Mathlib.Omega.{arith}
 use lib.ListN.{length, length-append}
-use Rattle.gates.specs.Gate.{Gate}
 use Rattle.gate_words.specs.Counter.{countSize}
 use Rattle.gate_words.proofs.CounterSteps.{count-size-most}
 use Rattle.gate_words.proofs.Laws.{length-counter, length-masked}
@@ -14,7 +12,7 @@ use Rattle.ranked_circuit.specs.Blocks.{smaller, larger, largerIf}
 use Rattle.ranked_circuit.specs.RankedList.{rankedList}
 use Rattle.ranked_circuit.specs.OwnRanking.{rankingBound}
 use Rattle.ranked_circuit.proofs.BlockLaws.{length-whole, length-smaller, length-larger, length-larger-if}
-use Rattle.ranked_circuit.proofs.Figures.{Figure, Each, figure-is, pair-figure-is}
+use Rattle.ranked_circuit.proofs.Figures.{Each, figure-is, pair-figure-is}
 
 -- the levels' bound by products of two numbers
 levels-product : (r n : ℕ) → r * (2 * n + 2) + 2 * n + 2 ≡ 2 * (n * suc r) + 2 * suc r

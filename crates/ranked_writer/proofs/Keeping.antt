@@ -1,11 +1,10 @@
 -- What the loops over the tables keep of each two candidates.
 -- Assumes nothing.
-use mathlib.Core.Path.{_≡_, _∙_, refl, sym, ap, subst}
+use mathlib.Core.Path.{_≡_, _∙_, refl, sym, ap}
 use mathlib.Core.Bool.{Bool, true, false, cond, _||_, true≢false}
 use mathlib.Core.Logic.{⊎-elim, _≢_}
-use mathlib.Core.List.{List, [], _++_}
+use mathlib.Core.List.{List, _++_}
 use Prim.Native.Nat.{ℕ, zero, suc, _+_, _-_, _*_, _/_, _%_, _≤_, _<_}
-use native.Mathlib.Numerals.{add-one}
 use native.Mathlib.Omega.{arith}
 use lib.Dec.{eqb, ltb}
 use lib.ListN.{length, getD, set, length-set}
@@ -14,7 +13,7 @@ use borrow.Author.Tests.{eq-eqb, lt-ltb, le-ltb}
 use Rattle.gates.specs.Gate.{Gate}
 use Rattle.jury.proofs.Cases.{below-or-not, same-or-not}
 use Rattle.ranked_circuit.specs.Table.{blocks, entries, table, entryEnd}
-use Rattle.ranked_circuit.specs.Stages.{linksBlock, linkAt, stays, newWord, pathBlock}
+use Rattle.ranked_circuit.specs.Stages.{linksBlock, stays, newWord, pathBlock}
 use Rattle.ranked_circuit.proofs.TableLaws.{entryStart, entry-end, row-of, column-of, row-low, column-low, number-of, number-low}
 use Rattle.ranked_circuit.proofs.StageLaws.{apart-all, stage-moves, stage-stays, stage-length}
 use Rattle.ranked_circuit.proofs.PathLaws.{bool-cases}

@@ -1,7 +1,7 @@
 -- Who beats whom without the detour over the last candidate: six strengths of the table before it tell.
 -- Assumes nothing.
-use mathlib.Core.Path.{_≡_, _∙_, refl, sym, ap}
-use mathlib.Core.Bool.{true, _||_}
+use mathlib.Core.Path.{_≡_, _∙_, refl, sym}
+use mathlib.Core.Bool.{_||_}
 use mathlib.Core.Logic.{_⊎_, inl, inr, ⊎-elim, _≢_, _↔_}
 use Prim.Native.Nat.{ℕ, suc, min, max, _≤_, _<_}
 use native.Mathlib.Omega.{arith}

@@ -1,10 +1,9 @@
 -- `ranked_blocks::blocks::compare` meets its contract: the lowest digits, then the others.
 -- Assumes nothing.
 use mathlib.Core.Path.{_≡_, ap}
-use Prim.Native.Nat.{ℕ, _+_, _*_}
+use Prim.Native.Nat.{ℕ, _+_}
 use native.Mathlib.Omega.{arith}
 use borrow.Author.Needs.{needs}
-use lib.ListN.{length}
 use Rattle.gate_words.specs.Comparison.{compareWords}
 use Rattle.gate_words.proofs.Laws.{length-first-digit, length-compare}
 use Rattle.ranked_circuit.specs.Blocks.{compare}

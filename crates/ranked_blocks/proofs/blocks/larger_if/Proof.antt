@@ -1,12 +1,11 @@
 -- `ranked_blocks::blocks::larger_if` meets its contract: an order, the gate of both conditions, and the choice by it.
 -- Assumes nothing.
-use mathlib.Core.Path.{_≡_, _∙_, refl, sym, ap, subst}
-use mathlib.Core.List.{List, [], _∷_, _++_}
+use mathlib.Core.Path.{_≡_, _∙_, refl, ap}
+use mathlib.Core.List.{[], _∷_}
 use Prim.Native.Nat.{ℕ, suc, _+_, _*_}
 use native.Mathlib.Numerals.{add-one}
 use native.Mathlib.Omega.{arith}
 use borrow.Author.Needs.{needs}
-use Rattle.gates.specs.Gate.{Gate}
 use Rattle.gate_words.specs.Gates.{andOf}
 use Rattle.gate_words.specs.Choice.{choose, chainEnd}
 use Rattle.gate_words.proofs.Emitting.{and-wrote}

@@ -1,12 +1,10 @@
 -- `ranked_blocks::blocks::one_of` meets its contract: an order, and the choice by its last wire.
 -- Assumes nothing.
-use mathlib.Core.Path.{_≡_, _∙_, refl, sym, ap, subst}
-use mathlib.Core.List.{List}
-use Prim.Native.Nat.{ℕ, suc, _+_, _*_}
+use mathlib.Core.Path.{_≡_, _∙_, ap}
+use Prim.Native.Nat.{ℕ, _+_, _*_}
 use native.Mathlib.Numerals.{add-one}
 use native.Mathlib.Omega.{arith}
 use borrow.Author.Needs.{needs}
-use Rattle.gates.specs.Gate.{Gate}
 use Rattle.gate_words.specs.Choice.{choose, chainEnd}
 use Rattle.ranked_circuit.specs.Blocks.{orderEnd}
 use Rattle.ranked_circuit.proofs.BlockLaws.{length-order}

@@ -1,14 +1,12 @@
 -- `ranked_blocks::blocks::path_or_way` meets its contract: the weaker part of the way, then the stronger of two.
 -- Assumes nothing.
-use mathlib.Core.Path.{_≡_, _∙_, refl, sym, ap}
-use mathlib.Core.List.{List, _++_}
+use mathlib.Core.Path.{_≡_, _∙_, refl, ap}
+use mathlib.Core.List.{_++_}
 use Prim.Native.Nat.{ℕ, suc, _+_, _*_, _≤_}
 use native.Mathlib.Omega.{arith}
 use borrow.Author.Needs.{needs}
 use lib.ListN.{length}
-use Rattle.gates.specs.Gate.{Gate}
 use Rattle.gate_words.specs.Choice.{choose}
-use Rattle.gate_words.specs.Writing.{Wrote}
 use Rattle.gate_words.proofs.Writing.{room-less, wrote-as}
 use Rattle.ranked_circuit.specs.Blocks.{order, orderEnd, smaller, larger}
 use Rattle.ranked_circuit.proofs.BlockLaws.{length-smaller}

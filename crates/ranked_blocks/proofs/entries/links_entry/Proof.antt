@@ -1,19 +1,15 @@
 -- `ranked_blocks::entries::links_entry` meets its contract: a comparison for the later candidate, whose last two wires are kept.
 -- Assumes nothing.
-use mathlib.Core.Path.{_≡_, _∙_, refl, sym, ap}
+use mathlib.Core.Path.{_≡_, sym, ap}
 use mathlib.Core.Bool.{Bool, cond}
 use mathlib.Core.List.{List, []}
-use Prim.Native.Nat.{ℕ, suc, _+_, _-_, _*_, _/_, _%_, _≤_, _<_}
+use Prim.Native.Nat.{ℕ, _+_, _-_, _*_, _/_, _%_, _≤_, _<_}
 use native.Mathlib.Omega.{arith}
 use borrow.Author.Needs.{needs}
-use lib.Dec.{ltb}
-use lib.ListN.{length, set, length-set}
+use lib.ListN.{set, length-set}
 use borrow.Author.Tests.{lt-ltb, le-ltb}
-use Rattle.gates.specs.Gate.{Gate}
-use Rattle.gate_words.specs.Writing.{Room, Wrote}
 use Rattle.gate_words.proofs.Writing.{room-less, wrote-nothing, wrote-as}
 use Rattle.ranked_circuit.specs.Blocks.{compare}
-use Rattle.ranked_circuit.specs.Stages.{linksBlock}
 use Rattle.ranked_circuit.proofs.BlockLaws.{length-whole}
 use Rattle.ranked_circuit.proofs.StageLaws.{links-length}
 use Rattle.ranked_blocks.specs.Ranked.{keptOf, keepLinks}

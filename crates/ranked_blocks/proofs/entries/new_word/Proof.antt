@@ -1,19 +1,15 @@
 -- `ranked_blocks::entries::new_word` meets its contract: a link's strength, then the stronger of a path and a way.
 -- Assumes nothing.
-use mathlib.Core.Path.{_≡_, _∙_, refl, sym, ap}
-use mathlib.Core.Bool.{false}
+use mathlib.Core.Path.{_≡_, _∙_, sym, ap}
 use mathlib.Core.Logic.{_≢_}
-use mathlib.Core.List.{List, _++_}
+use mathlib.Core.List.{_++_}
 use Prim.Native.Nat.{ℕ, suc, _+_, _-_, _*_, _≤_, _<_}
 use native.Mathlib.Omega.{arith}
 use borrow.Author.Needs.{needs}
-use lib.ListN.{length}
-use Rattle.gates.specs.Gate.{Gate}
 use Rattle.gate_words.specs.Choice.{masked}
-use Rattle.gate_words.specs.Writing.{Room, Wrote}
 use Rattle.gate_words.proofs.Writing.{room-less, wrote-as}
 use Rattle.ranked_circuit.specs.Blocks.{smaller, larger, largerIf}
-use Rattle.ranked_circuit.specs.Stages.{stays, newWord}
+use Rattle.ranked_circuit.specs.Stages.{stays}
 use Rattle.ranked_circuit.proofs.StageLaws.{apart-zero}
 use Rattle.ranked_blocks.specs.Ranked.{keptOf}
 use Rattle.ranked_blocks.proofs.Entering.{apart-later, new-zero, new-first, new-later, long-zero, long-first, long-later}

@@ -1,18 +1,16 @@
 -- `ranked_blocks::entries::path_entry` meets its contract: nothing where the stage leaves the word, else a new word that is kept.
 -- Assumes nothing.
-use mathlib.Core.Path.{_≡_, _∙_, refl, sym, ap}
+use mathlib.Core.Path.{_≡_, _∙_, sym, ap}
 use mathlib.Core.Bool.{true, false}
-use mathlib.Core.List.{List, []}
-use Prim.Native.Nat.{ℕ, suc, _+_, _-_, _*_, _/_, _%_, _≤_, _<_}
+use mathlib.Core.List.{[]}
+use Prim.Native.Nat.{suc, _-_, _/_, _%_, _≤_}
 use native.Mathlib.Omega.{arith}
 use borrow.Author.Needs.{needs}
 use lib.ListN.{length, set}
-use Rattle.gates.specs.Gate.{Gate}
-use Rattle.gate_words.specs.Writing.{Room, Wrote}
 use Rattle.gate_words.proofs.Writing.{room-less, wrote-nothing, wrote-as}
-use Rattle.ranked_circuit.specs.Stages.{stays, newWord, pathBlock}
+use Rattle.ranked_circuit.specs.Stages.{stays}
 use Rattle.ranked_blocks.specs.Ranked.{keptOf}
-use Rattle.ranked_blocks.proofs.Entering.{Place, place, long-word, path-kept, path-moved, keeps, stores}
+use Rattle.ranked_blocks.proofs.Entering.{place, long-word, path-kept, path-moved, keeps, stores}
 use Rattle.ranked_blocks.proofs.entries.path_entry.Statement.{statement}
 use Rattle.ranked_blocks.proofs.entries.path_entry.Tie as tie
 

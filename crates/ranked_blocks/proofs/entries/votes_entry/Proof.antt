@@ -1,22 +1,20 @@
 -- `ranked_blocks::entries::votes_entry` meets its contract: nothing on the diagonal, else a counter whose word is kept.
 -- Assumes nothing.
-use mathlib.Core.Path.{_≡_, _∙_, refl, sym, ap}
-use mathlib.Core.List.{List, []}
-use Prim.Native.Nat.{ℕ, suc, _+_, _-_, _*_, _/_, _%_, _≤_, _<_}
+use mathlib.Core.Path.{_≡_, _∙_, sym, ap}
+use mathlib.Core.List.{[]}
+use Prim.Native.Nat.{suc, _+_, _-_, _*_, _/_, _%_, _≤_}
 use native.Mathlib.Omega.{arith}
 use borrow.Author.Needs.{needs}
 use lib.Dec.{eqb}
 use lib.ListN.{length, set}
 use borrow.Author.Tests.{eq-eqb, ne-eqb}
-use Rattle.gates.specs.Gate.{Gate}
 use Rattle.gate_words.specs.Word.{Below}
 use Rattle.gate_words.specs.Counter.{counter, countSize}
-use Rattle.gate_words.specs.Writing.{Wrote}
 use Rattle.gate_words.proofs.Laws.{length-counter}
 use Rattle.gate_words.proofs.Writing.{room-less, wrote-nothing, wrote-as}
 use Rattle.ranked_circuit.specs.Stages.{votesBlock}
 use Rattle.ranked_circuit.proofs.GoodLaws.{bytes-below}
-use Rattle.ranked_blocks.proofs.Entering.{square-small, Place, place, votes-kept, votes-moved, keeps, stores}
+use Rattle.ranked_blocks.proofs.Entering.{square-small, place, votes-kept, votes-moved, keeps, stores}
 use Rattle.ranked_blocks.proofs.entries.votes_entry.Statement.{statement}
 use Rattle.ranked_blocks.proofs.entries.votes_entry.Tie as tie
 

@@ -1,6 +1,5 @@
 -- `ranked_blocks::kept::kept` meets its contract: the number of each two of eight candidates is below 64.
 -- Assumes nothing.
-use Prim.Native.Nat.{ℕ, _+_, _*_, _<_}
 use native.Mathlib.Omega.{arith}
 use borrow.Author.Needs.{needs}
 use Rattle.ranked_blocks.proofs.Entering.{index-small}

@@ -1,8 +1,7 @@
 -- `ranked_blocks::kept::stays` meets its contract: one test after the other.
 -- Assumes nothing.
-use mathlib.Core.Path.{_≡_, sym}
-use Prim.Native.Nat.{ℕ, _-_}
-use native.Mathlib.Omega.{arith}
+use mathlib.Core.Path.{sym}
+use Prim.Native.Nat.{_-_}
 use Rattle.ranked_blocks.proofs.Entering.{diagonal-stays, zero-from, zero-to, zero-else, row-stays, column-stays}
 use borrow.Author.Needs.{needs}
 use Rattle.ranked_blocks.proofs.kept.stays.Statement.{statement}

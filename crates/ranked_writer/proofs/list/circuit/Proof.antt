@@ -1,17 +1,15 @@
 -- `ranked_writer::list::circuit` meets its contract: the paths, the contests, who loses, and the output gates.
 -- Assumes nothing.
 use mathlib.Core.Path.{_≡_, _∙_, refl, sym, ap, subst}
-use mathlib.Core.Logic.{_≢_}
 use mathlib.Core.List.{List, _++_}
-use Prim.Native.Nat.{ℕ, suc, _+_, _-_, _*_, _≤_, _<_}
+use Prim.Native.Nat.{ℕ, suc, _+_, _-_, _*_, _≤_}
 use native.Mathlib.Omega.{arith}
 use borrow.Author.Needs.{needs}
-use lib.ListN.{length, length-append}
-use Rattle.gates.specs.Gate.{Gate}
-use Rattle.gate_words.specs.Writing.{Room, Wrote}
+use lib.ListN.{length}
+use Rattle.gate_words.specs.Writing.{Room}
 use Rattle.gate_words.proofs.Writing.{room-less, room-after, wrote-as, wrote-both}
 use Rattle.ranked_circuit.specs.Table.{table}
-use Rattle.ranked_circuit.specs.Stages.{linksBlock, linkAt}
+use Rattle.ranked_circuit.specs.Stages.{linksBlock}
 use Rattle.ranked_circuit.specs.Paths.{pathsTo}
 use Rattle.ranked_circuit.specs.RankedList.{loserRows, outputGates, contests, beatsAt, losersFrom, rankedList}
 use Rattle.ranked_circuit.proofs.GoodLaws.{endOf}

@@ -1,17 +1,14 @@
 -- `ranked_writer::list::first_tables` meets its contract: the numbers of ballots, then the links.
 -- Assumes nothing.
-use mathlib.Core.Path.{_≡_, _∙_, refl, sym, ap, subst}
-use mathlib.Core.List.{List, _++_}
-use Prim.Native.Nat.{ℕ, suc, _+_, _-_, _*_, _≤_, _<_}
+use mathlib.Core.Path.{_≡_, _∙_, sym, ap, subst}
+use Prim.Native.Nat.{ℕ, _+_, _-_, _*_}
 use native.Mathlib.Omega.{arith}
 use borrow.Author.Needs.{needs}
 use lib.ListN.{length, length-append}
-use Rattle.gates.specs.Gate.{Gate}
-use Rattle.gate_words.specs.Writing.{Room, Wrote}
 use Rattle.gate_words.proofs.Writing.{room-less, room-after, wrote-as, wrote-both}
 use Rattle.ranked_circuit.specs.Table.{table}
-use Rattle.ranked_circuit.specs.Stages.{votesBlock, linksBlock, linkAt}
-use Rattle.ranked_circuit.specs.Paths.{votesAt, linksFrom, linkWire, pathsTo}
+use Rattle.ranked_circuit.specs.Stages.{votesBlock, linksBlock}
+use Rattle.ranked_circuit.specs.Paths.{votesAt, linksFrom, pathsTo}
 use Rattle.ranked_blocks.specs.Ranked.{keptOf}
 use Rattle.ranked_writer.specs.Tables.{Keeps}
 use Rattle.ranked_writer.proofs.Parts.{first-parts, links-from, votes-words, votes-kept-below, link-wire-is, first-links-is, links-table-is, links-kept-is}

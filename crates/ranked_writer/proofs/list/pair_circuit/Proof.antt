@@ -1,13 +1,11 @@
 -- `ranked_writer::list::pair_circuit` meets its contract: the links, and who has none against it.
 -- Assumes nothing.
-use mathlib.Core.Path.{_≡_, _∙_, refl, sym, ap, subst}
-use mathlib.Core.List.{List, _++_}
-use Prim.Native.Nat.{ℕ, suc, _+_, _-_, _*_, _≤_, _<_}
+use mathlib.Core.Path.{_≡_, _∙_, refl, sym, ap}
+use mathlib.Core.List.{List}
+use Prim.Native.Nat.{ℕ, suc, _+_, _-_, _*_}
 use native.Mathlib.Omega.{arith}
 use borrow.Author.Needs.{needs}
 use lib.ListN.{length, length-append}
-use Rattle.gates.specs.Gate.{Gate}
-use Rattle.gate_words.specs.Writing.{Room, Wrote}
 use Rattle.gate_words.proofs.Writing.{room-less, room-after, wrote-as, wrote-both}
 use Rattle.ranked_circuit.specs.Paths.{linkWire, pathsTo}
 use Rattle.ranked_circuit.specs.RankedList.{outputGates, rankedList}

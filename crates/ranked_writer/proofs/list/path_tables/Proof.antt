@@ -2,13 +2,13 @@
 -- Assumes nothing.
 use mathlib.Core.Path.{_≡_, _∙_, refl, sym, ap, subst}
 use mathlib.Core.List.{List, [], _++_}
-use Prim.Native.Nat.{ℕ, suc, _+_, _-_, _*_, _≤_, _<_}
+use Prim.Native.Nat.{ℕ, suc, _+_, _-_, _≤_}
 use native.Mathlib.Numerals.{add-one}
 use native.Mathlib.Omega.{arith}
 use borrow.Author.Needs.{needs}
 use lib.ListN.{length}
 use Rattle.gates.specs.Gate.{Gate}
-use Rattle.gate_words.specs.Writing.{Room, Wrote}
+use Rattle.gate_words.specs.Writing.{Wrote}
 use Rattle.gate_words.proofs.Writing.{room-less, room-after, wrote-nothing, wrote-as, wrote-both}
 use Rattle.ranked_circuit.specs.Table.{table}
 use Rattle.ranked_circuit.specs.Stages.{pathBlock}

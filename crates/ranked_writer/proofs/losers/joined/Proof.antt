@@ -1,10 +1,9 @@
 -- `ranked_writer::losers::joined` meets its contract: an other's wire, or one of the row.
 -- Assumes nothing.
-use mathlib.Core.Path.{_≡_, _∙_, refl, sym, ap}
+use mathlib.Core.Path.{_≡_, _∙_, sym, ap}
 use mathlib.Core.Bool.{Bool, cond}
 use Prim.Native.Nat.{ℕ, suc, _+_, _-_, _≤_, _<_}
 use native.Mathlib.Omega.{arith}
-use borrow.Author.Needs.{needs}
 use borrow.Author.Tests.{lt-ltb, le-ltb}
 use Rattle.ranked_circuit.specs.RankedList.{other, joined}
 use Rattle.ranked_circuit.proofs.LoserLaws.{other-low}

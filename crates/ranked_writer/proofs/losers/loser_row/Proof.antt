@@ -1,22 +1,21 @@
 -- `ranked_writer::losers::loser_row` meets its contract: one gate after the other joins two.
 -- Assumes nothing.
-use mathlib.Core.Path.{_≡_, _∙_, refl, sym, ap, subst}
+use mathlib.Core.Path.{_≡_, _∙_, refl, ap}
 use mathlib.Core.List.{List, [], _∷_}
-use Prim.Native.Nat.{ℕ, suc, _+_, _-_, _*_, _≤_, _<_}
+use Prim.Native.Nat.{ℕ, suc, _+_, _-_, _*_, _≤_}
 use native.Mathlib.Omega.{arith}
-use borrow.Author.Needs.{needs}
 use lib.ListN.{length}
 use Rattle.gates.specs.Gate.{Gate}
 use Rattle.gate_words.specs.Gates.{orOf}
 use Rattle.gate_words.specs.declared.writer.Writer.{Writer}
-use Rattle.gate_words.specs.Writing.{Room, Wrote}
+use Rattle.gate_words.specs.Writing.{Room}
 use Rattle.gate_words.proofs.Writing.{room-less, wrote-as}
 use Rattle.gate_words.proofs.Emitting.{or-wrote}
 use Rattle.ranked_circuit.specs.Table.{blocks}
 use Rattle.ranked_circuit.specs.RankedList.{joined, loserRow}
 use Rattle.ranked_circuit.proofs.TableLaws.{length-same}
 use Rattle.ranked_blocks.specs.Ranked.{keptOf}
-use Rattle.ranked_writer.proofs.Filling.{Filled, fill-start, fill-wire, fill-next, fill-room, fill-end}
+use Rattle.ranked_writer.proofs.Filling.{Filled, fill-start, fill-next, fill-room, fill-end}
 use Rattle.ranked_writer.proofs.losers.loser_row.Statement.{statement}
 use Rattle.ranked_writer.proofs.losers.loser_row.Tie as tie
 

@@ -1,12 +1,9 @@
 -- `ranked_writer::losers::loser_rows` meets its contract: a row for each candidate.
 -- Assumes nothing.
-use mathlib.Core.Path.{_≡_, _∙_, refl, sym, ap, subst}
-use mathlib.Core.List.{List}
-use Prim.Native.Nat.{ℕ, suc, _+_, _-_, _*_, _≤_, _<_}
+use mathlib.Core.Path.{_≡_, refl}
+use Prim.Native.Nat.{ℕ, _-_, _*_, _≤_}
 use native.Mathlib.Omega.{arith}
-use borrow.Author.Needs.{needs}
 use lib.ListN.{length}
-use Rattle.gates.specs.Gate.{Gate}
 use Rattle.gate_words.specs.declared.writer.Writer.{Writer}
 use Rattle.gate_words.specs.Writing.{Room}
 use Rattle.gate_words.proofs.Writing.{room-less, wrote-as}

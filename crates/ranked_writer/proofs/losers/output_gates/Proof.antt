@@ -1,16 +1,15 @@
 -- `ranked_writer::losers::output_gates` meets its contract: the complement of what each row tells.
 -- Assumes nothing.
-use mathlib.Core.Path.{_≡_, _∙_, refl, sym, ap, subst}
+use mathlib.Core.Path.{_≡_, _∙_, refl, ap}
 use mathlib.Core.List.{List, [], _∷_}
 use Prim.Native.Nat.{ℕ, suc, _+_, _-_, _*_, _≤_, _<_}
 use native.Mathlib.Nat.{mul-le-mul, mul-le-mul-right}
 use native.Mathlib.Omega.{arith}
-use borrow.Author.Needs.{needs}
 use lib.ListN.{length}
 use Rattle.gates.specs.Gate.{Gate}
 use Rattle.gate_words.specs.Gates.{notOf}
 use Rattle.gate_words.specs.declared.writer.Writer.{Writer}
-use Rattle.gate_words.specs.Writing.{Room, Wrote}
+use Rattle.gate_words.specs.Writing.{Room}
 use Rattle.gate_words.proofs.Writing.{room-less, wrote-as}
 use Rattle.gate_words.proofs.Emitting.{not-wrote}
 use Rattle.ranked_circuit.specs.Table.{blocks}

@@ -1,15 +1,12 @@
 -- `ranked_writer::tables::links_table` meets its contract: a comparison for each two candidates.
 -- Assumes nothing.
-use mathlib.Core.Path.{_≡_, _∙_, refl, sym, ap, subst}
-use mathlib.Core.Bool.{Bool, cond}
+use mathlib.Core.Path.{_≡_, _∙_, refl, sym}
+use mathlib.Core.Bool.{cond}
 use mathlib.Core.List.{List}
-use Prim.Native.Nat.{ℕ, suc, _+_, _-_, _*_, _/_, _%_, _≤_, _<_}
+use Prim.Native.Nat.{ℕ, _-_, _*_, _/_, _%_, _≤_}
 use native.Mathlib.Omega.{arith}
-use borrow.Author.Needs.{needs}
 use lib.Dec.{ltb}
-use lib.ListN.{length}
 use Rattle.gates.specs.Gate.{Gate}
-use Rattle.gate_words.specs.Writing.{Room}
 use Rattle.ranked_circuit.specs.Table.{entryEnd}
 use Rattle.ranked_circuit.specs.Stages.{linksBlock, linkAt}
 use Rattle.ranked_blocks.specs.declared.entries.Ranks.{Ranks}

@@ -1,13 +1,9 @@
 -- `ranked_writer::tables::path_table` meets its contract: a word for each two candidates that the stage does not leave.
 -- Assumes nothing.
-use mathlib.Core.Path.{_≡_, _∙_, refl, sym, ap, subst}
-use mathlib.Core.List.{List}
-use Prim.Native.Nat.{ℕ, suc, _+_, _-_, _*_, _/_, _%_, _≤_, _<_}
+use mathlib.Core.Path.{_≡_, _∙_, refl, sym, ap}
+use Prim.Native.Nat.{ℕ, suc, _-_, _*_, _/_, _%_, _≤_}
 use native.Mathlib.Omega.{arith}
-use borrow.Author.Needs.{needs}
 use lib.ListN.{length}
-use Rattle.gates.specs.Gate.{Gate}
-use Rattle.gate_words.specs.Writing.{Room, Wrote}
 use Rattle.gate_words.proofs.Writing.{room-less, wrote-as}
 use Rattle.ranked_circuit.specs.Stages.{stays}
 use Rattle.ranked_blocks.proofs.Entering.{square-small}

@@ -1,22 +1,18 @@
 -- `ranked_writer::tables::votes_table` meets its contract: a counter for each two candidates.
 -- Assumes nothing.
-use mathlib.Core.Path.{_≡_, _∙_, refl, sym, ap, subst}
+use mathlib.Core.Path.{_≡_, _∙_, refl, sym, ap}
 use mathlib.Core.Bool.{Bool, cond}
 use mathlib.Core.List.{List}
-use Prim.Native.Nat.{ℕ, suc, _+_, _-_, _*_, _/_, _%_, _≤_, _<_}
+use Prim.Native.Nat.{ℕ, suc, _-_, _*_, _/_, _%_, _≤_}
 use native.Mathlib.Omega.{arith}
-use borrow.Author.Needs.{needs}
 use borrow.Author.Tests.{ne-eqb}
 use lib.Dec.{eqb}
-use lib.ListN.{length}
 use Rattle.gates.specs.Gate.{Gate}
-use Rattle.gate_words.specs.Writing.{Room}
 use Rattle.ranked_circuit.specs.Table.{entryEnd}
 use Rattle.ranked_circuit.specs.Stages.{votesBlock}
 use Rattle.ranked_blocks.specs.declared.entries.Ranks.{Ranks}
 use Rattle.ranked_blocks.specs.Ranked.{keptOf}
 use Rattle.ranked_blocks.proofs.Entering.{square-small}
-use Rattle.ranked_writer.specs.Tables.{Keeps}
 use Rattle.ranked_writer.proofs.Filling.{Turn, turn, same-square, TableTo, table-start, table-next, table-room, table-end, table-from, end-here}
 use Rattle.ranked_writer.proofs.Keeping.{KeptTo, kept-start, kept-next, kept-end}
 use Rattle.ranked_writer.proofs.tables.votes_table.Statement.{statement}
