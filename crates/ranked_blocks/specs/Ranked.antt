@@ -25,7 +25,8 @@ keptOf wires k i j = getD wires (i * k + j) 0
 abbrev pub keep : Bool → List ℕ → ℕ → ℕ → List ℕ
 keep stays wires e x = cond stays wires (set wires e x)
 
--- Once a comparison of i with an earlier j ends before `wire`: its last wire but one tells that i is above, its last that it is below.
+-- Once a comparison of i with an earlier j ends before `wire`: its last wire but one tells that i is above, its last
+-- that it is below.
 abbrev pub keepLinks : List ℕ → ℕ → ℕ → ℕ → ℕ → List ℕ
 keepLinks wires k i j wire = cond (ltb j i) (set (set wires (i * k + j) (wire - 2)) (j * k + i) (wire - 1)) wires
 

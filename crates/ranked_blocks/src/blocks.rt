@@ -35,7 +35,10 @@ fn one_of(w: Writer, table: &mut [u32], x: u32, y: u32, high: u32, low: u32, dig
     requires { ⌜ Room w (2 * digits + suc digits) ⌝ }
     requires { ⌜ (x + suc digits ≤ w .wire) × (y + suc digits ≤ w .wire) ⌝ }
     requires { ⌜ (high + suc digits ≤ w .wire) × (low + suc digits ≤ w .wire) ⌝ }
-    ensures { λ r. ⌜ Wrote w (now (table .entry)) (order (w .wire) x y digits ++ choose (orderEnd (w .wire) x digits) high low (suc digits)) (now (table .exit)) r ⌝ }
+    ensures { λ r. ⌜
+        Wrote w (now (table .entry)) (order (w .wire) x y digits ++ choose (orderEnd (w .wire) x digits) high low
+        (suc digits)) (now (table .exit)) r
+        ⌝ }
 {
     let end = chain_end(w.wire + digits, x, digits);
     let told = order(w, table, x, y, digits);
@@ -67,7 +70,10 @@ pub(crate) fn link_or_way(
 ) -> Writer
     requires { ⌜ Room w (2 * digits + suc digits + (2 * digits + 1) + suc digits) ⌝ }
     requires { ⌜ (v + suc digits ≤ w .wire) × (x + suc digits ≤ w .wire) × (y + suc digits ≤ w .wire) × (digits ≤ 7) ⌝ }
-    ensures { λ r. ⌜ Wrote w (now (table .entry)) (smaller (w .wire) x y digits ++ largerIf (w .wire + (2 * digits + suc digits)) f v (w .wire + 2 * digits) digits) (now (table .exit)) r ⌝ }
+    ensures { λ r. ⌜
+        Wrote w (now (table .entry)) (smaller (w .wire) x y digits ++ largerIf (w .wire + (2 * digits + suc digits)) f
+        v (w .wire + 2 * digits) digits) (now (table .exit)) r
+        ⌝ }
 {
     let way = w.wire + 2 * digits;
     let weaker = one_of(w, table, x, y, y, x, digits);
@@ -85,7 +91,10 @@ pub(crate) fn path_or_way(
 ) -> Writer
     requires { ⌜ Room w (2 * digits + suc digits + 2 * digits + suc digits) ⌝ }
     requires { ⌜ (v + suc digits ≤ w .wire) × (x + suc digits ≤ w .wire) × (y + suc digits ≤ w .wire) × (digits ≤ 7) ⌝ }
-    ensures { λ r. ⌜ Wrote w (now (table .entry)) (smaller (w .wire) x y digits ++ larger (w .wire + (2 * digits + suc digits)) v (w .wire + 2 * digits) digits) (now (table .exit)) r ⌝ }
+    ensures { λ r. ⌜
+        Wrote w (now (table .entry)) (smaller (w .wire) x y digits ++ larger (w .wire + (2 * digits + suc digits)) v
+        (w .wire + 2 * digits) digits) (now (table .exit)) r
+        ⌝ }
 {
     let way = w.wire + 2 * digits;
     let weaker = one_of(w, table, x, y, y, x, digits);

@@ -26,10 +26,22 @@ pub struct Ranks {
 // The number of ballots that put one candidate before another: its word is kept.
 pub fn votes_entry(w: Writer, table: &mut [u32], words: &mut [u32], p: Ranks, e: u32) -> Writer
     requires { ⌜ Ranked p ⌝ }
-    requires { ⌜ Room w (length (votesBlock (p .candidates) (p .ballots) (p .digits) (w .wire) (e / p .candidates) (e % p .candidates))) ⌝ }
-    requires { ⌜ (e < p .candidates * p .candidates) × (p .ballots * p .candidates * p .candidates ≤ w .wire) × (length (now words) ≡ 64) ⌝ }
-    ensures { λ r. ⌜ Wrote w (now (table .entry)) (votesBlock (p .candidates) (p .ballots) (p .digits) (w .wire) (e / p .candidates) (e % p .candidates)) (now (table .exit)) r ⌝ }
-    ensures { λ r. ⌜ now (words .exit) ≡ keep (eqb (e / p .candidates) (e % p .candidates)) (now (words .entry)) e (r .wire - suc (p .digits)) ⌝ }
+    requires { ⌜
+        Room w (length (votesBlock (p .candidates) (p .ballots) (p .digits) (w .wire) (e / p .candidates)
+        (e % p .candidates)))
+        ⌝ }
+    requires { ⌜
+        (e < p .candidates * p .candidates) × (p .ballots * p .candidates * p .candidates ≤ w .wire) ×
+        (length (now words) ≡ 64)
+        ⌝ }
+    ensures { λ r. ⌜
+        Wrote w (now (table .entry)) (votesBlock (p .candidates) (p .ballots) (p .digits) (w .wire)
+        (e / p .candidates) (e % p .candidates)) (now (table .exit)) r
+        ⌝ }
+    ensures { λ r. ⌜
+        now (words .exit) ≡ keep (eqb (e / p .candidates) (e % p .candidates)) (now (words .entry)) e
+        (r .wire - suc (p .digits))
+        ⌝ }
 {
     let k = p.candidates;
     if e / k == e % k {
@@ -50,11 +62,20 @@ pub fn links_entry(
     e: u32,
 ) -> Writer
     requires { ⌜ Ranked p ⌝ }
-    requires { ⌜ Room w (length (linksBlock (keptOf (now words) (p .candidates)) (p .digits) (w .wire) (e / p .candidates) (e % p .candidates))) ⌝ }
+    requires { ⌜
+        Room w (length (linksBlock (keptOf (now words) (p .candidates)) (p .digits) (w .wire) (e / p .candidates)
+        (e % p .candidates)))
+        ⌝ }
     requires { ⌜ (e < p .candidates * p .candidates) × (length (now words) ≡ 64) × (length (now links) ≡ 64) ⌝ }
     requires { ⌜ WordsBelow (now words) (p .candidates) (p .digits) (w .wire) ⌝ }
-    ensures { λ r. ⌜ Wrote w (now (table .entry)) (linksBlock (keptOf (now (words .entry)) (p .candidates)) (p .digits) (w .wire) (e / p .candidates) (e % p .candidates)) (now (table .exit)) r ⌝ }
-    ensures { λ r. ⌜ now (links .exit) ≡ keepLinks (now (links .entry)) (p .candidates) (e / p .candidates) (e % p .candidates) (r .wire) ⌝ }
+    ensures { λ r. ⌜
+        Wrote w (now (table .entry)) (linksBlock (keptOf (now (words .entry)) (p .candidates)) (p .digits) (w .wire)
+        (e / p .candidates) (e % p .candidates)) (now (table .exit)) r
+        ⌝ }
+    ensures { λ r. ⌜
+        now (links .exit) ≡ keepLinks (now (links .entry)) (p .candidates) (e / p .candidates) (e % p .candidates)
+        (r .wire)
+        ⌝ }
 {
     let k = p.candidates;
     let i = e / k;
@@ -86,10 +107,19 @@ fn new_word(
     j: u32,
 ) -> Writer
     requires { ⌜ Ranked p ⌝ }
-    requires { ⌜ Room w (length (newWord (keptOf (now links) (p .candidates)) (keptOf (now words) (p .candidates)) (p .digits) m (w .wire) i j)) ⌝ }
-    requires { ⌜ (m ≤ p .candidates) × (i < p .candidates) × (j < p .candidates) × (spec.stays m i j ≡ false) × (length (now links) ≡ 64) × (length (now words) ≡ 64) ⌝ }
+    requires { ⌜
+        Room w (length (newWord (keptOf (now links) (p .candidates)) (keptOf (now words) (p .candidates)) (p .digits)
+        m (w .wire) i j))
+        ⌝ }
+    requires { ⌜
+        (m ≤ p .candidates) × (i < p .candidates) × (j < p .candidates) × (spec.stays m i j ≡ false) ×
+        (length (now links) ≡ 64) × (length (now words) ≡ 64)
+        ⌝ }
     requires { ⌜ WordsBelow (now words) (p .candidates) (p .digits) (w .wire) ⌝ }
-    ensures { λ r. ⌜ Wrote w (now (table .entry)) (newWord (keptOf (now (links .entry)) (p .candidates)) (keptOf (now (words .entry)) (p .candidates)) (p .digits) m (w .wire) i j) (now (table .exit)) r ⌝ }
+    ensures { λ r. ⌜
+        Wrote w (now (table .entry)) (newWord (keptOf (now (links .entry)) (p .candidates))
+        (keptOf (now (words .entry)) (p .candidates)) (p .digits) m (w .wire) i j) (now (table .exit)) r
+        ⌝ }
 {
     let k = p.candidates;
     let link = kept(links, k, i, j);
@@ -116,11 +146,24 @@ pub fn path_entry(
     e: u32,
 ) -> Writer
     requires { ⌜ Ranked p ⌝ }
-    requires { ⌜ Room w (length (pathBlock (keptOf (now links) (p .candidates)) (keptOf (now words) (p .candidates)) (p .digits) m (w .wire) (e / p .candidates) (e % p .candidates))) ⌝ }
-    requires { ⌜ (m ≤ p .candidates) × (e < p .candidates * p .candidates) × (length (now links) ≡ 64) × (length (now words) ≡ 64) ⌝ }
+    requires { ⌜
+        Room w (length (pathBlock (keptOf (now links) (p .candidates)) (keptOf (now words) (p .candidates))
+        (p .digits) m (w .wire) (e / p .candidates) (e % p .candidates)))
+        ⌝ }
+    requires { ⌜
+        (m ≤ p .candidates) × (e < p .candidates * p .candidates) × (length (now links) ≡ 64) ×
+        (length (now words) ≡ 64)
+        ⌝ }
     requires { ⌜ WordsBelow (now words) (p .candidates) (p .digits) (w .wire) ⌝ }
-    ensures { λ r. ⌜ Wrote w (now (table .entry)) (pathBlock (keptOf (now (links .entry)) (p .candidates)) (keptOf (now (words .entry)) (p .candidates)) (p .digits) m (w .wire) (e / p .candidates) (e % p .candidates)) (now (table .exit)) r ⌝ }
-    ensures { λ r. ⌜ now (words .exit) ≡ keep (spec.stays m (e / p .candidates) (e % p .candidates)) (now (words .entry)) e (r .wire - suc (p .digits)) ⌝ }
+    ensures { λ r. ⌜
+        Wrote w (now (table .entry)) (pathBlock (keptOf (now (links .entry)) (p .candidates))
+        (keptOf (now (words .entry)) (p .candidates)) (p .digits) m (w .wire) (e / p .candidates) (e % p .candidates))
+        (now (table .exit)) r
+        ⌝ }
+    ensures { λ r. ⌜
+        now (words .exit) ≡ keep (spec.stays m (e / p .candidates) (e % p .candidates)) (now (words .entry)) e
+        (r .wire - suc (p .digits))
+        ⌝ }
 {
     let i = e / p.candidates;
     let j = e % p.candidates;

@@ -1,4 +1,5 @@
--- The blocks of a ranked tasting's circuit that `gate_words` lacks: two whole words compared, and the smaller or larger of them. A word has a digit and w more.
+-- The blocks of a ranked tasting's circuit that `gate_words` lacks: two whole words compared, and the smaller or
+-- larger of them. A word has a digit and w more.
 use mathlib.Core.List.{List, _∷_, _++_}
 use Prim.Native.Nat.{ℕ, suc, _+_, _*_}
 use Rattle.gates.specs.Gate.{Gate}
@@ -10,7 +11,8 @@ use Rattle.gate_words.specs.Comparison.{firstDigit, compareWords, differences, 
 unfoldable pub compare : ℕ → ℕ → ℕ → ℕ → List Gate
 compare n x y w = firstDigit n x y ++ compareWords (n + 3) (x + 1) (y + 1) (n + 1) (n + 2) w
 
--- The word at x compared one way with the word at y. The lowest digit of x starts the chain at no cost: where the words are equal, either answer will do.
+-- The word at x compared one way with the word at y. The lowest digit of x starts the chain at no cost: where the
+-- words are equal, either answer will do.
 unfoldable pub order : ℕ → ℕ → ℕ → ℕ → List Gate
 order n x y w = differences (x + 1) (y + 1) w ++ above (n + w) n (x + 1) x w
 

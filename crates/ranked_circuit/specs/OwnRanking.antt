@@ -24,8 +24,10 @@ rankingBound k n w = 2 * k * k * n * w + k * k * k * (12 * w + 4) + k * k * (20 
 -- For k from 1 to 8 and n from 1 to 255:
 pub record OwnRankingHolds (k n : ℕ) : Type 0 where
   -- the tester accepts its numbers for that many inputs and outputs, with its own G and C
-  pub passes : tested (n * k * k) k (numbersOf (ownRanking k n)) ≡ Accepted (length (ownRanking k n)) (conditionalCount (ownRanking k n))
+  pub passes : tested (n * k * k) k (numbersOf (ownRanking k n))
+      ≡ Accepted (length (ownRanking k n)) (conditionalCount (ownRanking k n))
   -- G keeps the bound
   pub bounded : length (ownRanking k n) ≤ rankingBound k n (widthOf n)
   -- its closing bytes are those of Schulze's rule, whatever the ballots that are bits
-  pub closing : (ballots : List ℕ) → length ballots ≡ n * k * k → ((p : ℕ) → getD ballots p 0 ≤ 1) → outputsOf k (wiresOf ballots (ownRanking k n)) ≡ closingBytes (votes k n ballots) k
+  pub closing : (ballots : List ℕ) → length ballots ≡ n * k * k → ((p : ℕ) → getD ballots p 0 ≤ 1)
+      → outputsOf k (wiresOf ballots (ownRanking k n)) ≡ closingBytes (votes k n ballots) k

@@ -34,7 +34,10 @@ unfoldable pub nextPaths : ℕ → ℕ → ℕ → ℕ → Paths → Paths
 nextPaths k n w m p =
     let start = n * k * k + length (p .gates) in
     let block = pathBlock (linkWire k n w) (p .words) w m in
-    record { gates = p .gates ++ table start k block; words = λ i j. cond (stays m i j) (p .words i j) (entryEnd start k block i j - suc w) }
+    record {
+      gates = p .gates ++ table start k block;
+      words = λ i j. cond (stays m i j) (p .words i j) (entryEnd start k block i j - suc w);
+    }
 
 -- The first m stages.
 unfoldable pub pathsTo : ℕ → ℕ → ℕ → ℕ → Paths

@@ -1,4 +1,5 @@
--- The own list of a ranked tasting: the paths, the contests of each two candidates, and for each candidate whether one of
+-- The own list of a ranked tasting: the paths, the contests of each two candidates, and for each candidate whether
+-- one of
 -- the others beats it. The last k gates say who is not beaten.
 use mathlib.Core.Bool.{cond}
 use mathlib.Core.List.{List, [], _∷_, _++_}
@@ -15,13 +16,16 @@ use Rattle.ranked_circuit.specs.Paths.{linkWire, pathsTo}
 unfoldable pub other : ℕ → ℕ → ℕ
 other i s = cond (ltb s i) s (suc s)
 
--- What a row of gates from wire `at` on joins for candidate i, r others being there: first the wires by which they beat i, then the row's own wires. Gate t of the row joins numbers 2 t and 2 t + 1.
+-- What a row of gates from wire `at` on joins for candidate i, r others being there: first the wires by which they
+-- beat i, then the row's own wires. Gate t of the row joins numbers 2 t and 2 t + 1.
 unfoldable pub joined : (ℕ → ℕ → ℕ) → ℕ → ℕ → ℕ → ℕ → ℕ
 joined beats r at i s = cond (ltb s r) (beats (other i s) i) (at + (s - r))
 
--- Whether one of r + 1 others beats i: r gates, the last of which has joined all; number 2 r is its wire, or the one other's.
+-- Whether one of r + 1 others beats i: r gates, the last of which has joined all; number 2 r is its wire, or the one
+-- other's.
 unfoldable pub loserRow : (ℕ → ℕ → ℕ) → ℕ → ℕ → ℕ → List Gate
-loserRow beats r at i = blocks at (λ wire t. orOf (joined beats (suc r) at i (2 * t)) (joined beats (suc r) at i (2 * t + 1)) ∷ []) r
+loserRow beats r at i =
+    blocks at (λ wire t. orOf (joined beats (suc r) at i (2 * t)) (joined beats (suc r) at i (2 * t + 1)) ∷ []) r
 
 -- Rows of r gates for k candidates from wire n on, and behind them who is not beaten.
 unfoldable pub loserRows : (ℕ → ℕ → ℕ) → ℕ → ℕ → ℕ → List Gate

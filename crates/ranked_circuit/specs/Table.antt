@@ -9,7 +9,8 @@ unfoldable pub blocks : ℕ → (ℕ → ℕ → List Gate) → ℕ → List Gat
 blocks n block zero = []
 blocks n block (suc m) = blocks n block m ++ block (n + length (blocks n block m)) m
 
--- k rows of k blocks, row after row: the first m of them. A block is told the wire at which it starts, its row and its column.
+-- k rows of k blocks, row after row: the first m of them. A block is told the wire at which it starts, its row and
+-- its column.
 unfoldable pub entries : ℕ → ℕ → (ℕ → ℕ → ℕ → List Gate) → ℕ → List Gate
 entries n k block m = blocks n (λ at e. block at (e / k) (e % k)) m
 

@@ -28,9 +28,15 @@ fn first_tables(
 ) -> Writer
     requires { ⌜ Ranked p ⌝ }
     requires { ⌜ Room w (length (pathsTo (p .candidates) (p .ballots) (p .digits) 0 .gates)) ⌝ }
-    requires { ⌜ (w .wire ≡ p .ballots * p .candidates * p .candidates) × (length (now links) ≡ 64) × (length (now words) ≡ 64) ⌝ }
-    ensures { λ r. ⌜ Wrote w (now (table .entry)) (pathsTo (p .candidates) (p .ballots) (p .digits) 0 .gates) (now (table .exit)) r ⌝ }
-    ensures { λ r. ⌜ Keeps (p .candidates) (now (words .exit)) (pathsTo (p .candidates) (p .ballots) (p .digits) 0 .words) ⌝ }
+    requires { ⌜
+        (w .wire ≡ p .ballots * p .candidates * p .candidates) × (length (now links) ≡ 64) × (length (now words) ≡ 64)
+        ⌝ }
+    ensures { λ r. ⌜
+        Wrote w (now (table .entry)) (pathsTo (p .candidates) (p .ballots) (p .digits) 0 .gates) (now (table .exit)) r
+        ⌝ }
+    ensures { λ r. ⌜
+        Keeps (p .candidates) (now (words .exit)) (pathsTo (p .candidates) (p .ballots) (p .digits) 0 .words)
+        ⌝ }
     ensures { λ r. ⌜ Keeps (p .candidates) (now (links .exit)) (linkWire (p .candidates) (p .ballots) (p .digits)) ⌝ }
 {
     let counted = votes_table(w, table, words, p);
@@ -42,8 +48,14 @@ fn path_tables(w: Writer, table: &mut [u32], words: &mut [u32], p: Ranks) -> Wri
     requires { ⌜ Ranked p ⌝ }
     requires { ⌜ Room w (length (pathsTo (p .candidates) (p .ballots) (p .digits) (suc (p .candidates)) .gates)) ⌝ }
     requires { ⌜ (w .wire ≡ p .ballots * p .candidates * p .candidates) × (length (now words) ≡ 64) ⌝ }
-    ensures { λ r. ⌜ Wrote w (now (table .entry)) (pathsTo (p .candidates) (p .ballots) (p .digits) (suc (p .candidates)) .gates) (now (table .exit)) r ⌝ }
-    ensures { λ r. ⌜ Keeps (p .candidates) (now (words .exit)) (pathsTo (p .candidates) (p .ballots) (p .digits) (suc (p .candidates)) .words) ⌝ }
+    ensures { λ r. ⌜
+        Wrote w (now (table .entry)) (pathsTo (p .candidates) (p .ballots) (p .digits) (suc (p .candidates)) .gates)
+        (now (table .exit)) r
+        ⌝ }
+    ensures { λ r. ⌜
+        Keeps (p .candidates) (now (words .exit))
+        (pathsTo (p .candidates) (p .ballots) (p .digits) (suc (p .candidates)) .words)
+        ⌝ }
 {
     let mut links = [0u32; 64];
     let mut next = first_tables(w, table, &mut links, words, p);
@@ -60,7 +72,9 @@ fn pair_circuit(w: Writer, table: &mut [u32], p: Ranks) -> Writer
     requires { ⌜ Ranked p ⌝ }
     requires { ⌜ Room w (length (rankedList (p .candidates) (p .ballots) (p .digits))) ⌝ }
     requires { ⌜ (p .candidates ≡ 2) × (w .wire ≡ p .ballots * p .candidates * p .candidates) ⌝ }
-    ensures { λ r. ⌜ Wrote w (now (table .entry)) (rankedList (p .candidates) (p .ballots) (p .digits)) (now (table .exit)) r ⌝ }
+    ensures { λ r. ⌜
+        Wrote w (now (table .entry)) (rankedList (p .candidates) (p .ballots) (p .digits)) (now (table .exit)) r
+        ⌝ }
 {
     let mut links = [0u32; 64];
     let mut words = [0u32; 64];
@@ -73,7 +87,9 @@ fn circuit(w: Writer, table: &mut [u32], p: Ranks) -> Writer
     requires { ⌜ Ranked p ⌝ }
     requires { ⌜ Room w (length (rankedList (p .candidates) (p .ballots) (p .digits))) ⌝ }
     requires { ⌜ (3 ≤ p .candidates) × (w .wire ≡ p .ballots * p .candidates * p .candidates) ⌝ }
-    ensures { λ r. ⌜ Wrote w (now (table .entry)) (rankedList (p .candidates) (p .ballots) (p .digits)) (now (table .exit)) r ⌝ }
+    ensures { λ r. ⌜
+        Wrote w (now (table .entry)) (rankedList (p .candidates) (p .ballots) (p .digits)) (now (table .exit)) r
+        ⌝ }
 {
     let mut words = [0u32; 64];
     let mut beats = [0u32; 64];
@@ -87,7 +103,10 @@ fn circuit(w: Writer, table: &mut [u32], p: Ranks) -> Writer
 // The writer says how many gates the list has, and how many of them are conditional, whatever the table.
 pub fn ranked_list(candidates: u32, ballots: u32, table: &mut [u32]) -> Writer
     requires { ⌜ (1 ≤ candidates) × (candidates ≤ 8) × (1 ≤ ballots) × (ballots ≤ 255) ⌝ }
-    ensures { λ r. ⌜ Wrote (record { gate = 0; wire = ballots * candidates * candidates; conditional = 0 }) (now (table .entry)) (ownRanking candidates ballots) (now (table .exit)) r ⌝ }
+    ensures { λ r. ⌜
+        Wrote (record { gate = 0; wire = ballots * candidates * candidates; conditional = 0 }) (now (table .entry))
+        (ownRanking candidates ballots) (now (table .exit)) r
+        ⌝ }
 {
     let w = Writer::new(ballots * candidates * candidates);
     if candidates == 1 {

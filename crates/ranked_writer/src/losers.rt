@@ -34,7 +34,10 @@ fn joined(beats: &[u32], k: u32, at: u32, i: u32, s: u32) -> u32
 fn loser_row(w: Writer, table: &mut [u32], beats: &[u32], k: u32, i: u32) -> Writer
     requires { ⌜ Room w (k - 2) ⌝ }
     requires { ⌜ (2 ≤ k) × (k ≤ 8) × (i < k) × (length (now beats) ≡ 64) ⌝ }
-    ensures { λ r. ⌜ Wrote w (now (table .entry)) (spec.loserRow (keptOf (now (beats .entry)) k) (k - 2) (w .wire) i) (now (table .exit)) r ⌝ }
+    ensures { λ r. ⌜
+        Wrote w (now (table .entry)) (spec.loserRow (keptOf (now (beats .entry)) k) (k - 2) (w .wire) i)
+        (now (table .exit)) r
+        ⌝ }
 {
     let at = w.wire;
     let mut next = w;
@@ -52,7 +55,10 @@ fn loser_row(w: Writer, table: &mut [u32], beats: &[u32], k: u32, i: u32) -> Wri
 pub(crate) fn loser_rows(w: Writer, table: &mut [u32], beats: &[u32], k: u32) -> Writer
     requires { ⌜ Room w (k * (k - 2)) ⌝ }
     requires { ⌜ (2 ≤ k) × (k ≤ 8) × (length (now beats) ≡ 64) ⌝ }
-    ensures { λ r. ⌜ Wrote w (now (table .entry)) (spec.loserRows (keptOf (now (beats .entry)) k) (k - 2) (w .wire) k) (now (table .exit)) r ⌝ }
+    ensures { λ r. ⌜
+        Wrote w (now (table .entry)) (spec.loserRows (keptOf (now (beats .entry)) k) (k - 2) (w .wire) k)
+        (now (table .exit)) r
+        ⌝ }
 {
     let mut next = w;
     let mut i: u32 = 0;
@@ -67,7 +73,10 @@ pub(crate) fn loser_rows(w: Writer, table: &mut [u32], beats: &[u32], k: u32) ->
 pub(crate) fn output_gates(w: Writer, table: &mut [u32], beats: &[u32], k: u32, rows: u32) -> Writer
     requires { ⌜ Room w k ⌝ }
     requires { ⌜ (2 ≤ k) × (k ≤ 8) × (length (now beats) ≡ 64) × (w .wire ≡ rows + k * (k - 2)) ⌝ }
-    ensures { λ r. ⌜ Wrote w (now (table .entry)) (spec.outputGates (keptOf (now (beats .entry)) k) (k - 2) rows k) (now (table .exit)) r ⌝ }
+    ensures { λ r. ⌜
+        Wrote w (now (table .entry)) (spec.outputGates (keptOf (now (beats .entry)) k) (k - 2) rows k)
+        (now (table .exit)) r
+        ⌝ }
 {
     let mut next = w;
     let mut i: u32 = 0;

@@ -18,10 +18,19 @@ ghost use Rattle.ranked_writer.specs.Tables.{Keeps};
 // The numbers of ballots.
 pub(crate) fn votes_table(w: Writer, table: &mut [u32], words: &mut [u32], p: Ranks) -> Writer
     requires { ⌜ Ranked p ⌝ }
-    requires { ⌜ Room w (length (spec.table (w .wire) (p .candidates) (votesBlock (p .candidates) (p .ballots) (p .digits)))) ⌝ }
+    requires { ⌜
+        Room w (length (spec.table (w .wire) (p .candidates) (votesBlock (p .candidates) (p .ballots) (p .digits))))
+        ⌝ }
     requires { ⌜ (p .ballots * p .candidates * p .candidates ≤ w .wire) × (length (now words) ≡ 64) ⌝ }
-    ensures { λ r. ⌜ Wrote w (now (table .entry)) (spec.table (w .wire) (p .candidates) (votesBlock (p .candidates) (p .ballots) (p .digits))) (now (table .exit)) r ⌝ }
-    ensures { λ r. ⌜ Keeps (p .candidates) (now (words .exit)) (λ i j. entryEnd (w .wire) (p .candidates) (votesBlock (p .candidates) (p .ballots) (p .digits)) i j - suc (p .digits)) ⌝ }
+    ensures { λ r. ⌜
+        Wrote w (now (table .entry)) (spec.table (w .wire) (p .candidates)
+        (votesBlock (p .candidates) (p .ballots) (p .digits))) (now (table .exit)) r
+        ⌝ }
+    ensures { λ r. ⌜
+        Keeps (p .candidates) (now (words .exit))
+        (λ i j. entryEnd (w .wire) (p .candidates) (votesBlock (p .candidates) (p .ballots) (p .digits)) i j - suc
+        (p .digits))
+        ⌝ }
 {
     let k = p.candidates;
     let mut next = w;
@@ -42,11 +51,20 @@ pub(crate) fn links_table(
     p: Ranks,
 ) -> Writer
     requires { ⌜ Ranked p ⌝ }
-    requires { ⌜ Room w (length (spec.table (w .wire) (p .candidates) (linksBlock (keptOf (now words) (p .candidates)) (p .digits)))) ⌝ }
+    requires { ⌜
+        Room w (length (spec.table (w .wire) (p .candidates)
+        (linksBlock (keptOf (now words) (p .candidates)) (p .digits))))
+        ⌝ }
     requires { ⌜ (length (now words) ≡ 64) × (length (now links) ≡ 64) ⌝ }
     requires { ⌜ WordsBelow (now words) (p .candidates) (p .digits) (w .wire) ⌝ }
-    ensures { λ r. ⌜ Wrote w (now (table .entry)) (spec.table (w .wire) (p .candidates) (linksBlock (keptOf (now (words .entry)) (p .candidates)) (p .digits))) (now (table .exit)) r ⌝ }
-    ensures { λ r. ⌜ Keeps (p .candidates) (now (links .exit)) (linkAt (w .wire) (p .candidates) (linksBlock (keptOf (now (words .entry)) (p .candidates)) (p .digits))) ⌝ }
+    ensures { λ r. ⌜
+        Wrote w (now (table .entry)) (spec.table (w .wire) (p .candidates)
+        (linksBlock (keptOf (now (words .entry)) (p .candidates)) (p .digits))) (now (table .exit)) r
+        ⌝ }
+    ensures { λ r. ⌜
+        Keeps (p .candidates) (now (links .exit))
+        (linkAt (w .wire) (p .candidates) (linksBlock (keptOf (now (words .entry)) (p .candidates)) (p .digits)))
+        ⌝ }
 {
     let k = p.candidates;
     let mut next = w;
@@ -68,11 +86,23 @@ pub(crate) fn path_table(
     m: u32,
 ) -> Writer
     requires { ⌜ Ranked p ⌝ }
-    requires { ⌜ Room w (length (spec.table (w .wire) (p .candidates) (pathBlock (keptOf (now links) (p .candidates)) (keptOf (now words) (p .candidates)) (p .digits) m))) ⌝ }
+    requires { ⌜
+        Room w (length (spec.table (w .wire) (p .candidates)
+        (pathBlock (keptOf (now links) (p .candidates)) (keptOf (now words) (p .candidates)) (p .digits) m)))
+        ⌝ }
     requires { ⌜ (m ≤ p .candidates) × (length (now links) ≡ 64) × (length (now words) ≡ 64) ⌝ }
     requires { ⌜ WordsBelow (now words) (p .candidates) (p .digits) (w .wire) ⌝ }
-    ensures { λ r. ⌜ Wrote w (now (table .entry)) (spec.table (w .wire) (p .candidates) (pathBlock (keptOf (now (links .entry)) (p .candidates)) (keptOf (now (words .entry)) (p .candidates)) (p .digits) m)) (now (table .exit)) r ⌝ }
-    ensures { λ r. ⌜ Keeps (p .candidates) (now (words .exit)) (λ i j. cond (stays m i j) (keptOf (now (words .entry)) (p .candidates) i j) (entryEnd (w .wire) (p .candidates) (pathBlock (keptOf (now (links .entry)) (p .candidates)) (keptOf (now (words .entry)) (p .candidates)) (p .digits) m) i j - suc (p .digits))) ⌝ }
+    ensures { λ r. ⌜
+        Wrote w (now (table .entry)) (spec.table (w .wire) (p .candidates)
+        (pathBlock (keptOf (now (links .entry)) (p .candidates)) (keptOf (now (words .entry)) (p .candidates))
+        (p .digits) m)) (now (table .exit)) r
+        ⌝ }
+    ensures { λ r. ⌜
+        Keeps (p .candidates) (now (words .exit))
+        (λ i j. cond (stays m i j) (keptOf (now (words .entry)) (p .candidates) i j)
+        (entryEnd (w .wire) (p .candidates) (pathBlock (keptOf (now (links .entry)) (p .candidates))
+        (keptOf (now (words .entry)) (p .candidates)) (p .digits) m) i j - suc (p .digits)))
+        ⌝ }
 {
     let k = p.candidates;
     let mut next = w;
