@@ -15,8 +15,8 @@ use Rattle.gates.proofs.Laws.{AllGood, good-append}
 use Rattle.gate_words.specs.Word.{Below}
 use Rattle.gate_words.specs.Counter.{counter, Countable}
 use Rattle.gate_words.proofs.Laws.{masked-good, counter-good}
-use Rattle.jury.proofs.BallotLaws.{row-within}
-use Rattle.jury.proofs.Cases.{below-or-not}
+use Rattle.basics.proofs.Arithmetic.{row-within}
+use Rattle.basics.proofs.Cases.{below-or-not}
 use Rattle.ranked_circuit.specs.Blocks.{compare, smaller, larger, largerIf}
 use Rattle.ranked_circuit.specs.Table.{table, entryEnd}
 use Rattle.ranked_circuit.specs.Stages.{votesBlock, linksBlock, linkAt, stays, newWord, pathBlock}

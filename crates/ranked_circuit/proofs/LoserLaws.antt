@@ -13,7 +13,7 @@ use Rattle.gates.proofs.Laws.{AllGood, Holds, good-two, operand-counts}
 use Rattle.gate_words.specs.Gates.{orOf}
 use Rattle.gate_words.proofs.Laws.{Binary}
 use Rattle.gate_words.proofs.GateValues.{or-is}
-use Rattle.jury.proofs.Cases.{below-or-not}
+use Rattle.basics.proofs.Cases.{below-or-not}
 use Rattle.ranked_circuit.specs.RankedList.{other, joined, loserRow}
 use Rattle.ranked_circuit.proofs.TableLaws.{startOf, length-same, block-holds, blocks-good}
 

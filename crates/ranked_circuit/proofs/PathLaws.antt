@@ -9,8 +9,8 @@ use native.Mathlib.Omega.{arith}
 use lib.Dec.{eqb}
 use lib.ListN.{length}
 use borrow.Author.Tests.{ne-eqb}
-use Rattle.jury.proofs.Cases.{below-or-not}
-use Rattle.jury.proofs.Flags.{or-either, or-first, or-second}
+use Rattle.basics.proofs.Cases.{below-or-not}
+use Rattle.basics.proofs.Flags.{or-either, or-first, or-second}
 use Rattle.gates.specs.Gate.{Gate}
 use Rattle.gates.proofs.Laws.{Holds, holds-append}
 use Rattle.gate_words.specs.Word.{ones, number}
