@@ -2,7 +2,8 @@
 -- Assumes nothing.
 
 -- words and the bits that they are made of
-pub use Rattle.gate_words.proofs.Numbers.{Binary, bit-cases, ones-most, ones-none, ones-more, number-less, number-split, number-one, number-none, number-more}
+pub use Rattle.gate_words.proofs.Numbers.{Binary, ones-most, ones-none, ones-more, number-less, number-split, number-one, number-none, number-more}
+pub use Rattle.basics.proofs.Arithmetic.{bit-cases}
 pub use Rattle.gate_words.proofs.Places.{below-more, below-first, below-rest}
 -- what the wires of a block spell
 pub use Rattle.gate_words.proofs.ChoiceLaws.{copies-law, complements-law, choose-one, choose-zero, masked-one, masked-zero, any-one, any-zero}
