@@ -20,16 +20,11 @@ use Rattle.gates.proofs.Counting.{count-cons}
 use Rattle.gates.proofs.Laws.{AllGood, Holds, operand-counts, marks, zero-value, one-value, copy-value, not-value, and-value, or-value, xor-value, mux-zero, mux-one}
 use Rattle.trustee_shares.specs.Shares.{opened, part, uOf, vOf, firstFactor, secondFactor, maskedFirst, maskedSecond, entered, productPart, partOfKind, Held, openedFirst, openedSecond, newPart, markOf, partsOf}
 use Rattle.trustee_shares.proofs.SumLaws.{sum-same, sum-mod, sum-add, sum-zero, sum-entered}
-use Rattle.trustee_shares.proofs.Products.{two, Triple, product-opens}
+use Rattle.trustee_shares.proofs.Products.{two, opened-two, Triple, product-opens}
 
 -- the factors' product, by kind
 pub productBy : ℕ → ℕ → ℕ → ℕ → ℕ
 productBy kind a b c = a * cond (eqb kind 7) ((b + c) % 2) b
-
--- sums of two and of three parts
-pub opened-two : (t : ℕ) (x y : ℕ → ℕ) → opened t (λ p. (x p + y p) % 2) ≡ (opened t x + opened t y) % 2
-unfolding opened
-opened-two t x y = omega (arith, sum-mod t (λ p. x p + y p), sum-add t x y)
 
 opened-three : (t : ℕ) (x y z : ℕ → ℕ) → opened t (λ p. (x p + y p + z p) % 2) ≡ (opened t x + opened t y + opened t z) % 2
 unfolding opened

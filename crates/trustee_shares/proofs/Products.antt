@@ -6,7 +6,11 @@ use Prim.Native.Nat.{ℕ, zero, suc, _+_, _*_, _%_, _≤_}
 use native.Mathlib.Omega.{arith}
 use Rattle.trustee_shares.specs.Shares.{sumOf, opened, entered, uOf, vOf, productOf, productPart}
 use Rattle.trustee_shares.proofs.SumLaws.{sum-mod, sum-add, sum-times, sum-entered}
-use Rattle.trustee_shares.proofs.Accuracy.{opened-two}
+
+-- sums of two and of three parts
+pub opened-two : (t : ℕ) (x y : ℕ → ℕ) → opened t (λ p. (x p + y p) % 2) ≡ (opened t x + opened t y) % 2
+unfolding opened
+opened-two t x y = omega (arith, sum-mod t (λ p. x p + y p), sum-add t x y)
 
 -- what holds of both bits holds of any
 pub two : (P : ℕ → Type 0) → P 0 → P 1 → (x : ℕ) → x ≤ 1 → P x
