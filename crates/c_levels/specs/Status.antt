@@ -10,4 +10,6 @@ abbrev pub lastReason : ℕ
 lastReason = 200
 
 pub record StatusTells : Type 0 where
-  pub levels : (s : Shape) (table ls answer : List ℕ) → Tells lastReason depthAnswer (depthNumbers (levelsSaid s table ls)) answer (isAccepted (levelsSaid s table ls))
+  pub levels : (s : Shape) (table ls answer : List ℕ)
+      → Tells lastReason depthAnswer (depthNumbers (levelsSaid s table ls)) answer
+      (isAccepted (levelsSaid s table ls))

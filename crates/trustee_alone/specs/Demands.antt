@@ -1,4 +1,5 @@
--- What is shown of a trustee's calls, over the definitions that their contracts equate with the program's answers and tables.
+-- What is shown of a trustee's calls, over the definitions that their contracts equate with the program's answers and
+-- tables.
 use mathlib.Core.Path.{_≡_}
 use mathlib.Core.List.{List, [], _∷_}
 use Prim.Native.Nat.{ℕ, suc, _+_, _*_, _≤_, _<_}
@@ -19,52 +20,86 @@ use Rattle.trustee_alone.specs.Start.{startSaid, startedWires, startedPu
 use Rattle.trustee_alone.specs.Rounds.{roundSaid, roundedWires, roundedPublished}
 use Rattle.trustee_alone.specs.Finish.{finishSaid, finishedWires}
 
--- A refusal's number is that of a reason which concerns the call, and a refusal alters nothing; an accepted finish leaves zeros.
+-- A refusal's number is that of a reason which concerns the call, and a refusal alters nothing; an accepted finish
+-- leaves zeros.
 pub record Memory : Type 0 where
-  pub start-number : (s : Shape) (table : List ℕ) (t p : ℕ) (parts dealt ws published : List ℕ) (r : Reason) → startSaid s table t p parts dealt ws published ≡ refused r
+  pub start-number : (s : Shape) (table : List ℕ) (t p : ℕ) (parts dealt ws published : List ℕ) (r : Reason)
+      → startSaid s table t p parts dealt ws published ≡ refused r
       → T (hasNumberIn (1 ∷ 2 ∷ 3 ∷ 16 ∷ 17 ∷ 18 ∷ []) r)
-  pub round-number : (s : Shape) (table : List ℕ) (t p round : ℕ) (levels dealt heard ws published : List ℕ) (r : Reason) → roundSaid s table t p round levels dealt heard ws published ≡ refused r
+  pub round-number : (s : Shape) (table : List ℕ) (t p round : ℕ) (levels dealt heard ws published : List ℕ)
+      (r : Reason) → roundSaid s table t p round levels dealt heard ws published ≡ refused r
       → T (hasNumberIn (1 ∷ 2 ∷ 3 ∷ 16 ∷ 17 ∷ 18 ∷ 200 ∷ 201 ∷ 202 ∷ []) r)
-  pub finish-number : (s : Shape) (table ws : List ℕ) (r : Reason) → finishSaid s table ws ≡ refused r → T (hasNumberIn (1 ∷ 2 ∷ 3 ∷ 17 ∷ []) r)
-  pub start-refused : (s : Shape) (table : List ℕ) (t p : ℕ) (parts dealt ws published : List ℕ) (r : Reason) → startSaid s table t p parts dealt ws published ≡ refused r
-      → (startedWires s table t p parts dealt ws published ≡ ws) × (startedPublished s table t p parts dealt ws published ≡ published)
-  pub round-refused : (s : Shape) (table : List ℕ) (t p round : ℕ) (levels dealt heard ws published : List ℕ) (r : Reason) → roundSaid s table t p round levels dealt heard ws published ≡ refused r
-      → (roundedWires s table t p round levels dealt heard ws published ≡ ws) × (roundedPublished s table t p round levels dealt heard ws published ≡ published)
-  pub finish-refused : (s : Shape) (table ws : List ℕ) (r : Reason) → finishSaid s table ws ≡ refused r → finishedWires s table ws ≡ ws
-  pub finish-empties : (s : Shape) (table ws : List ℕ) (size : Size) → finishSaid s table ws ≡ accepted size → finishedWires s table ws ≡ replicate (length ws) 0
+  pub finish-number : (s : Shape) (table ws : List ℕ) (r : Reason) → finishSaid s table ws ≡ refused r
+      → T (hasNumberIn (1 ∷ 2 ∷ 3 ∷ 17 ∷ []) r)
+  pub start-refused : (s : Shape) (table : List ℕ) (t p : ℕ) (parts dealt ws published : List ℕ) (r : Reason)
+      → startSaid s table t p parts dealt ws published ≡ refused r
+      → (startedWires s table t p parts dealt ws published ≡ ws)
+      × (startedPublished s table t p parts dealt ws published ≡ published)
+  pub round-refused : (s : Shape) (table : List ℕ) (t p round : ℕ) (levels dealt heard ws published : List ℕ)
+      (r : Reason) → roundSaid s table t p round levels dealt heard ws published ≡ refused r
+      → (roundedWires s table t p round levels dealt heard ws published ≡ ws)
+      × (roundedPublished s table t p round levels dealt heard ws published ≡ published)
+  pub finish-refused : (s : Shape) (table ws : List ℕ) (r : Reason) → finishSaid s table ws ≡ refused r
+      → finishedWires s table ws ≡ ws
+  pub finish-empties : (s : Shape) (table ws : List ℕ) (size : Size) → finishSaid s table ws ≡ accepted size
+      → finishedWires s table ws ≡ replicate (length ws) 0
+
+-- What the trustees hold after the first n rounds, for a list and a jury of a shape.
+abbrev pub after : Shape → List ℕ → ℕ → Dealing → ℕ → Holdings
+after s table t d n = holdingsAfter t (ballotBytes s) (gatesOf table) (s .candidates) d n
 
 -- The sums of what all published before round r.
 unfoldable pub heardBefore : Shape → List ℕ → ℕ → Dealing → ℕ → List ℕ
-heardBefore s table t d r = sumsOf t (conditionalCount (gatesOf table)) (holdingsAfter t (ballotBytes s) (gatesOf table) (s .candidates) d r .published)
+heardBefore s table t d r = sumsOf t (conditionalCount (gatesOf table)) (after s table t d r .published)
 
--- Trustees apart end as the one call of request 2.7 does on the joined tables: after the rounds 0 to R their published bits, trustee after trustee, are that call's, and the sums of their closing bits its eight bytes. So its accuracy and its hiding are theirs.
-pub record AsTheOneCall (s : Shape) (table ballots : List ℕ) (t : ℕ) (d : Dealing) (ws published : List ℕ) : Type 0 where
-  pub same-published : joined t (holdingsAfter t (ballotBytes s) (gatesOf table) (s .candidates) d (suc (roundsOf (ballotBytes s) (gatesOf table))) .published) ≡ shared s table ballots t d ws published .published
-  pub same-closing : closingSums t (s .candidates) (holdingsAfter t (ballotBytes s) (gatesOf table) (s .candidates) d (suc (roundsOf (ballotBytes s) (gatesOf table))) .wireParts) ≡ shared s table ballots t d ws published .closing
+-- Trustees apart end as the one call of request 2.7 does on the joined tables: after the rounds 0 to R their
+-- published bits, trustee after trustee, are that call's, and the sums of their closing bits its eight bytes. So its
+-- accuracy and its hiding are theirs.
+pub record AsTheOneCall (s : Shape) (table ballots : List ℕ) (t : ℕ) (d : Dealing) (ws ps : List ℕ) : Type 0 where
+  pub same-published : joined t (after s table t d (suc (roundsOf (ballotBytes s) (gatesOf table))) .published)
+      ≡ shared s table ballots t d ws ps .published
+  pub same-closing : closingSums t (s .candidates)
+      (after s table t d (suc (roundsOf (ballotBytes s) (gatesOf table))) .wireParts)
+      ≡ shared s table ballots t d ws ps .closing
 
--- Trustee p of such an election: its start, on any tables of its lengths, and every round up to R are accepted, and leave what the trustees together hold. So the program's calls are the rounds that are spoken of here.
+-- Trustee p of such an election: its start, on any tables of its lengths, and every round up to R are accepted, and
+-- leave what the trustees together hold. So the program's calls are the rounds that are spoken of here.
 pub record CallsOf (s : Shape) (table : List ℕ) (t : ℕ) (d : Dealing) (p : ℕ) : Type 0 where
-  pub start : (ws published : List ℕ) → length ws ≡ ballotBytes s + length (gatesOf table) → length published ≡ 2 * conditionalCount (gatesOf table) + s .candidates
-      → (startSaid s table t p (ballotsOf (ballotBytes s) d p) (dealtOf (gatesOf table) d p) ws published ≡ accepted (sizeOf (gatesOf table)))
-      × (startedWires s table t p (ballotsOf (ballotBytes s) d p) (dealtOf (gatesOf table) d p) ws published ≡ holdingsAfter t (ballotBytes s) (gatesOf table) (s .candidates) d 0 .wireParts p)
-      × (startedPublished s table t p (ballotsOf (ballotBytes s) d p) (dealtOf (gatesOf table) d p) ws published ≡ holdingsAfter t (ballotBytes s) (gatesOf table) (s .candidates) d 0 .published p)
+  pub start : (ws published : List ℕ) → length ws ≡ ballotBytes s + length (gatesOf table)
+      → length published ≡ 2 * conditionalCount (gatesOf table) + s .candidates
+      → (startSaid s table t p (ballotsOf (ballotBytes s) d p) (dealtOf (gatesOf table) d p) ws published
+      ≡ accepted (sizeOf (gatesOf table)))
+      × (startedWires s table t p (ballotsOf (ballotBytes s) d p) (dealtOf (gatesOf table) d p) ws published
+      ≡ after s table t d 0 .wireParts p)
+      × (startedPublished s table t p (ballotsOf (ballotBytes s) d p) (dealtOf (gatesOf table) d p) ws published
+      ≡ after s table t d 0 .published p)
   pub round : (r : ℕ) → r ≤ roundsOf (ballotBytes s) (gatesOf table)
-      → (roundSaid s table t p r (levelsOf (ballotBytes s) (gatesOf table)) (dealtOf (gatesOf table) d p) (heardBefore s table t d r) (holdingsAfter t (ballotBytes s) (gatesOf table) (s .candidates) d r .wireParts p) (holdingsAfter t (ballotBytes s) (gatesOf table) (s .candidates) d r .published p) ≡ accepted (depthsOf (ballotBytes s) (gatesOf table)))
-      × (roundedWires s table t p r (levelsOf (ballotBytes s) (gatesOf table)) (dealtOf (gatesOf table) d p) (heardBefore s table t d r) (holdingsAfter t (ballotBytes s) (gatesOf table) (s .candidates) d r .wireParts p) (holdingsAfter t (ballotBytes s) (gatesOf table) (s .candidates) d r .published p) ≡ holdingsAfter t (ballotBytes s) (gatesOf table) (s .candidates) d (suc r) .wireParts p)
-      × (roundedPublished s table t p r (levelsOf (ballotBytes s) (gatesOf table)) (dealtOf (gatesOf table) d p) (heardBefore s table t d r) (holdingsAfter t (ballotBytes s) (gatesOf table) (s .candidates) d r .wireParts p) (holdingsAfter t (ballotBytes s) (gatesOf table) (s .candidates) d r .published p) ≡ holdingsAfter t (ballotBytes s) (gatesOf table) (s .candidates) d (suc r) .published p)
+      → (roundSaid s table t p r (levelsOf (ballotBytes s) (gatesOf table)) (dealtOf (gatesOf table) d p)
+      (heardBefore s table t d r) (after s table t d r .wireParts p) (after s table t d r .published p)
+      ≡ accepted (depthsOf (ballotBytes s) (gatesOf table)))
+      × (roundedWires s table t p r (levelsOf (ballotBytes s) (gatesOf table)) (dealtOf (gatesOf table) d p)
+      (heardBefore s table t d r) (after s table t d r .wireParts p) (after s table t d r .published p)
+      ≡ after s table t d (suc r) .wireParts p)
+      × (roundedPublished s table t p r (levelsOf (ballotBytes s) (gatesOf table)) (dealtOf (gatesOf table) d p)
+      (heardBefore s table t d r) (after s table t d r .wireParts p) (after s table t d r .published p)
+      ≡ after s table t d (suc r) .published p)
 
--- What a trustee sends depends on its own tables and on the sums that were heard, and on nothing else: over any two elections that agree on these.
+-- What a trustee sends depends on its own tables and on the sums that were heard, and on nothing else: over any two
+-- elections that agree on these.
 abbrev pub OwnTablesOnly : Type 0
 OwnTablesOnly =
     (t inputs k : ℕ) (gs : List Gate) (d e : Dealing) (r : ℕ) (one other : Holdings) (p : ℕ)
-    → dealtOf gs d p ≡ dealtOf gs e p → sumsOf t (conditionalCount gs) (one .published) ≡ sumsOf t (conditionalCount gs) (other .published)
+    → dealtOf gs d p ≡ dealtOf gs e p
+    → sumsOf t (conditionalCount gs) (one .published) ≡ sumsOf t (conditionalCount gs) (other .published)
     → one .wireParts p ≡ other .wireParts p → one .published p ≡ other .published p
     → publishedAfter t inputs gs k d r one p ≡ publishedAfter t inputs gs k e r other p
 
 pub record Demands : Type 0 where
   pub memory : Memory
   pub own-tables-only : OwnTablesOnly
-  pub as-the-one-call : (s : Shape) (table ballots : List ℕ) (t : ℕ) (d : Dealing) (ws published : List ℕ) (size : Size) → shared s table ballots t d ws published .answer ≡ accepted size
+  pub as-the-one-call : (s : Shape) (table ballots : List ℕ) (t : ℕ) (d : Dealing) (ws published : List ℕ)
+      (size : Size) → shared s table ballots t d ws published .answer ≡ accepted size
       → AsTheOneCall s table ballots t d ws published
-  pub calls : (s : Shape) (table ballots : List ℕ) (t : ℕ) (d : Dealing) (ws published : List ℕ) (size : Size) → shared s table ballots t d ws published .answer ≡ accepted size
+  pub calls : (s : Shape) (table ballots : List ℕ) (t : ℕ) (d : Dealing) (ws published : List ℕ) (size : Size)
+      → shared s table ballots t d ws published .answer ≡ accepted size
       → (p : ℕ) → p < t → CallsOf s table t d p
