@@ -17,19 +17,20 @@ static uint8_t *parts, *dealt, *wires, *published, *all_wires, *all_published, *
 
 static size_t together(void) {
     size_t answer[JUGY_TRUSTEES_ANSWER];
-    return jugy_trustees(j.k, j.d, j.n, j.table, 4 * j.gates, j.ballots, j.inputs, TRUSTEES, parts, TRUSTEES * j.inputs, dealt,
-                         TRUSTEES * 3 * j.marks, all_wires, TRUSTEES * own, all_published, TRUSTEES * each, answer, JUGY_TRUSTEES_ANSWER);
+    return jugy_trustees(j.k, j.d, j.n, j.table, 4 * j.gates, j.ballots, j.inputs, TRUSTEES, parts, TRUSTEES * j.inputs,
+                         dealt, TRUSTEES * 3 * j.marks, all_wires, TRUSTEES * own, all_published, TRUSTEES * each, answer,
+                         JUGY_TRUSTEES_ANSWER);
 }
 
 /* Trustee p, with the sums that the one call left: a sum that is not due yet is not looked at. */
 static size_t alone(size_t p) {
     size_t answer[JUGY_LEVELS_ANSWER];
     const uint8_t *mine = dealt + 3 * j.marks * p;
-    size_t reason = jugy_trustee_start(j.k, j.d, j.n, j.table, 4 * j.gates, TRUSTEES, p, parts + j.inputs * p, j.inputs, mine, 3 * j.marks, wires, own,
-                                       published, each, answer, JUGY_LEVELS_ANSWER);
+    size_t reason = jugy_trustee_start(j.k, j.d, j.n, j.table, 4 * j.gates, TRUSTEES, p, parts + j.inputs * p, j.inputs,
+                                       mine, 3 * j.marks, wires, own, published, each, answer, JUGY_LEVELS_ANSWER);
     for (size_t r = 0; r <= rounds && !reason; r++)
-        reason = jugy_trustee_round(j.k, j.d, j.n, j.table, 4 * j.gates, TRUSTEES, p, r, levels, j.gates, mine, 3 * j.marks, heard, 2 * j.marks, wires, own,
-                                    published, each, answer, JUGY_LEVELS_ANSWER);
+        reason = jugy_trustee_round(j.k, j.d, j.n, j.table, 4 * j.gates, TRUSTEES, p, r, levels, j.gates, mine, 3 * j.marks,
+                                    heard, 2 * j.marks, wires, own, published, each, answer, JUGY_LEVELS_ANSWER);
     return reason;
 }
 
@@ -49,7 +50,8 @@ int main(int count, char **words) {
         return 2;
     j = jury_of((size_t[]){strtoul(words[1], 0, 10), strtoul(words[2], 0, 10), strtoul(words[3], 0, 10)});
     own = j.inputs + j.gates, each = 2 * j.marks + j.k;
-    levels = (uint32_t *)filled(4 * j.gates, 0), parts = lent(TRUSTEES * j.inputs), dealt = lent(TRUSTEES * 3 * j.marks);
+    levels = (uint32_t *)filled(4 * j.gates, 0);
+    parts = lent(TRUSTEES * j.inputs), dealt = lent(TRUSTEES * 3 * j.marks);
     wires = filled(own, 0), published = filled(each, 0), heard = filled(2 * j.marks, 0);
     all_wires = filled(TRUSTEES * own, 0), all_published = filled(TRUSTEES * each, 0);
     deal(TRUSTEES, j.ballots, j.inputs, j.marks, parts, dealt);
@@ -63,7 +65,7 @@ int main(int count, char **words) {
         if (alone(p) || memcmp(published, all_published + p * each, each))
             fail_at(&j, "apart is not as together");
     take_turns(call, WAYS, 21, 1e-3, of);
-    printf("%zu %zu %zu: 3 trustees in one call %.1f us; one of them apart %.1f us in %zu rounds; levels %.1f us\n", j.k, j.d, j.n, 1e6 * of[TOGETHER].least,
-           1e6 * of[APART].least, rounds + 1, 1e6 * of[LEVELS].least);
+    printf("%zu %zu %zu: 3 trustees in one call %.1f us; one of them apart %.1f us in %zu rounds; levels %.1f us\n", j.k,
+           j.d, j.n, 1e6 * of[TOGETHER].least, 1e6 * of[APART].least, rounds + 1, 1e6 * of[LEVELS].least);
     return 0;
 }

@@ -276,46 +276,51 @@ size_t jugy_dispatch(size_t juries, size_t gates_per_round, const size_t *statem
                      size_t boards_length, size_t *answer, size_t answer_length);
 
 /* Levels (ours, beyond the requests). A wire's level is its multiplicative depth: 0 for a ballot byte; for a gate the
- * largest level of its operands, and one more where it is conditional. The rounds R are the largest level of a list: whoever
- * seals values opens the conditional gates of one level together, in R rounds and not C. Numbers from 200 on are our own. */
+ * largest level of its operands, and one more where it is conditional. The rounds R are the largest level of a list:
+ * whoever seals values opens the conditional gates of one level together, in R rounds and not C. Numbers from 200 on
+ * are our own. */
 #define JUGY_LEVELS 200       /* the level table has not G numbers, or not the list's own levels where they are read */
 
 /* The length of the answer array that a call by levels needs: reason, place, G, C, R. */
 #define JUGY_LEVELS_ANSWER 5
 
-/* Writes the level of each gate of anyone's list: answer[2] is G, answer[3] is C, answer[4] is R, at most C. Reasons 1, 2,
- * 3, 200.
- *   table   4 G numbers, the list's own length
- *   levels  G numbers, whatever they held; afterwards gate g's level is levels[g] */
+/* Writes the level of each gate of anyone's list: answer[2] is G, answer[3] is C, answer[4] is R, at most C. Reasons
+ * 1, 2, 3, 200.
+ *   table      4 G numbers, the list's own length
+ *   levels     G numbers, whatever they held; afterwards gate g's level is levels[g] */
 size_t jugy_levels(size_t candidates, size_t grades, size_t ballots, const uint32_t *table, size_t table_length,
                    uint32_t *levels, size_t levels_length, size_t *answer, size_t answer_length);
 
-/* A trustee on a machine of its own (ours, beyond the requests). The call jugy_trustees holds the tables of all trustees; these
- * three hold one trustee's, and it hears nothing of the others but the opened sums. t trustees, 2 to 5, are numbered from 0.
- * Each starts, then all do the rounds 0, 1, .. R together. Before each round all are told the sums, modulo 2, of what all have
- * published so far, and after round R the sums of the k closing bits are the closing bytes: what jugy_trustees publishes and
- * closes with, in R + 1 exchanges. The tables are one trustee's; the caller keeps them from call to call.
+/* A trustee on a machine of its own (ours, beyond the requests). The call jugy_trustees holds the tables of all
+ * trustees; these three hold one trustee's, and it hears nothing of the others but the opened sums. t trustees, 2 to
+ * 5, are numbered from 0. Each starts, then all do the rounds 0, 1, .. R together. Before each round all are told the
+ * sums, modulo 2, of what all have published so far, and after round R the sums of the k closing bits are the closing
+ * bytes: what jugy_trustees publishes and closes with, in R + 1 exchanges. The tables are one trustee's; the caller
+ * keeps them from call to call.
  *   parts      I bytes, its bit of each ballot byte
  *   dealt      3 C bytes, its bits of u, v and u v of each conditional gate in order
  *   levels     G numbers, the list's own levels, which jugy_levels writes
- *   heard      2 C bytes, the sums of both published bits of each conditional gate in order, 0 where none is known yet
+ *   heard      2 C bytes, the sums of both published bits of each conditional gate in order, 0 where none is known
+ *              yet
  *   wires      I + G bytes, its bits of all wires. They are secret, and jugy_trustee_finish empties them
- *   published  2 C + k bytes: both masked factors of each conditional gate in order, 0 until its level comes, then the k
- *              closing bits, 0 until round R. This is what a trustee may send
- * Each byte of parts, dealt and heard is 0 or 1. That parts add up no trustee alone can tell. A dealing serves one tally. */
+ *   published  2 C + k bytes: both masked factors of each conditional gate in order, 0 until its level comes, then
+ *              the k closing bits, 0 until round R. This is what a trustee may send
+ * Each byte of parts, dealt and heard is 0 or 1. That parts add up no trustee alone can tell. A dealing serves one
+ * tally. */
 #define JUGY_ROUND 201        /* the round is above R */
 #define JUGY_HEARD 202        /* the sums are not 2 C bits */
 
-/* Trustee `trustee` of `trustees` starts: wires are its parts and zeros, published is zeros. answer[2] is G, answer[3] is C;
- * JUGY_RUN_ANSWER numbers. Reasons 1, 2, 3, 16 (no such trustee), 17 (the length of a table), 18 (a part above 1). */
+/* Trustee `trustee` of `trustees` starts: wires are its parts and zeros, published is zeros. answer[2] is G,
+ * answer[3] is C; JUGY_RUN_ANSWER numbers. Reasons 1, 2, 3, 16 (no such trustee), 17 (the length of a table), 18 (a
+ * part above 1). */
 size_t jugy_trustee_start(size_t candidates, size_t grades, size_t ballots, const uint32_t *table, size_t table_length,
-                          size_t trustees, size_t trustee, const uint8_t *parts, size_t parts_length, const uint8_t *dealt,
-                          size_t dealt_length, uint8_t *wires, size_t wires_length, uint8_t *published,
-                          size_t published_length, size_t *answer, size_t answer_length);
+                          size_t trustees, size_t trustee, const uint8_t *parts, size_t parts_length,
+                          const uint8_t *dealt, size_t dealt_length, uint8_t *wires, size_t wires_length,
+                          uint8_t *published, size_t published_length, size_t *answer, size_t answer_length);
 
 /* Round `round`: each gate of this level gets the trustee's bit of its wire, each conditional gate of the next level
- * publishes, and round R publishes the closing bits. answer[2] is G, answer[3] is C, answer[4] is R; JUGY_LEVELS_ANSWER
- * numbers. Reasons 1, 2, 3, 16, 17, 18 (of dealt), 200 (not the list's own levels), 201, 202. */
+ * publishes, and round R publishes the closing bits. answer[2] is G, answer[3] is C, answer[4] is R;
+ * JUGY_LEVELS_ANSWER numbers. Reasons 1, 2, 3, 16, 17, 18 (of dealt), 200 (not the list's own levels), 201, 202. */
 size_t jugy_trustee_round(size_t candidates, size_t grades, size_t ballots, const uint32_t *table, size_t table_length,
                           size_t trustees, size_t trustee, size_t round, const uint32_t *levels, size_t levels_length,
                           const uint8_t *dealt, size_t dealt_length, const uint8_t *heard, size_t heard_length,

@@ -2,8 +2,8 @@
 
     python3 tests/levels.py    prints how many calls there were, by answer
 
-Own lists of graded and ranked shapes, strangers' lists, every reason at its edges with all pairs of faults, old contents of
-the table, and answer arrays that are too short.
+Own lists of graded and ranked shapes, strangers' lists, every reason at its edges with all pairs of faults, old
+contents of the table, and answer arrays that are too short.
 """
 
 import collections

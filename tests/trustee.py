@@ -2,9 +2,9 @@
 
     python3 tests/trustee.py    prints how many calls there were, by answer
 
-Trustees apart on own lists and strangers', graded and ranked: after every round each has the parts that the model's house has
-by then, and at the end all that jugy_trustees publishes. Rounds on tables of any bits, every reason at its edges with all pairs
-of faults, old contents of what is written, and answer arrays that are too short.
+Trustees apart on own lists and strangers', graded and ranked: after every round each has the parts that the model's
+house has by then, and at the end all that jugy_trustees publishes. Rounds on tables of any bits, every reason at its
+edges with all pairs of faults, old contents of what is written, and answer arrays that are too short.
 """
 
 import collections
@@ -41,7 +41,8 @@ class Trustee(Core):
         return status, answer.items(), [lent.items() for lent in written]
 
     def start(self, call, more=2):
-        return self.lend("start", call["shape"], call["table"], (call["t"], call["p"]), [bytes_of(call["parts"]), bytes_of(call["dealt"])],
+        read = [bytes_of(call["parts"]), bytes_of(call["dealt"])]
+        return self.lend("start", call["shape"], call["table"], (call["t"], call["p"]), read,
                          [bytes_of(call["wires"]), bytes_of(call["published"])], SIZE + more)
 
     def round(self, call, more=2):
@@ -124,7 +125,8 @@ def check(core, name, call):
         return None
     k, d, n = call["shape"]
     gates, inputs = gates_of(call["table"]), n * k * (d or k)
-    sizes = [len(gates), sum(g[0] in CONDITIONAL for g in gates)] + ([max(depths(inputs, gates))] if name == "round" else [])
+    sizes = [len(gates), sum(g[0] in CONDITIONAL for g in gates)]
+    sizes += [max(depths(inputs, gates))] if name == "round" else []
     assert (status, answer[:needed]) == (0, [0, 0, *sizes]), (name, answer)
     expected = {
         "start": lambda: [call["parts"] + [0] * len(gates), [0] * len(call["published"])],
@@ -143,8 +145,14 @@ def together(rng, core, shape, gates, t):
     count = sum(g[0] in CONDITIONAL for g in gates)
     parts, dealt = dealings(rng, ballots, count, t)
     houses, own = protocol(gates, inputs, k, t, parts, dealt), depths(inputs, gates)
-    calls = [dict(shape=shape, table=flat(gates), t=t, p=p, parts=parts[inputs * p : inputs * (p + 1)], dealt=dealt[3 * count * p : 3 * count * (p + 1)],
-                  wires=[9] * (inputs + len(gates)), published=[9] * (2 * count + k), levels=own, heard=[0] * (2 * count)) for p in range(t)]
+    calls = [
+        dict(
+            shape=shape, table=flat(gates), t=t, p=p, levels=own, heard=[0] * (2 * count),
+            parts=parts[inputs * p : inputs * (p + 1)], dealt=dealt[3 * count * p : 3 * count * (p + 1)],
+            wires=[9] * (inputs + len(gates)), published=[9] * (2 * count + k),
+        )
+        for p in range(t)
+    ]
     for call in calls:
         call["wires"], call["published"] = check(core, "start", call)
     for r in range(max(own) + 1):
@@ -168,19 +176,41 @@ def faults_of(call, name):
     """Changes of an accepted call, each with one fault."""
     k, d, n = call["shape"]
     table = call["table"]
-    changes = {"shape": {"shape": (9, d, n)}, "part of a gate": {"table": table[:-1]}, "kind": {"table": [8] + table[1:]},
-               "fewer wires": {"wires": call["wires"][1:]}, "more wires": {"wires": call["wires"] + [0]}}
+    changes = {
+        "shape": {"shape": (9, d, n)},
+        "part of a gate": {"table": table[:-1]},
+        "kind": {"table": [8] + table[1:]},
+        "fewer wires": {"wires": call["wires"][1:]},
+        "more wires": {"wires": call["wires"] + [0]},
+    }
     if name == "finish":
         return changes
-    changes |= {"one": {"t": 1}, "six": {"t": 6}, "none such": {"p": call["t"]}, "far": {"p": 2 ** 60}, "fewer triples": {"dealt": call["dealt"][1:]},
-                "more triples": {"dealt": call["dealt"] + [0]}, "two": {"dealt": call["dealt"][:-1] + [2]}, "no published": {"published": []},
-                "more published": {"published": call["published"] + [0]}}
+    changes |= {
+        "one": {"t": 1},
+        "six": {"t": 6},
+        "none such": {"p": call["t"]},
+        "far": {"p": 2 ** 60},
+        "fewer triples": {"dealt": call["dealt"][1:]},
+        "more triples": {"dealt": call["dealt"] + [0]},
+        "two": {"dealt": call["dealt"][:-1] + [2]},
+        "no published": {"published": []},
+        "more published": {"published": call["published"] + [0]},
+    }
     if name == "start":
-        return changes | {"fewer parts": {"parts": call["parts"][1:]}, "a part of 2": {"parts": [2] + call["parts"][1:]}}
+        more = {"fewer parts": {"parts": call["parts"][1:]}, "a part of 2": {"parts": [2] + call["parts"][1:]}}
+        return changes | more
     own = call["levels"]
-    return changes | {"fewer levels": {"levels": own[1:]}, "more levels": {"levels": own + [0]}, "a level more": {"levels": own[:-1] + [own[-1] + 1]},
-                      "first level": {"levels": [own[0] + 1] + own[1:]}, "late": {"r": max(own) + 1}, "never": {"r": 2 ** 63}, "fewer sums": {"heard": call["heard"][1:]},
-                      "more sums": {"heard": call["heard"] + [0]}, "a sum of 2": {"heard": [2] + call["heard"][1:]}}
+    return changes | {
+        "fewer levels": {"levels": own[1:]},
+        "more levels": {"levels": own + [0]},
+        "a level more": {"levels": own[:-1] + [own[-1] + 1]},
+        "first level": {"levels": [own[0] + 1] + own[1:]},
+        "late": {"r": max(own) + 1},
+        "never": {"r": 2 ** 63},
+        "fewer sums": {"heard": call["heard"][1:]},
+        "more sums": {"heard": call["heard"] + [0]},
+        "a sum of 2": {"heard": [2] + call["heard"][1:]},
+    }
 
 
 def main():

@@ -1,6 +1,7 @@
 //! A trustee on a machine of its own: it holds its own tables and hears the opened sums.
 //!
-//! All trustees start, then do the rounds 0 to R together. `c/jugyvaros.h` says what the tables hold and what may be sent.
+//! All trustees start, then do the rounds 0 to R together. `c/jugyvaros.h` says what the tables hold and what may be
+//! sent.
 
 use crate::levels::Depths;
 use crate::{answered, sized, Refusal, Shape, Size};
@@ -75,7 +76,7 @@ impl Seat<'_> {
     /// Starts: `wires` is I + G bytes, `published` 2 C + k.
     pub fn start(&self, parts: &[u8], dealt: &[u8], wires: &mut [u8], published: &mut [u8]) -> Result<Size, Refusal> {
         let [k, d, n] = self.shape.numbers();
-        // SAFETY: every pointer comes from a slice and is handed over with its length; what is written is borrowed mutably.
+        // SAFETY: every pointer comes from a slice and is handed over with its length; what is written is a `&mut`.
         sized(|answer, length| unsafe {
             c::jugy_trustee_start(
                 k,
@@ -110,7 +111,7 @@ impl Seat<'_> {
         published: &mut [u8],
     ) -> Result<Depths, Refusal> {
         let [k, d, n] = self.shape.numbers();
-        // SAFETY: every pointer comes from a slice and is handed over with its length; what is written is borrowed mutably.
+        // SAFETY: every pointer comes from a slice and is handed over with its length; what is written is a `&mut`.
         answered(|answer, length| unsafe {
             c::jugy_trustee_round(
                 k,
@@ -141,9 +142,19 @@ impl Seat<'_> {
     /// Empties the wire parts.
     pub fn finish(&self, wires: &mut [u8]) -> Result<Size, Refusal> {
         let [k, d, n] = self.shape.numbers();
-        // SAFETY: every pointer comes from a slice and is handed over with its length; what is written is borrowed mutably.
+        // SAFETY: every pointer comes from a slice and is handed over with its length; what is written is a `&mut`.
         sized(|answer, length| unsafe {
-            c::jugy_trustee_finish(k, d, n, self.table.as_ptr(), self.table.len(), wires.as_mut_ptr(), wires.len(), answer, length)
+            c::jugy_trustee_finish(
+                k,
+                d,
+                n,
+                self.table.as_ptr(),
+                self.table.len(),
+                wires.as_mut_ptr(),
+                wires.len(),
+                answer,
+                length,
+            )
         })
     }
 }

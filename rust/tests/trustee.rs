@@ -50,7 +50,8 @@ fn apart_as_together() {
             seat(p).finish(wires).unwrap();
         }
         assert!(wires.iter().all(|&bit| bit == 0));
-        let refusal = seat(0).round(rounds + 1, &found, dealt(0), &heard, &mut wires[..own], &mut published[..each]).unwrap_err();
+        let (wires, published) = (&mut wires[..own], &mut published[..each]);
+        let refusal = seat(0).round(rounds + 1, &found, dealt(0), &heard, wires, published).unwrap_err();
         assert_eq!(refusal.reason, Reason::Round);
     }
 }

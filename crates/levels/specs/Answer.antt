@@ -12,7 +12,8 @@ use Rattle.levels.specs.declared.answer.LevelRefusal.the-variants.{OfCor
 use Rattle.levels.specs.declared.answer.Answer.{Answer}
 use Rattle.levels.specs.declared.answer.Answer.the-variants.{Accepted, Refused}
 
--- The number and place of each case. Our own: 200, a table of levels that does not fit the list; 201, a round that the list does not have; 202, sums that cannot have been heard.
+-- The number and place of each case. Our own: 200, a table of levels that does not fit the list; 201, a round that
+-- the list does not have; 202, sums that cannot have been heard.
 unfoldable pub levelReasonOf : LevelRefusal → Reason
 levelReasonOf (OfCore r) = reasonOf r
 levelReasonOf Levels = reasonAt 200 0

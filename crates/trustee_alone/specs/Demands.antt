@@ -1,4 +1,5 @@
--- What is shown of a trustee's calls, over the definitions that their contracts equate with the program's answers and tables.
+-- What is shown of a trustee's calls, over the definitions that their contracts equate with the program's answers and
+-- tables.
 use mathlib.Core.Path.{_≡_}
 use mathlib.Core.List.{List, [], _∷_}
 use Prim.Native.Nat.{ℕ, suc, _+_, _*_, _≤_, _<_}
@@ -20,19 +21,33 @@ use Rattle.trustee_alone.specs.Start.{startSaid, startedWires, startedPu
 use Rattle.trustee_alone.specs.Rounds.{roundSaid, roundedWires, roundedPublished}
 use Rattle.trustee_alone.specs.Finish.{finishSaid, finishedWires}
 
--- A refusal's number is that of a reason which concerns the call, and a refusal alters nothing; an accepted finish leaves zeros.
+-- A refusal's number is that of a reason which concerns the call, and a refusal alters nothing; an accepted finish
+-- leaves zeros.
 pub record Memory : Type 0 where
-  pub start-number : (s : Shape) (table : List ℕ) (t p : ℕ) (parts dealt ws published : List ℕ) (r : Reason) → startSaid s table t p parts dealt ws published ≡ refused r
+  pub start-number : (s : Shape) (table : List ℕ) (t p : ℕ) (parts dealt ws published : List ℕ) (r : Reason)
+      → startSaid s table t p parts dealt ws published ≡ refused r
       → T (hasNumberIn (1 ∷ 2 ∷ 3 ∷ 16 ∷ 17 ∷ 18 ∷ []) r)
-  pub round-number : (s : Shape) (table : List ℕ) (t p round : ℕ) (levels dealt heard ws published : List ℕ) (r : Reason) → roundSaid s table t p round levels dealt heard ws published ≡ refused r
+  pub round-number : (s : Shape) (table : List ℕ) (t p round : ℕ) (levels dealt heard ws published : List ℕ)
+      (r : Reason) → roundSaid s table t p round levels dealt heard ws published ≡ refused r
       → T (hasNumberIn (1 ∷ 2 ∷ 3 ∷ 16 ∷ 17 ∷ 18 ∷ 200 ∷ 201 ∷ 202 ∷ []) r)
-  pub finish-number : (s : Shape) (table ws : List ℕ) (r : Reason) → finishSaid s table ws ≡ refused r → T (hasNumberIn (1 ∷ 2 ∷ 3 ∷ 17 ∷ []) r)
-  pub start-refused : (s : Shape) (table : List ℕ) (t p : ℕ) (parts dealt ws published : List ℕ) (r : Reason) → startSaid s table t p parts dealt ws published ≡ refused r
-      → (startedWires s table t p parts dealt ws published ≡ ws) × (startedPublished s table t p parts dealt ws published ≡ published)
-  pub round-refused : (s : Shape) (table : List ℕ) (t p round : ℕ) (levels dealt heard ws published : List ℕ) (r : Reason) → roundSaid s table t p round levels dealt heard ws published ≡ refused r
-      → (roundedWires s table t p round levels dealt heard ws published ≡ ws) × (roundedPublished s table t p round levels dealt heard ws published ≡ published)
-  pub finish-refused : (s : Shape) (table ws : List ℕ) (r : Reason) → finishSaid s table ws ≡ refused r → finishedWires s table ws ≡ ws
-  pub finish-empties : (s : Shape) (table ws : List ℕ) (size : Size) → finishSaid s table ws ≡ accepted size → finishedWires s table ws ≡ replicate (length ws) 0
+  pub finish-number : (s : Shape) (table ws : List ℕ) (r : Reason) → finishSaid s table ws ≡ refused r
+      → T (hasNumberIn (1 ∷ 2 ∷ 3 ∷ 17 ∷ []) r)
+  pub start-refused : (s : Shape) (table : List ℕ) (t p : ℕ) (parts dealt ws published : List ℕ) (r : Reason)
+      → startSaid s table t p parts dealt ws published ≡ refused r
+      → (startedWires s table t p parts dealt ws published ≡ ws)
+      × (startedPublished s table t p parts dealt ws published ≡ published)
+  pub round-refused : (s : Shape) (table : List ℕ) (t p round : ℕ) (levels dealt heard ws published : List ℕ)
+      (r : Reason) → roundSaid s table t p round levels dealt heard ws published ≡ refused r
+      → (roundedWires s table t p round levels dealt heard ws published ≡ ws)
+      × (roundedPublished s table t p round levels dealt heard ws published ≡ published)
+  pub finish-refused : (s : Shape) (table ws : List ℕ) (r : Reason) → finishSaid s table ws ≡ refused r
+      → finishedWires s table ws ≡ ws
+  pub finish-empties : (s : Shape) (table ws : List ℕ) (size : Size) → finishSaid s table ws ≡ accepted size
+      → finishedWires s table ws ≡ replicate (length ws) 0
+
+-- What the trustees hold after the first n rounds, for a list and a jury of a shape.
+abbrev pub after : Shape → List ℕ → ℕ → Dealing → ℕ → Holdings
+after s table t d n = holdingsAfter t (ballotBytes s) (gatesOf table) (s .candidates) d n
 
 -- The sizes of the one call's list, and what the trustees of that call hold before round r when each is on its own.
 abbrev pub inputsIn : Call → ℕ
@@ -91,11 +106,13 @@ pub record CallsOf (c : Call) (p : ℕ) : Type 0 where
       → length published ≡ 2 * conditionalCount (gatesOf (c .table)) + c .shape .candidates → StartOf c p ws published
   pub round : (r : ℕ) → r ≤ roundsIn c → RoundOf c p r
 
--- What a trustee sends depends on its own tables and on the sums that were heard, and on nothing else: over any two elections that agree on these.
+-- What a trustee sends depends on its own tables and on the sums that were heard, and on nothing else: over any two
+-- elections that agree on these.
 abbrev pub OwnTablesOnly : Type 0
 OwnTablesOnly =
     (t inputs k : ℕ) (gs : List Gate) (d e : Dealing) (r : ℕ) (one other : Holdings) (p : ℕ)
-    → dealtOf gs d p ≡ dealtOf gs e p → sumsOf t (conditionalCount gs) (one .published) ≡ sumsOf t (conditionalCount gs) (other .published)
+    → dealtOf gs d p ≡ dealtOf gs e p
+    → sumsOf t (conditionalCount gs) (one .published) ≡ sumsOf t (conditionalCount gs) (other .published)
     → one .wireParts p ≡ other .wireParts p → one .published p ≡ other .published p
     → publishedAfter t inputs gs k d r one p ≡ publishedAfter t inputs gs k e r other p
 

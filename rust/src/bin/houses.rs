@@ -1,10 +1,10 @@
-//! Competing houses tally together, each in a process of its own: they talk over loopback TCP with a coordinator that adds
-//! what they publish and holds nothing else.
+//! Competing houses tally together, each in a process of its own: they talk over loopback TCP with a coordinator that
+//! adds what they publish and holds nothing else.
 //!
 //!     houses T K D N < BALLOTS        the I ballot bytes of a jury of K blends, D grades (0: rankings) and N ballots
 //!
-//! prints the rounds R, the exchanges, the bytes that all houses sent, the time and the closing bytes. Where a house goes
-//! away, falls silent or sends a wrong length, everybody ends with an error. For trials a house may be told to do so:
+//! prints the rounds R, the exchanges, the bytes that all houses sent, the time and the closing bytes. Where a house
+//! goes away, falls silent or sends a wrong length, everybody ends with an error. For trials a house may be told to do so:
 //!     --leave P R    house P goes away in round R      --short P R    it sends a byte too few      --silent P R
 //!     --wait MS      how long anybody waits for anybody, 10,000 unless said otherwise
 
@@ -263,7 +263,8 @@ fn deal_out(plan: &Plan, words: &[String]) -> Outcome<()> {
 
 fn run() -> Outcome<()> {
     let mut words: Vec<String> = std::env::args().skip(1).collect();
-    let role = if matches!(words.first().map(String::as_str), Some("coordinator" | "house")) { words.remove(0) } else { String::new() };
+    let is_part = matches!(words.first().map(String::as_str), Some("coordinator" | "house"));
+    let role = if is_part { words.remove(0) } else { String::new() };
     let place: Vec<String> = if role == "house" { words.drain(..2).collect() } else { Vec::new() };
     let number = |i: usize| -> Outcome<usize> { Ok(words.get(i).ok_or("usage: houses T K D N < BALLOTS")?.parse()?) };
     let (mut fault, mut wait) = (Fault { house: usize::MAX, ..Fault::default() }, 10_000);
