@@ -26,4 +26,5 @@ roundCall s table t p r levels dealt heard wires published answer =
 
 abbrev pub finishCall : (s : Shape) (table wires answer : List ℕ) → CallResult
 finishCall s table wires answer =
-    callResult sizeAnswer (sizeNumbers (finishSaid s table wires)) answer (wires ∷ []) (finishedWires s table wires ∷ [])
+    callResult sizeAnswer (sizeNumbers (finishSaid s table wires)) answer (wires ∷ []) (finishedWires s table wires
+    ∷ [])

@@ -31,5 +31,6 @@ unfoldable pub depthsOf : ℕ → List Gate → Depths
 depthsOf inputs gs = record { gates = length gs; conditional = conditionalCount gs; rounds = roundsOf inputs gs }
 
 unfoldable pub depthsSaid : Answer → Outcome Depths
-depthsSaid (Accepted gates conditional rounds) = accepted (record { gates = gates; conditional = conditional; rounds = rounds })
+depthsSaid (Accepted gates conditional rounds) =
+    accepted (record { gates = gates; conditional = conditional; rounds = rounds })
 depthsSaid (Refused r) = refused (levelReasonOf r)

@@ -45,10 +45,6 @@ pub record Memory : Type 0 where
   pub finish-empties : (s : Shape) (table ws : List ℕ) (size : Size) → finishSaid s table ws ≡ accepted size
       → finishedWires s table ws ≡ replicate (length ws) 0
 
--- What the trustees hold after the first n rounds, for a list and a jury of a shape.
-abbrev pub after : Shape → List ℕ → ℕ → Dealing → ℕ → Holdings
-after s table t d n = holdingsAfter t (ballotBytes s) (gatesOf table) (s .candidates) d n
-
 -- The sizes of the one call's list, and what the trustees of that call hold before round r when each is on its own.
 abbrev pub inputsIn : Call → ℕ
 inputsIn c = ballotBytes (c .shape)

@@ -43,7 +43,8 @@ roundReasons s table t p round levels dealt heard wireParts published =
 -- An accepted call answers G, C and R.
 unfoldable pub roundSaid : Shape → List ℕ → ℕ → ℕ → ℕ → List ℕ → List ℕ → List ℕ → List ℕ → List ℕ → Outcome Depths
 roundSaid s table t p round levels dealt heard wireParts published =
-    outcome (firstOf (roundReasons s table t p round levels dealt heard wireParts published)) (depthsOf (ballotBytes s) (gatesOf table))
+    outcome (firstOf (roundReasons s table t p round levels dealt heard wireParts published))
+    (depthsOf (ballotBytes s) (gatesOf table))
 
 -- The trustee's turn, by its own tables and the sums alone.
 unfoldable pub ownTurn : Shape → ℕ → ℕ → List ℕ → List ℕ → List ℕ → Turn
