@@ -10,13 +10,12 @@ use Rattle.levels.specs.Answer.{Depths}
 use Rattle.levels.specs.Levels.{levelsSaid}
 use Rattle.levels.proofs.Demands.{levels-number}
 use Rattle.c_answers.specs.Numbers.{statusOf, shortAnswer}
-use Rattle.c_answers.specs.Status.{isAccepted, Tells}
 use Rattle.c_answers.proofs.Statuses.{fit, Numbered, numbered, outcome-tells}
 use Rattle.c_levels.specs.Numbers.{depthNumbers}
-use Rattle.c_levels.specs.Status.{lastReason, StatusMeans}
+use Rattle.c_levels.specs.Status.{lastReason, DepthStatus, StatusMeans}
 
 -- of any call that answers G, C and R
-pub depth-tells : (last : ℕ) → last < shortAnswer → (answer : List ℕ) (outcome : Outcome Depths) → ((r : Reason) → outcome ≡ refused r → Numbered last r) → Tells last 5 (depthNumbers outcome) answer (isAccepted outcome)
+pub depth-tells : (last : ℕ) → last < shortAnswer → (answer : List ℕ) (outcome : Outcome Depths) → ((r : Reason) → outcome ≡ refused r → Numbered last r) → DepthStatus last answer outcome
 unfolding statusOf depthNumbers
 depth-tells last few answer outcome h = outcome-tells last few 5 depthNumbers answer (λ r. refl) (λ v. refl) outcome h
 

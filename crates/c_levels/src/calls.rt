@@ -4,13 +4,14 @@ use c_answers::array::put;
 use jury::shape::Shape;
 use levels::answer::Answer;
 ghost use mathlib.Core.Path.{_≡_};
-ghost use mathlib.Core.List.{_++_};
+ghost use mathlib.Core.List.{[], _∷_};
 ghost use Prim.Native.Nat.{_≤_};
-ghost use lib.ListN.{length, drop};
+ghost use lib.ListN.{length};
 ghost use Rattle.levels.specs.Answer.{depthsSaid};
-ghost use Rattle.levels.specs.Levels.{levelsSaid, levelsWritten};
-ghost use Rattle.c_answers.specs.Numbers.{shapeOf, statusOf, status, answered, altered};
+ghost use Rattle.c_answers.specs.Numbers.{shapeOf};
+ghost use Rattle.c_answers.specs.inner.Puts.{Puts};
 ghost use Rattle.c_levels.specs.Numbers.{depthAnswer, depthNumbers};
+ghost use Rattle.c_levels.specs.Calls.{levelsCall};
 
 // How many numbers an answer has: reason, place, G, C and R.
 pub const DEPTH_ANSWER: usize = 5;
@@ -18,8 +19,8 @@ pub const DEPTH_ANSWER: usize = 5;
 // The answer of a call by levels, and its status.
 pub fn put_depths(outcome: Answer, answer: &mut [usize]) -> usize
     requires { ⌜ depthAnswer ≤ length (now answer) ⌝ }
-    ensures { λ r. ⌜ r ≡ statusOf (depthNumbers (depthsSaid outcome)) ⌝ }
-    ensures { λ _. ⌜ now (answer .exit) ≡ depthNumbers (depthsSaid outcome) ++ drop depthAnswer (now (answer .entry)) ⌝ }
+    ensures { λ r.
+        ⌜ Puts depthAnswer (depthNumbers (depthsSaid outcome)) (now (answer .entry)) (now (answer .exit)) r ⌝ }
 {
     match outcome {
         Answer::Accepted {
@@ -49,9 +50,10 @@ pub extern "C" fn jugy_levels(
     levels: &mut [u32],
     answer: &mut [usize],
 ) -> usize
-    ensures { λ r. ⌜ r ≡ status depthAnswer (depthNumbers (levelsSaid (shapeOf candidates grades ballots) (now (table .entry)) (now (levels .entry)))) (now (answer .entry)) ⌝ }
-    ensures { λ _. ⌜ now (answer .exit) ≡ answered depthAnswer (depthNumbers (levelsSaid (shapeOf candidates grades ballots) (now (table .entry)) (now (levels .entry)))) (now (answer .entry)) ⌝ }
-    ensures { λ _. ⌜ now (levels .exit) ≡ altered depthAnswer (now (answer .entry)) (levelsWritten (shapeOf candidates grades ballots) (now (table .entry)) (now (levels .entry))) (now (levels .entry)) ⌝ }
+    ensures { λ r.
+        ⌜ record { returned = r; answer = now (answer .exit); lent = now (levels .exit) ∷ [] }
+        ≡ levelsCall (shapeOf candidates grades ballots) (now (table .entry)) (now (levels .entry))
+        (now (answer .entry)) ⌝ }
 {
     if answer.len() < DEPTH_ANSWER {
         return SHORT_ANSWER;

@@ -6,11 +6,9 @@ use c_levels::calls::DEPTH_ANSWER;
 use c_levels::calls::put_depths;
 use jury::shape::Shape;
 ghost use mathlib.Core.Path.{_≡_};
-ghost use Rattle.trustee_alone.specs.Start.{startSaid, startedWires, startedPublished};
-ghost use Rattle.trustee_alone.specs.Rounds.{roundSaid, roundedWires, roundedPublished};
-ghost use Rattle.trustee_alone.specs.Finish.{finishSaid, finishedWires};
-ghost use Rattle.c_answers.specs.Numbers.{sizeAnswer, sizeNumbers, shapeOf, status, answered, altered};
-ghost use Rattle.c_levels.specs.Numbers.{depthAnswer, depthNumbers};
+ghost use mathlib.Core.List.{[], _∷_};
+ghost use Rattle.c_answers.specs.Numbers.{shapeOf};
+ghost use Rattle.c_trustee.specs.Calls.{startCall, roundCall, finishCall};
 
 // A trustee starts: reason, place, G and C. Its wire parts are its ballot parts and zeros, and nothing is published.
 #[no_mangle]
@@ -27,10 +25,13 @@ pub extern "C" fn jugy_trustee_start(
     published: &mut [u8],
     answer: &mut [usize],
 ) -> usize
-    ensures { λ r. ⌜ r ≡ status sizeAnswer (sizeNumbers (startSaid (shapeOf candidates grades ballots) (now (table .entry)) trustees trustee (now (parts .entry)) (now (dealt .entry)) (now (wires .entry)) (now (published .entry)))) (now (answer .entry)) ⌝ }
-    ensures { λ _. ⌜ now (answer .exit) ≡ answered sizeAnswer (sizeNumbers (startSaid (shapeOf candidates grades ballots) (now (table .entry)) trustees trustee (now (parts .entry)) (now (dealt .entry)) (now (wires .entry)) (now (published .entry)))) (now (answer .entry)) ⌝ }
-    ensures { λ _. ⌜ now (wires .exit) ≡ altered sizeAnswer (now (answer .entry)) (startedWires (shapeOf candidates grades ballots) (now (table .entry)) trustees trustee (now (parts .entry)) (now (dealt .entry)) (now (wires .entry)) (now (published .entry))) (now (wires .entry)) ⌝ }
-    ensures { λ _. ⌜ now (published .exit) ≡ altered sizeAnswer (now (answer .entry)) (startedPublished (shapeOf candidates grades ballots) (now (table .entry)) trustees trustee (now (parts .entry)) (now (dealt .entry)) (now (wires .entry)) (now (published .entry))) (now (published .entry)) ⌝ }
+    ensures { λ r.
+        ⌜ record {
+          returned = r;
+          answer = now (answer .exit);
+          lent = now (wires .exit) ∷ now (published .exit) ∷ [];
+        } ≡ startCall (shapeOf candidates grades ballots) (now (table .entry)) trustees trustee (now (parts .entry))
+        (now (dealt .entry)) (now (wires .entry)) (now (published .entry)) (now (answer .entry)) ⌝ }
 {
     if answer.len() < SIZE_ANSWER {
         return SHORT_ANSWER;
@@ -70,10 +71,14 @@ pub extern "C" fn jugy_trustee_round(
     published: &mut [u8],
     answer: &mut [usize],
 ) -> usize
-    ensures { λ r. ⌜ r ≡ status depthAnswer (depthNumbers (roundSaid (shapeOf candidates grades ballots) (now (table .entry)) trustees trustee round (now (levels .entry)) (now (dealt .entry)) (now (heard .entry)) (now (wires .entry)) (now (published .entry)))) (now (answer .entry)) ⌝ }
-    ensures { λ _. ⌜ now (answer .exit) ≡ answered depthAnswer (depthNumbers (roundSaid (shapeOf candidates grades ballots) (now (table .entry)) trustees trustee round (now (levels .entry)) (now (dealt .entry)) (now (heard .entry)) (now (wires .entry)) (now (published .entry)))) (now (answer .entry)) ⌝ }
-    ensures { λ _. ⌜ now (wires .exit) ≡ altered depthAnswer (now (answer .entry)) (roundedWires (shapeOf candidates grades ballots) (now (table .entry)) trustees trustee round (now (levels .entry)) (now (dealt .entry)) (now (heard .entry)) (now (wires .entry)) (now (published .entry))) (now (wires .entry)) ⌝ }
-    ensures { λ _. ⌜ now (published .exit) ≡ altered depthAnswer (now (answer .entry)) (roundedPublished (shapeOf candidates grades ballots) (now (table .entry)) trustees trustee round (now (levels .entry)) (now (dealt .entry)) (now (heard .entry)) (now (wires .entry)) (now (published .entry))) (now (published .entry)) ⌝ }
+    ensures { λ r.
+        ⌜ record {
+          returned = r;
+          answer = now (answer .exit);
+          lent = now (wires .exit) ∷ now (published .exit) ∷ [];
+        } ≡ roundCall (shapeOf candidates grades ballots) (now (table .entry)) trustees trustee round
+        (now (levels .entry)) (now (dealt .entry)) (now (heard .entry)) (now (wires .entry)) (now (published .entry))
+        (now (answer .entry)) ⌝ }
 {
     if answer.len() < DEPTH_ANSWER {
         return SHORT_ANSWER;
@@ -108,9 +113,10 @@ pub extern "C" fn jugy_trustee_finish(
     wires: &mut [u8],
     answer: &mut [usize],
 ) -> usize
-    ensures { λ r. ⌜ r ≡ status sizeAnswer (sizeNumbers (finishSaid (shapeOf candidates grades ballots) (now (table .entry)) (now (wires .entry)))) (now (answer .entry)) ⌝ }
-    ensures { λ _. ⌜ now (answer .exit) ≡ answered sizeAnswer (sizeNumbers (finishSaid (shapeOf candidates grades ballots) (now (table .entry)) (now (wires .entry)))) (now (answer .entry)) ⌝ }
-    ensures { λ _. ⌜ now (wires .exit) ≡ altered sizeAnswer (now (answer .entry)) (finishedWires (shapeOf candidates grades ballots) (now (table .entry)) (now (wires .entry))) (now (wires .entry)) ⌝ }
+    ensures { λ r.
+        ⌜ record { returned = r; answer = now (answer .exit); lent = now (wires .exit) ∷ [] }
+        ≡ finishCall (shapeOf candidates grades ballots) (now (table .entry)) (now (wires .entry))
+        (now (answer .entry)) ⌝ }
 {
     if answer.len() < SIZE_ANSWER {
         return SHORT_ANSWER;

@@ -25,8 +25,6 @@ all-demands =
         text = text-memory;
         sheet = sheet-memory;
         urn = urn-memory;
-        urn-run = urn-run-holds .memory;
-        by-trustees = trustees.demands .memory;
         lanes = batch-memory;
       };
       accuracy = record { own-list = three-demands .accuracy; plain-count = three-demands .counting };

@@ -14,26 +14,24 @@ use Rattle.tally.specs.Demands as run
 use Rattle.tally.specs.Monotone.{MonotoneOnGates}
 use Rattle.text.specs.RoundTrip.{RoundTrip}
 use Rattle.text.specs.Demands.{TextMemory}
-use Rattle.season.specs.Season.{SheetMemory}
+use Rattle.season.specs.Theorems.{SheetMemory, SheetSums}
 use Rattle.urn.specs.Memory.{UrnMemory}
 use Rattle.urn.specs.Theorems.{UrnHolds, PreviewsTell}
-use Rattle.urn_run.specs.Theorems.{UrnRunMemory, UrnRunHolds}
-use Rattle.trustees.specs.Call.{Call}
+use Rattle.urn_run.specs.Theorems.{UrnRunHolds}
 use Rattle.trustees.specs.Demands as trustees
 use Rattle.levels.specs.Demands as levels
 use Rattle.trustee_alone.specs.Demands as alone
 use Rattle.dispatch.specs.Theorems.{Dispatching}
-use Rattle.batch.specs.Theorems.{EachAsAlone, AcceptedAsAll, RefusedAsAlone, FaultAsAlone, BatchMemory, BatchAccuracy, BatchHiding}
+use Rattle.batch.specs.Theorems.{EachAsAlone, AcceptedAsAll, RefusedAsAlone, FaultAsAlone}
+use Rattle.batch.specs.Theorems.{BatchMemory, BatchAccuracy, BatchHiding}
 
--- The demand [memory], where no record below has it: the five entry points, the calls on a text, the season sheet, the
--- urn, and 64 juries.
+-- The demand [memory] of the five entry points, the calls on a text, the season sheet, the urn, and 64 juries. Of the
+-- other calls the records below have it.
 pub record Memory : Type 0 where
   pub base : run.Memory
   pub text : TextMemory
   pub sheet : SheetMemory
   pub urn : UrnMemory
-  pub urn-run : UrnRunMemory
-  pub by-trustees : (c : Call) → trustees.Memory c
   pub lanes : BatchMemory
 
 -- The demand [accuracy] for the five entry points: under the own list of a shape, and of the plain count by itself.
@@ -72,13 +70,15 @@ pub record AllDemands : Type 0 where
   pub by-trustees : trustees.Demands
   -- [dispatcher]: rounds, memory, refusals, each jury as alone, accuracy, hiding
   pub dispatcher : Dispatching
-  -- [lanes]: each jury of an accepted call as alone, which calls are accepted, what a refusal says of the juries; accuracy, hiding
+  -- [lanes]: each jury of an accepted call as alone, which calls are accepted, what a refusal says of the juries;
+  -- accuracy, hiding
   pub lanes-alone : EachAsAlone
   pub lanes-accepted : AcceptedAsAll
   pub lanes-refused : RefusedAsAlone
   pub lanes-fault : FaultAsAlone
   pub lanes-accuracy : BatchAccuracy
   pub lanes-hiding : BatchHiding
-  -- ours, beyond the requests: the levels of a list; a trustee on a machine of its own, and that all of them end as the one call does
+  -- ours, beyond the requests: the levels of a list; a trustee on a machine of its own, and that all of them end as the
+  -- one call does
   pub levels : levels.Demands
   pub trustees-apart : alone.Demands

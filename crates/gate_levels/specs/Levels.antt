@@ -11,9 +11,12 @@ use Rattle.gates.specs.Gate.{Gate}
 unfoldable pub wireLevel : ℕ → List ℕ → ℕ → ℕ
 wireLevel inputs ls x = cond (ltb x inputs) 0 (getD ls (x - inputs) 0)
 
--- The largest level of the operands; one more where the gate is conditional. An operand that is not in use is 0, so it names an input and adds nothing.
+-- The largest level of the operands; one more where the gate is conditional. An operand that is not in use is 0, so
+-- it names an input and adds nothing.
 unfoldable pub gateLevel : ℕ → List ℕ → Gate → ℕ
-gateLevel inputs ls g = max (max (wireLevel inputs ls (g .a)) (wireLevel inputs ls (g .b))) (wireLevel inputs ls (g .c)) + cond (conditionalOf (g .kind)) 1 0
+gateLevel inputs ls g =
+    max (max (wireLevel inputs ls (g .a)) (wireLevel inputs ls (g .b))) (wireLevel inputs ls (g .c))
+    + cond (conditionalOf (g .kind)) 1 0
 
 -- Each gate in turn adds one level behind those that are there.
 unfoldable pub levelsFrom : ℕ → List ℕ → List Gate → List ℕ

@@ -12,7 +12,8 @@ use Rattle.levels.specs.declared.answer.LevelRefusal.the-variants.{OfCor
 use Rattle.levels.specs.declared.answer.Answer.{Answer}
 use Rattle.levels.specs.declared.answer.Answer.the-variants.{Accepted, Refused}
 
--- The number and place of each case. Our own: 200, a table of levels that does not fit the list; 201, a round that the list does not have; 202, sums that cannot have been heard.
+-- The number and place of each case. Our own: 200, a table of levels that does not fit the list; 201, a round that
+-- the list does not have; 202, sums that cannot have been heard.
 unfoldable pub levelReasonOf : LevelRefusal → Reason
 levelReasonOf (OfCore r) = reasonOf r
 levelReasonOf Levels = reasonAt 200 0
@@ -30,5 +31,6 @@ unfoldable pub depthsOf : ℕ → List Gate → Depths
 depthsOf inputs gs = record { gates = length gs; conditional = conditionalCount gs; rounds = roundsOf inputs gs }
 
 unfoldable pub depthsSaid : Answer → Outcome Depths
-depthsSaid (Accepted gates conditional rounds) = accepted (record { gates = gates; conditional = conditional; rounds = rounds })
+depthsSaid (Accepted gates conditional rounds) =
+    accepted (record { gates = gates; conditional = conditional; rounds = rounds })
 depthsSaid (Refused r) = refused (levelReasonOf r)

@@ -1,4 +1,5 @@
--- What is shown of the call [levels], over the definitions that its contract equates with the program's answer and table.
+-- What is shown of the call [levels], over the definitions that its contract equates with the program's answer and
+-- table.
 use mathlib.Core.Path.{_≡_}
 use mathlib.Core.Bool.{true}
 use mathlib.Core.List.{List, [], _∷_}
@@ -16,18 +17,23 @@ use Rattle.tally.specs.Answer.{refused, accepted, hasNumberIn}
 use Rattle.levels.specs.Answer.{Depths, depthsOf}
 use Rattle.levels.specs.Levels.{levelsSaid, levelsWritten}
 
--- A refusal's number is that of a reason which concerns the call, a refusal alters nothing, and no call changes a length.
+-- A refusal's number is that of a reason which concerns the call, a refusal alters nothing, and no call changes a
+-- length.
 pub record Memory : Type 0 where
-  pub number : (s : Shape) (table levels : List ℕ) (r : Reason) → levelsSaid s table levels ≡ refused r → T (hasNumberIn (1 ∷ 2 ∷ 3 ∷ 200 ∷ []) r)
-  pub refusal : (s : Shape) (table levels : List ℕ) (r : Reason) → levelsSaid s table levels ≡ refused r → levelsWritten s table levels ≡ levels
+  pub number : (s : Shape) (table levels : List ℕ) (r : Reason) → levelsSaid s table levels ≡ refused r
+      → T (hasNumberIn (1 ∷ 2 ∷ 3 ∷ 200 ∷ []) r)
+  pub refusal : (s : Shape) (table levels : List ℕ) (r : Reason) → levelsSaid s table levels ≡ refused r
+      → levelsWritten s table levels ≡ levels
   pub lengths : (s : Shape) (table levels : List ℕ) → length (levelsWritten s table levels) ≡ length levels
 
 -- One operand x of gate g: its level is at most the gate's, and below it where the gate is conditional.
 pub record OperandBelow (s : Shape) (table levels : List ℕ) (g x : ℕ) : Type 0 where
   pub most : wireLevel (ballotBytes s) (levelsWritten s table levels) x ≤ getD (levelsWritten s table levels) g 0
-  pub below : conditionalOf (gateAt table g .kind) ≡ true → wireLevel (ballotBytes s) (levelsWritten s table levels) x < getD (levelsWritten s table levels) g 0
+  pub below : conditionalOf (gateAt table g .kind) ≡ true
+      → wireLevel (ballotBytes s) (levelsWritten s table levels) x < getD (levelsWritten s table levels) g 0
 
--- Of an accepted call: G, C and R are the list's own, R is at most C, no level is above R, and whoever opens level by level has every operand when it is needed.
+-- Of an accepted call: G, C and R are the list's own, R is at most C, no level is above R, and whoever opens level by
+-- level has every operand when it is needed.
 pub record Depth (s : Shape) (table levels : List ℕ) (depths : Depths) : Type 0 where
   pub own : depths ≡ depthsOf (ballotBytes s) (gatesOf table)
   pub few : depths .rounds ≤ depths .conditional
@@ -38,4 +44,5 @@ pub record Depth (s : Shape) (table levels : List ℕ) (depths : Depths) : Type 
 
 pub record Demands : Type 0 where
   pub memory : Memory
-  pub depth : (s : Shape) (table levels : List ℕ) (depths : Depths) → levelsSaid s table levels ≡ accepted depths → Depth s table levels depths
+  pub depth : (s : Shape) (table levels : List ℕ) (depths : Depths) → levelsSaid s table levels ≡ accepted depths
+      → Depth s table levels depths

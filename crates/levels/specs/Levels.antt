@@ -13,7 +13,8 @@ use Rattle.tally.specs.Answer.{Outcome, outcome}
 use Rattle.tally.specs.Test.{testReasons}
 use Rattle.levels.specs.Answer.{Depths, depthsOf}
 
--- The reasons in checking order: 1, 2 and 3 as for the test of a list, then 200, a table that has not one number a gate.
+-- The reasons in checking order: 1, 2 and 3 as for the test of a list, then 200, a table that has not one number a
+-- gate.
 unfoldable pub levelsReasons : Shape → List ℕ → List ℕ → List (Option Reason)
 levelsReasons s table levels = testReasons s table ++ unless (eqb (length levels) (length (gatesOf table))) 200 ∷ []
 
@@ -26,4 +27,5 @@ afterwards (some r) new old = old
 afterwards none new old = new
 
 unfoldable pub levelsWritten : Shape → List ℕ → List ℕ → List ℕ
-levelsWritten s table levels = afterwards (firstOf (levelsReasons s table levels)) (levelsOf (ballotBytes s) (gatesOf table)) levels
+levelsWritten s table levels =
+    afterwards (firstOf (levelsReasons s table levels)) (levelsOf (ballotBytes s) (gatesOf table)) levels

@@ -10,7 +10,6 @@ use Rattle.gates.specs.Gate.{Gate, gatesOf}
 use Rattle.gates.specs.Board.{conditionalCount}
 use Rattle.gates.proofs.Evaluating.{accepted-list}
 use Rattle.gate_levels.specs.Levels.{roundsOf}
-use Rattle.jury.specs.declared.shape.Shape.{Shape}
 use Rattle.jury.specs.Shape.{ballotBytes}
 use Rattle.jury.specs.Reason.{Reason, firstOf}
 use Rattle.jury.specs.ClosingBytes.{eightBytes}
@@ -24,9 +23,11 @@ use Rattle.trustee_shares.proofs.Tables.{length-piece, joined-cong}
 use Rattle.trustee_rounds.specs.Rounds.{Turn, enters, publishes, closes}
 use Rattle.trustee_rounds.specs.Together.{sumsOf, turnOf, wiresAfter, publishedAfter, holdingsAfter}
 use Rattle.trustee_rounds.proofs.Together.{rounds-make-the-tally}
-use Rattle.trustees.specs.Shared.{Shared, sharedReasons, sharedAfter, shared, closingSums}
-use Rattle.trustees.proofs.Reasons.{CallPassed, call-passed, shared-by}
-use Rattle.trustee_alone.specs.Demands.{AsTheOneCall, OwnTablesOnly, Demands}
+use Rattle.trustees.specs.Call.{Call}
+use Rattle.trustees.specs.Reasons.{trusteesReasons}
+use Rattle.trustees.specs.Result.{TrusteesResult, trusteesResultAfter, trusteesResult, closingSums}
+use Rattle.trustees.proofs.Reasons.{CallPassed, call-passed, result-by}
+use Rattle.trustee_alone.specs.Demands.{roundsIn, holdingsIn, AsTheOneCall, OwnTablesOnly, Demands}
 use Rattle.trustee_alone.proofs.Memory.{memory}
 use Rattle.trustee_alone.proofs.Apart.{calls-of}
 
@@ -51,49 +52,53 @@ sums-same t k f g e =
     ap eightBytes (tabulate-cong k (λ j. opened t (λ p. part (closingParts k (f p)) j)) (λ j. opened t (λ p. part (closingParts k (g p)) j))
     (λ (j : ℕ) h. opened-same t (λ p. part (closingParts k (f p)) j) (λ p. part (closingParts k (g p)) j) (λ (p : ℕ) l. ap (λ (ws : List ℕ). part (closingParts k ws) j) (e p l))))
 
-module _ (s : Shape) (table ballots : List ℕ) (t : ℕ) (d : Dealing) (ws published : List ℕ) (size : Size) (yes : shared s table ballots t d ws published .answer ≡ accepted size) where
-  none-applies : firstOf (sharedReasons s table ballots t d ws published) ≡ none
-  none-applies = go (firstOf (sharedReasons s table ballots t d ws published)) refl
+module _ (c : Call) (size : Size) (yes : trusteesResult c .answer ≡ accepted size) where
+  none-applies : firstOf (trusteesReasons c) ≡ none
+  none-applies = go (firstOf (trusteesReasons c)) refl
     where
-      go : (o : Option Reason) → firstOf (sharedReasons s table ballots t d ws published) ≡ o → firstOf (sharedReasons s table ballots t d ws published) ≡ none
+      go : (o : Option Reason) → firstOf (trusteesReasons c) ≡ o → firstOf (trusteesReasons c) ≡ none
       go none e = e
       go (some r) e =
-          let q : refused r ≡ accepted size = sym (ap (λ (x : Shared). x .answer) (shared-by s table ballots t d ws published (some r) e) ∙ (unfold sharedAfter in refl)) ∙ yes in
+          let q : refused r ≡ accepted size = sym (ap (λ (x : TrusteesResult). x .answer) (result-by c (some r) e) ∙ (unfold trusteesResultAfter in refl)) ∙ yes in
           let z : _≡_ {A = ℕ} 0 1 = cc in absurd (omega arith)
 
-  is : shared s table ballots t d ws published ≡ sharedAfter none (s .candidates) (gatesOf table) ballots t d ws published
-  is = shared-by s table ballots t d ws published none none-applies
+  is : trusteesResult c ≡ trusteesResultAfter none c
+  is = result-by c none none-applies
 
-  passed : CallPassed s table ballots t d ws published
-  passed = call-passed s table ballots t d ws published none-applies
+  passed : CallPassed c
+  passed = call-passed c none-applies
 
-  long : length ballots ≡ ballotBytes s
+  long : length (c .ballots) ≡ ballotBytes (c .shape)
   long = passed .ballotsPassed .size
 
-  made : (p : ℕ) → p < t
-      → (holdingsAfter t (ballotBytes s) (gatesOf table) (s .candidates) d (suc (roundsOf (ballotBytes s) (gatesOf table))) .wireParts p ≡ wirePartsOf t (ballotBytes s) (gatesOf table) d p)
-      × (holdingsAfter t (ballotBytes s) (gatesOf table) (s .candidates) d (suc (roundsOf (ballotBytes s) (gatesOf table))) .published p ≡ publishedOf t (ballotBytes s) (gatesOf table) (s .candidates) d p)
+  made : (p : ℕ) → p < c .trustees
+      → (holdingsIn c (suc (roundsIn c)) .wireParts p ≡ wirePartsOf (c .trustees) (ballotBytes (c .shape)) (gatesOf (c .table)) (c .lent .dealing) p)
+      × (holdingsIn c (suc (roundsIn c)) .published p ≡ publishedOf (c .trustees) (ballotBytes (c .shape)) (gatesOf (c .table)) (c .shape .candidates) (c .lent .dealing) p)
   unfolding ballotsOf
   made p l =
-      let f = accepted-list (ballotBytes s) (s .candidates) table _ _ (passed .test .tests) in
-      rounds-make-the-tally t (ballotBytes s) (s .candidates) (gatesOf table) d (some-bytes s (passed .test .within)) (f .enough) (f .good)
-      (λ (q : ℕ) h. length-piece t (ballotBytes s) (d .ballotParts) q (passed .parts .tables .ballot-length ∙ ap (λ (n : ℕ). t * n) long) h) p l
+      let f = accepted-list (ballotBytes (c .shape)) (c .shape .candidates) (c .table) _ _ (passed .test .tests) in
+      rounds-make-the-tally (c .trustees) (ballotBytes (c .shape)) (c .shape .candidates) (gatesOf (c .table)) (c .lent .dealing) (some-bytes (c .shape) (passed .test .within)) (f .enough) (f .good)
+      (λ (q : ℕ) h. length-piece (c .trustees) (ballotBytes (c .shape)) (c .lent .dealing .ballotParts) q (passed .parts .tables .ballot-length ∙ ap (λ (n : ℕ). c .trustees * n) long) h) p l
 
-  pub as-the-one-call : AsTheOneCall s table ballots t d ws published
+  pub as-the-one-call : AsTheOneCall c
   as-the-one-call =
-      let held = holdingsAfter t (ballotBytes s) (gatesOf table) (s .candidates) d (suc (roundsOf (ballotBytes s) (gatesOf table))) in
+      let t = c .trustees in
+      let gs = gatesOf (c .table) in
+      let k = c .shape .candidates in
+      let d = c .lent .dealing in
+      let held = holdingsIn c (suc (roundsIn c)) in
       record {
-        same-published = joined-cong t (held .published) (publishedOf t (ballotBytes s) (gatesOf table) (s .candidates) d) (λ (p : ℕ) l. made p l .1)
-            ∙ ap (λ (n : ℕ). joined t (publishedOf t n (gatesOf table) (s .candidates) d)) (sym long) ∙ sym (ap (λ (x : Shared). x .published) is ∙ published-after);
-        same-closing = sums-same t (s .candidates) (held .wireParts) (wirePartsOf t (ballotBytes s) (gatesOf table) d) (λ (p : ℕ) l. made p l .0)
-            ∙ ap (λ (n : ℕ). closingSums t (s .candidates) (wirePartsOf t n (gatesOf table) d)) (sym long) ∙ sym (ap (λ (x : Shared). x .closing) is ∙ closing-after);
+        same-published = joined-cong t (held .published) (publishedOf t (ballotBytes (c .shape)) gs k d) (λ (p : ℕ) l. made p l .1)
+            ∙ ap (λ (n : ℕ). joined t (publishedOf t n gs k d)) (sym long) ∙ sym (ap (λ (x : TrusteesResult). x .published) is ∙ published-after);
+        same-closing = sums-same t k (held .wireParts) (wirePartsOf t (ballotBytes (c .shape)) gs d) (λ (p : ℕ) l. made p l .0)
+            ∙ ap (λ (n : ℕ). closingSums t k (wirePartsOf t n gs d)) (sym long) ∙ sym (ap (λ (x : TrusteesResult). x .closing) is ∙ closing-after);
       }
     where
-      published-after : sharedAfter none (s .candidates) (gatesOf table) ballots t d ws published .published ≡ joined t (publishedOf t (length ballots) (gatesOf table) (s .candidates) d)
-      published-after = unfold sharedAfter in refl
+      published-after : trusteesResultAfter none c .published ≡ joined (c .trustees) (publishedOf (c .trustees) (length (c .ballots)) (gatesOf (c .table)) (c .shape .candidates) (c .lent .dealing))
+      published-after = unfold trusteesResultAfter in refl
 
-      closing-after : sharedAfter none (s .candidates) (gatesOf table) ballots t d ws published .closing ≡ closingSums t (s .candidates) (wirePartsOf t (length ballots) (gatesOf table) d)
-      closing-after = unfold sharedAfter in refl
+      closing-after : trusteesResultAfter none c .closing ≡ closingSums (c .trustees) (c .shape .candidates) (wirePartsOf (c .trustees) (length (c .ballots)) (gatesOf (c .table)) (c .lent .dealing))
+      closing-after = unfold trusteesResultAfter in refl
 
 pub demands : Demands
 demands =
@@ -101,5 +106,5 @@ demands =
       memory = memory;
       own-tables-only = own-tables-only;
       as-the-one-call = as-the-one-call;
-      calls = λ s table ballots t d ws published size e p l. calls-of s table ballots t d ws published (passed s table ballots t d ws published size e) p l;
+      calls = λ c size e p l. calls-of c (passed c size e) p l;
     }

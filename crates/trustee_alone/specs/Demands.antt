@@ -1,4 +1,5 @@
--- What is shown of a trustee's calls, over the definitions that their contracts equate with the program's answers and tables.
+-- What is shown of a trustee's calls, over the definitions that their contracts equate with the program's answers and
+-- tables.
 use mathlib.Core.Path.{_≡_}
 use mathlib.Core.List.{List, [], _∷_}
 use Prim.Native.Nat.{ℕ, suc, _+_, _*_, _≤_, _<_}
@@ -14,57 +15,106 @@ use Rattle.tally.specs.Answer.{refused, accepted, hasNumberIn, Size, sizeOf}
 use Rattle.levels.specs.Answer.{depthsOf}
 use Rattle.trustee_shares.specs.Views.{joined, Dealing, ballotsOf, dealtOf}
 use Rattle.trustee_rounds.specs.Together.{sumsOf, Holdings, publishedAfter, holdingsAfter}
-use Rattle.trustees.specs.Shared.{shared, closingSums}
+use Rattle.trustees.specs.Call.{Call}
+use Rattle.trustees.specs.Result.{trusteesResult, closingSums}
 use Rattle.trustee_alone.specs.Start.{startSaid, startedWires, startedPublished}
 use Rattle.trustee_alone.specs.Rounds.{roundSaid, roundedWires, roundedPublished}
 use Rattle.trustee_alone.specs.Finish.{finishSaid, finishedWires}
 
--- A refusal's number is that of a reason which concerns the call, and a refusal alters nothing; an accepted finish leaves zeros.
+-- A refusal's number is that of a reason which concerns the call, and a refusal alters nothing; an accepted finish
+-- leaves zeros.
 pub record Memory : Type 0 where
-  pub start-number : (s : Shape) (table : List ℕ) (t p : ℕ) (parts dealt ws published : List ℕ) (r : Reason) → startSaid s table t p parts dealt ws published ≡ refused r
+  pub start-number : (s : Shape) (table : List ℕ) (t p : ℕ) (parts dealt ws published : List ℕ) (r : Reason)
+      → startSaid s table t p parts dealt ws published ≡ refused r
       → T (hasNumberIn (1 ∷ 2 ∷ 3 ∷ 16 ∷ 17 ∷ 18 ∷ []) r)
-  pub round-number : (s : Shape) (table : List ℕ) (t p round : ℕ) (levels dealt heard ws published : List ℕ) (r : Reason) → roundSaid s table t p round levels dealt heard ws published ≡ refused r
+  pub round-number : (s : Shape) (table : List ℕ) (t p round : ℕ) (levels dealt heard ws published : List ℕ)
+      (r : Reason) → roundSaid s table t p round levels dealt heard ws published ≡ refused r
       → T (hasNumberIn (1 ∷ 2 ∷ 3 ∷ 16 ∷ 17 ∷ 18 ∷ 200 ∷ 201 ∷ 202 ∷ []) r)
-  pub finish-number : (s : Shape) (table ws : List ℕ) (r : Reason) → finishSaid s table ws ≡ refused r → T (hasNumberIn (1 ∷ 2 ∷ 3 ∷ 17 ∷ []) r)
-  pub start-refused : (s : Shape) (table : List ℕ) (t p : ℕ) (parts dealt ws published : List ℕ) (r : Reason) → startSaid s table t p parts dealt ws published ≡ refused r
-      → (startedWires s table t p parts dealt ws published ≡ ws) × (startedPublished s table t p parts dealt ws published ≡ published)
-  pub round-refused : (s : Shape) (table : List ℕ) (t p round : ℕ) (levels dealt heard ws published : List ℕ) (r : Reason) → roundSaid s table t p round levels dealt heard ws published ≡ refused r
-      → (roundedWires s table t p round levels dealt heard ws published ≡ ws) × (roundedPublished s table t p round levels dealt heard ws published ≡ published)
-  pub finish-refused : (s : Shape) (table ws : List ℕ) (r : Reason) → finishSaid s table ws ≡ refused r → finishedWires s table ws ≡ ws
-  pub finish-empties : (s : Shape) (table ws : List ℕ) (size : Size) → finishSaid s table ws ≡ accepted size → finishedWires s table ws ≡ replicate (length ws) 0
+  pub finish-number : (s : Shape) (table ws : List ℕ) (r : Reason) → finishSaid s table ws ≡ refused r
+      → T (hasNumberIn (1 ∷ 2 ∷ 3 ∷ 17 ∷ []) r)
+  pub start-refused : (s : Shape) (table : List ℕ) (t p : ℕ) (parts dealt ws published : List ℕ) (r : Reason)
+      → startSaid s table t p parts dealt ws published ≡ refused r
+      → (startedWires s table t p parts dealt ws published ≡ ws)
+      × (startedPublished s table t p parts dealt ws published ≡ published)
+  pub round-refused : (s : Shape) (table : List ℕ) (t p round : ℕ) (levels dealt heard ws published : List ℕ)
+      (r : Reason) → roundSaid s table t p round levels dealt heard ws published ≡ refused r
+      → (roundedWires s table t p round levels dealt heard ws published ≡ ws)
+      × (roundedPublished s table t p round levels dealt heard ws published ≡ published)
+  pub finish-refused : (s : Shape) (table ws : List ℕ) (r : Reason) → finishSaid s table ws ≡ refused r
+      → finishedWires s table ws ≡ ws
+  pub finish-empties : (s : Shape) (table ws : List ℕ) (size : Size) → finishSaid s table ws ≡ accepted size
+      → finishedWires s table ws ≡ replicate (length ws) 0
+
+-- The sizes of the one call's list, and what the trustees of that call hold before round r when each is on its own.
+abbrev pub inputsIn : Call → ℕ
+inputsIn c = ballotBytes (c .shape)
+
+abbrev pub roundsIn : Call → ℕ
+roundsIn c = roundsOf (inputsIn c) (gatesOf (c .table))
+
+abbrev pub holdingsIn : Call → ℕ → Holdings
+holdingsIn c r =
+    holdingsAfter (c .trustees) (inputsIn c) (gatesOf (c .table)) (c .shape .candidates) (c .lent .dealing) r
 
 -- The sums of what all published before round r.
-unfoldable pub heardBefore : Shape → List ℕ → ℕ → Dealing → ℕ → List ℕ
-heardBefore s table t d r = sumsOf t (conditionalCount (gatesOf table)) (holdingsAfter t (ballotBytes s) (gatesOf table) (s .candidates) d r .published)
+unfoldable pub heardBefore : Call → ℕ → List ℕ
+heardBefore c r = sumsOf (c .trustees) (conditionalCount (gatesOf (c .table))) (holdingsIn c r .published)
 
--- Trustees apart end as the one call of request 2.7 does on the joined tables: after the rounds 0 to R their published bits, trustee after trustee, are that call's, and the sums of their closing bits its eight bytes. So its accuracy and its hiding are theirs.
-pub record AsTheOneCall (s : Shape) (table ballots : List ℕ) (t : ℕ) (d : Dealing) (ws published : List ℕ) : Type 0 where
-  pub same-published : joined t (holdingsAfter t (ballotBytes s) (gatesOf table) (s .candidates) d (suc (roundsOf (ballotBytes s) (gatesOf table))) .published) ≡ shared s table ballots t d ws published .published
-  pub same-closing : closingSums t (s .candidates) (holdingsAfter t (ballotBytes s) (gatesOf table) (s .candidates) d (suc (roundsOf (ballotBytes s) (gatesOf table))) .wireParts) ≡ shared s table ballots t d ws published .closing
+-- Trustees apart end as the one call of request 2.7 does on the joined tables: after the rounds 0 to R their published
+-- bits, trustee after trustee, are that call's, and the sums of their closing bits its eight bytes. So its accuracy and
+-- its hiding are theirs.
+pub record AsTheOneCall (c : Call) : Type 0 where
+  pub same-published : joined (c .trustees) (holdingsIn c (suc (roundsIn c)) .published) ≡ trusteesResult c .published
+  pub same-closing : closingSums (c .trustees) (c .shape .candidates) (holdingsIn c (suc (roundsIn c)) .wireParts)
+      ≡ trusteesResult c .closing
 
--- Trustee p of such an election: its start, on any tables of its lengths, and every round up to R are accepted, and leave what the trustees together hold. So the program's calls are the rounds that are spoken of here.
-pub record CallsOf (s : Shape) (table : List ℕ) (t : ℕ) (d : Dealing) (p : ℕ) : Type 0 where
-  pub start : (ws published : List ℕ) → length ws ≡ ballotBytes s + length (gatesOf table) → length published ≡ 2 * conditionalCount (gatesOf table) + s .candidates
-      → (startSaid s table t p (ballotsOf (ballotBytes s) d p) (dealtOf (gatesOf table) d p) ws published ≡ accepted (sizeOf (gatesOf table)))
-      × (startedWires s table t p (ballotsOf (ballotBytes s) d p) (dealtOf (gatesOf table) d p) ws published ≡ holdingsAfter t (ballotBytes s) (gatesOf table) (s .candidates) d 0 .wireParts p)
-      × (startedPublished s table t p (ballotsOf (ballotBytes s) d p) (dealtOf (gatesOf table) d p) ws published ≡ holdingsAfter t (ballotBytes s) (gatesOf table) (s .candidates) d 0 .published p)
-  pub round : (r : ℕ) → r ≤ roundsOf (ballotBytes s) (gatesOf table)
-      → (roundSaid s table t p r (levelsOf (ballotBytes s) (gatesOf table)) (dealtOf (gatesOf table) d p) (heardBefore s table t d r) (holdingsAfter t (ballotBytes s) (gatesOf table) (s .candidates) d r .wireParts p) (holdingsAfter t (ballotBytes s) (gatesOf table) (s .candidates) d r .published p) ≡ accepted (depthsOf (ballotBytes s) (gatesOf table)))
-      × (roundedWires s table t p r (levelsOf (ballotBytes s) (gatesOf table)) (dealtOf (gatesOf table) d p) (heardBefore s table t d r) (holdingsAfter t (ballotBytes s) (gatesOf table) (s .candidates) d r .wireParts p) (holdingsAfter t (ballotBytes s) (gatesOf table) (s .candidates) d r .published p) ≡ holdingsAfter t (ballotBytes s) (gatesOf table) (s .candidates) d (suc r) .wireParts p)
-      × (roundedPublished s table t p r (levelsOf (ballotBytes s) (gatesOf table)) (dealtOf (gatesOf table) d p) (heardBefore s table t d r) (holdingsAfter t (ballotBytes s) (gatesOf table) (s .candidates) d r .wireParts p) (holdingsAfter t (ballotBytes s) (gatesOf table) (s .candidates) d r .published p) ≡ holdingsAfter t (ballotBytes s) (gatesOf table) (s .candidates) d (suc r) .published p)
+-- What trustee p brings: its parts of the ballots, and its triples.
+abbrev pub partsIn : Call → ℕ → List ℕ
+partsIn c p = ballotsOf (inputsIn c) (c .lent .dealing) p
 
--- What a trustee sends depends on its own tables and on the sums that were heard, and on nothing else: over any two elections that agree on these.
+abbrev pub dealtIn : Call → ℕ → List ℕ
+dealtIn c p = dealtOf (gatesOf (c .table)) (c .lent .dealing) p
+
+-- The start of trustee p on these tables, and its round r, are accepted and leave what the trustees together hold.
+pub record StartOf (c : Call) (p : ℕ) (ws published : List ℕ) : Type 0 where
+  pub answer : startSaid (c .shape) (c .table) (c .trustees) p (partsIn c p) (dealtIn c p) ws published
+      ≡ accepted (sizeOf (gatesOf (c .table)))
+  pub wires : startedWires (c .shape) (c .table) (c .trustees) p (partsIn c p) (dealtIn c p) ws published
+      ≡ holdingsIn c 0 .wireParts p
+  pub bits : startedPublished (c .shape) (c .table) (c .trustees) p (partsIn c p) (dealtIn c p) ws published
+      ≡ holdingsIn c 0 .published p
+
+pub record RoundOf (c : Call) (p r : ℕ) : Type 0 where
+  pub answer : roundSaid (c .shape) (c .table) (c .trustees) p r (levelsOf (inputsIn c) (gatesOf (c .table)))
+      (dealtIn c p) (heardBefore c r) (holdingsIn c r .wireParts p) (holdingsIn c r .published p)
+      ≡ accepted (depthsOf (inputsIn c) (gatesOf (c .table)))
+  pub wires : roundedWires (c .shape) (c .table) (c .trustees) p r (levelsOf (inputsIn c) (gatesOf (c .table)))
+      (dealtIn c p) (heardBefore c r) (holdingsIn c r .wireParts p) (holdingsIn c r .published p)
+      ≡ holdingsIn c (suc r) .wireParts p
+  pub bits : roundedPublished (c .shape) (c .table) (c .trustees) p r (levelsOf (inputsIn c) (gatesOf (c .table)))
+      (dealtIn c p) (heardBefore c r) (holdingsIn c r .wireParts p) (holdingsIn c r .published p)
+      ≡ holdingsIn c (suc r) .published p
+
+-- Trustee p of such an election: its start, on any tables of its lengths, and every round up to R. So the program's
+-- calls are the rounds that are spoken of here.
+pub record CallsOf (c : Call) (p : ℕ) : Type 0 where
+  pub start : (ws published : List ℕ) → length ws ≡ inputsIn c + length (gatesOf (c .table))
+      → length published ≡ 2 * conditionalCount (gatesOf (c .table)) + c .shape .candidates → StartOf c p ws published
+  pub round : (r : ℕ) → r ≤ roundsIn c → RoundOf c p r
+
+-- What a trustee sends depends on its own tables and on the sums that were heard, and on nothing else: over any two
+-- elections that agree on these.
 abbrev pub OwnTablesOnly : Type 0
 OwnTablesOnly =
     (t inputs k : ℕ) (gs : List Gate) (d e : Dealing) (r : ℕ) (one other : Holdings) (p : ℕ)
-    → dealtOf gs d p ≡ dealtOf gs e p → sumsOf t (conditionalCount gs) (one .published) ≡ sumsOf t (conditionalCount gs) (other .published)
+    → dealtOf gs d p ≡ dealtOf gs e p
+    → sumsOf t (conditionalCount gs) (one .published) ≡ sumsOf t (conditionalCount gs) (other .published)
     → one .wireParts p ≡ other .wireParts p → one .published p ≡ other .published p
     → publishedAfter t inputs gs k d r one p ≡ publishedAfter t inputs gs k e r other p
 
 pub record Demands : Type 0 where
   pub memory : Memory
   pub own-tables-only : OwnTablesOnly
-  pub as-the-one-call : (s : Shape) (table ballots : List ℕ) (t : ℕ) (d : Dealing) (ws published : List ℕ) (size : Size) → shared s table ballots t d ws published .answer ≡ accepted size
-      → AsTheOneCall s table ballots t d ws published
-  pub calls : (s : Shape) (table ballots : List ℕ) (t : ℕ) (d : Dealing) (ws published : List ℕ) (size : Size) → shared s table ballots t d ws published .answer ≡ accepted size
-      → (p : ℕ) → p < t → CallsOf s table t d p
+  pub as-the-one-call : (c : Call) (size : Size) → trusteesResult c .answer ≡ accepted size → AsTheOneCall c
+  pub calls : (c : Call) (size : Size) → trusteesResult c .answer ≡ accepted size
+      → (p : ℕ) → p < c .trustees → CallsOf c p

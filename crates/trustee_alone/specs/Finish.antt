@@ -14,10 +14,12 @@ use Rattle.levels.specs.Levels.{afterwards}
 
 -- The reasons in checking order: 1, 2 and 3 of the list, then 17, wire parts of another length.
 unfoldable pub finishReasons : Shape → List ℕ → List ℕ → List (Option Reason)
-finishReasons s table wireParts = testReasons s table ++ unless (eqb (length wireParts) (ballotBytes s + length (gatesOf table))) 17 ∷ []
+finishReasons s table wireParts =
+    testReasons s table ++ unless (eqb (length wireParts) (ballotBytes s + length (gatesOf table))) 17 ∷ []
 
 unfoldable pub finishSaid : Shape → List ℕ → List ℕ → Outcome Size
 finishSaid s table wireParts = outcome (firstOf (finishReasons s table wireParts)) (sizeOf (gatesOf table))
 
 unfoldable pub finishedWires : Shape → List ℕ → List ℕ → List ℕ
-finishedWires s table wireParts = afterwards (firstOf (finishReasons s table wireParts)) (replicate (length wireParts) 0) wireParts
+finishedWires s table wireParts =
+    afterwards (firstOf (finishReasons s table wireParts)) (replicate (length wireParts) 0) wireParts

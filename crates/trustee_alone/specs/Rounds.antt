@@ -20,8 +20,10 @@ use Rattle.trustee_gates.specs.Dealing.{onlyBits}
 use Rattle.trustee_rounds.specs.Rounds.{Turn, enters, publishes, closes}
 use Rattle.trustee_alone.specs.Own.{isTrustee, tablesFit}
 
--- The tests in checking order: 16, 17 and 18 of what the trustee brings; 200, the level table is not the list's own; 201, a round above R; 202, the sums are not two bits for each conditional gate.
-unfoldable pub tableReasons : ℕ → ℕ → List Gate → ℕ → ℕ → ℕ → List ℕ → List ℕ → List ℕ → List ℕ → List ℕ → List (Option Reason)
+-- The tests in checking order: 16, 17 and 18 of what the trustee brings; 200, the level table is not the list's own;
+-- 201, a round above R; 202, the sums are not two bits for each conditional gate.
+unfoldable pub tableReasons : ℕ → ℕ → List Gate → ℕ → ℕ → ℕ → List ℕ → List ℕ → List ℕ → List ℕ → List ℕ
+    → List (Option Reason)
 tableReasons inputs k gs t p round levels dealt heard wireParts published =
     unless (isTrustee t p) 16
     ∷ unless (tablesFit inputs k (sizeOf gs) dealt wireParts published) 17
@@ -31,14 +33,18 @@ tableReasons inputs k gs t p round levels dealt heard wireParts published =
     ∷ unless (eqb (length heard) (2 * conditionalCount gs) && onlyBits heard) 202
     ∷ []
 
-unfoldable pub roundReasons : Shape → List ℕ → ℕ → ℕ → ℕ → List ℕ → List ℕ → List ℕ → List ℕ → List ℕ → List (Option Reason)
+unfoldable pub roundReasons : Shape → List ℕ → ℕ → ℕ → ℕ → List ℕ → List ℕ → List ℕ → List ℕ → List ℕ
+    → List (Option Reason)
 roundReasons s table t p round levels dealt heard wireParts published =
-    testReasons s table ++ tableReasons (ballotBytes s) (s .candidates) (gatesOf table) t p round levels dealt heard wireParts published
+    testReasons s table
+    ++ tableReasons (ballotBytes s) (s .candidates) (gatesOf table) t p round levels dealt heard wireParts
+    published
 
 -- An accepted call answers G, C and R.
 unfoldable pub roundSaid : Shape → List ℕ → ℕ → ℕ → ℕ → List ℕ → List ℕ → List ℕ → List ℕ → List ℕ → Outcome Depths
 roundSaid s table t p round levels dealt heard wireParts published =
-    outcome (firstOf (roundReasons s table t p round levels dealt heard wireParts published)) (depthsOf (ballotBytes s) (gatesOf table))
+    outcome (firstOf (roundReasons s table t p round levels dealt heard wireParts published))
+    (depthsOf (ballotBytes s) (gatesOf table))
 
 -- The trustee's turn, by its own tables and the sums alone.
 unfoldable pub ownTurn : Shape → ℕ → ℕ → List ℕ → List ℕ → List ℕ → Turn
@@ -47,18 +53,23 @@ ownTurn s p round levels dealt heard =
 
 -- What an accepted round makes of both tables.
 unfoldable pub wiresMade : Shape → List ℕ → ℕ → ℕ → List ℕ → List ℕ → List ℕ → List ℕ → List ℕ
-wiresMade s table p round levels dealt heard wireParts = enters (ownTurn s p round levels dealt heard) (gatesOf table) 0 0 wireParts
+wiresMade s table p round levels dealt heard wireParts =
+    enters (ownTurn s p round levels dealt heard) (gatesOf table) 0 0 wireParts
 
 unfoldable pub publishedMade : Shape → List ℕ → ℕ → ℕ → List ℕ → List ℕ → List ℕ → List ℕ → List ℕ → List ℕ
 publishedMade s table p round levels dealt heard wireParts published =
-    closes round (roundsOf (ballotBytes s) (gatesOf table)) (conditionalCount (gatesOf table)) (s .candidates) (wiresMade s table p round levels dealt heard wireParts)
-    (publishes (ownTurn s p round levels dealt heard) (wiresMade s table p round levels dealt heard wireParts) (gatesOf table) 0 0 published)
+    closes round (roundsOf (ballotBytes s) (gatesOf table)) (conditionalCount (gatesOf table)) (s .candidates)
+    (wiresMade s table p round levels dealt heard wireParts)
+    (publishes (ownTurn s p round levels dealt heard) (wiresMade s table p round levels dealt heard wireParts)
+    (gatesOf table) 0 0 published)
 
 -- Both tables afterwards; a refusal alters nothing.
 unfoldable pub roundedWires : Shape → List ℕ → ℕ → ℕ → ℕ → List ℕ → List ℕ → List ℕ → List ℕ → List ℕ → List ℕ
 roundedWires s table t p round levels dealt heard wireParts published =
-    afterwards (firstOf (roundReasons s table t p round levels dealt heard wireParts published)) (wiresMade s table p round levels dealt heard wireParts) wireParts
+    afterwards (firstOf (roundReasons s table t p round levels dealt heard wireParts published))
+    (wiresMade s table p round levels dealt heard wireParts) wireParts
 
 unfoldable pub roundedPublished : Shape → List ℕ → ℕ → ℕ → ℕ → List ℕ → List ℕ → List ℕ → List ℕ → List ℕ → List ℕ
 roundedPublished s table t p round levels dealt heard wireParts published =
-    afterwards (firstOf (roundReasons s table t p round levels dealt heard wireParts published)) (publishedMade s table p round levels dealt heard wireParts published) published
+    afterwards (firstOf (roundReasons s table t p round levels dealt heard wireParts published))
+    (publishedMade s table p round levels dealt heard wireParts published) published

@@ -17,7 +17,8 @@ use Rattle.trustee_gates.specs.Dealing.{onlyBits}
 use Rattle.trustee_rounds.specs.Rounds.{startWires, startPublished}
 use Rattle.trustee_alone.specs.Own.{isTrustee, tablesFit}
 
--- The tests of what one trustee brings, in checking order: 16, 17, 18. Whether parts add up only all trustees together could tell.
+-- The tests of what one trustee brings, in checking order: 16, 17, 18. Whether parts add up only all trustees
+-- together could tell.
 unfoldable pub ownReasons : ℕ → ℕ → Size → ℕ → ℕ → List ℕ → List ℕ → List ℕ → List ℕ → List (Option Reason)
 ownReasons inputs k size t p parts dealt wireParts published =
     unless (isTrustee t p) 16
@@ -28,17 +29,21 @@ ownReasons inputs k size t p parts dealt wireParts published =
 -- All reasons: 1, 2 and 3 of the list come first.
 unfoldable pub startReasons : Shape → List ℕ → ℕ → ℕ → List ℕ → List ℕ → List ℕ → List ℕ → List (Option Reason)
 startReasons s table t p parts dealt wireParts published =
-    testReasons s table ++ ownReasons (ballotBytes s) (s .candidates) (sizeOf (gatesOf table)) t p parts dealt wireParts published
+    testReasons s table
+    ++ ownReasons (ballotBytes s) (s .candidates) (sizeOf (gatesOf table)) t p parts dealt wireParts published
 
 -- An accepted call answers G and C.
 unfoldable pub startSaid : Shape → List ℕ → ℕ → ℕ → List ℕ → List ℕ → List ℕ → List ℕ → Outcome Size
-startSaid s table t p parts dealt wireParts published = outcome (firstOf (startReasons s table t p parts dealt wireParts published)) (sizeOf (gatesOf table))
+startSaid s table t p parts dealt wireParts published =
+    outcome (firstOf (startReasons s table t p parts dealt wireParts published)) (sizeOf (gatesOf table))
 
 -- Both tables afterwards; a refusal alters nothing.
 unfoldable pub startedWires : Shape → List ℕ → ℕ → ℕ → List ℕ → List ℕ → List ℕ → List ℕ → List ℕ
 startedWires s table t p parts dealt wireParts published =
-    afterwards (firstOf (startReasons s table t p parts dealt wireParts published)) (startWires (length (gatesOf table)) parts) wireParts
+    afterwards (firstOf (startReasons s table t p parts dealt wireParts published))
+    (startWires (length (gatesOf table)) parts) wireParts
 
 unfoldable pub startedPublished : Shape → List ℕ → ℕ → ℕ → List ℕ → List ℕ → List ℕ → List ℕ → List ℕ
 startedPublished s table t p parts dealt wireParts published =
-    afterwards (firstOf (startReasons s table t p parts dealt wireParts published)) (startPublished (conditionalCount (gatesOf table)) (s .candidates)) published
+    afterwards (firstOf (startReasons s table t p parts dealt wireParts published))
+    (startPublished (conditionalCount (gatesOf table)) (s .candidates)) published

@@ -29,7 +29,10 @@ pub(crate) fn tables_fit(
     published: &[u8],
 ) -> bool
     requires { ⌜ SmallSizes inputs k gates conditional ⌝ }
-    ensures { λ r. ⌜ r ≡ tablesFit inputs k (record { gates = gates; conditional = conditional }) (now (dealt .entry)) (now (wires .entry)) (now (published .entry)) ⌝ }
+    ensures { λ r. ⌜
+        r ≡ tablesFit inputs k (record { gates = gates; conditional = conditional }) (now (dealt .entry))
+        (now (wires .entry)) (now (published .entry))
+        ⌝ }
 {
     if dealt.len() != 3 * conditional {
         return false;

@@ -14,7 +14,8 @@ ghost use Rattle.gates.specs.Gate.{gatesOf};
 ghost use Rattle.tally.specs.Answer.{outcome};
 ghost use Rattle.levels.specs.Answer.{depthsOf, depthsSaid};
 ghost use Rattle.trustee_alone.specs.inner.Ready.{TablesReady};
-ghost use Rattle.trustee_alone.specs.Rounds.{tableReasons, roundReasons, roundSaid, roundedWires, roundedPublished};
+ghost use Rattle.trustee_alone.specs.Rounds.{tableReasons, roundReasons};
+ghost use Rattle.trustee_alone.specs.Rounds.{roundSaid, roundedWires, roundedPublished};
 ghost use Rattle.jury.specs.Shape.{ballotBytes};
 
 // Reasons 16 to 18 and 200 to 202, for a list that passed its test.
@@ -34,7 +35,14 @@ fn test_tables(
     published: &[u8],
 ) -> Answer
     requires { ⌜ TablesReady inputs k gates conditional (now table) ⌝ }
-    ensures { λ r. ⌜ depthsSaid r ≡ outcome (firstOf (tableReasons inputs k (gatesOf (now (table .entry))) t p round (now (levels .entry)) (now (dealt .entry)) (now (heard .entry)) (now (wires .entry)) (now (published .entry)))) (depthsOf inputs (gatesOf (now (table .entry)))) ⌝ }
+    ensures { λ r. ⌜
+        depthsSaid r
+        ≡ outcome
+        (firstOf
+        (tableReasons inputs k (gatesOf (now (table .entry))) t p round (now (levels .entry)) (now (dealt .entry))
+        (now (heard .entry)) (now (wires .entry)) (now (published .entry))))
+        (depthsOf inputs (gatesOf (now (table .entry))))
+        ⌝ }
 {
     if !own::is_trustee(t, p) {
         return Answer::Refused(LevelRefusal::OfCore(Refusal::Trustees));
@@ -80,7 +88,14 @@ fn test_round(
     wires: &[u8],
     published: &[u8],
 ) -> Answer
-    ensures { λ r. ⌜ depthsSaid r ≡ outcome (firstOf (roundReasons shape (now (table .entry)) t p round (now (levels .entry)) (now (dealt .entry)) (now (heard .entry)) (now (wires .entry)) (now (published .entry)))) (depthsOf (ballotBytes shape) (gatesOf (now (table .entry)))) ⌝ }
+    ensures { λ r. ⌜
+        depthsSaid r
+        ≡ outcome
+        (firstOf
+        (roundReasons shape (now (table .entry)) t p round (now (levels .entry)) (now (dealt .entry))
+        (now (heard .entry)) (now (wires .entry)) (now (published .entry))))
+        (depthsOf (ballotBytes shape) (gatesOf (now (table .entry))))
+        ⌝ }
 {
     match tally::test::test(shape, table) {
         tally::answer::Answer::Refused(reason) => Answer::Refused(LevelRefusal::OfCore(reason)),
@@ -116,9 +131,21 @@ pub fn round(
     wires: &mut [u8],
     published: &mut [u8],
 ) -> Answer
-    ensures { λ r. ⌜ depthsSaid r ≡ roundSaid shape (now (table .entry)) t p round (now (levels .entry)) (now (dealt .entry)) (now (heard .entry)) (now (wires .entry)) (now (published .entry)) ⌝ }
-    ensures { λ _. ⌜ now (wires .exit) ≡ roundedWires shape (now (table .entry)) t p round (now (levels .entry)) (now (dealt .entry)) (now (heard .entry)) (now (wires .entry)) (now (published .entry)) ⌝ }
-    ensures { λ _. ⌜ now (published .exit) ≡ roundedPublished shape (now (table .entry)) t p round (now (levels .entry)) (now (dealt .entry)) (now (heard .entry)) (now (wires .entry)) (now (published .entry)) ⌝ }
+    ensures { λ r. ⌜
+        depthsSaid r
+        ≡ roundSaid shape (now (table .entry)) t p round (now (levels .entry)) (now (dealt .entry))
+        (now (heard .entry)) (now (wires .entry)) (now (published .entry))
+        ⌝ }
+    ensures { λ _. ⌜
+        now (wires .exit)
+        ≡ roundedWires shape (now (table .entry)) t p round (now (levels .entry)) (now (dealt .entry))
+        (now (heard .entry)) (now (wires .entry)) (now (published .entry))
+        ⌝ }
+    ensures { λ _. ⌜
+        now (published .exit)
+        ≡ roundedPublished shape (now (table .entry)) t p round (now (levels .entry)) (now (dealt .entry))
+        (now (heard .entry)) (now (wires .entry)) (now (published .entry))
+        ⌝ }
 {
     let answer = test_round(
         shape,

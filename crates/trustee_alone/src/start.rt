@@ -25,7 +25,12 @@ fn test_own(
     published: &[u8],
 ) -> Verdict
     requires { ⌜ SmallSizes inputs k gates conditional ⌝ }
-    ensures { λ r. ⌜ refusedFor r ≡ firstOf (ownReasons inputs k (record { gates = gates; conditional = conditional }) t p (now (parts .entry)) (now (dealt .entry)) (now (wires .entry)) (now (published .entry))) ⌝ }
+    ensures { λ r. ⌜
+        refusedFor r
+        ≡ firstOf
+        (ownReasons inputs k (record { gates = gates; conditional = conditional }) t p (now (parts .entry))
+        (now (dealt .entry)) (now (wires .entry)) (now (published .entry)))
+        ⌝ }
 {
     if !own::is_trustee(t, p) {
         return Verdict::Refused(Refusal::Trustees);
@@ -56,9 +61,21 @@ pub fn start(
     wires: &mut [u8],
     published: &mut [u8],
 ) -> Answer
-    ensures { λ r. ⌜ outcomeOf r ≡ startSaid shape (now (table .entry)) t p (now (parts .entry)) (now (dealt .entry)) (now (wires .entry)) (now (published .entry)) ⌝ }
-    ensures { λ _. ⌜ now (wires .exit) ≡ startedWires shape (now (table .entry)) t p (now (parts .entry)) (now (dealt .entry)) (now (wires .entry)) (now (published .entry)) ⌝ }
-    ensures { λ _. ⌜ now (published .exit) ≡ startedPublished shape (now (table .entry)) t p (now (parts .entry)) (now (dealt .entry)) (now (wires .entry)) (now (published .entry)) ⌝ }
+    ensures { λ r. ⌜
+        outcomeOf r
+        ≡ startSaid shape (now (table .entry)) t p (now (parts .entry)) (now (dealt .entry)) (now (wires .entry))
+        (now (published .entry))
+        ⌝ }
+    ensures { λ _. ⌜
+        now (wires .exit)
+        ≡ startedWires shape (now (table .entry)) t p (now (parts .entry)) (now (dealt .entry)) (now (wires .entry))
+        (now (published .entry))
+        ⌝ }
+    ensures { λ _. ⌜
+        now (published .exit)
+        ≡ startedPublished shape (now (table .entry)) t p (now (parts .entry)) (now (dealt .entry))
+        (now (wires .entry)) (now (published .entry))
+        ⌝ }
 {
     let answer = tally::test::test(shape, table);
     let Answer::Accepted { gates, conditional } = answer else {

@@ -10,7 +10,9 @@ use Rattle.gates.specs.Gate.{Gate}
 use Rattle.trustee_shares.specs.Shares.{part, maskedFirst, maskedSecond, productPart, partOfKind, markOf}
 use Rattle.trustee_shares.specs.Views.{closingParts}
 
--- All that a trustee computes a round from, besides the list: its number, the round, how many inputs there are, the levels of the gates, its own dealer parts, and the sums that all have heard: the first and the second of each conditional gate.
+-- All that a trustee computes a round from, besides the list: its number, the round, how many inputs there are, the
+-- levels of the gates, its own dealer parts, and the sums that all have heard: the first and the second of each
+-- conditional gate.
 pub record Turn : Type 0 where
   pub trustee : ℕ
   pub round : ℕ
@@ -34,7 +36,8 @@ unfoldable pub enters : Turn → List Gate → ℕ → ℕ → List ℕ → List
 enters u [] g i ws = ws
 enters u (x ∷ xs) g i ws = enters u xs (suc g) (i + markOf x) (entersGate u g i x ws)
 
--- What is published after one gate: a conditional one of the next level publishes both masked factors, for which all parts are there.
+-- What is published after one gate: a conditional one of the next level publishes both masked factors, for which all
+-- parts are there.
 unfoldable pub publishesGate : Turn → List ℕ → ℕ → ℕ → Gate → List ℕ → List ℕ
 publishesGate u ws g i x published =
     cond (conditionalOf (x .kind) && eqb (getD (u .levels) g 0) (suc (u .round)))
@@ -46,7 +49,8 @@ publishes u ws (x ∷ xs) g i published = publishes u ws xs (suc g) (i + markOf 
 
 -- In the last of all rounds the parts of the last k wires go behind the C conditional gates' factors.
 unfoldable pub closes : ℕ → ℕ → ℕ → ℕ → List ℕ → List ℕ → List ℕ
-closes round last conditional k ws published = cond (eqb round last) (sets published (2 * conditional) (closingParts k ws)) published
+closes round last conditional k ws published =
+    cond (eqb round last) (sets published (2 * conditional) (closingParts k ws)) published
 
 -- The start: the ballot parts, and zeros for all that is not known yet.
 unfoldable pub startWires : ℕ → List ℕ → List ℕ

@@ -1,4 +1,5 @@
--- Trustees together: each starts, then all do the rounds 0 to R, and before each round all hear the sums of what was published.
+-- Trustees together: each starts, then all do the rounds 0 to R, and before each round all hear the sums of what was
+-- published.
 use mathlib.Core.Path.{_≡_}
 use mathlib.Core.List.{List, [], _∷_}
 use Prim.Native.Nat.{ℕ, zero, suc, _*_, _≤_, _<_}
@@ -48,18 +49,24 @@ publishedAfter t inputs gs k d r s p =
 -- What all hold after the first n rounds, the rounds 0 to n − 1.
 unfoldable pub holdingsAfter : ℕ → ℕ → List Gate → ℕ → Dealing → ℕ → Holdings
 holdingsAfter t inputs gs k d zero =
-    record { wireParts = λ p. startWires (length gs) (ballotsOf inputs d p); published = λ p. startPublished (conditionalCount gs) k }
+    record {
+      wireParts = λ p. startWires (length gs) (ballotsOf inputs d p);
+      published = λ p. startPublished
+          (conditionalCount gs) k;
+    }
 holdingsAfter t inputs gs k d (suc r) =
     record {
       wireParts = wiresAfter t inputs gs d r (holdingsAfter t inputs gs k d r);
       published = publishedAfter t inputs gs k d r (holdingsAfter t inputs gs k d r);
     }
 
--- After the rounds 0 to R each trustee holds the wire parts, and has published the bits, of the one call on the joined tables.
+-- After the rounds 0 to R each trustee holds the wire parts, and has published the bits, of the one call on the
+-- joined tables.
 abbrev pub RoundsMakeTheTally : Type 0
 RoundsMakeTheTally =
     (t inputs k : ℕ) (gs : List Gate) (d : Dealing)
-    → 1 ≤ inputs → k ≤ length gs → firstBad inputs 0 gs ≡ Nowhere → ((p : ℕ) → p < t → length (ballotsOf inputs d p) ≡ inputs)
+    → 1 ≤ inputs → k ≤ length gs → firstBad inputs 0 gs ≡ Nowhere
+    → ((p : ℕ) → p < t → length (ballotsOf inputs d p) ≡ inputs)
     → (p : ℕ) → p < t
     → (holdingsAfter t inputs gs k d (suc (roundsOf inputs gs)) .wireParts p ≡ wirePartsOf t inputs gs d p)
     × (holdingsAfter t inputs gs k d (suc (roundsOf inputs gs)) .published p ≡ publishedOf t inputs gs k d p)

@@ -19,7 +19,10 @@ ghost use Rattle.trustee_rounds.specs.inner.Passes.{GateIn, PartReady, E
 // The part of a gate's wire, from the trustee's parts of the operands and its bit z of the product.
 fn own_part(p: usize, gate: Numbers, z: u8, wires: &[u8]) -> u8
     requires { ⌜ GateIn gate (now wires) ⌝ }
-    ensures { λ r. ⌜ r ≡ partOfKind p (gate .kind) (part (now (wires .entry)) (gate .a)) (part (now (wires .entry)) (gate .b)) (part (now (wires .entry)) (gate .c)) z ⌝ }
+    ensures { λ r. ⌜
+        r ≡ partOfKind p (gate .kind) (part (now (wires .entry)) (gate .a)) (part (now (wires .entry)) (gate .b))
+        (part (now (wires .entry)) (gate .c)) z
+        ⌝ }
 {
     let a = gate.a;
     let b = gate.b;
@@ -30,7 +33,10 @@ fn own_part(p: usize, gate: Numbers, z: u8, wires: &[u8]) -> u8
 // The trustee's bit of the i-th product, from its triple and the two sums that were heard.
 fn product(p: usize, i: usize, dealt: &[u8], heard: &[u8]) -> u8
     requires { ⌜ (3 * i + 2 < length (now dealt)) × (2 * i + 1 < length (now heard)) ⌝ }
-    ensures { λ r. ⌜ r ≡ productPart p (now (dealt .entry)) i (part (now (heard .entry)) (2 * i)) (part (now (heard .entry)) (2 * i + 1)) ⌝ }
+    ensures { λ r. ⌜
+        r ≡ productPart p (now (dealt .entry)) i (part (now (heard .entry)) (2 * i))
+        (part (now (heard .entry)) (2 * i + 1))
+        ⌝ }
 {
     bits::product_bit(
         p,
@@ -54,7 +60,12 @@ fn gate_part(
 ) -> u8
     requires { ⌜ now marks ≡ conditionalMarks ⌝ }
     requires { ⌜ PartReady gate i (now dealt) (now heard) (now wires) ⌝ }
-    ensures { λ r. ⌜ r ≡ partOfKind p (gate .kind) (part (now (wires .entry)) (gate .a)) (part (now (wires .entry)) (gate .b)) (part (now (wires .entry)) (gate .c)) (productPart p (now (dealt .entry)) i (part (now (heard .entry)) (2 * i)) (part (now (heard .entry)) (2 * i + 1))) ⌝ }
+    ensures { λ r. ⌜
+        r ≡ partOfKind p (gate .kind) (part (now (wires .entry)) (gate .a)) (part (now (wires .entry)) (gate .b))
+        (part (now (wires .entry)) (gate .c))
+        (productPart p (now (dealt .entry)) i (part (now (heard .entry)) (2 * i))
+        (part (now (heard .entry)) (2 * i + 1)))
+        ⌝ }
 {
     if kind::conditional(marks, gate.kind) {
         let z = product(p, i, dealt, heard);
@@ -78,7 +89,15 @@ pub(crate) fn enter_gate(
 )
     requires { ⌜ now marks ≡ conditionalMarks ⌝ }
     requires { ⌜ EnterReady gate own i (now dealt) (now heard) (now wires) ⌝ }
-    ensures { λ _. ⌜ now (wires .exit) ≡ cond (eqb level round) (set (now (wires .entry)) own (partOfKind p (gate .kind) (part (now (wires .entry)) (gate .a)) (part (now (wires .entry)) (gate .b)) (part (now (wires .entry)) (gate .c)) (productPart p (now (dealt .entry)) i (part (now (heard .entry)) (2 * i)) (part (now (heard .entry)) (2 * i + 1))))) (now (wires .entry)) ⌝ }
+    ensures { λ _. ⌜
+        now (wires .exit)
+        ≡ cond (eqb level round)
+        (set (now (wires .entry)) own
+        (partOfKind p (gate .kind) (part (now (wires .entry)) (gate .a)) (part (now (wires .entry)) (gate .b))
+        (part (now (wires .entry)) (gate .c))
+        (productPart p (now (dealt .entry)) i (part (now (heard .entry)) (2 * i))
+        (part (now (heard .entry)) (2 * i + 1))))) (now (wires .entry))
+        ⌝ }
 {
     if level != round {
         return;
@@ -99,7 +118,14 @@ pub(crate) fn publish_gate(
 )
     requires { ⌜ now marks ≡ conditionalMarks ⌝ }
     requires { ⌜ PublishReady numbers i (now dealt) (now wires) (now published) ⌝ }
-    ensures { λ _. ⌜ now (published .exit) ≡ cond (conditionalOf (numbers .kind) && eqb level next) (sets (now (published .entry)) (2 * i) (maskedFirst (now (wires .entry)) (now (dealt .entry)) i (gateOf numbers) ∷ maskedSecond (now (wires .entry)) (now (dealt .entry)) i (gateOf numbers) ∷ [])) (now (published .entry)) ⌝ }
+    ensures { λ _. ⌜
+        now (published .exit)
+        ≡ cond (conditionalOf (numbers .kind)
+        && eqb level next)
+        (sets (now (published .entry)) (2 * i)
+        (maskedFirst (now (wires .entry)) (now (dealt .entry)) i (gateOf numbers)
+        ∷ maskedSecond (now (wires .entry)) (now (dealt .entry)) i (gateOf numbers) ∷ [])) (now (published .entry))
+        ⌝ }
 {
     if !kind::conditional(marks, numbers.kind) {
         return;

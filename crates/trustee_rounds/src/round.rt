@@ -20,7 +20,11 @@ pub struct Seat {
 // Enters the parts of all gates of this round's level, in order.
 fn enter(seat: Seat, table: &[u32], levels: &[u32], dealt: &[u8], heard: &[u8], wires: &mut [u8])
     requires { ⌜ EnterPass seat (now table) (now levels) (now dealt) (now heard) (now wires) ⌝ }
-    ensures { λ _. ⌜ now (wires .exit) ≡ enters (turnBy seat (now (levels .entry)) (now (dealt .entry)) (now (heard .entry))) (gatesOf (now (table .entry))) 0 0 (now (wires .entry)) ⌝ }
+    ensures { λ _. ⌜
+        now (wires .exit)
+        ≡ enters (turnBy seat (now (levels .entry)) (now (dealt .entry)) (now (heard .entry)))
+        (gatesOf (now (table .entry))) 0 0 (now (wires .entry))
+        ⌝ }
 {
     let marks = kind::CONDITIONAL;
     let p = seat.trustee;
@@ -60,7 +64,19 @@ fn publish(
     published: &mut [u8],
 )
     requires { ⌜ PublishPass inputs round (now table) (now levels) (now dealt) (now wires) (now published) ⌝ }
-    ensures { λ _. ⌜ ((p : ℕ) (heard : List ℕ) → now (published .exit) ≡ publishes (record { trustee = p; round = round; inputs = inputs; levels = now (levels .entry); dealt = now (dealt .entry); heard = heard }) (now (wires .entry)) (gatesOf (now (table .entry))) 0 0 (now (published .entry))) ⌝ }
+    ensures { λ _. ⌜
+        ((p : ℕ) (heard : List ℕ)
+        → now (published .exit)
+        ≡ publishes
+        (record {
+          trustee = p;
+          round = round;
+          inputs = inputs;
+          levels = now (levels .entry);
+          dealt = now (dealt .entry);
+          heard = heard;
+        }) (now (wires .entry)) (gatesOf (now (table .entry))) 0 0 (now (published .entry)))
+        ⌝ }
 {
     let marks = kind::CONDITIONAL;
     let next = round + 1;
@@ -88,9 +104,24 @@ pub fn round(
     wires: &mut [u8],
     published: &mut [u8],
 )
-    requires { ⌜ RoundReady seat conditional k (now table) (now levels) (now dealt) (now heard) (now wires) (now published) ⌝ }
-    ensures { λ _. ⌜ now (wires .exit) ≡ enters (turnBy seat (now (levels .entry)) (now (dealt .entry)) (now (heard .entry))) (gatesOf (now (table .entry))) 0 0 (now (wires .entry)) ⌝ }
-    ensures { λ _. ⌜ now (published .exit) ≡ closes (seat .round) rounds conditional k (enters (turnBy seat (now (levels .entry)) (now (dealt .entry)) (now (heard .entry))) (gatesOf (now (table .entry))) 0 0 (now (wires .entry))) (publishes (turnBy seat (now (levels .entry)) (now (dealt .entry)) (now (heard .entry))) (enters (turnBy seat (now (levels .entry)) (now (dealt .entry)) (now (heard .entry))) (gatesOf (now (table .entry))) 0 0 (now (wires .entry))) (gatesOf (now (table .entry))) 0 0 (now (published .entry))) ⌝ }
+    requires { ⌜
+        RoundReady seat conditional k (now table) (now levels) (now dealt) (now heard) (now wires) (now published)
+        ⌝ }
+    ensures { λ _. ⌜
+        now (wires .exit)
+        ≡ enters (turnBy seat (now (levels .entry)) (now (dealt .entry)) (now (heard .entry)))
+        (gatesOf (now (table .entry))) 0 0 (now (wires .entry))
+        ⌝ }
+    ensures { λ _. ⌜
+        now (published .exit)
+        ≡ closes (seat .round) rounds conditional k
+        (enters (turnBy seat (now (levels .entry)) (now (dealt .entry)) (now (heard .entry)))
+        (gatesOf (now (table .entry))) 0 0 (now (wires .entry)))
+        (publishes (turnBy seat (now (levels .entry)) (now (dealt .entry)) (now (heard .entry)))
+        (enters (turnBy seat (now (levels .entry)) (now (dealt .entry)) (now (heard .entry)))
+        (gatesOf (now (table .entry))) 0 0 (now (wires .entry))) (gatesOf (now (table .entry))) 0 0
+        (now (published .entry)))
+        ⌝ }
 {
     enter(seat, table, levels, dealt, heard, wires);
     let at = seat.round;

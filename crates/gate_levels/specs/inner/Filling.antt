@@ -8,7 +8,8 @@ use Rattle.gates.specs.inner.Step.{gateAt}
 use Rattle.gates.specs.Test.{firstBad}
 use Rattle.gates.specs.declared.place.Place.the-variants.{Nowhere}
 
--- Gate g: its numbers are in the table, its operands name inputs or earlier gates, and no level before it is so large that one more would not fit.
+-- Gate g: its numbers are in the table, its operands name inputs or earlier gates, and no level before it is so large
+-- that one more would not fit.
 pub record LevelReady (inputs : ℕ) (table : List ℕ) (g : ℕ) (levels : List ℕ) : Type 0 where
   pub in-table : 4 * g + 3 < length table
   pub in-levels : g < length levels

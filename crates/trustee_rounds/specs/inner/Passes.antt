@@ -15,7 +15,15 @@ use Rattle.trustee_rounds.specs.Rounds.{Turn}
 
 -- A turn by the program's numbers and tables.
 abbrev pub turnBy : Seat → List ℕ → List ℕ → List ℕ → Turn
-turnBy seat levels dealt heard = record { trustee = seat .trustee; round = seat .round; inputs = seat .inputs; levels = levels; dealt = dealt; heard = heard }
+turnBy seat levels dealt heard = record {
+  trustee =
+      seat .trustee;
+  round = seat .round;
+  inputs = seat .inputs;
+  levels = levels;
+  dealt = dealt;
+  heard = heard;
+}
 
 -- The operands are in the wire table.
 pub record GateIn (g : Numbers) (ws : List ℕ) : Type 0 where
@@ -57,10 +65,11 @@ pub record PublishPass (inputs round : ℕ) (table levels dealt ws published : L
   pub early : round < 1073741824
   pub published-length : 2 * conditionalCount (gatesOf table) ≤ length published
 
-pub record RoundReady (seat : Seat) (conditional k : ℕ) (table levels dealt heard ws published : List ℕ) : Type 0 where
-  pub pass : Pass (seat .inputs) table levels dealt ws
-  pub early : seat .round < 1073741824
-  pub conditional-is : conditional ≡ conditionalCount (gatesOf table)
-  pub enough : k ≤ length (gatesOf table)
-  pub heard-length : length heard ≡ 2 * conditionalCount (gatesOf table)
-  pub published-length : length published ≡ 2 * conditional + k
+pub record RoundReady (seat : Seat) (conditional k : ℕ) (table levels dealt heard ws published : List ℕ) : Type 0
+  where
+    pub pass : Pass (seat .inputs) table levels dealt ws
+    pub early : seat .round < 1073741824
+    pub conditional-is : conditional ≡ conditionalCount (gatesOf table)
+    pub enough : k ≤ length (gatesOf table)
+    pub heard-length : length heard ≡ 2 * conditionalCount (gatesOf table)
+    pub published-length : length published ≡ 2 * conditional + k

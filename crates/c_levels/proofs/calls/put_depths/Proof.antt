@@ -45,7 +45,10 @@ unfolding statusOf depthNumbers depthsSaid
 returns c =
     let a = c .before .before .before .before .before .before .before .before .before .args in
     let e = ap (λ (s : Answer). depthNumbers (depthsSaid s)) (c .before .before .before .before .before .before .outcome .given .1) in
-    (sym (ap statusOf e), c .before .before .put .ensures ∙ sym (ap (λ (r : List ℕ). r ++ drop 5 (a .answer .now)) e))
+    record {
+      returns = sym (ap statusOf e);
+      writes = c .before .before .put .ensures ∙ sym (ap (λ (r : List ℕ). r ++ drop 5 (a .answer .now)) e);
+    }
 
 same-length-2 : tie.Need-same-length-2
 same-length-2 c = search needs
@@ -54,12 +57,15 @@ returns-2 : tie.Need-returns-2
 unfolding statusOf depthNumbers depthsSaid
 returns-2 c =
     let a = c .before .before .before .before .before .before .before .before .before .before .before .args in
-    let why = levelReasonOf (c .before .before .before .before .before .before .before .before .said2 .given .0 .0) in
-    let e = ap (λ (s : Answer). depthNumbers (depthsSaid s)) (c .before .before .before .before .before .before .before .before .said2 .given .1) in
+    let why = levelReasonOf (c .before .before .before .before .before .before .before .before .outcome2 .given .0 .0) in
+    let e = ap (λ (s : Answer). depthNumbers (depthsSaid s)) (c .before .before .before .before .before .before .before .before .outcome2 .given .1) in
     let number = c .before .before .before .before .before .before .number in
     let place = c .before .before .before .before .before .place in
     let f = two (number .result) (place .result) (why .number) (why .place) (0 ∷ 0 ∷ 0 ∷ []) (number .ensures) (place .ensures) ∙ sym e in
-    (number .ensures ∙ sym (ap statusOf e), c .before .before .put2 .ensures ∙ ap (λ (r : List ℕ). r ++ drop 5 (a .answer .now)) f)
+    record {
+      returns = number .ensures ∙ sym (ap statusOf e);
+      writes = c .before .before .put2 .ensures ∙ ap (λ (r : List ℕ). r ++ drop 5 (a .answer .now)) f;
+    }
 
 pub put-depths-spec : {M : Type 1} → statement M
 put-depths-spec =

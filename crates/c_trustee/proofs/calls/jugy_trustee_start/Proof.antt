@@ -1,23 +1,26 @@
--- `c_trustee::calls::jugy_trustee_start` meets its contract.
+-- `c_trustee::calls::jugy_trustee_start` meets its contract: where the answer array is long enough, it says what the
+-- entry point says.
 -- Assumes nothing.
-use mathlib.Core.Path.{_∙_, sym, ap}
-use mathlib.Core.List.{List, _++_}
+use mathlib.Core.Path.{_≡_, refl, ap}
+use mathlib.Core.List.{List, [], _∷_}
 use Prim.Native.Nat.{ℕ}
-use lib.ListN.{drop}
-use Rattle.tally.specs.Answer.{Outcome, Size}
-use Rattle.trustee_alone.specs.Start.{startSaid, startedWires, startedPublished}
-use Rattle.c_answers.specs.Numbers.{shapeOf, sizeNumbers, statusOf}
-use Rattle.c_answers.proofs.Answering.{short-status, short-answered, short-altered, room-status, room-answered, room-altered}
 use borrow.Author.Needs.{needs}
+use Rattle.trustee_alone.specs.Start.{startSaid, startedWires, startedPublished}
+use Rattle.c_answers.specs.Numbers.{sizeAnswer, sizeNumbers, shapeOf}
+use Rattle.c_answers.proofs.Answering.{short-call, put-call}
 use Rattle.c_trustee.proofs.calls.jugy_trustee_start.Statement.{statement}
 use Rattle.c_trustee.proofs.calls.jugy_trustee_start.Tie as tie
 
+-- two tables
+both : {w w′ q q′ : List ℕ} → w ≡ w′ → q ≡ q′ → _≡_ {A = List (List ℕ)} (w ∷ q ∷ []) (w′ ∷ q′ ∷ [])
+both e f = rw (e, f) refl
+
 returns : tie.Need-returns
-unfolding shapeOf
 returns c =
     let a = c .before .before .before .before .before .before .before .args in
-    let numbers = sizeNumbers (startSaid (shapeOf (a .candidates) (a .grades) (a .ballots)) (a .table .now) (a .trustees) (a .trustee) (a .parts .now) (a .dealt .now) (a .wires .now) (a .published .now)) in
-    (sym (short-status 4 (a .answer .now) (c .if1 .taken) numbers), (sym (short-answered 4 (a .answer .now) (c .if1 .taken) numbers), (sym (short-altered 4 (a .answer .now) (c .if1 .taken) (startedWires (shapeOf (a .candidates) (a .grades) (a .ballots)) (a .table .now) (a .trustees) (a .trustee) (a .parts .now) (a .dealt .now) (a .wires .now) (a .published .now)) (a .wires .now)), sym (short-altered 4 (a .answer .now) (c .if1 .taken) (startedPublished (shapeOf (a .candidates) (a .grades) (a .ballots)) (a .table .now) (a .trustees) (a .trustee) (a .parts .now) (a .dealt .now) (a .wires .now) (a .published .now)) (a .published .now)))))
+    let s = shapeOf (a .candidates) (a .grades) (a .ballots) in
+    short-call sizeAnswer (a .answer .now) (c .if1 .taken) (sizeNumbers (startSaid s (a .table .now) (a .trustees) (a .trustee) (a .parts .now) (a .dealt .now) (a .wires .now) (a .published .now))) (a .wires .now ∷ a .published .now ∷ [])
+    (startedWires s (a .table .now) (a .trustees) (a .trustee) (a .parts .now) (a .dealt .now) (a .wires .now) (a .published .now) ∷ startedPublished s (a .table .now) (a .trustees) (a .trustee) (a .parts .now) (a .dealt .now) (a .wires .now) (a .published .now) ∷ [])
 
 start-requires : tie.Need-start-requires
 start-requires c κs = search needs
@@ -41,9 +44,12 @@ returns-2 c =
     let outcome = put .before .before .before .before .before .before in
     let long = outcome .before .before .before in
     let a = long .before .before .before .before .before .before .before .args in
-    let numbers = sizeNumbers (startSaid (shapeOf (a .candidates) (a .grades) (a .ballots)) (a .table .now) (a .trustees) (a .trustee) (a .parts .now) (a .dealt .now) (a .wires .now) (a .published .now)) in
-    let e = ap (λ (s : Outcome Size). sizeNumbers s) (outcome .start .ensures .0) in
-    (put .put-size .ensures .0 ∙ ap statusOf e ∙ sym (room-status 4 (a .answer .now) (long .if1 .left) numbers), (put .put-size .ensures .1 ∙ ap (λ (l : List ℕ). l ++ drop 4 (a .answer .now)) e ∙ sym (room-answered 4 (a .answer .now) (long .if1 .left) numbers), (outcome .start .ensures .1 .0 ∙ sym (room-altered 4 (a .answer .now) (long .if1 .left) (startedWires (shapeOf (a .candidates) (a .grades) (a .ballots)) (a .table .now) (a .trustees) (a .trustee) (a .parts .now) (a .dealt .now) (a .wires .now) (a .published .now)) (a .wires .now)), outcome .start .ensures .1 .1 ∙ sym (room-altered 4 (a .answer .now) (long .if1 .left) (startedPublished (shapeOf (a .candidates) (a .grades) (a .ballots)) (a .table .now) (a .trustees) (a .trustee) (a .parts .now) (a .dealt .now) (a .wires .now) (a .published .now)) (a .published .now)))))
+    let s = shapeOf (a .candidates) (a .grades) (a .ballots) in
+    let left = outcome .start .ensures in
+    put-call sizeAnswer (a .answer .now) (long .if1 .left) (sizeNumbers (startSaid s (a .table .now) (a .trustees) (a .trustee) (a .parts .now) (a .dealt .now) (a .wires .now) (a .published .now))) _ _ _
+    (put .put-size .ensures) (ap sizeNumbers (left .0)) (a .wires .now ∷ a .published .now ∷ [])
+    (startedWires s (a .table .now) (a .trustees) (a .trustee) (a .parts .now) (a .dealt .now) (a .wires .now) (a .published .now) ∷ startedPublished s (a .table .now) (a .trustees) (a .trustee) (a .parts .now) (a .dealt .now) (a .wires .now) (a .published .now) ∷ []) _
+    (both (left .1 .0) (left .1 .1))
 
 pub jugy-trustee-start-spec : {M : Type 1} → statement M
 jugy-trustee-start-spec =
