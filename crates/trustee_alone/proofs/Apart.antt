@@ -33,7 +33,7 @@ use Rattle.trustees.proofs.Reasons.{CallPassed, passed-dealing}
 use Rattle.trustee_alone.specs.Own.{isTrustee, tablesFit}
 use Rattle.trustee_alone.specs.Start.{ownReasons, startReasons, startSaid, startedWires, startedPublished}
 use Rattle.trustee_alone.specs.Rounds.{tableReasons, roundReasons, roundSaid, ownTurn, wiresMade, publishedMade, roundedWires, roundedPublished}
-use Rattle.trustee_alone.specs.Demands.{heardBefore, StartOf, RoundOf, CallsOf}
+use Rattle.trustee_alone.specs.Demands.{heardBefore, CallsOf}
 use Rattle.trustee_alone.proofs.Tests.{pass, end, behind, and-both, outcome-none, left-new}
 
 -- pieces of bits are bits
