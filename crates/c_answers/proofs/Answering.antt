@@ -8,7 +8,7 @@ use Prim.Native.Nat.{ℕ, _<_, _≤_}
 use lib.ListN.{length, drop}
 use borrow.Author.Tests.{lt-ltb, le-ltb}
 use Rattle.jury.specs.Reason.{Reason}
-use Rattle.c_answers.specs.Numbers.{answerNumbers, statusOf, shortAnswer, status, answered, altered, CallResult, callResult}
+use Rattle.c_answers.specs.Numbers.{answerNumbers, statusOf, shortAnswer, status, answered, CallResult, callResult}
 use Rattle.c_answers.specs.inner.Puts.{Puts}
 
 -- two numbers and the rest
@@ -46,10 +46,6 @@ module _ (needed : ℕ) (answer : List ℕ) where
     unfolding answered
     short-answered numbers = ap (λ (b : Bool). cond b answer (numbers ++ drop needed answer)) (lt-ltb (length answer) needed short)
 
-    pub short-altered : (new old : List ℕ) → altered needed answer new old ≡ old
-    unfolding altered
-    short-altered new old = ap (λ (b : Bool). cond b old new) (lt-ltb (length answer) needed short)
-
   module _ (enough : needed ≤ length answer) where
     pub room-status : (numbers : List ℕ) → status needed numbers answer ≡ statusOf numbers
     unfolding status
@@ -58,10 +54,6 @@ module _ (needed : ℕ) (answer : List ℕ) where
     pub room-answered : (numbers : List ℕ) → answered needed numbers answer ≡ numbers ++ drop needed answer
     unfolding answered
     room-answered numbers = ap (λ (b : Bool). cond b answer (numbers ++ drop needed answer)) (le-ltb (length answer) needed enough)
-
-    pub room-altered : (new old : List ℕ) → altered needed answer new old ≡ new
-    unfolding altered
-    room-altered new old = ap (λ (b : Bool). cond b old new) (le-ltb (length answer) needed enough)
 
     -- what was put into the array is what the call leaves
     pub put-call : (numbers put exit : List ℕ) (r : ℕ) → Puts needed put answer exit r → put ≡ numbers

@@ -64,10 +64,6 @@ status needed numbers answer = cond (ltb (length answer) needed) shortAnswer (st
 unfoldable pub answered : ℕ → List ℕ → List ℕ → List ℕ
 answered needed numbers answer = cond (ltb (length answer) needed) answer (numbers ++ drop needed answer)
 
--- Another lent slice afterwards: as the entry point leaves it, or as it was where the answer array is too short.
-unfoldable pub altered : ℕ → List ℕ → List ℕ → List ℕ → List ℕ
-altered needed answer new old = cond (ltb (length answer) needed) old new
-
 -- What an exported call leaves: what it returns, the answer array, and the other tables that it was lent.
 pub record CallResult : Type 0 where
   pub returned : ℕ

@@ -59,7 +59,9 @@ pub(crate) fn level(
 ) -> Writer
     requires { ⌜ Room start (length (level (start .wire) sum first stride e count)) ⌝ }
     requires { ⌜ Below (start .wire) first stride count ⌝ }
-    ensures { λ r. ⌜ Wrote start (now (table .entry)) (level (start .wire) sum first stride e count) (now (table .exit)) r ⌝ }
+    ensures { λ r. ⌜
+        Wrote start (now (table .entry)) (level (start .wire) sum first stride e count) (now (table .exit)) r
+        ⌝ }
 {
     let mut w = start;
     let mut s = sum;
@@ -94,7 +96,10 @@ fn count_levels(
     requires { ⌜ Room start (countSize count extra levels) ⌝ }
     requires { ⌜ Below (start .wire) first stride count ⌝ }
     requires { ⌜ (stride < writerLimit) × (count < writerLimit) × Countable count extra levels ⌝ }
-    ensures { λ r. ⌜ Wrote start (now (table .entry)) (countLevels (start .wire) first stride count extra levels) (now (table .exit)) r ⌝ }
+    ensures { λ r. ⌜
+        Wrote start (now (table .entry)) (countLevels (start .wire) first stride count extra levels) (now (table .exit))
+        r
+        ⌝ }
 {
     let mut w = start;
     let mut at = first;
@@ -127,7 +132,9 @@ fn count_digits(
     requires { ⌜ Room start (levels + 1) ⌝ }
     requires { ⌜ base + countSize count extra levels ≤ start .wire ⌝ }
     requires { ⌜ (count < writerLimit) × Countable count extra levels ⌝ }
-    ensures { λ r. ⌜ Wrote start (now (table .entry)) (countDigits base first count extra levels) (now (table .exit)) r ⌝ }
+    ensures { λ r. ⌜
+        Wrote start (now (table .entry)) (countDigits base first count extra levels) (now (table .exit)) r
+        ⌝ }
 {
     let mut w = start;
     let mut n = base;
@@ -159,7 +166,9 @@ pub fn counter(
     requires { ⌜ Room start (countSize count extra levels + (levels + 1)) ⌝ }
     requires { ⌜ Below (start .wire) first stride count ⌝ }
     requires { ⌜ (stride < writerLimit) × (count < writerLimit) × Countable count extra levels ⌝ }
-    ensures { λ r. ⌜ Wrote start (now (table .entry)) (counter (start .wire) first stride count extra levels) (now (table .exit)) r ⌝ }
+    ensures { λ r. ⌜
+        Wrote start (now (table .entry)) (counter (start .wire) first stride count extra levels) (now (table .exit)) r
+        ⌝ }
 {
     let base = start.wire;
     let w = count_levels(start, table, first, stride, count, extra, levels);
@@ -179,7 +188,9 @@ fn add_levels(
     requires { ⌜ Room start (addSize count levels) ⌝ }
     requires { ⌜ Below (start .wire) first stride count ⌝ }
     requires { ⌜ (stride < writerLimit) × (count < writerLimit) × (word + levels < start .wire) ⌝ }
-    ensures { λ r. ⌜ Wrote start (now (table .entry)) (addLevels (start .wire) word first stride count levels) (now (table .exit)) r ⌝ }
+    ensures { λ r. ⌜
+        Wrote start (now (table .entry)) (addLevels (start .wire) word first stride count levels) (now (table .exit)) r
+        ⌝ }
 {
     let mut w = start;
     let mut a = word;
@@ -241,7 +252,10 @@ pub fn accumulator(
     requires { ⌜ Room start (addSize count levels + (levels + 1)) ⌝ }
     requires { ⌜ Below (start .wire) first stride count ⌝ }
     requires { ⌜ (stride < writerLimit) × (count < writerLimit) × (word + levels < start .wire) ⌝ }
-    ensures { λ r. ⌜ Wrote start (now (table .entry)) (accumulator (start .wire) word first stride count levels) (now (table .exit)) r ⌝ }
+    ensures { λ r. ⌜
+        Wrote start (now (table .entry)) (accumulator (start .wire) word first stride count levels) (now (table .exit))
+        r
+        ⌝ }
 {
     let base = start.wire;
     let w = add_levels(start, table, word, first, stride, count, levels);

@@ -120,11 +120,6 @@ largest-most [] i = omega arith
 largest-most (l ∷ ls) zero = omega arith
 largest-most (l ∷ ls) (suc i) = omega (arith, largest-most ls i)
 
-pub largest-least : (ls : List ℕ) (n : ℕ) → ((i : ℕ) → getD ls i 0 ≤ n) → largest ls ≤ n
-unfolding largest
-largest-least [] n e = omega arith
-largest-least (l ∷ ls) n e = omega (arith, e 0, largest-least ls n (λ (i : ℕ). e (suc i)))
-
 pub largest-append : (ls ms : List ℕ) → largest (ls ++ ms) ≡ max (largest ls) (largest ms)
 unfolding largest
 largest-append [] ms = omega arith

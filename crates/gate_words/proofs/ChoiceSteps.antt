@@ -1,14 +1,13 @@
 -- Blocks of one gate a digit: the first digit, and the rest. Their lengths.
 -- Assumes nothing.
 use mathlib.Core.Path.{_≡_, _∙_, refl, sym, ap}
-use mathlib.Core.List.{List, [], _∷_, _++_}
-use Prim.Native.Nat.{ℕ, zero, suc, _+_, _-_, _/_, _<_, _≤_}
-use native.Mathlib.Nat.{add-zero, zero-add, suc-add}
+use mathlib.Core.List.{[], _∷_, _++_}
+use Prim.Native.Nat.{ℕ, zero, suc, _+_, _-_, _<_, _≤_}
+use native.Mathlib.Nat.{add-zero}
 use native.Mathlib.Omega.{arith}
 use lib.ListN.{length}
-use Rattle.gates.specs.Gate.{Gate}
-use Rattle.gate_words.specs.Gates.{gate, constant, andOf, muxOf}
-use Rattle.gate_words.specs.Choice.{constants, each, choose, masked, chain, chainEnd}
+use Rattle.gate_words.specs.Gates.{gate, andOf, muxOf}
+use Rattle.gate_words.specs.Choice.{each, choose, masked, chain, chainEnd}
 use Rattle.basics.proofs.Arithmetic.{count-down}
 
 -- digits that are left count down
@@ -30,11 +29,6 @@ pub masked-step : (f x i n : ℕ) → i < n → masked f (x + i) (n - i) ≡ (an
 unfolding masked
 masked-step f x i n h = rw (left-one i n h, next-place x i)
 
-pub length-constants : (v w : ℕ) → length (constants v w) ≡ w
-unfolding constants
-length-constants v zero = refl
-length-constants v (suc w) = ap suc (length-constants (v / 2) w)
-
 pub length-each : (kind x w : ℕ) → length (each kind x w) ≡ w
 unfolding each
 length-each kind x zero = refl
@@ -55,12 +49,6 @@ unfolding chain
 length-chain kind n s at d zero = refl
 length-chain kind n s at d (suc m) = ap suc (length-chain kind (n + 1) n (at + d) d m)
 
-pub constants-step : (v n : ℕ) → 0 < n → constants v n ≡ (constant v ∷ []) ++ constants (v / 2) (n - 1)
-constants-step v n h = ap (constants v) (count-down n h) ∙ first v (n - 1)
-  where
-    first : (v n : ℕ) → constants v (suc n) ≡ (constant v ∷ []) ++ constants (v / 2) n
-    first v n = unfold constants in refl
-
 pub chain-step : (kind n s at d m : ℕ) → 0 < m → chain kind n s at d m ≡ (gate kind s at 0 ∷ []) ++ chain kind (n + 1) n (at + d) d (m - 1)
 chain-step kind n s at d m h = ap (chain kind n s at d) (count-down m h) ∙ first (m - 1)
   where
@@ -80,10 +68,6 @@ pub masked-none : (f x i n : ℕ) → n ≤ i → masked f x (n - i) ≡ []
 unfolding masked
 masked-none f x i n h = let e : n - i ≡ 0 = omega arith in rw e
 
-pub constants-none : (v n : ℕ) → n ≤ 0 → constants v n ≡ []
-unfolding constants
-constants-none v n h = let e : n ≡ 0 = omega arith in rw e
-
 pub chain-none : (kind n s at d m : ℕ) → m ≤ 0 → chain kind n s at d m ≡ []
 unfolding chain
 chain-none kind n s at d m h = let e : m ≡ 0 = omega arith in rw e
@@ -93,12 +77,3 @@ pub chain-next : (n s m : ℕ) → chainEnd (n + 1) n m ≡ chainEnd n s (suc m)
 unfolding chainEnd
 chain-next n s zero = sym (add-zero n)
 chain-next n s (suc m) = omega arith
-
--- a choice of two words is one of their low parts and one of their high parts
-pub choose-parts : (f x y v w : ℕ) → choose f x y (v + w) ≡ choose f x y v ++ choose f (x + v) (y + v) w
-unfolding choose
-choose-parts f x y zero w = rw (zero-add w, add-zero x, add-zero y)
-choose-parts f x y (suc v) w =
-    let e₁ : x + suc v ≡ x + 1 + v = omega arith in
-    let e₂ : y + suc v ≡ y + 1 + v = omega arith in
-    rw (suc-add v w, e₁, e₂) (ap (λ (gs : List Gate). muxOf f x y ∷ gs) (choose-parts f (x + 1) (y + 1) v w))

@@ -16,10 +16,10 @@ use Rattle.gate_words.proofs.ChoiceSteps.{chain-next}
 use Rattle.basics.proofs.Arithmetic.{bit-cases}
 
 -- a bit that would be the other one
-not-one : {y t s : ℕ} → y ≡ 0 → (t < s → y ≡ 1) → s ≤ t
+pub not-one : {y t s : ℕ} → y ≡ 0 → (t < s → y ≡ 1) → s ≤ t
 not-one {y} {t} {s} z f = let g : ¬ (t < s) = λ q. let k = f q in omega arith in omega arith
 
-not-zero : {y t s : ℕ} → y ≡ 1 → (s ≤ t → y ≡ 0) → t < s
+pub not-zero : {y t s : ℕ} → y ≡ 1 → (s ≤ t → y ≡ 0) → t < s
 not-zero {y} {t} {s} z f = let g : ¬ (s ≤ t) = λ q. let k = f q in omega arith in omega arith
 
 module _ (W : ℕ → ℕ) (b : Binary W) where

@@ -1,17 +1,15 @@
 -- The wires of single gates in the final wires, by their numbers.
 -- Assumes nothing.
 use mathlib.Core.Path.{_≡_}
-use mathlib.Core.Logic.{⊎-elim}
 use mathlib.Core.List.{List, _∷_}
 use Prim.Native.Nat.{ℕ, zero, suc, _+_, _-_, _%_, _≤_, min, max}
 use native.Mathlib.Numerals.{add-one, add-two, add-three}
 use native.Mathlib.Omega.{arith}
 use Rattle.gates.specs.Kind.{valueOf}
 use Rattle.gates.specs.Gate.{Gate}
-use Rattle.gates.proofs.Laws.{Holds, zero-value, one-value, copy-value, not-value, and-value, or-value, xor-value, mux-zero, mux-one}
-use Rattle.gate_words.specs.Gates.{constant, copyOf, notOf, andOf, orOf, xorOf, muxOf}
+use Rattle.gates.proofs.Laws.{Holds, zero-value, one-value, copy-value, not-value, and-value, or-value, xor-value}
+use Rattle.gate_words.specs.Gates.{constant, copyOf, notOf, andOf, orOf, xorOf}
 use Rattle.gate_words.proofs.Numbers.{Binary}
-use Rattle.basics.proofs.Arithmetic.{bit-cases}
 
 -- a gate's value on the wires W
 abbrev pub valueOn : (ℕ → ℕ) → Gate → ℕ
@@ -51,8 +49,3 @@ module _ (W : ℕ → ℕ) (b : Binary W) where
 
   pub xor-is : (x y : ℕ) → valueOn W (xorOf x y) ≡ (W x + W y) % 2
   xor-is x y = xor-value (W x) (W y) (W 0) (b x) (b y)
-
-  -- of a choice, a fact about both outcomes is a fact about it
-  pub mux-is : (f x y : ℕ) (P : ℕ → Type 0) → (W f ≡ 1 → P (W x)) → (W f ≡ 0 → P (W y)) → P (valueOn W (muxOf f x y))
-  mux-is f x y P p q =
-      ⊎-elim (λ (e : W f ≡ 0). rw (mux-zero (W f) (W x) (W y) e) (q e)) (λ (e : W f ≡ 1). rw (mux-one (W f) (W x) (W y) e) (p e)) (bit-cases (W f) (b f))

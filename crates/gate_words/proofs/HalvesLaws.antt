@@ -9,19 +9,19 @@ use native.Mathlib.Omega.{arith}
 use lib.ListN.{length, length-append}
 use Rattle.gates.specs.Gate.{Gate}
 use Rattle.gates.proofs.Laws.{Holds, AllGood, holds-append, mux-zero, mux-one}
-use Rattle.gate_words.specs.Gates.{andOf, orOf, xorOf, muxOf}
+use Rattle.gate_words.specs.Gates.{orOf, xorOf, muxOf}
 use Rattle.gate_words.specs.Word.{ones, number, Below}
 use Rattle.gate_words.specs.Choice.{anyOf, chainEnd}
 use Rattle.gate_words.specs.Comparison.{differences, above}
-use Rattle.gate_words.specs.Halves.{anyOfHalves, unequalHalves, unequalSpan, unequalAt, aboveHalves, highUnequalAt, compareHalves, compareSpan, aboveAt, compareBothWays, unequalCut, compareCut}
+use Rattle.gate_words.specs.Halves.{anyOfHalves, unequalHalves, unequalSpan, unequalAt, aboveHalves, highUnequalAt, compareHalves, compareSpan, aboveAt, unequalCut, compareCut}
 use Rattle.gate_words.proofs.Numbers.{Binary, number-none, number-more, number-split, number-less, ones-none, ones-more}
-use Rattle.gate_words.proofs.GateValues.{holds-first, holds-rest, and-is, or-is, xor-is}
+use Rattle.gate_words.proofs.GateValues.{holds-first, holds-rest, or-is, xor-is}
 use Rattle.gate_words.proofs.ChoiceLaws.{any-one, any-zero}
 use Rattle.gate_words.proofs.ChoiceSteps.{length-chain}
 use Rattle.gate_words.proofs.WordSteps.{length-differences, length-above}
 use Rattle.gate_words.proofs.ComparisonLaws.{above-words}
 use Rattle.gate_words.proofs.Ends.{chain-below}
-use Rattle.gate_words.proofs.PointsBack.{behind, good-and, good-or, good-xor, good-mux, any-good, differences-good, above-good}
+use Rattle.gate_words.proofs.PointsBack.{behind, good-or, good-mux, any-good, differences-good, above-good}
 
 -- e says that two numbers differ; where they do, s says that the first is larger
 pub record Tells (e s a c : ℕ) : Type 0 where
@@ -79,11 +79,6 @@ pub length-compare-halves : (n x y l h : ℕ) → length (compareHalves n x y l 
 unfolding compareHalves
 length-compare-halves n x y l h =
     omega (arith, length-append (unequalHalves n x y l h) (aboveHalves (n + unequalSpan (l + h)) n x (highUnequalAt n l h) l h), length-unequal-halves n x y l h, length-above-halves (n + unequalSpan (l + h)) n x (highUnequalAt n l h) l h)
-
-pub length-both-ways : (n x y l h : ℕ) → length (compareBothWays n x y l h) ≡ compareSpan (l + h) + 2
-unfolding compareBothWays
-length-both-ways n x y l h =
-    omega (arith, length-append (compareHalves n x y l h) (andOf (unequalAt n (l + h)) (aboveAt n x (l + h)) ∷ xorOf (unequalAt n (l + h)) (n + compareSpan (l + h)) ∷ []), length-compare-halves n x y l h)
 
 -- with and without a high half
 
@@ -165,16 +160,6 @@ compare-halves-good n x y l h hx hy =
     behind n (unequalSpan (l + h)) (unequalHalves n x y l h) (aboveHalves (n + unequalSpan (l + h)) n x (highUnequalAt n l h) l h)
     (length-unequal-halves n x y l h) (unequal-halves-good n x y l h hx hy)
     (above-halves-good (n + unequalSpan (l + h)) n x (highUnequalAt n l h) l h (omega arith) (omega arith) (high-unequal-below n l h (n + unequalSpan (l + h)) (omega arith)))
-
-pub both-ways-good : (n x y l h : ℕ) → x + suc (l + h) ≤ n → y + suc (l + h) ≤ n → AllGood n (compareBothWays n x y l h)
-unfolding compareBothWays
-both-ways-good n x y l h hx hy =
-    let m = n + compareSpan (l + h) in
-    let e = chain-below (n + suc (l + h)) n (l + h) m (omega arith) (omega arith) in
-    let s = chain-below (n + unequalSpan (l + h)) x (l + h) m (omega arith) (omega arith) in
-    behind n (compareSpan (l + h)) (compareHalves n x y l h) (andOf (unequalAt n (l + h)) (aboveAt n x (l + h)) ∷ xorOf (unequalAt n (l + h)) (n + compareSpan (l + h)) ∷ [])
-    (length-compare-halves n x y l h) (compare-halves-good n x y l h hx hy)
-    (good-and m (unequalAt n (l + h)) (aboveAt n x (l + h)) e s, (good-xor (suc m) (unequalAt n (l + h)) m (omega arith) (omega arith), tt))
 
 -- differences of the low digits, and of those above them
 differences-parts : (x y v w : ℕ) → differences x y (v + w) ≡ differences x y v ++ differences (x + v) (y + v) w
@@ -394,30 +379,6 @@ module _ (W : ℕ → ℕ) (b : Binary W) where
   unequal-halves-one n x y l h e g =
       let u = cut-unequal n x y l h g in
       any-halves-one (n + suc (l + h)) n (n + 1) l h (positive (ones W n 1 (suc (l + h))) (W n + ones W (n + 1) 1 (l + h)) (ones-more W n 1 (l + h)) (λ z. e (same-none n x y (suc (l + h)) z (u .0)))) (u .1)
-
-  -- both ways: above, and below
-  pub both-ways-law : (n x y l h : ℕ) → Holds W n (compareBothWays n x y l h)
-      → (number W y 1 (suc (l + h)) < number W x 1 (suc (l + h)) → (W (n + compareSpan (l + h)) ≡ 1) × (W (n + compareSpan (l + h) + 1) ≡ 0))
-      × (number W x 1 (suc (l + h)) < number W y 1 (suc (l + h)) → (W (n + compareSpan (l + h)) ≡ 0) × (W (n + compareSpan (l + h) + 1) ≡ 1))
-      × (number W x 1 (suc (l + h)) ≡ number W y 1 (suc (l + h)) → (W (n + compareSpan (l + h)) ≡ 0) × (W (n + compareSpan (l + h) + 1) ≡ 0))
-  unfolding compareBothWays
-  both-ways-law n x y l h g =
-      let e = unequalAt n (l + h) in
-      let s = aboveAt n x (l + h) in
-      let m = n + compareSpan (l + h) in
-      let rest = andOf e s ∷ xorOf e m ∷ [] in
-      let c = holds-append W n (compareHalves n x y l h) rest g in
-      let r = subst (λ (i : ℕ). Holds W (n + i) rest) (length-compare-halves n x y l h) (c .1) in
-      let t = compare-halves-law n x y l h (c .0) in
-      let u = holds-first W m (andOf e s) (xorOf e m ∷ []) r ∙ and-is W b e s in
-      let v = holds-first W (m + 1) (xorOf e m) [] (holds-rest W m (andOf e s) (xorOf e m ∷ []) r) ∙ xor-is W b e m in (
-        (λ q. let d = t .differ (λ z. unlike q (sym z)) in let o = t .over q in (omega arith, omega arith)),
-        (λ q. let d = t .differ (λ z. unlike q z) in let o = t .under q in (omega arith, omega arith)),
-        (λ q. let d = t .same q in (omega (arith, b s), omega (arith, b s))),
-      )
-    where
-      unlike : {i j : ℕ} → i < j → i ≡ j → ⊥
-      unlike q z = omega arith
 
 -- a word that is cut has all its digits
 whole-word : (w h : ℕ) → h ≤ w → w - h + h ≡ w

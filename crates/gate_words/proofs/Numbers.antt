@@ -10,11 +10,6 @@ use Rattle.gate_words.specs.Word.{ones, number}
 abbrev pub Binary : (ℕ → ℕ) → Type 0
 Binary W = (i : ℕ) → W i ≤ 1
 
-pub ones-most : (W : ℕ → ℕ) → Binary W → (at d m : ℕ) → ones W at d m ≤ m
-unfolding ones
-ones-most W b at d zero = omega arith
-ones-most W b at d (suc m) = omega (arith, b at, ones-most W b (at + d) d m)
-
 pub number-less : (W : ℕ → ℕ) → Binary W → (at d w : ℕ) → number W at d w < 2 ^ w
 unfolding number
 number-less W b at d zero = omega arith

@@ -16,7 +16,7 @@ use Rattle.gates.proofs.Laws.{AllGood, good-none, good-one, good-two, good-thre
 use Rattle.gate_words.specs.Gates.{constant, copyOf, notOf, andOf, orOf, xorOf, muxOf}
 use Rattle.gate_words.specs.Word.{Below}
 use Rattle.gate_words.specs.Adder.{fullAdder, halfAdder, increment}
-use Rattle.gate_words.specs.Choice.{constants, each, choose, masked, chain, chainEnd}
+use Rattle.gate_words.specs.Choice.{each, choose, masked, chain, chainEnd}
 use Rattle.gate_words.specs.Comparison.{firstDigit, compareWords, differences, above}
 use Rattle.gate_words.specs.Counter.{level, adders, levelSum, countLevels, countDigits, counter, countSize, Countable, addLevels, addDigits, accumulator, addSize}
 use Rattle.gate_words.proofs.Places.{below-more, below-first}
@@ -72,11 +72,6 @@ half-good n s u e hs hu =
 pub increment-good : (n s : ℕ) → s < n → AllGood n (increment n s)
 unfolding increment
 increment-good n s hs = (good-not n s hs, (good-copy (suc n) n (omega arith), (good-copy (suc (suc n)) s (omega arith), tt)))
-
-pub constants-good : (n v w : ℕ) → AllGood n (constants v w)
-unfolding constants
-constants-good n v zero = tt
-constants-good n v (suc w) = (good-constant n v, constants-good (suc n) (v / 2) w)
 
 pub each-good : (n kind x w : ℕ) → kind < 8 → operandsOf kind ≡ 1 → x + w ≤ n → AllGood n (each kind x w)
 unfolding each

@@ -1,14 +1,9 @@
 -- Blocks of one gate a wire: constants, copies, complements, one of two words, a word or 0; whether one of some wires
 -- is 1, and their sum modulo 2.
 use mathlib.Core.List.{List, [], _∷_}
-use Prim.Native.Nat.{ℕ, zero, suc, _+_, _/_}
+use Prim.Native.Nat.{ℕ, zero, suc, _+_}
 use Rattle.gates.specs.Gate.{Gate}
-use Rattle.gate_words.specs.Gates.{gate, constant, andOf, muxOf}
-
--- The w digits of the public number v, lowest first.
-unfoldable pub constants : ℕ → ℕ → List Gate
-constants v zero = []
-constants v (suc w) = constant v ∷ constants (v / 2) w
+use Rattle.gate_words.specs.Gates.{gate, andOf, muxOf}
 
 -- A gate of a kind with one operand for each of w digits, the word's first wire being x.
 unfoldable pub each : ℕ → ℕ → ℕ → List Gate

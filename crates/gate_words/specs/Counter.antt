@@ -36,7 +36,8 @@ countLevels n at d m extra (suc r) =
 unfoldable pub countDigits : ℕ → ℕ → ℕ → ℕ → ℕ → List Gate
 countDigits n at m extra zero = copyOf at ∷ []
 countDigits n at m extra (suc r) =
-    copyOf (levelSum n at (m - 1) (extra % 2)) ∷ countDigits (n + 3 * adders (m - 1) (extra % 2)) (n + 2) (adders (m - 1) (extra % 2)) (extra / 2) r
+    copyOf (levelSum n at (m - 1) (extra % 2))
+    ∷ countDigits (n + 3 * adders (m - 1) (extra % 2)) (n + 2) (adders (m - 1) (extra % 2)) (extra / 2) r
 
 -- Counts m bits and the public number `extra` in r + 1 digits, which are the last r + 1 gates.
 unfoldable pub counter : ℕ → ℕ → ℕ → ℕ → ℕ → ℕ → List Gate

@@ -4,7 +4,7 @@
 use mathlib.Core.List.{List, [], _∷_, _++_}
 use Prim.Native.Nat.{ℕ, zero, suc, _+_, _-_}
 use Rattle.gates.specs.Gate.{Gate}
-use Rattle.gate_words.specs.Gates.{andOf, orOf, xorOf, muxOf}
+use Rattle.gate_words.specs.Gates.{orOf, muxOf}
 use Rattle.gate_words.specs.Choice.{anyOf, chainEnd}
 use Rattle.gate_words.specs.Comparison.{differences, above}
 
@@ -51,14 +51,6 @@ compareSpan w = unequalSpan w + w
 
 abbrev pub aboveAt : ℕ → ℕ → ℕ → ℕ
 aboveAt n x w = chainEnd (n + unequalSpan w) x w
-
--- The same told both ways: the last wire but one says that x is above y, and the last one that it is below.
-unfoldable pub compareBothWays : ℕ → ℕ → ℕ → ℕ → ℕ → List Gate
-compareBothWays n x y l h =
-    compareHalves n x y l h
-    ++ (andOf (unequalAt n (l + h)) (aboveAt n x (l + h))
-    ∷ xorOf (unequalAt n (l + h)) (n + compareSpan (l + h))
-    ∷ [])
 
 -- Words of w + 1 digits, of which the h highest are the high half. There are at most w.
 abbrev pub unequalCut : ℕ → ℕ → ℕ → ℕ → ℕ → List Gate

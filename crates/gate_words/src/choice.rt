@@ -7,7 +7,7 @@ ghost use Rattle.gates.specs.Kind.{operandsOf};
 ghost use Rattle.gate_words.specs.Limits.{writerLimit};
 ghost use Rattle.gate_words.specs.Word.{Below};
 ghost use Rattle.gate_words.specs.Writing.{Room, Wrote};
-ghost use Rattle.gate_words.specs.Choice.{constants, each, copies, complements, choose, masked, chain};
+ghost use Rattle.gate_words.specs.Choice.{each, copies, complements, choose, masked, chain};
 ghost use Rattle.gate_words.specs.Choice.{chainEnd, anyOf, allOf, parity};
 
 // The last wire of a chain of so many gates.
@@ -19,22 +19,6 @@ pub fn chain_end(n: u32, s: u32, count: u32) -> u32
 }
 
 impl Writer {
-    // The digits of a public number.
-    pub fn constants(self, table: &mut [u32], value: u32, digits: u32) -> Writer
-        requires { ⌜ Room self digits ⌝ }
-        ensures { λ r. ⌜ Wrote self (now (table .entry)) (constants value digits) (now (table .exit)) r ⌝ }
-    {
-        let mut w = self;
-        let mut v = value;
-        let mut left = digits;
-        while 0 < left {
-            w = w.emit(table, v % 2, 0, 0, 0);
-            v /= 2;
-            left -= 1;
-        }
-        w
-    }
-
     // A gate of a kind with one operand for each digit of a word.
     fn each(self, table: &mut [u32], kind: u32, x: u32, digits: u32) -> Writer
         requires { ⌜ Room self digits ⌝ }
@@ -109,7 +93,9 @@ impl Writer {
         requires { ⌜ Room self count ⌝ }
         requires { ⌜ Below (self .wire) first stride count ⌝ }
         requires { ⌜ (stride < writerLimit) × (operandsOf kind ≡ 2) ⌝ }
-        ensures { λ r. ⌜ Wrote self (now (table .entry)) (chain kind (self .wire) s first stride count) (now (table .exit)) r ⌝ }
+        ensures { λ r. ⌜
+            Wrote self (now (table .entry)) (chain kind (self .wire) s first stride count) (now (table .exit)) r
+            ⌝ }
     {
         let mut w = self;
         let mut last = s;
@@ -130,7 +116,9 @@ impl Writer {
         requires { ⌜ Room self count ⌝ }
         requires { ⌜ Below (self .wire) first stride count ⌝ }
         requires { ⌜ stride < writerLimit ⌝ }
-        ensures { λ r. ⌜ Wrote self (now (table .entry)) (anyOf (self .wire) s first stride count) (now (table .exit)) r ⌝ }
+        ensures { λ r. ⌜
+            Wrote self (now (table .entry)) (anyOf (self .wire) s first stride count) (now (table .exit)) r
+            ⌝ }
     {
         self.chain(table, kind::OR, s, first, stride, count)
     }
@@ -140,7 +128,9 @@ impl Writer {
         requires { ⌜ Room self count ⌝ }
         requires { ⌜ Below (self .wire) first stride count ⌝ }
         requires { ⌜ stride < writerLimit ⌝ }
-        ensures { λ r. ⌜ Wrote self (now (table .entry)) (allOf (self .wire) s first stride count) (now (table .exit)) r ⌝ }
+        ensures { λ r. ⌜
+            Wrote self (now (table .entry)) (allOf (self .wire) s first stride count) (now (table .exit)) r
+            ⌝ }
     {
         self.chain(table, kind::AND, s, first, stride, count)
     }
@@ -150,7 +140,9 @@ impl Writer {
         requires { ⌜ Room self count ⌝ }
         requires { ⌜ Below (self .wire) first stride count ⌝ }
         requires { ⌜ stride < writerLimit ⌝ }
-        ensures { λ r. ⌜ Wrote self (now (table .entry)) (parity (self .wire) s first stride count) (now (table .exit)) r ⌝ }
+        ensures { λ r. ⌜
+            Wrote self (now (table .entry)) (parity (self .wire) s first stride count) (now (table .exit)) r
+            ⌝ }
     {
         self.chain(table, kind::XOR, s, first, stride, count)
     }

@@ -1,32 +1,10 @@
 // Comparisons.
 use crate::writer::Writer;
 use gates::kind;
-ghost use mathlib.Core.Path.{_≡_};
-ghost use Prim.Native.Nat.{_+_, _*_, _≤_, _<_};
+ghost use Prim.Native.Nat.{_+_, _≤_, _<_};
 ghost use lib.ListN.{length};
-ghost use Rattle.gate_words.specs.Limits.{writerLimit};
 ghost use Rattle.gate_words.specs.Writing.{Room, Wrote};
-ghost use Rattle.gate_words.specs.Comparison.{firstDigit, compareWords, upEnd, downEnd, differences, above};
-
-// The wire that says of all digits that the first word is above the second.
-pub fn up_end(n: u32, up: u32, digits: u32) -> u32
-    requires { ⌜ n + 3 * digits < writerLimit ⌝ }
-    ensures { λ r. ⌜ r ≡ upEnd n up digits ⌝ }
-{
-    if digits == 0 { up } else { n + 3 * digits - 2 }
-}
-
-// The wire that says so of the second word and the first.
-pub fn down_end(n: u32, down: u32, digits: u32) -> u32
-    requires { ⌜ n + 3 * digits < writerLimit ⌝ }
-    ensures { λ r. ⌜ r ≡ downEnd n down digits ⌝ }
-{
-    if digits == 0 {
-        down
-    } else {
-        n + 3 * digits - 1
-    }
-}
+ghost use Rattle.gate_words.specs.Comparison.{firstDigit, compareWords, differences, above};
 
 impl Writer {
     // Two digits compared both ways, with one conditional gate.
@@ -43,7 +21,9 @@ impl Writer {
     // One digit more of a comparison both ways.
     fn compare_next(self, table: &mut [u32], x: u32, y: u32, up: u32, down: u32) -> Writer
         requires { ⌜ Room self 3 ⌝ }
-        ensures { λ r. ⌜ Wrote self (now (table .entry)) (compareWords (self .wire) x y up down 1) (now (table .exit)) r ⌝ }
+        ensures { λ r. ⌜
+            Wrote self (now (table .entry)) (compareWords (self .wire) x y up down 1) (now (table .exit)) r
+            ⌝ }
     {
         let n = self.wire;
         let first = self.emit(table, kind::XOR, x, y, 0);
@@ -63,7 +43,9 @@ impl Writer {
     ) -> Writer
         requires { ⌜ Room self (length (compareWords (self .wire) x y up down digits)) ⌝ }
         requires { ⌜ (x + digits ≤ self .wire) × (y + digits ≤ self .wire) ⌝ }
-        ensures { λ r. ⌜ Wrote self (now (table .entry)) (compareWords (self .wire) x y up down digits) (now (table .exit)) r ⌝ }
+        ensures { λ r. ⌜
+            Wrote self (now (table .entry)) (compareWords (self .wire) x y up down digits) (now (table .exit)) r
+            ⌝ }
     {
         let mut w = self;
         let mut above = up;
@@ -99,7 +81,9 @@ impl Writer {
     pub fn above(self, table: &mut [u32], differ: u32, x: u32, s: u32, digits: u32) -> Writer
         requires { ⌜ Room self digits ⌝ }
         requires { ⌜ (differ + digits ≤ self .wire) × (x + digits ≤ self .wire) ⌝ }
-        ensures { λ r. ⌜ Wrote self (now (table .entry)) (above (self .wire) differ x s digits) (now (table .exit)) r ⌝ }
+        ensures { λ r. ⌜
+            Wrote self (now (table .entry)) (above (self .wire) differ x s digits) (now (table .exit)) r
+            ⌝ }
     {
         let mut w = self;
         let mut last = s;

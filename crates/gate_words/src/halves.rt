@@ -8,7 +8,7 @@ ghost use Prim.Native.Nat.{suc, _+_, _≤_, _<_};
 ghost use Rattle.gate_words.specs.Limits.{writerLimit};
 ghost use Rattle.gate_words.specs.Writing.{Room, Wrote};
 ghost use Rattle.gate_words.specs.Halves.{anyOfHalves, unequalHalves, unequalSpan, unequalAt, aboveHalves};
-ghost use Rattle.gate_words.specs.Halves.{highUnequalAt, compareHalves, compareSpan, aboveAt, compareBothWays};
+ghost use Rattle.gate_words.specs.Halves.{highUnequalAt, compareHalves, compareSpan, aboveAt};
 
 // The wire that says that words of above + 1 digits differ, of a comparison from wire n on.
 pub fn unequal_at(n: u32, above: u32) -> u32
@@ -42,7 +42,9 @@ impl Writer {
     fn any_of_halves(self, table: &mut [u32], s: u32, first: u32, low: u32, high: u32) -> Writer
         requires { ⌜ Room self (low + high) ⌝ }
         requires { ⌜ first + (low + high) ≤ self .wire ⌝ }
-        ensures { λ r. ⌜ Wrote self (now (table .entry)) (anyOfHalves (self .wire) s first low high) (now (table .exit)) r ⌝ }
+        ensures { λ r. ⌜
+            Wrote self (now (table .entry)) (anyOfHalves (self .wire) s first low high) (now (table .exit)) r
+            ⌝ }
     {
         let n = self.wire;
         let lower = self.any_of(table, s, first, 1, low);
@@ -60,7 +62,9 @@ impl Writer {
     fn above_halves(self, table: &mut [u32], f: u32, x: u32, e: u32, low: u32, high: u32) -> Writer
         requires { ⌜ Room self (low + high) ⌝ }
         requires { ⌜ (f + suc (low + high) ≤ self .wire) × (x + suc (low + high) ≤ self .wire) ⌝ }
-        ensures { λ r. ⌜ Wrote self (now (table .entry)) (aboveHalves (self .wire) f x e low high) (now (table .exit)) r ⌝ }
+        ensures { λ r. ⌜
+            Wrote self (now (table .entry)) (aboveHalves (self .wire) f x e low high) (now (table .exit)) r
+            ⌝ }
     {
         let n = self.wire;
         let lower = self.above(table, f + 1, x + 1, x, low);
@@ -77,7 +81,9 @@ impl Writer {
     pub fn unequal_halves(self, table: &mut [u32], x: u32, y: u32, low: u32, high: u32) -> Writer
         requires { ⌜ Room self (unequalSpan (low + high)) ⌝ }
         requires { ⌜ (x + suc (low + high) ≤ self .wire) × (y + suc (low + high) ≤ self .wire) ⌝ }
-        ensures { λ r. ⌜ Wrote self (now (table .entry)) (unequalHalves (self .wire) x y low high) (now (table .exit)) r ⌝ }
+        ensures { λ r. ⌜
+            Wrote self (now (table .entry)) (unequalHalves (self .wire) x y low high) (now (table .exit)) r
+            ⌝ }
     {
         let n = self.wire;
         let differ = self.differences(table, x, y, low + high + 1);
@@ -88,24 +94,13 @@ impl Writer {
     pub fn compare_halves(self, table: &mut [u32], x: u32, y: u32, low: u32, high: u32) -> Writer
         requires { ⌜ Room self (compareSpan (low + high)) ⌝ }
         requires { ⌜ (x + suc (low + high) ≤ self .wire) × (y + suc (low + high) ≤ self .wire) ⌝ }
-        ensures { λ r. ⌜ Wrote self (now (table .entry)) (compareHalves (self .wire) x y low high) (now (table .exit)) r ⌝ }
+        ensures { λ r. ⌜
+            Wrote self (now (table .entry)) (compareHalves (self .wire) x y low high) (now (table .exit)) r
+            ⌝ }
     {
         let n = self.wire;
         let e = high_unequal_at(n, low, high);
         let differ = self.unequal_halves(table, x, y, low, high);
         differ.above_halves(table, n, x, e, low, high)
-    }
-
-    // The same told both ways: above, and below.
-    pub fn compare_both_ways(self, table: &mut [u32], x: u32, y: u32, low: u32, high: u32) -> Writer
-        requires { ⌜ Room self (compareSpan (low + high) + 2) ⌝ }
-        requires { ⌜ (x + suc (low + high) ≤ self .wire) × (y + suc (low + high) ≤ self .wire) ⌝ }
-        ensures { λ r. ⌜ Wrote self (now (table .entry)) (compareBothWays (self .wire) x y low high) (now (table .exit)) r ⌝ }
-    {
-        let e = unequal_at(self.wire, low + high);
-        let s = above_at(self.wire, x, low + high);
-        let compared = self.compare_halves(table, x, y, low, high);
-        let up = compared.emit(table, kind::AND, e, s, 0);
-        up.emit(table, kind::XOR, e, compared.wire, 0)
     }
 }

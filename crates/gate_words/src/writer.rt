@@ -28,7 +28,11 @@ fn operand(i: u32, count: u32, wire: u32) -> u32
 // Stores the four numbers of a gate where the table has room for them.
 fn store(table: &mut [u32], at: usize, kind: u32, a: u32, b: u32, c: u32)
     requires { ⌜ at < 4 * writerLimit ⌝ }
-    ensures { λ _. ⌜ now (table .exit) ≡ cond (ltb (at + 3) (length (now (table .entry)))) (sets (now (table .entry)) at (kind ∷ a ∷ b ∷ c ∷ [])) (now (table .entry)) ⌝ }
+    ensures { λ _. ⌜
+        now (table .exit)
+        ≡ cond (ltb (at + 3) (length (now (table .entry)))) (sets (now (table .entry)) at (kind ∷ a ∷ b ∷ c ∷ []))
+        (now (table .entry))
+        ⌝ }
 {
     if at + 3 < table.len() {
         table[at] = kind;

@@ -8,17 +8,17 @@ use lib.Dec.{T}
 use lib.ListN.{length, length-append}
 use Rattle.gates.specs.Gate.{Gate}
 use Rattle.gates.specs.Test.{goodGate}
-use Rattle.gates.proofs.Laws.{AllGood, good-append, Holds, holds-append, operand-counts}
+use Rattle.gates.proofs.Laws.{AllGood, good-append, operand-counts}
 use Rattle.gate_words.specs.Word.{Below}
 use Rattle.gate_words.specs.Halves.{unequalCut, unequalSpan, compareCut, compareSpan}
 use Rattle.gate_words.specs.Reach.{reach, reachSpan}
-use Rattle.gate_words.specs.Choice.{constants, copies, complements, choose, anyOf, parity}
+use Rattle.gate_words.specs.Choice.{copies, complements, choose, parity}
 use Rattle.gate_words.specs.Counter.{counter, countSize, accumulator, addSize, Countable}
-use Rattle.gate_words.proofs.ChoiceSteps.{length-constants, length-each, length-choose, length-chain}
+use Rattle.gate_words.proofs.ChoiceSteps.{length-each, length-choose, length-chain}
 use Rattle.gate_words.proofs.HalvesLaws.{length-unequal-cut, unequal-cut-good, length-compare-cut, compare-cut-good}
 use Rattle.gate_words.proofs.ReachLaws.{length-reach, reach-good}
 use Rattle.gate_words.proofs.CounterSteps.{length-counter, length-accumulator}
-use Rattle.gate_words.proofs.PointsBack.{constants-good, copies-good, complements-good, choose-good, any-good, chain-good, counter-good, accumulator-good}
+use Rattle.gate_words.proofs.PointsBack.{copies-good, complements-good, choose-good, chain-good, counter-good, accumulator-good}
 
 -- a block of m gates, well-formed where its first gate makes wire n
 pub record Block (n : ℕ) (gs : List Gate) (m : ℕ) : Type 0 where
@@ -42,16 +42,6 @@ sized {n} {l} {m} {gs} e a = subst (Block n gs) e a
 pub gate-block : {n m : ℕ} {g : Gate} {gs : List Gate} → T (goodGate n g) → Block (suc n) gs m → Block n (g ∷ gs) (suc m)
 gate-block {n} {m} {g} {gs} t a = record { long = ap suc (a .long); good = (t, a .good) }
 
--- the wires of two blocks
-pub split : (W : ℕ → ℕ) {n k l m : ℕ} {gs hs : List Gate} → Block n gs l → n + l ≡ k → Block k hs m → Holds W n (gs ++ hs) → Holds W n gs × Holds W k hs
-split W {n} {k} {l} {m} {gs} {hs} a e b h =
-    let s = holds-append W n gs hs h in
-    (s .0, subst (λ (i : ℕ). Holds W i hs) (ap (λ (i : ℕ). n + i) (a .long) ∙ e) (s .1))
-
--- the blocks of words
-pub constants-block : (n v w : ℕ) → Block n (constants v w) w
-constants-block n v w = record { long = length-constants v w; good = constants-good n v w }
-
 pub copies-block : (n x w : ℕ) → x + w ≤ n → Block n (copies x w) w
 copies-block n x w h = record { long = length-each 2 x w; good = copies-good n x w h }
 
@@ -60,9 +50,6 @@ complements-block n x w h = record { long = length-each 3 x w; good = complement
 
 pub choose-block : (n f x y w : ℕ) → f < n → x + w ≤ n → y + w ≤ n → Block n (choose f x y w) w
 choose-block n f x y w hf hx hy = record { long = length-choose f x y w; good = choose-good n f x y w hf hx hy }
-
-pub any-block : (n s at d m : ℕ) → s < n → Below n at d m → Block n (anyOf n s at d m) m
-any-block n s at d m hs bl = record { long = length-chain 5 n s at d m; good = any-good n s at d m hs bl }
 
 pub unequal-block : (n x y r h : ℕ) → h ≤ r → x + suc r ≤ n → y + suc r ≤ n → Block n (unequalCut n x y r h) (unequalSpan r)
 unequal-block n x y r h q hx hy = record { long = length-unequal-cut n x y r h q; good = unequal-cut-good n x y r h q hx hy }

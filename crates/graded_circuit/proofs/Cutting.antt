@@ -26,10 +26,3 @@ module _ (W : ℕ → ℕ) (n : ℕ) where
       let s = cut2 (gs ++ hs ++ is) js m (omega (arith, length-append (gs ++ hs) is, length-append gs hs)) h in
       let t = cut3 gs hs is k l e₁ e₂ (s .0) in
       (t .0, t .1, t .2, s .1)
-
-  pub cut5 : (gs hs is js ks : List Gate) (k l m o : ℕ) → n + length gs ≡ k → k + length hs ≡ l → l + length is ≡ m → m + length js ≡ o
-      → Holds W n (gs ++ hs ++ is ++ js ++ ks) → Holds W n gs × Holds W k hs × Holds W l is × Holds W m js × Holds W o ks
-  cut5 gs hs is js ks k l m o e₁ e₂ e₃ e₄ h =
-      let s = cut2 (gs ++ hs ++ is ++ js) ks o (omega (arith, length-append (gs ++ hs ++ is) js, length-append (gs ++ hs) is, length-append gs hs)) h in
-      let t = cut4 gs hs is js k l m e₁ e₂ e₃ (s .0) in
-      (t .0, t .1, t .2, t .3, s .1)

@@ -9,8 +9,6 @@ use native.Mathlib.Omega.{arith}
 use lib.ListN.{length}
 use borrow.Author.Tests.{ne-eqb}
 use Rattle.gates.specs.Gate.{Gate}
-use Rattle.gates.specs.Board.{conditionalCount}
-use Rattle.gates.proofs.Counting.{count-most}
 use Rattle.jury.specs.declared.shape.Shape.{Shape}
 use Rattle.jury.specs.Shape.{gradedLimits}
 use Rattle.jury.specs.Width.{widthOf}
@@ -57,7 +55,3 @@ own-list-keeps-the-bound s e = either s (gateBound s) e (least-bound s) bound
 -- no list of that length is too long for the tester
 pub own-list-short : (s : Shape) → gradedLimits s ≡ true → length (ownList s) ≤ 1048576
 own-list-short s e = either s 1048576 e (omega arith) (λ l. omega (arith, circuit-small s e l))
-
--- and no more gates are conditional than there are
-pub own-list-conditional : (s : Shape) → conditionalCount (ownList s) ≤ length (ownList s)
-own-list-conditional s = count-most (ownList s)

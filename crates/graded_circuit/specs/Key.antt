@@ -39,6 +39,3 @@ candidateSpan p = countSize (p .ballots) (p .offset) (p .digits) + laterSpan p (
 -- In the key at x: the low digits of the sum of grade g, and whether the median grade is worse than g.
 abbrev pub lowAt : Plan → ℕ → ℕ → ℕ
 lowAt p x g = x + g * wordSpan p
-
-abbrev pub worseAt : Plan → ℕ → ℕ → ℕ
-worseAt p x g = lowAt p x g + p .digits

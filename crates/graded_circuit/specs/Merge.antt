@@ -22,10 +22,6 @@ stillWon at stays zero = []
 stillWon at stays (suc zero) = copyOf stays ∷ []
 stillWon at stays (suc (suc m)) = bothOf at stays (suc (suc m))
 
--- Behind the contest of the keys x and y: x comes first; y comes first; x's group stays; y's group stays.
-abbrev pub verdictAt : Plan → ℕ → ℕ
-verdictAt p n = resultAt p n + 2
-
 unfoldable pub verdict : ℕ → List Gate
 verdict q = andOf q (q + 1) ∷ xorOf q (q + 2) ∷ notOf (q + 3) ∷ notOf (q + 2) ∷ []
 

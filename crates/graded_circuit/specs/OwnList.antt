@@ -60,7 +60,8 @@ unfoldable pub levels : Plan → ℕ → ℕ → ℕ → ℕ → List Gate
 levels p zero n c m = []
 levels p (suc r) n c m =
     cond (leb m 1) []
-    (levels p r n c (m / 2) ++ levels p r (otherAt p r n m) (c + m / 2) (m - m / 2) ++ halvesMerge p r n c m ++ halvesBetter p r n c m)
+    (levels p r n c (m / 2) ++ levels p r (otherAt p r n m) (c + m / 2) (m - m / 2) ++ halvesMerge p r n c m
+    ++ halvesBetter p r n c m)
 
 -- Eight candidates need three levels. The last one keeps no key, and its wires are the last k gates: they say who has
 -- won.
@@ -74,7 +75,8 @@ unfoldable pub circuit : Plan → List Gate
 circuit p =
     candidates p (p .inputs) 0 (p .candidates)
     ++ levels p lowLevels (levelsAt p) 0 (p .candidates / 2)
-    ++ levels p lowLevels (otherAt p lowLevels (levelsAt p) (p .candidates)) (p .candidates / 2) (p .candidates - p .candidates / 2)
+    ++ levels p lowLevels (otherAt p lowLevels (levelsAt p) (p .candidates)) (p .candidates / 2)
+    (p .candidates - p .candidates / 2)
     ++ halvesMerge p lowLevels (levelsAt p) 0 (p .candidates)
 
 -- A single candidate wins: one gate says so.

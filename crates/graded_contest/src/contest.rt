@@ -39,7 +39,10 @@ fn one_sum(
 ) -> Writer
     requires { ⌜ Room w (compareSpan above + 2) ⌝ }
     requires { ⌜ (x + suc above ≤ w .wire) × (y + suc above ≤ w .wire) × (high ≤ above) ⌝ }
-    ensures { λ r. ⌜ Wrote w (now (table .entry)) (compareCut (w .wire) x y above high ++ (orOf e (unequalAt (w .wire) above) ∷ muxOf e s (aboveAt (w .wire) x above) ∷ [])) (now (table .exit)) r ⌝ }
+    ensures { λ r. ⌜
+        Wrote w (now (table .entry)) (compareCut (w .wire) x y above high
+        ++ (orOf e (unequalAt (w .wire) above) ∷ muxOf e s (aboveAt (w .wire) x above) ∷ [])) (now (table .exit)) r
+        ⌝ }
 {
     let differ = unequal_at(w.wire, above);
     let first = above_at(w.wire, x, above);
@@ -53,7 +56,9 @@ fn lower(w: Writer, table: &mut [u32], p: Plan, x: u32, y: u32, e: u32, s: u32, 
     requires { ⌜ Planned p ⌝ }
     requires { ⌜ Room w (lowerSpan (p .digits) (p .grades - 2) + 2) ⌝ }
     requires { ⌜ (x + keySpan p ≤ w .wire) × (y + keySpan p ≤ w .wire) × (high ≤ p .digits - 1) ⌝ }
-    ensures { λ r. ⌜ Wrote w (now (table .entry)) (lower p (w .wire) x y e s (p .digits) high (p .grades - 2)) (now (table .exit)) r ⌝ }
+    ensures { λ r. ⌜
+        Wrote w (now (table .entry)) (lower p (w .wire) x y e s (p .digits) high (p .grades - 2)) (now (table .exit)) r
+        ⌝ }
 {
     let digits = p.digits;
     let grades = p.grades;
@@ -73,7 +78,10 @@ fn key_median(w: Writer, table: &mut [u32], p: Plan, x: u32) -> Writer
     requires { ⌜ Planned p ⌝ }
     requires { ⌜ Room w (medianSpan p) ⌝ }
     requires { ⌜ x + keySpan p ≤ w .wire ⌝ }
-    ensures { λ r. ⌜ Wrote w (now (table .entry)) (median (w .wire) (x + p .digits) (wordSpan p) (p .grades - 1) (suc (p .places))) (now (table .exit)) r ⌝ }
+    ensures { λ r. ⌜
+        Wrote w (now (table .entry)) (median (w .wire) (x + p .digits) (wordSpan p) (p .grades - 1) (suc (p .places)))
+        (now (table .exit)) r
+        ⌝ }
 {
     median(
         w,

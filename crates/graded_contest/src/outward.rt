@@ -32,7 +32,10 @@ fn nearest(
     between: u32,
 ) -> Writer
     requires { ⌜ Room w (between * sideSpan above + between * eitherSpan above + between * eitherSpan above) ⌝ }
-    requires { ⌜ (x + suc (suc between) * stride above ≤ w .wire) × (y + suc (suc between) * stride above ≤ w .wire) × (above ≤ 7) × (between ≤ 6) × (high ≤ above) ⌝ }
+    requires { ⌜
+        (x + suc (suc between) * stride above ≤ w .wire) × (y + suc (suc between) * stride above ≤ w .wire)
+        × (above ≤ 7) × (between ≤ 6) × (high ≤ above)
+        ⌝ }
     ensures { λ r. ⌜ Wrote w (now (table .entry)) (nearest (w .wire) x y above high between) (now (table .exit)) r ⌝ }
 {
     let step = above + 2;
@@ -79,8 +82,13 @@ fn compare_and_reach(
     high: u32,
 ) -> Writer
     requires { ⌜ Room w (compareAndReachSpan above) ⌝ }
-    requires { ⌜ (a + suc above ≤ w .wire) × (c + suc above ≤ w .wire) × (u + suc above ≤ w .wire) × (v + suc above ≤ w .wire) × (high ≤ above) ⌝ }
-    ensures { λ r. ⌜ Wrote w (now (table .entry)) (compareAndReach (w .wire) a c u v bit above high) (now (table .exit)) r ⌝ }
+    requires { ⌜
+        (a + suc above ≤ w .wire) × (c + suc above ≤ w .wire) × (u + suc above ≤ w .wire) × (v + suc above ≤ w .wire)
+        × (high ≤ above)
+        ⌝ }
+    ensures { λ r. ⌜
+        Wrote w (now (table .entry)) (compareAndReach (w .wire) a c u v bit above high) (now (table .exit)) r
+        ⌝ }
 {
     let low = above - high;
     let down = w.compare_halves(table, a, c, low, high);
@@ -103,7 +111,10 @@ fn lower_first(
 ) -> Writer
     requires { ⌜ Room w 4 ⌝ }
     requires { ⌜ q + resolveSpan < writerLimit ⌝ }
-    ensures { λ r. ⌜ Wrote w (now (table .entry)) (muxOf s j k ∷ notOf f ∷ xorOf f g ∷ muxOf (q + 2) q (q + 1) ∷ []) (now (table .exit)) r ⌝ }
+    ensures { λ r. ⌜
+        Wrote w (now (table .entry)) (muxOf s j k ∷ notOf f ∷ xorOf f g ∷ muxOf (q + 2) q (q + 1)
+        ∷ []) (now (table .exit)) r
+        ⌝ }
 {
     let reaches = w.emit(table, kind::CHOICE, s, j, k);
     let worse = reaches.emit(table, kind::NOT, f, 0, 0);
@@ -115,7 +126,10 @@ fn lower_first(
 fn both_say(w: Writer, table: &mut [u32], q: u32, e1: u32, s1: u32, e2: u32, s2: u32) -> Writer
     requires { ⌜ Room w 5 ⌝ }
     requires { ⌜ q + resolveSpan < writerLimit ⌝ }
-    ensures { λ r. ⌜ Wrote w (now (table .entry)) (andOf e1 e2 ∷ xorOf e1 e2 ∷ xorOf (q + 5) (q + 4) ∷ muxOf e2 s2 s1 ∷ xorOf s1 s2 ∷ []) (now (table .exit)) r ⌝ }
+    ensures { λ r. ⌜
+        Wrote w (now (table .entry)) (andOf e1 e2 ∷ xorOf e1 e2 ∷ xorOf (q + 5) (q + 4) ∷ muxOf e2 s2 s1 ∷ xorOf s1 s2
+        ∷ []) (now (table .exit)) r
+        ⌝ }
 {
     let both = w.emit(table, kind::AND, e1, e2, 0);
     let one = both.emit(table, kind::XOR, e1, e2, 0);
@@ -128,7 +142,10 @@ fn both_say(w: Writer, table: &mut [u32], q: u32, e1: u32, s1: u32, e2: u32, s2:
 fn lower_decides(w: Writer, table: &mut [u32], q: u32, e: u32) -> Writer
     requires { ⌜ Room w 4 ⌝ }
     requires { ⌜ q + resolveSpan < writerLimit ⌝ }
-    ensures { λ r. ⌜ Wrote w (now (table .entry)) (notOf e ∷ andOf (q + 8) (q + 9) ∷ andOf (q + 4) (q + 10) ∷ andOf (q + 11) (q + 3) ∷ []) (now (table .exit)) r ⌝ }
+    ensures { λ r. ⌜
+        Wrote w (now (table .entry)) (notOf e ∷ andOf (q + 8) (q + 9) ∷ andOf (q + 4) (q + 10) ∷ andOf (q + 11) (q + 3)
+        ∷ []) (now (table .exit)) r
+        ⌝ }
 {
     let equal = w.emit(table, kind::NOT, e, 0, 0);
     let against = equal.emit(table, kind::AND, q + 8, q + 9, 0);
@@ -140,7 +157,10 @@ fn lower_decides(w: Writer, table: &mut [u32], q: u32, e: u32) -> Writer
 fn answer(w: Writer, table: &mut [u32], q: u32, e: u32, s: u32) -> Writer
     requires { ⌜ Room w 3 ⌝ }
     requires { ⌜ q + resolveSpan < writerLimit ⌝ }
-    ensures { λ r. ⌜ Wrote w (now (table .entry)) (muxOf e s (q + 7) ∷ orOf e (q + 6) ∷ xorOf (q + 13) (q + 12) ∷ []) (now (table .exit)) r ⌝ }
+    ensures { λ r. ⌜
+        Wrote w (now (table .entry)) (muxOf e s (q + 7) ∷ orOf e (q + 6) ∷ xorOf (q + 13) (q + 12)
+        ∷ []) (now (table .exit)) r
+        ⌝ }
 {
     let upper = w.emit(table, kind::CHOICE, e, s, q + 7);
     let differ = upper.emit(table, kind::OR, e, q + 6, 0);
@@ -188,7 +208,12 @@ fn resolve_at(
 ) -> Writer
     requires { ⌜ Room w resolveSpan ⌝ }
     requires { ⌜ (w .wire ≡ m + compareAndReachSpan above) × (span ≡ compareSpan above) × (above ≤ 7) ⌝ }
-    ensures { λ r. ⌜ Wrote w (now (table .entry)) (resolve (w .wire) e s (unequalAt m above) (aboveAt m a above) (unequalAt (m + compareSpan above) above) (aboveAt (m + compareSpan above) u above) (leftCarry m above) (rightCarry m above) f g) (now (table .exit)) r ⌝ }
+    ensures { λ r. ⌜
+        Wrote w (now (table .entry))
+        (resolve (w .wire) e s (unequalAt m above) (aboveAt m a above) (unequalAt (m + compareSpan above) above)
+        (aboveAt (m + compareSpan above) u above) (leftCarry m above) (rightCarry m above) f g) (now (table .exit))
+        r
+        ⌝ }
 {
     let up = m + span;
     let e1 = unequal_at(m, above);
@@ -215,8 +240,13 @@ pub(crate) fn outward(
     between: u32,
 ) -> Writer
     requires { ⌜ Room w (outwardSpan above between) ⌝ }
-    requires { ⌜ (x + suc (suc between) * stride above ≤ w .wire) × (y + suc (suc between) * stride above ≤ w .wire) × (above ≤ 7) × (between ≤ 6) × (high ≤ above) ⌝ }
-    ensures { λ r. ⌜ Wrote w (now (table .entry)) (outward bit (w .wire) x y e s above high between) (now (table .exit)) r ⌝ }
+    requires { ⌜
+        (x + suc (suc between) * stride above ≤ w .wire) × (y + suc (suc between) * stride above ≤ w .wire)
+        × (above ≤ 7) × (between ≤ 6) × (high ≤ above)
+        ⌝ }
+    ensures { λ r. ⌜
+        Wrote w (now (table .entry)) (outward bit (w .wire) x y e s above high between) (now (table .exit)) r
+        ⌝ }
 {
     let down = w.wire + between * (2 * above + 3);
     let up = down + between * (2 * above + 2);

@@ -17,7 +17,9 @@ fn median_levels(
 ) -> Writer
     requires { ⌜ Room w (medianSize count digits) ⌝ }
     requires { ⌜ Fits count digits × (first + count * stride < w .wire + stride) × (count ≤ 6) × (stride ≤ 255) ⌝ }
-    ensures { λ r. ⌜ Wrote w (now (table .entry)) (medianLevels (w .wire) first stride count digits) (now (table .exit)) r ⌝ }
+    ensures { λ r. ⌜
+        Wrote w (now (table .entry)) (medianLevels (w .wire) first stride count digits) (now (table .exit)) r
+        ⌝ }
 {
     let mut next = w;
     let mut at = first;
@@ -45,7 +47,10 @@ fn median_digits(
     digits: u32,
 ) -> Writer
     requires { ⌜ Room w digits ⌝ }
-    requires { ⌜ Fits count digits × (first + count * stride < w .wire + stride) × (count ≤ 6) × (stride ≤ 255) × (n + medianSize count digits ≤ w .wire) ⌝ }
+    requires { ⌜
+        Fits count digits × (first + count * stride < w .wire + stride) × (count ≤ 6) × (stride ≤ 255)
+        × (n + medianSize count digits ≤ w .wire)
+        ⌝ }
     ensures { λ r. ⌜ Wrote w (now (table .entry)) (medianDigits n first stride count digits) (now (table .exit)) r ⌝ }
 {
     let mut next = w;

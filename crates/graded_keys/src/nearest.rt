@@ -34,7 +34,9 @@ pub fn sides(
     count: u32,
 ) -> Writer
     requires { ⌜ Room w (count * sideSpan above) ⌝ }
-    requires { ⌜ (x + count * stride above ≤ w .wire) × (y + count * stride above ≤ w .wire) × (above ≤ 7) × (high ≤ above) ⌝ }
+    requires { ⌜
+        (x + count * stride above ≤ w .wire) × (y + count * stride above ≤ w .wire) × (above ≤ 7) × (high ≤ above)
+        ⌝ }
     ensures { λ r. ⌜ Wrote w (now (table .entry)) (sides (w .wire) x y above high count) (now (table .exit)) r ⌝ }
 {
     let mut next = w;
@@ -62,7 +64,9 @@ fn either(
     above: u32,
 ) -> Writer
     requires { ⌜ Room w (eitherSpan above) ⌝ }
-    requires { ⌜ (x + suc above ≤ w .wire) × (y + suc above ≤ w .wire) × (u + suc above ≤ w .wire) × (v + suc above ≤ w .wire) ⌝ }
+    requires { ⌜
+        (x + suc above ≤ w .wire) × (y + suc above ≤ w .wire) × (u + suc above ≤ w .wire) × (v + suc above ≤ w .wire)
+        ⌝ }
     ensures { λ r. ⌜ Wrote w (now (table .entry)) (either f x y u v above) (now (table .exit)) r ⌝ }
 {
     let left = w.choose(table, f, x, u, above + 1);
@@ -82,7 +86,10 @@ pub fn last_of(
     count: u32,
 ) -> Writer
     requires { ⌜ Room w (count * eitherSpan above) ⌝ }
-    requires { ⌜ (f + count * sideSpan above < w .wire + sideSpan above) × (x + count * stride above ≤ w .wire) × (y + count * stride above ≤ w .wire) × (u + suc above ≤ w .wire) × (v + suc above ≤ w .wire) × (above ≤ 7) ⌝ }
+    requires { ⌜
+        (f + count * sideSpan above < w .wire + sideSpan above) × (x + count * stride above ≤ w .wire)
+        × (y + count * stride above ≤ w .wire) × (u + suc above ≤ w .wire) × (v + suc above ≤ w .wire) × (above ≤ 7)
+        ⌝ }
     ensures { λ r. ⌜ Wrote w (now (table .entry)) (lastOf (w .wire) f x y u v above count) (now (table .exit)) r ⌝ }
 {
     let mut next = w;
@@ -118,7 +125,11 @@ pub fn first_of(
     count: u32,
 ) -> Writer
     requires { ⌜ Room w (count * eitherSpan above) ⌝ }
-    requires { ⌜ (f + count * sideSpan above < w .wire + sideSpan above) × (x + count * stride above ≤ w .wire) × (y + count * stride above ≤ w .wire) × (u + suc above ≤ w .wire) × (v + suc above ≤ w .wire) × (above ≤ 7) × (count ≤ 6) ⌝ }
+    requires { ⌜
+        (f + count * sideSpan above < w .wire + sideSpan above) × (x + count * stride above ≤ w .wire)
+        × (y + count * stride above ≤ w .wire) × (u + suc above ≤ w .wire) × (v + suc above ≤ w .wire) × (above ≤ 7)
+        × (count ≤ 6)
+        ⌝ }
     ensures { λ r. ⌜ Wrote w (now (table .entry)) (firstOf (w .wire) f x y u v above count) (now (table .exit)) r ⌝ }
 {
     let mut next = w;

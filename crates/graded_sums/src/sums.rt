@@ -57,8 +57,13 @@ pub(crate) fn count_grade(
 ) -> Writer
     requires { ⌜ Planned p ⌝ }
     requires { ⌜ Room w (countSize (p .ballots) extra (p .digits) + (p .digits + 1)) ⌝ }
-    requires { ⌜ (p .inputs ≤ w .wire) × (c < p .candidates) × (g < p .grades) × Countable (p .ballots) extra (p .digits) ⌝ }
-    ensures { λ r. ⌜ Wrote w (now (table .entry)) (counter (w .wire) (bitsAt p c g) (apart p) (p .ballots) extra (p .digits)) (now (table .exit)) r ⌝ }
+    requires { ⌜
+        (p .inputs ≤ w .wire) × (c < p .candidates) × (g < p .grades) × Countable (p .ballots) extra (p .digits)
+        ⌝ }
+    ensures { λ r. ⌜
+        Wrote w (now (table .entry)) (counter (w .wire) (bitsAt p c g) (apart p) (p .ballots) extra (p .digits))
+        (now (table .exit)) r
+        ⌝ }
 {
     let first = bits_at(p, c, g);
     let stride = apart(p);
@@ -70,7 +75,10 @@ fn add_grade(w: Writer, table: &mut [u32], p: Plan, a: u32, c: u32, g: u32) -> W
     requires { ⌜ Planned p ⌝ }
     requires { ⌜ Room w (addSize (p .ballots) (p .digits) + (p .digits + 1)) ⌝ }
     requires { ⌜ (p .inputs ≤ w .wire) × (c < p .candidates) × (g < p .grades) × (a + p .digits < w .wire) ⌝ }
-    ensures { λ r. ⌜ Wrote w (now (table .entry)) (accumulator (w .wire) a (bitsAt p c g) (apart p) (p .ballots) (p .digits)) (now (table .exit)) r ⌝ }
+    ensures { λ r. ⌜
+        Wrote w (now (table .entry)) (accumulator (w .wire) a (bitsAt p c g) (apart p) (p .ballots) (p .digits))
+        (now (table .exit)) r
+        ⌝ }
 {
     let first = bits_at(p, c, g);
     let stride = apart(p);

@@ -51,7 +51,9 @@ fn key_at(p: Plan, span: u32, c: u32) -> u32
 // The key of the best of so many candidates from candidate c on, whose merges end before wire `end`.
 fn best_key(p: Plan, span: u32, c: u32, count: u32, end: u32) -> u32
     requires { ⌜ Planned p ⌝ }
-    requires { ⌜ (span ≡ candidateSpan p) × (c < p .candidates) × (levelsAt p < writerLimit) × (1 < count → keySpan p ≤ end) ⌝ }
+    requires { ⌜
+        (span ≡ candidateSpan p) × (c < p .candidates) × (levelsAt p < writerLimit) × (1 < count → keySpan p ≤ end)
+        ⌝ }
     ensures { λ r. ⌜ r ≡ cond (leb count 1) (keyAt p c) (end - keySpan p) ⌝ }
 {
     if count <= 1 {
@@ -76,7 +78,9 @@ fn group_won(p: Plan, count: u32, end: u32) -> u32
 fn pair(w: Writer, table: &mut [u32], p: Plan, span: u32, c: u32, count: u32) -> Writer
     requires { ⌜ Planned p ⌝ }
     requires { ⌜ Room w (levelsSpan p 1 count) ⌝ }
-    requires { ⌜ (span ≡ candidateSpan p) × (levelsAt p ≤ w .wire) × (0 < count) × (count ≤ 2) × (c + count ≤ p .candidates) ⌝ }
+    requires { ⌜
+        (span ≡ candidateSpan p) × (levelsAt p ≤ w .wire) × (0 < count) × (count ≤ 2) × (c + count ≤ p .candidates)
+        ⌝ }
     ensures { λ r. ⌜ Wrote w (now (table .entry)) (levels p 1 (w .wire) c count) (now (table .exit)) r ⌝ }
 {
     if count <= 1 {
@@ -102,9 +106,20 @@ fn halves(
 ) -> Writer
     requires { ⌜ Planned p ⌝ }
     requires { ⌜ Room w (mergeSpan p first second) ⌝ }
-    requires { ⌜ (span ≡ candidateSpan p) × (levelsAt p ≤ middle) × (middle ≤ w .wire) × (0 < first) × (0 < second) × (c + first + second ≤ p .candidates) ⌝ }
-    requires { ⌜ (1 < first → levelsAt p + first + keySpan p ≤ middle) × (1 < second → middle + second + keySpan p ≤ w .wire) ⌝ }
-    ensures { λ r. ⌜ Wrote w (now (table .entry)) (merge p (w .wire) (cond (leb first 1) (keyAt p c) (middle - keySpan p)) (cond (leb second 1) (keyAt p (c + first)) (w .wire - keySpan p)) (cond (leb first 1) 0 (middle - keySpan p - first)) (cond (leb second 1) 0 (w .wire - keySpan p - second)) first second) (now (table .exit)) r ⌝ }
+    requires { ⌜
+        (span ≡ candidateSpan p) × (levelsAt p ≤ middle) × (middle ≤ w .wire) × (0 < first) × (0 < second)
+        × (c + first + second ≤ p .candidates)
+        ⌝ }
+    requires { ⌜
+        (1 < first → levelsAt p + first + keySpan p ≤ middle) × (1 < second → middle + second + keySpan p ≤ w .wire)
+        ⌝ }
+    ensures { λ r. ⌜
+        Wrote w (now (table .entry))
+        (merge p (w .wire) (cond (leb first 1) (keyAt p c) (middle - keySpan p))
+        (cond (leb second 1) (keyAt p (c + first)) (w .wire - keySpan p))
+        (cond (leb first 1) 0 (middle - keySpan p - first)) (cond (leb second 1) 0 (w .wire - keySpan p - second))
+        first second) (now (table .exit)) r
+        ⌝ }
 {
     let x = best_key(p, span, c, first, middle);
     let y = best_key(p, span, c + first, second, w.wire);
@@ -117,7 +132,9 @@ fn halves(
 fn two_to_four(w: Writer, table: &mut [u32], p: Plan, span: u32, c: u32, count: u32) -> Writer
     requires { ⌜ Planned p ⌝ }
     requires { ⌜ Room w (levelsSpan p 2 count) ⌝ }
-    requires { ⌜ (span ≡ candidateSpan p) × (levelsAt p ≤ w .wire) × (1 < count) × (count ≤ 4) × (c + count ≤ p .candidates) ⌝ }
+    requires { ⌜
+        (span ≡ candidateSpan p) × (levelsAt p ≤ w .wire) × (1 < count) × (count ≤ 4) × (c + count ≤ p .candidates)
+        ⌝ }
     ensures { λ r. ⌜ Wrote w (now (table .entry)) (levels p 2 (w .wire) c count) (now (table .exit)) r ⌝ }
 {
     let first = count / 2;
@@ -134,7 +151,9 @@ fn two_to_four(w: Writer, table: &mut [u32], p: Plan, span: u32, c: u32, count: 
 fn four(w: Writer, table: &mut [u32], p: Plan, span: u32, c: u32, count: u32) -> Writer
     requires { ⌜ Planned p ⌝ }
     requires { ⌜ Room w (levelsSpan p 2 count) ⌝ }
-    requires { ⌜ (span ≡ candidateSpan p) × (levelsAt p ≤ w .wire) × (0 < count) × (count ≤ 4) × (c + count ≤ p .candidates) ⌝ }
+    requires { ⌜
+        (span ≡ candidateSpan p) × (levelsAt p ≤ w .wire) × (0 < count) × (count ≤ 4) × (c + count ≤ p .candidates)
+        ⌝ }
     ensures { λ r. ⌜ Wrote w (now (table .entry)) (levels p 2 (w .wire) c count) (now (table .exit)) r ⌝ }
 {
     if count <= 1 {
@@ -146,9 +165,18 @@ fn four(w: Writer, table: &mut [u32], p: Plan, span: u32, c: u32, count: u32) ->
 // Three levels of merges, behind the circuits of all candidates.
 fn all_levels(all: Writer, table: &mut [u32], p: Plan, span: u32) -> Writer
     requires { ⌜ Planned p ⌝ }
-    requires { ⌜ Room all (levelsSpan p lowLevels (p .candidates / 2) + (levelsSpan p lowLevels (p .candidates - p .candidates / 2) + mergeSpan p (p .candidates / 2) (p .candidates - p .candidates / 2))) ⌝ }
+    requires { ⌜
+        Room all (levelsSpan p lowLevels (p .candidates / 2) +
+        (levelsSpan p lowLevels (p .candidates - p .candidates / 2) + mergeSpan p (p .candidates / 2)
+        (p .candidates - p .candidates / 2)))
+        ⌝ }
     requires { ⌜ (span ≡ candidateSpan p) × (all .wire ≡ levelsAt p) × (1 < p .candidates) ⌝ }
-    ensures { λ r. ⌜ Wrote all (now (table .entry)) (levels p lowLevels (levelsAt p) 0 (p .candidates / 2) ++ levels p lowLevels (otherAt p lowLevels (levelsAt p) (p .candidates)) (p .candidates / 2) (p .candidates - p .candidates / 2) ++ halvesMerge p lowLevels (levelsAt p) 0 (p .candidates)) (now (table .exit)) r ⌝ }
+    ensures { λ r. ⌜
+        Wrote all (now (table .entry)) (levels p lowLevels (levelsAt p) 0 (p .candidates / 2)
+        ++ levels p lowLevels (otherAt p lowLevels (levelsAt p) (p .candidates)) (p .candidates / 2)
+        (p .candidates - p .candidates / 2)
+        ++ halvesMerge p lowLevels (levelsAt p) 0 (p .candidates)) (now (table .exit)) r
+        ⌝ }
 {
     let first = p.candidates / 2;
     let second = p.candidates - first;
@@ -173,7 +201,10 @@ fn circuit(w: Writer, table: &mut [u32], p: Plan) -> Writer
 // gates the list has, and how many of them are conditional, whatever the table.
 pub fn own_list(shape: Shape, table: &mut [u32]) -> Writer
     requires { ⌜ T (gradedLimits shape) ⌝ }
-    ensures { λ r. ⌜ Wrote (record { gate = 0; wire = ballotBytes shape; conditional = 0 }) (now (table .entry)) (ownList shape) (now (table .exit)) r ⌝ }
+    ensures { λ r. ⌜
+        Wrote (record { gate = 0; wire = ballotBytes shape; conditional = 0 }) (now (table .entry)) (ownList shape)
+        (now (table .exit)) r
+        ⌝ }
 {
     let p = Plan::new(shape);
     let w = Writer::new(p.inputs);

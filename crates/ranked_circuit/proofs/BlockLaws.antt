@@ -1,13 +1,13 @@
 -- What the wires of the blocks spell, for every width; their lengths, and that their operands point back.
 -- Assumes nothing.
-use mathlib.Core.Path.{_≡_, _∙_, sym, subst}
+use mathlib.Core.Path.{_≡_, _∙_, subst}
 use mathlib.Core.Logic.{⊎-elim}
 use mathlib.Core.List.{List, _∷_, _++_}
 use Prim.Native.Nat.{ℕ, suc, min, max, _+_, _-_, _*_, _≤_, _<_}
 use native.Mathlib.Omega.{arith}
 use lib.ListN.{length, length-append}
 use Rattle.gates.specs.Gate.{Gate}
-use Rattle.gates.proofs.Laws.{AllGood, Holds, holds-append, good-append, good-two, operand-counts}
+use Rattle.gates.proofs.Laws.{AllGood, Holds, holds-append, good-two, operand-counts}
 use Rattle.gate_words.specs.Gates.{andOf}
 use Rattle.gate_words.specs.Word.{number}
 use Rattle.gate_words.specs.Choice.{choose}
@@ -16,6 +16,9 @@ use Rattle.gate_words.proofs.Laws.{Binary, bit-cases, number-more, choose-one, 
 use Rattle.gate_words.proofs.GateValues.{holds-first, holds-rest, and-is}
 use Rattle.gate_words.proofs.Ends.{chain-below}
 use Rattle.ranked_circuit.specs.Blocks.{compare, order, orderEnd, smaller, larger, largerIf}
+use Rattle.gate_words.proofs.ComparisonLaws.{not-one}
+use Rattle.gate_words.proofs.ComparisonLaws.{not-zero}
+use Rattle.gate_words.proofs.PointsBack.{behind}
 
 -- numbers of gates, the word of the answer being the last of them
 pub length-whole : (n x y w : ℕ) → length (compare n x y w) ≡ 3 + 3 * w
@@ -45,20 +48,16 @@ unfolding largerIf
 length-larger-if n f x y w =
     length-append (order n x y w) (andOf f (orderEnd n x w) ∷ choose (n + 2 * w) x y (suc w)) ∙ omega (arith, length-order n x y w, length-choose (n + 2 * w) x y (suc w))
 
--- operands that point back
-pub good-behind : (n l : ℕ) (gs hs : List Gate) → length gs ≡ l → AllGood n gs → AllGood (n + l) hs → AllGood n (gs ++ hs)
-good-behind n l gs hs e p q = good-append n gs hs p (subst (λ (m : ℕ). AllGood (n + m) hs) (sym e) q)
-
 pub whole-good : (n x y w : ℕ) → x + suc w ≤ n → y + suc w ≤ n → AllGood n (compare n x y w)
 unfolding compare
 whole-good n x y w hx hy =
-    good-behind n 3 (firstDigit n x y) (compareWords (n + 3) (x + 1) (y + 1) (n + 1) (n + 2) w) (length-first-digit n x y) (first-digit-good n x y (omega arith) (omega arith))
+    behind n 3 (firstDigit n x y) (compareWords (n + 3) (x + 1) (y + 1) (n + 1) (n + 2) w) (length-first-digit n x y) (first-digit-good n x y (omega arith) (omega arith))
     (compare-good (n + 3) (x + 1) (y + 1) (n + 1) (n + 2) w (omega arith) (omega arith) (omega arith) (omega arith))
 
 pub order-good : (n x y w : ℕ) → x + suc w ≤ n → y + suc w ≤ n → AllGood n (order n x y w)
 unfolding order
 order-good n x y w hx hy =
-    good-behind n w (differences (x + 1) (y + 1) w) (above (n + w) n (x + 1) x w) (length-differences (x + 1) (y + 1) w) (differences-good n (x + 1) (y + 1) w (omega arith) (omega arith))
+    behind n w (differences (x + 1) (y + 1) w) (above (n + w) n (x + 1) x w) (length-differences (x + 1) (y + 1) w) (differences-good n (x + 1) (y + 1) w (omega arith) (omega arith))
     (above-good (n + w) n (x + 1) x w (omega arith) (omega arith) (omega arith))
 
 pub end-low : (n x w : ℕ) → x + suc w ≤ n → orderEnd n x w < n + 2 * w
@@ -68,29 +67,22 @@ end-low n x w h = chain-below (n + w) x w (n + 2 * w) (omega arith) (omega arith
 pub smaller-good : (n x y w : ℕ) → x + suc w ≤ n → y + suc w ≤ n → AllGood n (smaller n x y w)
 unfolding smaller
 smaller-good n x y w hx hy =
-    good-behind n (2 * w) (order n x y w) (choose (orderEnd n x w) y x (suc w)) (length-order n x y w) (order-good n x y w hx hy)
+    behind n (2 * w) (order n x y w) (choose (orderEnd n x w) y x (suc w)) (length-order n x y w) (order-good n x y w hx hy)
     (choose-good (n + 2 * w) (orderEnd n x w) y x (suc w) (end-low n x w hx) (omega arith) (omega arith))
 
 pub larger-good : (n x y w : ℕ) → x + suc w ≤ n → y + suc w ≤ n → AllGood n (larger n x y w)
 unfolding larger
 larger-good n x y w hx hy =
-    good-behind n (2 * w) (order n x y w) (choose (orderEnd n x w) x y (suc w)) (length-order n x y w) (order-good n x y w hx hy)
+    behind n (2 * w) (order n x y w) (choose (orderEnd n x w) x y (suc w)) (length-order n x y w) (order-good n x y w hx hy)
     (choose-good (n + 2 * w) (orderEnd n x w) x y (suc w) (end-low n x w hx) (omega arith) (omega arith))
 
 pub larger-if-good : (n f x y w : ℕ) → f < n → x + suc w ≤ n → y + suc w ≤ n → AllGood n (largerIf n f x y w)
 unfolding largerIf
 larger-if-good n f x y w hf hx hy =
-    good-behind n (2 * w) (order n x y w) (andOf f (orderEnd n x w) ∷ choose (n + 2 * w) x y (suc w)) (length-order n x y w) (order-good n x y w hx hy) (
+    behind n (2 * w) (order n x y w) (andOf f (orderEnd n x w) ∷ choose (n + 2 * w) x y (suc w)) (length-order n x y w) (order-good n x y w hx hy) (
       good-two (n + 2 * w) 4 f (orderEnd n x w) (omega arith) (operand-counts .4) (omega arith) (end-low n x w hx),
       choose-good (suc (n + 2 * w)) (n + 2 * w) x y (suc w) (omega arith) (omega arith) (omega arith),
     )
-
--- a bit that would be the other one
-not-one : {y t s : ℕ} → y ≡ 0 → (t < s → y ≡ 1) → s ≤ t
-not-one {y} {t} {s} z f = let g : ¬ (t < s) = λ q. let k = f q in omega arith in omega arith
-
-not-zero : {y t s : ℕ} → y ≡ 1 → (s ≤ t → y ≡ 0) → t < s
-not-zero {y} {t} {s} z f = let g : ¬ (s ≤ t) = λ q. let k = f q in omega arith in omega arith
 
 module _ (W : ℕ → ℕ) (b : Binary W) where
   module _ (n x y w : ℕ) (h : Holds W n (compare n x y w)) where

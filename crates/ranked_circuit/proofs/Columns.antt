@@ -1,20 +1,17 @@
 -- The bits that a counter of the circuit counts are the ballots that put one candidate before another.
 -- Assumes nothing.
-use mathlib.Core.Path.{_≡_, _∙_, sym, ap}
-use mathlib.Core.Bool.{Bool, cond}
-use mathlib.Core.Logic.{⊎-elim}
+use mathlib.Core.Path.{_≡_, _∙_, ap}
 use mathlib.Core.List.{List}
 use Prim.Native.Nat.{ℕ, zero, suc, _+_, _*_, _≤_, _<_}
 use native.Mathlib.Nat.{zero-mul, suc-mul}
 use native.Mathlib.Omega.{arith}
-use lib.Dec.{eqb}
 use lib.ListN.{getD}
-use borrow.Author.Tests.{eq-eqb, ne-eqb}
 use Rattle.gate_words.specs.Word.{ones}
-use Rattle.gate_words.proofs.Laws.{bit-cases, ones-none, ones-more}
+use Rattle.gate_words.proofs.Laws.{ones-none, ones-more}
 use Rattle.jury.specs.Rankings.{rankPlace, before}
 use Rattle.rule_schulze.specs.Votes.{votes}
 use Rattle.rule_schulze.proofs.Tables.{place-within}
+use Rattle.jury.proofs.CountLaws.{bit-added}
 
 -- the last of the wires counted
 ones-last : (W : ℕ → ℕ) (at d m : ℕ) → ones W at d (suc m) ≡ ones W at d m + W (at + m * d)
@@ -24,12 +21,6 @@ ones-last W at d zero =
 ones-last W at d (suc m) =
     let e : at + d + m * d ≡ at + suc m * d = omega (arith, suc-mul m d) in
     omega (arith, ones-more W at d (suc m), ones-more W at d m, ones-last W (at + d) d m, ap W e)
-
--- a bit counts for what it is
-bit-counts : (x : ℕ) → x ≤ 1 → cond {A = ℕ} (eqb x 1) 1 0 ≡ x
-bit-counts x h =
-    ⊎-elim (λ (e : x ≡ 0). ap (λ (t : Bool). cond {A = ℕ} t 1 0) (ne-eqb x 1 (λ f. omega arith)) ∙ sym e)
-    (λ (e : x ≡ 1). ap (λ (t : Bool). cond {A = ℕ} t 1 0) (eq-eqb x 1 e) ∙ sym e) (bit-cases x h)
 
 -- the first wires being the ballots
 pub column : (W : ℕ → ℕ) (xs : List ℕ) (k n i j : ℕ) → i < k → j < k → ((p : ℕ) → getD xs p 0 ≤ 1) → ((p : ℕ) → p < n * k * k → W p ≡ getD xs p 0) → ones W (i * k + j) (k * k) n ≡ votes k n xs i j
@@ -45,5 +36,5 @@ column W xs k (suc b) i j hi hj bits first =
       ones-last W (i * k + j) (k * k) b,
       ih,
       ap W place ∙ first ((b * k + i) * k + j) low,
-      bit-counts (getD xs ((b * k + i) * k + j) 0) (bits ((b * k + i) * k + j)),
+      bit-added (getD xs ((b * k + i) * k + j) 0) (bits ((b * k + i) * k + j)),
     )

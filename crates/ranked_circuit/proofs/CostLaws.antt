@@ -17,7 +17,7 @@ use Rattle.gate_words.specs.Adder.{fullAdder, halfAdder}
 use Rattle.gate_words.specs.Counter.{level, adders, levelSum, countLevels, countDigits, counter, countSize}
 use Rattle.ranked_circuit.specs.Blocks.{compare, order, orderEnd, smaller, larger, largerIf}
 use Rattle.ranked_circuit.specs.RankedList.{rankedList}
-use Rattle.ranked_circuit.proofs.Figures.{Each, figure-is, pair-figure-is}
+use Rattle.ranked_circuit.proofs.Figures.{Each, figure-is}
 
 -- a gate that counts, and one that does not
 marked : (g : Gate) (gs : List Gate) → conditionalOf (g .kind) ≡ true → conditionalCount (g ∷ gs) ≡ suc (conditionalCount gs)
@@ -153,9 +153,4 @@ pub conditional-are : (r n w : ℕ) → r ≤ 5 → conditionalCount (rankedList
     suc (suc (suc r)) * suc (suc r) * (countSize n 0 w / 3) + suc (suc (suc r)) * suc (suc r) * (2 * w + 1) + 2 * suc (suc r) * suc w + suc (suc r) * suc r * (4 * w + 3) + suc (suc r) * (suc (suc r) * suc r) * (4 * w + 2) + suc (suc (suc r)) * suc r
 conditional-are r n w h =
     let total = figure-is conditionalCount (record { none = count-nil; both = count-append }) n w (countSize n 0 w / 3) (2 * w + 1) (suc w) (4 * w + 3) (4 * w + 2) 1 0 (costs n w) r h in
-    omega arith
-
-pub pair-conditional-are : (n w : ℕ) → conditionalCount (rankedList 2 n w) ≡ 2 * (countSize n 0 w / 3) + (2 * w + 1)
-pair-conditional-are n w =
-    let total = pair-figure-is conditionalCount (record { none = count-nil; both = count-append }) n w (countSize n 0 w / 3) (2 * w + 1) (suc w) (4 * w + 3) (4 * w + 2) 1 0 (costs n w) in
     omega arith

@@ -21,10 +21,11 @@ use Rattle.ranked_circuit.specs.Blocks.{compare, smaller, larger, larger
 use Rattle.ranked_circuit.specs.Table.{table, entryEnd}
 use Rattle.ranked_circuit.specs.Stages.{votesBlock, linksBlock, linkAt, stays, newWord, pathBlock}
 use Rattle.ranked_circuit.specs.Paths.{votesAt, votesTable, linksFrom, linksTable, linkWire, nextPaths, pathsTo}
-use Rattle.ranked_circuit.proofs.BlockLaws.{good-behind, length-smaller, whole-good, smaller-good, larger-good, larger-if-good}
+use Rattle.ranked_circuit.proofs.BlockLaws.{length-smaller, whole-good, smaller-good, larger-good, larger-if-good}
 use Rattle.ranked_circuit.proofs.TableLaws.{entryStart, entry-end, table-good, end-within}
 use Rattle.ranked_circuit.proofs.StageLaws.{apart-zero, apart-all, stage-moves, stage-stays, stage-length, votes-length, links-moves, links-length}
 use Rattle.ranked_circuit.proofs.PathLaws.{bool-cases}
+use Rattle.gate_words.proofs.PointsBack.{behind}
 
 -- a choice between no gate and a well-formed list
 either-good : (n : ℕ) (t : Bool) (gs hs : List Gate) → AllGood n gs → (t ≡ false → AllGood n hs) → AllGood n (cond t gs hs)
@@ -91,13 +92,13 @@ module _ (k w : ℕ) where
       let a = apart-all 0 i j e in
       let h = below i j hi hj (a .2) in
       let f = under i j hi hj (a .2) in
-      good-behind at (2 * w + suc w) (smaller at (words i 0) (words 0 j) w) (largerIf (at + (2 * w + suc w)) (links i j) (words i j) (at + 2 * w) w) (length-smaller at (words i 0) (words 0 j) w)
+      behind at (2 * w + suc w) (smaller at (words i 0) (words 0 j) w) (largerIf (at + (2 * w + suc w)) (links i j) (words i j) (at + 2 * w) w) (length-smaller at (words i 0) (words 0 j) w)
       (smaller-good at (words i 0) (words 0 j) w (below i 0 hi (omega arith) (a .0)) (below 0 j (omega arith) hj (λ z. a .1 (sym z))))
       (larger-if-good (at + (2 * w + suc w)) (links i j) (words i j) (at + 2 * w) w (omega arith) (omega arith) (omega arith))
   new-good links words (suc (suc l)) at i j hm hi hj below under e =
       let a = apart-all (suc l) i j e in
       let h = below i j hi hj (a .2) in
-      good-behind at (2 * w + suc w) (smaller at (words i (suc l)) (words (suc l) j) w) (larger (at + (2 * w + suc w)) (words i j) (at + 2 * w) w) (length-smaller at (words i (suc l)) (words (suc l) j) w)
+      behind at (2 * w + suc w) (smaller at (words i (suc l)) (words (suc l) j) w) (larger (at + (2 * w + suc w)) (words i j) (at + 2 * w) w) (length-smaller at (words i (suc l)) (words (suc l) j) w)
       (smaller-good at (words i (suc l)) (words (suc l) j) w (below i (suc l) hi (omega arith) (a .0)) (below (suc l) j (omega arith) hj (λ z. a .1 (sym z))))
       (larger-good (at + (2 * w + suc w)) (words i j) (at + 2 * w) w (omega arith) (omega arith))
 

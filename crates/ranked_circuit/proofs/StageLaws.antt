@@ -31,10 +31,6 @@ pub neither : (a b : Bool) → (a || b) ≡ false → (a ≡ false) × (b ≡ fa
 neither true b e = let z : _≡_ {A = ℕ} 0 1 = cc in absurd (omega arith)
 neither false b e = (refl, e)
 
-not-false : (a : Bool) → not a ≡ false → a ≡ true
-not-false true e = refl
-not-false false e = let z : _≡_ {A = ℕ} 0 1 = cc in absurd (omega arith)
-
 -- a detour over l that does not leave the word as it is
 pub apart-all : (l i j : ℕ) → stays (suc l) i j ≡ false → (i ≢ l) × (j ≢ l) × (i ≢ j)
 unfolding stays

@@ -96,10 +96,6 @@ module _ (n k : ℕ) (block : ℕ → ℕ → ℕ → List Gate) where
         let at = startOf n numbered (i * k + j) in
         subst (λ (gs : List Gate). Holds W at gs) (here at) (block-holds n numbered W (k * k) (i * k + j) (number-low k i j hi hj) h)
 
-    -- no block starts before its table, or ends behind it
-    pub start-from : n ≤ entryStart n k block i j
-    start-from = omega arith
-
     pub end-within : i < k → entryEnd n k block i j ≤ n + length (table n k block)
     unfolding table entries entryEnd
     end-within hi = start-grows n numbered (k * k) (suc (i * k + j)) (number-low k i j hi hj)

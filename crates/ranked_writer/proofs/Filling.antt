@@ -11,9 +11,9 @@ use Rattle.gate_words.specs.declared.writer.Writer.{Writer}
 use Rattle.gate_words.specs.Writing.{Room, Wrote}
 use Rattle.gate_words.proofs.Writing.{wrote-nothing, room-after}
 use Rattle.ranked_circuit.specs.Table.{blocks, entries, table, entryEnd}
-use Rattle.ranked_blocks.proofs.Behind.{wrote-two}
 use Rattle.ranked_blocks.proofs.Entering.{square-small}
 use Rattle.ranked_circuit.proofs.TableLaws.{startOf, start-next, start-grows, row-low, column-low, number-of}
+use Rattle.gate_words.proofs.Standing.{wrote-then}
 
 module _ (w₀ : Writer) (t₀ : List ℕ) (block : ℕ → ℕ → List Gate) where
   -- after m blocks
@@ -29,7 +29,7 @@ module _ (w₀ : Writer) (t₀ : List ℕ) (block : ℕ → ℕ → List Gate) w
   pub fill-next : (m : ℕ) (t : List ℕ) (w : Writer) (t₁ : List ℕ) (w₁ : Writer) → Filled m t w → Wrote w t (block (w .wire) m) t₁ w₁ → Filled (m + 1) t₁ w₁
   fill-next m t w t₁ w₁ a b =
       subst (λ (n : ℕ). Filled n t₁ w₁) (sym (add-one m))
-      (unfold blocks in (wrote-two w₀ t₀ (blocks (w₀ .wire) block m) t w (block (w .wire) m) (block (startOf (w₀ .wire) block m) m) t₁ w₁ a b (ap (λ (at : ℕ). block at m) (fill-wire m t w a))))
+      (unfold blocks in (wrote-then w₀ t₀ (blocks (w₀ .wire) block m) t w (block (w .wire) m) (block (startOf (w₀ .wire) block m) m) t₁ w₁ a b (ap (λ (at : ℕ). block at m) (fill-wire m t w a))))
 
   pub fill-room : (m most : ℕ) (t : List ℕ) (w : Writer) → m < most → Room w₀ (length (blocks (w₀ .wire) block most)) → Filled m t w → Room w (length (block (w .wire) m))
   fill-room m most t w h r a =

@@ -1,4 +1,5 @@
--- The strengths of the strongest paths by detours over one candidate after another: how the count and the circuit find them. `Paths.closure-strongest` of proofs/ shows that they are the rule's.
+-- The strengths of the strongest paths by detours over one candidate after another: how the count and the circuit
+-- find them. `Paths.closure-strongest` of proofs/ shows that they are the rule's.
 use mathlib.Core.Bool.{cond, _||_}
 use Prim.Native.Nat.{ℕ, zero, suc, min, max}
 use lib.Dec.{eqb}

@@ -29,7 +29,8 @@ pub preferring : List Ballots → ℕ → ℕ → ℕ
 preferring [] i j = 0
 preferring (b ∷ bs) i j = cond (ltb (getD (b .ranks) i 0) (getD (b .ranks) j 0)) (b .times) 0 + preferring bs i j
 
--- In turn: a cycle of three; the example of 45 ballots in Schulze's paper; a tie of two; one candidate alone; a jury that margins would leave tied; one that needs a path of three links.
+-- In turn: a cycle of three; the example of 45 ballots in Schulze's paper; a tie of two; one candidate alone; a
+-- jury that margins would leave tied; one that needs a path of three links.
 pub panels : List Panel
 panels =
     panel 3 (ballots 1 (0 ∷ 1 ∷ 2 ∷ []) ∷ ballots 1 (2 ∷ 0 ∷ 1 ∷ []) ∷ ballots 1 (1 ∷ 2 ∷ 0 ∷ []) ∷ []) (1 ∷ 1 ∷ 1 ∷ [])
@@ -46,11 +47,15 @@ panels =
     (0 ∷ 0 ∷ 0 ∷ 0 ∷ 1 ∷ [])
     ∷ panel 2 (ballots 1 (0 ∷ 0 ∷ []) ∷ []) (1 ∷ 1 ∷ [])
     ∷ panel 1 (ballots 1 (0 ∷ []) ∷ []) (1 ∷ [])
-    ∷ panel 3 (ballots 2 (1 ∷ 1 ∷ 0 ∷ []) ∷ ballots 1 (2 ∷ 0 ∷ 1 ∷ []) ∷ ballots 2 (0 ∷ 1 ∷ 2 ∷ []) ∷ []) (0 ∷ 1 ∷ 0 ∷ [])
-    ∷ panel 4 (ballots 1 (1 ∷ 0 ∷ 3 ∷ 0 ∷ []) ∷ ballots 1 (0 ∷ 0 ∷ 1 ∷ 3 ∷ []) ∷ ballots 1 (2 ∷ 3 ∷ 0 ∷ 1 ∷ []) ∷ []) (0 ∷ 1 ∷ 0 ∷ 0 ∷ [])
+    ∷ panel 3 (ballots 2 (1 ∷ 1 ∷ 0 ∷ []) ∷ ballots 1 (2 ∷ 0 ∷ 1 ∷ []) ∷ ballots 2 (0 ∷ 1 ∷ 2 ∷ []) ∷ []) (0 ∷ 1 ∷ 0
+    ∷ [])
+    ∷ panel 4 (ballots 1 (1 ∷ 0 ∷ 3 ∷ 0 ∷ []) ∷ ballots 1 (0 ∷ 0 ∷ 1 ∷ 3 ∷ []) ∷ ballots 1 (2 ∷ 3 ∷ 0 ∷ 1 ∷ []) ∷ []) (0
+    ∷ 1 ∷ 0 ∷ 0 ∷ [])
     ∷ []
 
 -- The rule gives each panel its closing bytes.
-pub panels-hold : map (λ (p : Panel). closingBytes (preferring (p .ballots)) (p .size)) panels ≡ map (λ (p : Panel). p .closing) panels
-unfolding panels panel ballots preferring closingBytes wins every strongest simplePaths maximum selections without candidates weakest link tabulate flatMap
+pub panels-hold : map (λ (p : Panel). closingBytes (preferring (p .ballots)) (p .size)) panels
+    ≡ map (λ (p : Panel). p .closing) panels
+unfolding panels panel ballots preferring closingBytes wins every strongest simplePaths maximum selections without
+    candidates weakest link tabulate flatMap
 panels-hold = refl

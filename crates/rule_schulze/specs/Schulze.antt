@@ -9,7 +9,8 @@ use Rattle.basics.specs.Lists.{tabulate}
 unfoldable pub link : (ℕ → ℕ → ℕ) → ℕ → ℕ → ℕ
 link v i j = cond (ltb (v j i) (v i j)) (v i j) 0
 
--- A path from i to j is written as the list of the candidates that it passes between the two. The weakest of its links tells how strong it is; s i j is the strength of a link.
+-- A path from i to j is written as the list of the candidates that it passes between the two. The weakest of its
+-- links tells how strong it is; s i j is the strength of a link.
 unfoldable pub weakest : (ℕ → ℕ → ℕ) → ℕ → List ℕ → ℕ → ℕ
 weakest s i [] j = s i j
 weakest s i (l ∷ between) j = min (s i l) (weakest s l between j)

@@ -111,7 +111,9 @@ fn detour(paths: [[u16; 8]; 8], k: usize, l: usize) -> [[u16; 8]; 8]
 // The strengths from i once the way over l is allowed too. Where i or j is l itself, that way is none better.
 fn detour_from(paths: [[u16; 8]; 8], k: usize, l: usize, i: usize) -> [u16; 8]
     requires { ⌜ (k ≤ 8) × (l < k) × (i < k) ⌝ }
-    ensures { λ r. ⌜ ((j : ℕ) → j < k → getD r j 0 ≡ max (entry paths i j) (min (entry paths i l) (entry paths l j))) ⌝ }
+    ensures { λ r. ⌜
+        ((j : ℕ) → j < k → getD r j 0 ≡ max (entry paths i j) (min (entry paths i l) (entry paths l j)))
+        ⌝ }
 {
     let mut row = [0u16; 8];
     let mut j = 0;

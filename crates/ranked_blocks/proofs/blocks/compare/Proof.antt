@@ -7,9 +7,10 @@ use borrow.Author.Needs.{needs}
 use Rattle.gate_words.specs.Comparison.{compareWords}
 use Rattle.gate_words.proofs.Laws.{length-first-digit, length-compare}
 use Rattle.ranked_circuit.specs.Blocks.{compare}
-use Rattle.ranked_blocks.proofs.Behind.{wrote-two, behind, room-behind}
+use Rattle.ranked_blocks.proofs.Behind.{behind, room-behind}
 use Rattle.ranked_blocks.proofs.blocks.compare.Statement.{statement}
 use Rattle.ranked_blocks.proofs.blocks.compare.Tie as tie
+use Rattle.gate_words.proofs.Standing.{wrote-then}
 
 first-digit-requires : tie.Need-first-digit-requires
 first-digit-requires c κs = search needs
@@ -44,7 +45,7 @@ returns : tie.Need-returns
 unfolding compare
 returns c =
     let a = (c .before .before .before .before .before .before .before .before .before .args) in
-    wrote-two (a .w) (a .table .now) _ ((c .before .before .before .before .before .before .first-digit) .last .1 .0) ((c .before .before .before .before .before .before .first-digit) .result) _ _ ((c .before .before .compare-words) .last .1 .0) ((c .before .before .compare-words) .result) ((c .before .before .before .before .before .before .first-digit) .ensures) ((c .before .before .compare-words) .ensures)
+    wrote-then (a .w) (a .table .now) _ ((c .before .before .before .before .before .before .first-digit) .last .1 .0) ((c .before .before .before .before .before .before .first-digit) .result) _ _ ((c .before .before .compare-words) .last .1 .0) ((c .before .before .compare-words) .result) ((c .before .before .before .before .before .before .first-digit) .ensures) ((c .before .before .compare-words) .ensures)
     (ap (λ (n : ℕ). compareWords n (a .x + 1) (a .y + 1) (a .w .wire + 1) (a .w .wire + 2) (a .digits)) (lowest (c .before .before .before .before .before .before)))
 
 same-length : tie.Need-same-length

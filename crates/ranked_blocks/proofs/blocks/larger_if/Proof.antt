@@ -12,9 +12,10 @@ use Rattle.gate_words.proofs.Emitting.{and-wrote}
 use Rattle.ranked_circuit.specs.Blocks.{orderEnd, largerIf}
 use Rattle.ranked_circuit.proofs.BlockLaws.{length-order}
 use Rattle.gate_words.specs.Writing.{Room}
-use Rattle.ranked_blocks.proofs.Behind.{wrote-two, behind, room-behind}
+use Rattle.ranked_blocks.proofs.Behind.{behind, room-behind}
 use Rattle.ranked_blocks.proofs.blocks.larger_if.Statement.{statement}
 use Rattle.ranked_blocks.proofs.blocks.larger_if.Tie as tie
+use Rattle.gate_words.proofs.Standing.{wrote-then}
 
 mul-flag : tie.Need-mul-flag
 mul-flag c = search needs
@@ -62,8 +63,8 @@ unfolding largerIf
 returns c =
     let a = (c .before .before .before .before .before .before .before .before .before .before .before .before .before .before .before .before .args) in
     let e = end-is (a .w .wire) (a .x) (a .digits) ((c .before .before .before .before .before .before .before .before .before .before .before .before .chain-end) .result) ((c .before .before .before .before .before .before .before .before .before .before .before .before .chain-end) .ensures) in
-    wrote-two (a .w) (a .table .now) _ ((c .before .before .before .before .before .before .before .before .before .before .order) .last .1 .0) ((c .before .before .before .before .before .before .before .before .before .before .order) .result) (andOf (a .f) ((c .before .before .before .before .before .before .before .before .before .before .before .before .chain-end) .result) ∷ choose (a .w .wire + 2 * a .digits) (a .x) (a .y) (a .digits + 1)) _ ((c .before .before .choose) .last .1 .0) ((c .before .before .choose) .result) ((c .before .before .before .before .before .before .before .before .before .before .order) .ensures)
-    (wrote-two ((c .before .before .before .before .before .before .before .before .before .before .order) .result) ((c .before .before .before .before .before .before .before .before .before .before .order) .last .1 .0) (andOf (a .f) ((c .before .before .before .before .before .before .before .before .before .before .before .before .chain-end) .result) ∷ []) ((c .before .before .before .before .before .before .emit) .last .1 .0) ((c .before .before .before .before .before .before .emit) .result) _ _ ((c .before .before .choose) .last .1 .0) ((c .before .before .choose) .result)
+    wrote-then (a .w) (a .table .now) _ ((c .before .before .before .before .before .before .before .before .before .before .order) .last .1 .0) ((c .before .before .before .before .before .before .before .before .before .before .order) .result) (andOf (a .f) ((c .before .before .before .before .before .before .before .before .before .before .before .before .chain-end) .result) ∷ choose (a .w .wire + 2 * a .digits) (a .x) (a .y) (a .digits + 1)) _ ((c .before .before .choose) .last .1 .0) ((c .before .before .choose) .result) ((c .before .before .before .before .before .before .before .before .before .before .order) .ensures)
+    (wrote-then ((c .before .before .before .before .before .before .before .before .before .before .order) .result) ((c .before .before .before .before .before .before .before .before .before .before .order) .last .1 .0) (andOf (a .f) ((c .before .before .before .before .before .before .before .before .before .before .before .before .chain-end) .result) ∷ []) ((c .before .before .before .before .before .before .emit) .last .1 .0) ((c .before .before .before .before .before .before .emit) .result) _ _ ((c .before .before .choose) .last .1 .0) ((c .before .before .choose) .result)
     (and-wrote ((c .before .before .before .before .before .before .before .before .before .before .order) .result) ((c .before .before .before .before .before .before .before .before .before .before .order) .last .1 .0) ((c .before .before .before .before .before .before .emit) .last .1 .0) ((c .before .before .before .before .before .before .emit) .result) (a .f) ((c .before .before .before .before .before .before .before .before .before .before .before .before .chain-end) .result) 0 ((c .before .before .before .before .before .before .emit) .ensures)) ((c .before .before .choose) .ensures) refl)
     (ap (λ (f : ℕ). andOf (a .f) f ∷ choose (a .w .wire + 2 * a .digits) (a .x) (a .y) (a .digits + 1)) e
     ∙ ap (λ (d : ℕ). andOf (a .f) (orderEnd (a .w .wire) (a .x) (a .digits)) ∷ choose (a .w .wire + 2 * a .digits) (a .x) (a .y) d) (add-one (a .digits)))

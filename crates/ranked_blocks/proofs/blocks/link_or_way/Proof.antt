@@ -10,9 +10,10 @@ use Rattle.gate_words.specs.Choice.{choose}
 use Rattle.gate_words.proofs.Writing.{room-less, wrote-as}
 use Rattle.ranked_circuit.specs.Blocks.{order, orderEnd, smaller, largerIf}
 use Rattle.ranked_circuit.proofs.BlockLaws.{length-smaller}
-use Rattle.ranked_blocks.proofs.Behind.{wrote-two, behind, room-behind}
+use Rattle.ranked_blocks.proofs.Behind.{behind, room-behind}
 use Rattle.ranked_blocks.proofs.blocks.link_or_way.Statement.{statement}
 use Rattle.ranked_blocks.proofs.blocks.link_or_way.Tie as tie
+use Rattle.gate_words.proofs.Standing.{wrote-then}
 
 smaller-is : (n x y w : ℕ) → order n x y w ++ choose (orderEnd n x w) y x (suc w) ≡ smaller n x y w
 smaller-is n x y w = unfold smaller in refl
@@ -54,7 +55,7 @@ returns c =
     let a = (c .before .before .before .before .before .before .before .before .before .before .args) in
     let f = (c .before .before .larger-if) in
     let way = a .w .wire + 2 * a .digits in
-    wrote-two (a .w) (a .table .now) (smaller (a .w .wire) (a .x) (a .y) (a .digits)) ((c .before .before .before .before .before .before .one-of) .last .1 .0) ((c .before .before .before .before .before .before .one-of) .result) _ _ (f .last .1 .0) (f .result)
+    wrote-then (a .w) (a .table .now) (smaller (a .w .wire) (a .x) (a .y) (a .digits)) ((c .before .before .before .before .before .before .one-of) .last .1 .0) ((c .before .before .before .before .before .before .one-of) .result) _ _ (f .last .1 .0) (f .result)
     (wrote-as (a .w) (a .table .now) _ (smaller (a .w .wire) (a .x) (a .y) (a .digits)) ((c .before .before .before .before .before .before .one-of) .last .1 .0) ((c .before .before .before .before .before .before .one-of) .result) (smaller-is (a .w .wire) (a .x) (a .y) (a .digits)) ((c .before .before .before .before .before .before .one-of) .ensures))
     (f .ensures) (ap (λ (n : ℕ). largerIf n (a .f) (a .v) way (a .digits)) (weaker (c .before .before .before .before .before .before)))
 

@@ -8,9 +8,10 @@ use borrow.Author.Needs.{needs}
 use Rattle.gate_words.specs.Choice.{choose, chainEnd}
 use Rattle.ranked_circuit.specs.Blocks.{orderEnd}
 use Rattle.ranked_circuit.proofs.BlockLaws.{length-order}
-use Rattle.ranked_blocks.proofs.Behind.{wrote-two, behind, room-behind}
+use Rattle.ranked_blocks.proofs.Behind.{behind, room-behind}
 use Rattle.ranked_blocks.proofs.blocks.one_of.Statement.{statement}
 use Rattle.ranked_blocks.proofs.blocks.one_of.Tie as tie
+use Rattle.gate_words.proofs.Standing.{wrote-then}
 
 add-chain-end : tie.Need-add-chain-end
 add-chain-end c = search needs
@@ -43,7 +44,7 @@ returns : tie.Need-returns
 returns c =
     let a = (c .before .before .before .before .before .before .before .before .before .before .before .args) in
     let e = end-is (a .w .wire) (a .x) (a .digits) ((c .before .before .before .before .before .before .before .before .chain-end) .result) ((c .before .before .before .before .before .before .before .before .chain-end) .ensures) in
-    wrote-two (a .w) (a .table .now) _ ((c .before .before .before .before .before .before .order) .last .1 .0) ((c .before .before .before .before .before .before .order) .result) _ _ ((c .before .before .choose) .last .1 .0) ((c .before .before .choose) .result) ((c .before .before .before .before .before .before .order) .ensures) ((c .before .before .choose) .ensures)
+    wrote-then (a .w) (a .table .now) _ ((c .before .before .before .before .before .before .order) .last .1 .0) ((c .before .before .before .before .before .before .order) .result) _ _ ((c .before .before .choose) .last .1 .0) ((c .before .before .choose) .result) ((c .before .before .before .before .before .before .order) .ensures) ((c .before .before .choose) .ensures)
     (ap (λ (f : ℕ). choose f (a .high) (a .low) (a .digits + 1)) e ∙ ap (choose (orderEnd (a .w .wire) (a .x) (a .digits)) (a .high) (a .low)) (add-one (a .digits)))
 
 same-length : tie.Need-same-length

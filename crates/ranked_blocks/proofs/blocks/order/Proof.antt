@@ -7,9 +7,10 @@ use borrow.Author.Needs.{needs}
 use Rattle.gate_words.specs.Comparison.{above}
 use Rattle.gate_words.proofs.Laws.{length-differences}
 use Rattle.ranked_circuit.specs.Blocks.{order}
-use Rattle.ranked_blocks.proofs.Behind.{wrote-two, behind, room-behind}
+use Rattle.ranked_blocks.proofs.Behind.{behind, room-behind}
 use Rattle.ranked_blocks.proofs.blocks.order.Statement.{statement}
 use Rattle.ranked_blocks.proofs.blocks.order.Tie as tie
+use Rattle.gate_words.proofs.Standing.{wrote-then}
 
 add-differences : tie.Need-add-differences
 add-differences c = search needs
@@ -39,7 +40,7 @@ returns : tie.Need-returns
 unfolding order
 returns c =
     let a = (c .before .before .before .before .before .before .before .before .before .args) in
-    wrote-two (a .w) (a .table .now) _ ((c .before .before .before .before .before .before .differences) .last .1 .0) ((c .before .before .before .before .before .before .differences) .result) _ _ ((c .before .before .above) .last .1 .0) ((c .before .before .above) .result) ((c .before .before .before .before .before .before .differences) .ensures) ((c .before .before .above) .ensures)
+    wrote-then (a .w) (a .table .now) _ ((c .before .before .before .before .before .before .differences) .last .1 .0) ((c .before .before .before .before .before .before .differences) .result) _ _ ((c .before .before .above) .last .1 .0) ((c .before .before .above) .result) ((c .before .before .before .before .before .before .differences) .ensures) ((c .before .before .above) .ensures)
     (ap (λ (n : ℕ). above n (a .w .wire) (a .x + 1) (a .x) (a .digits)) (differ (c .before .before .before .before .before .before)))
 
 same-length : tie.Need-same-length
