@@ -20,6 +20,7 @@ use Rattle.jury.specs.declared.shape.Shape.{Shape}
 use Rattle.jury.specs.Shape.{ballotBytes}
 use Rattle.jury.specs.Reason.{Reason, reasonAt, firstOf}
 use Rattle.tally.specs.Answer.{refused, accepted, outcome, hasNumberIn, sizeOf}
+use Rattle.tally.specs.Memory.{Each}
 use Rattle.tally.specs.Test.{testReasons, testOutcome}
 use Rattle.tally.proofs.TestReasons.{test-passed}
 use Rattle.levels.specs.Answer.{Depths, depthsOf}
@@ -61,11 +62,13 @@ written-length s table levels = go (firstOf (levelsReasons s table levels)) refl
     go none e = ap length (sym (call-accepted s table levels e .1)) ∙ length-levels (ballotBytes s) (gatesOf table) ∙ sym (both-passed s table levels e .1)
 
 pub memory : Memory
-memory =
+unfolding Each
+memory s table levels =
     record {
-      number = levels-number;
-      refusal = λ s table levels r e. sym (call-refused s table levels r (refused-by s table levels r e) .1);
-      lengths = written-length;
+      number = levels-number s table levels;
+      refusal = λ r e. (sym (call-refused s table levels r (refused-by s table levels r e) .1), tt);
+      empties = λ values e. tt;
+      lengths = (written-length s table levels, tt);
     }
 
 -- gate g's level is that of its operands

@@ -21,7 +21,7 @@ use Rattle.trustee_shares.specs.Views.{joined, Dealing, ballotsOf, dealtOf, wir
 use Rattle.trustee_shares.proofs.Accuracy.{opened-same}
 use Rattle.trustee_shares.proofs.Tables.{length-piece, joined-cong}
 use Rattle.trustee_rounds.specs.Rounds.{Turn, enters, publishes, closes}
-use Rattle.trustee_rounds.specs.Together.{sumsOf, turnOf, wiresAfter, publishedAfter, holdingsAfter}
+use Rattle.trustee_rounds.specs.Together.{sumsOf, turnOf, wiresAfter, publishedAfter}
 use Rattle.trustee_rounds.proofs.Together.{rounds-make-the-tally}
 use Rattle.trustees.specs.Call.{Call}
 use Rattle.trustees.specs.Reasons.{trusteesReasons}

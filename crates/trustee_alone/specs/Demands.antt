@@ -3,15 +3,14 @@
 use mathlib.Core.Path.{_≡_}
 use mathlib.Core.List.{List, [], _∷_}
 use Prim.Native.Nat.{ℕ, suc, _+_, _*_, _≤_, _<_}
-use lib.Dec.{T}
-use lib.ListN.{length, replicate}
+use lib.ListN.{length}
 use Rattle.gates.specs.Gate.{Gate, gatesOf}
 use Rattle.gates.specs.Board.{conditionalCount}
 use Rattle.gate_levels.specs.Levels.{levelsOf, roundsOf}
 use Rattle.jury.specs.declared.shape.Shape.{Shape}
 use Rattle.jury.specs.Shape.{ballotBytes}
-use Rattle.jury.specs.Reason.{Reason}
-use Rattle.tally.specs.Answer.{refused, accepted, hasNumberIn, Size, sizeOf}
+use Rattle.tally.specs.Answer.{accepted, Size, sizeOf}
+use Rattle.tally.specs.Memory.{Lent, KeepsMemory}
 use Rattle.levels.specs.Answer.{depthsOf}
 use Rattle.trustee_shares.specs.Views.{joined, Dealing, ballotsOf, dealtOf}
 use Rattle.trustee_rounds.specs.Together.{sumsOf, Holdings, publishedAfter, holdingsAfter}
@@ -21,29 +20,24 @@ use Rattle.trustee_alone.specs.Start.{startSaid, startedWires, startedPu
 use Rattle.trustee_alone.specs.Rounds.{roundSaid, roundedWires, roundedPublished}
 use Rattle.trustee_alone.specs.Finish.{finishSaid, finishedWires}
 
--- A refusal's number is that of a reason which concerns the call, and a refusal alters nothing; an accepted finish
--- leaves zeros.
+-- A table before and after a call.
+abbrev pub lent : (before after : List ℕ) → Lent
+lent before after = record { before = before; after = after }
+
+-- Demand 1. Start and rounds may write to the wire parts and to the published bits; the finish empties the wire parts.
 pub record Memory : Type 0 where
-  pub start-number : (s : Shape) (table : List ℕ) (t p : ℕ) (parts dealt ws published : List ℕ) (r : Reason)
-      → startSaid s table t p parts dealt ws published ≡ refused r
-      → T (hasNumberIn (1 ∷ 2 ∷ 3 ∷ 16 ∷ 17 ∷ 18 ∷ []) r)
-  pub round-number : (s : Shape) (table : List ℕ) (t p round : ℕ) (levels dealt heard ws published : List ℕ)
-      (r : Reason) → roundSaid s table t p round levels dealt heard ws published ≡ refused r
-      → T (hasNumberIn (1 ∷ 2 ∷ 3 ∷ 16 ∷ 17 ∷ 18 ∷ 200 ∷ 201 ∷ 202 ∷ []) r)
-  pub finish-number : (s : Shape) (table ws : List ℕ) (r : Reason) → finishSaid s table ws ≡ refused r
-      → T (hasNumberIn (1 ∷ 2 ∷ 3 ∷ 17 ∷ []) r)
-  pub start-refused : (s : Shape) (table : List ℕ) (t p : ℕ) (parts dealt ws published : List ℕ) (r : Reason)
-      → startSaid s table t p parts dealt ws published ≡ refused r
-      → (startedWires s table t p parts dealt ws published ≡ ws)
-      × (startedPublished s table t p parts dealt ws published ≡ published)
-  pub round-refused : (s : Shape) (table : List ℕ) (t p round : ℕ) (levels dealt heard ws published : List ℕ)
-      (r : Reason) → roundSaid s table t p round levels dealt heard ws published ≡ refused r
-      → (roundedWires s table t p round levels dealt heard ws published ≡ ws)
-      × (roundedPublished s table t p round levels dealt heard ws published ≡ published)
-  pub finish-refused : (s : Shape) (table ws : List ℕ) (r : Reason) → finishSaid s table ws ≡ refused r
-      → finishedWires s table ws ≡ ws
-  pub finish-empties : (s : Shape) (table ws : List ℕ) (size : Size) → finishSaid s table ws ≡ accepted size
-      → finishedWires s table ws ≡ replicate (length ws) 0
+  pub start : (s : Shape) (table : List ℕ) (t p : ℕ) (parts dealt ws published : List ℕ)
+      → KeepsMemory (1 ∷ 2 ∷ 3 ∷ 16 ∷ 17 ∷ 18 ∷ []) (startSaid s table t p parts dealt ws published)
+      (lent ws (startedWires s table t p parts dealt ws published)
+      ∷ lent published (startedPublished s table t p parts dealt ws published) ∷ []) []
+  pub round : (s : Shape) (table : List ℕ) (t p round : ℕ) (levels dealt heard ws published : List ℕ)
+      → KeepsMemory (1 ∷ 2 ∷ 3 ∷ 16 ∷ 17 ∷ 18 ∷ 200 ∷ 201 ∷ 202 ∷ [])
+      (roundSaid s table t p round levels dealt heard ws published)
+      (lent ws (roundedWires s table t p round levels dealt heard ws published)
+      ∷ lent published (roundedPublished s table t p round levels dealt heard ws published) ∷ []) []
+  pub finish : (s : Shape) (table ws : List ℕ)
+      → KeepsMemory (1 ∷ 2 ∷ 3 ∷ 17 ∷ []) (finishSaid s table ws) (lent ws (finishedWires s table ws) ∷ [])
+      (lent ws (finishedWires s table ws) ∷ [])
 
 -- The sizes of the one call's list, and what the trustees of that call hold before round r when each is on its own.
 abbrev pub inputsIn : Call → ℕ
