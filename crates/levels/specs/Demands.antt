@@ -14,7 +14,7 @@ use Rattle.jury.specs.Shape.{ballotBytes}
 use Rattle.tally.specs.Answer.{accepted}
 use Rattle.tally.specs.Memory.{Lent, KeepsMemory}
 use Rattle.levels.specs.Answer.{Depths, depthsOf}
-use Rattle.levels.specs.Levels.{levelsSaid, levelsWritten}
+use Rattle.levels.specs.Levels.{levelsOutcome, levelsWritten}
 
 -- The table that the call may write to. It holds no secrets.
 abbrev pub levelTable : (s : Shape) (table levels : List ℕ) → Lent
@@ -23,7 +23,7 @@ levelTable s table levels = record { before = levels; after = levelsWritten s ta
 abbrev pub Memory : Type 0
 Memory =
     (s : Shape) (table levels : List ℕ)
-    → KeepsMemory (1 ∷ 2 ∷ 3 ∷ 200 ∷ []) (levelsSaid s table levels) (levelTable s table levels ∷ []) []
+    → KeepsMemory (1 ∷ 2 ∷ 3 ∷ 200 ∷ []) (levelsOutcome s table levels) (levelTable s table levels ∷ []) []
 
 -- One operand x of gate g: its level is at most the gate's, and below it where the gate is conditional.
 pub record OperandBelow (s : Shape) (table levels : List ℕ) (g x : ℕ) : Type 0 where
@@ -43,5 +43,5 @@ pub record Depth (s : Shape) (table levels : List ℕ) (depths : Depths) : Type 
 
 pub record Demands : Type 0 where
   pub memory : Memory
-  pub depth : (s : Shape) (table levels : List ℕ) (depths : Depths) → levelsSaid s table levels ≡ accepted depths
+  pub depth : (s : Shape) (table levels : List ℕ) (depths : Depths) → levelsOutcome s table levels ≡ accepted depths
       → Depth s table levels depths

@@ -31,8 +31,8 @@ use Rattle.trustee_rounds.proofs.Closing.{length-enters, length-publishes}
 use Rattle.trustees.specs.Call.{Call}
 use Rattle.trustees.proofs.Reasons.{CallPassed, passed-dealing}
 use Rattle.trustee_alone.specs.Own.{isTrustee, tablesFit}
-use Rattle.trustee_alone.specs.Start.{ownReasons, startReasons, startSaid, startedWires, startedPublished}
-use Rattle.trustee_alone.specs.Rounds.{tableReasons, roundReasons, roundSaid, ownTurn, wiresMade, publishedMade, roundedWires, roundedPublished}
+use Rattle.trustee_alone.specs.Start.{ownReasons, startReasons, startOutcome, startedWires, startedPublished}
+use Rattle.trustee_alone.specs.Rounds.{tableReasons, roundReasons, roundOutcome, ownTurn, wiresMade, publishedMade, roundedWires, roundedPublished}
 use Rattle.trustee_alone.specs.Demands.{heardBefore, CallsOf}
 use Rattle.trustee_alone.proofs.Memory.{length-closes}
 use Rattle.trustee_alone.proofs.Tests.{pass, end, behind, and-both, outcome-none, left-new}
@@ -148,7 +148,7 @@ module _ (c : Call) (passed : CallPassed c) (p : ℕ) (l : p < c .trustees) wher
       ∙ pass _ 202 [] (and-both _ _ true (eq-eqb (length (heardBefore c r)) (2 * conditionalCount (gatesOf (c .table))) (heard-long r)) (heard-bits r)) ∙ end
 
   pub calls-of : CallsOf c p
-  unfolding startSaid startedWires startedPublished roundSaid roundedWires roundedPublished wiresMade publishedMade ownTurn holdingsAfter wiresAfter publishedAfter turnOf heardBefore
+  unfolding startOutcome startedWires startedPublished roundOutcome roundedWires roundedPublished wiresMade publishedMade ownTurn holdingsAfter wiresAfter publishedAfter turnOf heardBefore
   calls-of =
       record {
         start = λ ws published e f.

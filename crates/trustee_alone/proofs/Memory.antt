@@ -27,9 +27,9 @@ use Rattle.trustee_shares.specs.Views.{closingParts}
 use Rattle.trustee_rounds.specs.Rounds.{enters, publishes, closes, startWires, startPublished}
 use Rattle.trustee_rounds.proofs.Closing.{length-enters, length-publishes}
 use Rattle.trustee_alone.specs.Own.{tablesFit}
-use Rattle.trustee_alone.specs.Start.{ownReasons, startReasons, startSaid, startedWires, startedPublished}
-use Rattle.trustee_alone.specs.Rounds.{tableReasons, roundReasons, roundSaid, ownTurn, wiresMade, publishedMade, roundedWires, roundedPublished}
-use Rattle.trustee_alone.specs.Finish.{finishReasons, finishSaid, finishedWires}
+use Rattle.trustee_alone.specs.Start.{ownReasons, startReasons, startOutcome, startedWires, startedPublished}
+use Rattle.trustee_alone.specs.Rounds.{tableReasons, roundReasons, roundOutcome, ownTurn, wiresMade, publishedMade, roundedWires, roundedPublished}
+use Rattle.trustee_alone.specs.Finish.{finishReasons, finishOutcome, finishedWires}
 use Rattle.trustee_alone.specs.Demands.{Memory}
 use Rattle.trustee_alone.proofs.Tests.{passed, both-passed, left-old, left-new}
 use Rattle.trustee_alone.proofs.Sizes.{fit}
@@ -69,45 +69,45 @@ finish-all : (s : Shape) (table ws : List ℕ) → All finish-numbers (finishRea
 unfolding All finishReasons hasNumberIn reasonAt finish-numbers
 finish-all s table ws = both finish-numbers (testReasons s table) _ (finish-list s table) (unless-fine finish-numbers _ 17 tt, tt)
 
-pub start-number : (s : Shape) (table : List ℕ) (t p : ℕ) (parts dealt ws published : List ℕ) (r : Reason) → startSaid s table t p parts dealt ws published ≡ refused r → T (hasNumberIn (1 ∷ 2 ∷ 3 ∷ 16 ∷ 17 ∷ 18 ∷ []) r)
-unfolding startSaid start-numbers
+pub start-number : (s : Shape) (table : List ℕ) (t p : ℕ) (parts dealt ws published : List ℕ) (r : Reason) → startOutcome s table t p parts dealt ws published ≡ refused r → T (hasNumberIn (1 ∷ 2 ∷ 3 ∷ 16 ∷ 17 ∷ 18 ∷ []) r)
+unfolding startOutcome start-numbers
 start-number s table t p parts dealt ws published r e =
-    refused-fine start-numbers (startSaid s table t p parts dealt ws published) r (outcome-fine start-numbers _ _ (first-fine start-numbers (startReasons s table t p parts dealt ws published) (start-all s table t p parts dealt ws published))) e
+    refused-fine start-numbers (startOutcome s table t p parts dealt ws published) r (outcome-fine start-numbers _ _ (first-fine start-numbers (startReasons s table t p parts dealt ws published) (start-all s table t p parts dealt ws published))) e
 
-pub round-number : (s : Shape) (table : List ℕ) (t p round : ℕ) (levels dealt heard ws published : List ℕ) (r : Reason) → roundSaid s table t p round levels dealt heard ws published ≡ refused r
+pub round-number : (s : Shape) (table : List ℕ) (t p round : ℕ) (levels dealt heard ws published : List ℕ) (r : Reason) → roundOutcome s table t p round levels dealt heard ws published ≡ refused r
     → T (hasNumberIn (1 ∷ 2 ∷ 3 ∷ 16 ∷ 17 ∷ 18 ∷ 200 ∷ 201 ∷ 202 ∷ []) r)
-unfolding roundSaid round-numbers
+unfolding roundOutcome round-numbers
 round-number s table t p round levels dealt heard ws published r e =
-    refused-fine round-numbers (roundSaid s table t p round levels dealt heard ws published) r (outcome-fine round-numbers _ _ (first-fine round-numbers (roundReasons s table t p round levels dealt heard ws published) (round-all s table t p round levels dealt heard ws published))) e
+    refused-fine round-numbers (roundOutcome s table t p round levels dealt heard ws published) r (outcome-fine round-numbers _ _ (first-fine round-numbers (roundReasons s table t p round levels dealt heard ws published) (round-all s table t p round levels dealt heard ws published))) e
 
-pub finish-number : (s : Shape) (table ws : List ℕ) (r : Reason) → finishSaid s table ws ≡ refused r → T (hasNumberIn (1 ∷ 2 ∷ 3 ∷ 17 ∷ []) r)
-unfolding finishSaid finish-numbers
-finish-number s table ws r e = refused-fine finish-numbers (finishSaid s table ws) r (outcome-fine finish-numbers _ _ (first-fine finish-numbers (finishReasons s table ws) (finish-all s table ws))) e
+pub finish-number : (s : Shape) (table ws : List ℕ) (r : Reason) → finishOutcome s table ws ≡ refused r → T (hasNumberIn (1 ∷ 2 ∷ 3 ∷ 17 ∷ []) r)
+unfolding finishOutcome finish-numbers
+finish-number s table ws r e = refused-fine finish-numbers (finishOutcome s table ws) r (outcome-fine finish-numbers _ _ (first-fine finish-numbers (finishReasons s table ws) (finish-all s table ws))) e
 
-start-refused : (s : Shape) (table : List ℕ) (t p : ℕ) (parts dealt ws published : List ℕ) (r : Reason) → startSaid s table t p parts dealt ws published ≡ refused r
+start-refused : (s : Shape) (table : List ℕ) (t p : ℕ) (parts dealt ws published : List ℕ) (r : Reason) → startOutcome s table t p parts dealt ws published ≡ refused r
     → (startedWires s table t p parts dealt ws published ≡ ws) × (startedPublished s table t p parts dealt ws published ≡ published)
-unfolding startSaid startedWires startedPublished
+unfolding startOutcome startedWires startedPublished
 start-refused s table t p parts dealt ws published r e =
     let o = firstOf (startReasons s table t p parts dealt ws published) in
     let why = outcome-refused o (sizeOf (gatesOf table)) r e in
     (sym (left-old o (startWires (length (gatesOf table)) parts) ws r why), sym (left-old o (startPublished (conditionalCount (gatesOf table)) (s .candidates)) published r why))
 
-round-refused : (s : Shape) (table : List ℕ) (t p round : ℕ) (levels dealt heard ws published : List ℕ) (r : Reason) → roundSaid s table t p round levels dealt heard ws published ≡ refused r
+round-refused : (s : Shape) (table : List ℕ) (t p round : ℕ) (levels dealt heard ws published : List ℕ) (r : Reason) → roundOutcome s table t p round levels dealt heard ws published ≡ refused r
     → (roundedWires s table t p round levels dealt heard ws published ≡ ws) × (roundedPublished s table t p round levels dealt heard ws published ≡ published)
-unfolding roundSaid roundedWires roundedPublished
+unfolding roundOutcome roundedWires roundedPublished
 round-refused s table t p round levels dealt heard ws published r e =
     let o = firstOf (roundReasons s table t p round levels dealt heard ws published) in
     let why = outcome-refused o (depthsOf (ballotBytes s) (gatesOf table)) r e in
     (sym (left-old o (wiresMade s table p round levels dealt heard ws) ws r why), sym (left-old o (publishedMade s table p round levels dealt heard ws published) published r why))
 
-finish-refused : (s : Shape) (table ws : List ℕ) (r : Reason) → finishSaid s table ws ≡ refused r → finishedWires s table ws ≡ ws
-unfolding finishSaid finishedWires
+finish-refused : (s : Shape) (table ws : List ℕ) (r : Reason) → finishOutcome s table ws ≡ refused r → finishedWires s table ws ≡ ws
+unfolding finishOutcome finishedWires
 finish-refused s table ws r e =
     let o = firstOf (finishReasons s table ws) in
     sym (left-old o (replicate (length ws) 0) ws r (outcome-refused o (sizeOf (gatesOf table)) r e))
 
-finish-empties : (s : Shape) (table ws : List ℕ) (size : Size) → finishSaid s table ws ≡ accepted size → finishedWires s table ws ≡ replicate (length ws) 0
-unfolding finishSaid finishedWires
+finish-empties : (s : Shape) (table ws : List ℕ) (size : Size) → finishOutcome s table ws ≡ accepted size → finishedWires s table ws ≡ replicate (length ws) 0
+unfolding finishOutcome finishedWires
 finish-empties s table ws size e =
     let o = firstOf (finishReasons s table ws) in
     sym (left-new o (replicate (length ws) 0) ws (outcome-accepted o (sizeOf (gatesOf table)) size e .0))
