@@ -7,7 +7,7 @@ use native.Mathlib.Omega.{arith}
 use Rattle.jury.specs.Reason.{Reason}
 use Rattle.tally.specs.Answer.{Outcome, refused}
 use Rattle.levels.specs.Answer.{Depths}
-use Rattle.levels.specs.Levels.{levelsSaid}
+use Rattle.levels.specs.Levels.{levelsOutcome}
 use Rattle.levels.proofs.Demands.{levels-number}
 use Rattle.c_answers.specs.Numbers.{statusOf, shortAnswer}
 use Rattle.c_answers.proofs.Statuses.{fit, Numbered, numbered, outcome-tells}
@@ -23,5 +23,5 @@ pub status-tells : StatusMeans
 unfolding fit
 status-tells =
     record {
-      levels = λ s table ls answer. depth-tells lastReason (omega arith) answer (levelsSaid s table ls) (λ r e. numbered lastReason _ r tt (levels-number s table ls r e));
+      levels = λ s table ls answer. depth-tells lastReason (omega arith) answer (levelsOutcome s table ls) (λ r e. numbered lastReason _ r tt (levels-number s table ls r e));
     }

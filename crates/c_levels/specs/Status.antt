@@ -4,7 +4,7 @@ use Prim.Native.Nat.{ℕ}
 use Rattle.jury.specs.declared.shape.Shape.{Shape}
 use Rattle.tally.specs.Answer.{Outcome}
 use Rattle.levels.specs.Answer.{Depths}
-use Rattle.levels.specs.Levels.{levelsSaid}
+use Rattle.levels.specs.Levels.{levelsOutcome}
 use Rattle.c_answers.specs.Status.{isAccepted, StatusReads}
 use Rattle.c_levels.specs.Numbers.{depthAnswer, depthNumbers}
 
@@ -16,4 +16,4 @@ abbrev pub DepthStatus : (last : ℕ) (answer : List ℕ) → Outcome Depths →
 DepthStatus last answer o = StatusReads last depthAnswer (depthNumbers o) answer (isAccepted o)
 
 pub record StatusMeans : Type 0 where
-  pub levels : (s : Shape) (table ls answer : List ℕ) → DepthStatus lastReason answer (levelsSaid s table ls)
+  pub levels : (s : Shape) (table ls answer : List ℕ) → DepthStatus lastReason answer (levelsOutcome s table ls)

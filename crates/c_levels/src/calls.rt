@@ -7,7 +7,7 @@ ghost use mathlib.Core.Path.{_≡_};
 ghost use mathlib.Core.List.{[], _∷_};
 ghost use Prim.Native.Nat.{_≤_};
 ghost use lib.ListN.{length};
-ghost use Rattle.levels.specs.Answer.{depthsSaid};
+ghost use Rattle.levels.specs.Answer.{depthsOutcome};
 ghost use Rattle.c_answers.specs.Numbers.{shapeOf};
 ghost use Rattle.c_answers.specs.inner.Puts.{Puts};
 ghost use Rattle.c_levels.specs.Numbers.{depthAnswer, depthNumbers};
@@ -20,7 +20,7 @@ pub const DEPTH_ANSWER: usize = 5;
 pub fn put_depths(outcome: Answer, answer: &mut [usize]) -> usize
     requires { ⌜ depthAnswer ≤ length (now answer) ⌝ }
     ensures { λ r.
-        ⌜ Puts depthAnswer (depthNumbers (depthsSaid outcome)) (now (answer .entry)) (now (answer .exit)) r ⌝ }
+        ⌜ Puts depthAnswer (depthNumbers (depthsOutcome outcome)) (now (answer .entry)) (now (answer .exit)) r ⌝ }
 {
     match outcome {
         Answer::Accepted {

@@ -20,10 +20,11 @@ use Rattle.jury.specs.declared.shape.Shape.{Shape}
 use Rattle.jury.specs.Shape.{ballotBytes}
 use Rattle.jury.specs.Reason.{Reason, reasonAt, firstOf}
 use Rattle.tally.specs.Answer.{refused, accepted, outcome, hasNumberIn, sizeOf}
+use Rattle.tally.specs.Memory.{Each}
 use Rattle.tally.specs.Test.{testReasons, testOutcome}
 use Rattle.tally.proofs.TestReasons.{test-passed}
 use Rattle.levels.specs.Answer.{Depths, depthsOf}
-use Rattle.levels.specs.Levels.{levelsReasons, levelsSaid, levelsWritten}
+use Rattle.levels.specs.Levels.{levelsReasons, levelsOutcome, levelsWritten}
 use Rattle.levels.specs.Demands.{Memory, OperandBelow, Depth, Demands}
 use Rattle.levels.proofs.Reasons.{outcome-refused, outcome-accepted, ListFacts, list-facts, both-passed, call-refused, call-accepted}
 use Rattle.tally.proofs.Numbering.{All, first-fine, both, unless-fine, list-fine, outcome-fine, refused-fine}
@@ -39,18 +40,18 @@ all-numbers : (s : Shape) (table levels : List ℕ) → All numbers (levelsReaso
 unfolding All levelsReasons hasNumberIn reasonAt numbers
 all-numbers s table levels = both numbers (testReasons s table) _ (test-numbers s table) (unless-fine numbers _ 200 tt, tt)
 
-pub levels-number : (s : Shape) (table levels : List ℕ) (r : Reason) → levelsSaid s table levels ≡ refused r → T (hasNumberIn (1 ∷ 2 ∷ 3 ∷ 200 ∷ []) r)
-unfolding levelsSaid numbers
+pub levels-number : (s : Shape) (table levels : List ℕ) (r : Reason) → levelsOutcome s table levels ≡ refused r → T (hasNumberIn (1 ∷ 2 ∷ 3 ∷ 200 ∷ []) r)
+unfolding levelsOutcome numbers
 levels-number s table levels r e =
-    refused-fine numbers (levelsSaid s table levels) r (outcome-fine numbers _ _ (first-fine numbers (levelsReasons s table levels) (all-numbers s table levels))) e
+    refused-fine numbers (levelsOutcome s table levels) r (outcome-fine numbers _ _ (first-fine numbers (levelsReasons s table levels) (all-numbers s table levels))) e
 
 -- what is known of the reasons, from the answer
-refused-by : (s : Shape) (table levels : List ℕ) (r : Reason) → levelsSaid s table levels ≡ refused r → firstOf (levelsReasons s table levels) ≡ some r
-unfolding levelsSaid
+refused-by : (s : Shape) (table levels : List ℕ) (r : Reason) → levelsOutcome s table levels ≡ refused r → firstOf (levelsReasons s table levels) ≡ some r
+unfolding levelsOutcome
 refused-by s table levels r e = outcome-refused (firstOf (levelsReasons s table levels)) (depthsOf (ballotBytes s) (gatesOf table)) r e
 
-accepted-by : (s : Shape) (table levels : List ℕ) (depths : Depths) → levelsSaid s table levels ≡ accepted depths → (firstOf (levelsReasons s table levels) ≡ none) × (depthsOf (ballotBytes s) (gatesOf table) ≡ depths)
-unfolding levelsSaid
+accepted-by : (s : Shape) (table levels : List ℕ) (depths : Depths) → levelsOutcome s table levels ≡ accepted depths → (firstOf (levelsReasons s table levels) ≡ none) × (depthsOf (ballotBytes s) (gatesOf table) ≡ depths)
+unfolding levelsOutcome
 accepted-by s table levels depths e = outcome-accepted (firstOf (levelsReasons s table levels)) (depthsOf (ballotBytes s) (gatesOf table)) depths e
 
 written-length : (s : Shape) (table levels : List ℕ) → length (levelsWritten s table levels) ≡ length levels
@@ -61,11 +62,13 @@ written-length s table levels = go (firstOf (levelsReasons s table levels)) refl
     go none e = ap length (sym (call-accepted s table levels e .1)) ∙ length-levels (ballotBytes s) (gatesOf table) ∙ sym (both-passed s table levels e .1)
 
 pub memory : Memory
-memory =
+unfolding Each
+memory s table levels =
     record {
-      number = levels-number;
-      refusal = λ s table levels r e. sym (call-refused s table levels r (refused-by s table levels r e) .1);
-      lengths = written-length;
+      number = levels-number s table levels;
+      refusal = λ r e. (sym (call-refused s table levels r (refused-by s table levels r e) .1), tt);
+      empties = λ values e. tt;
+      lengths = (written-length s table levels, tt);
     }
 
 -- gate g's level is that of its operands
@@ -79,7 +82,7 @@ level-at inputs ls n (y ∷ gs) l (suc g) x rest e =
     let m : n + suc g ≡ suc n + g = omega arith in
     ap (λ (i : ℕ). getD ls i 0) m ∙ level-at inputs ls (suc n) gs (l .1) g x rest e
 
-module _ (s : Shape) (table levels : List ℕ) (depths : Depths) (e : levelsSaid s table levels ≡ accepted depths) where
+module _ (s : Shape) (table levels : List ℕ) (depths : Depths) (e : levelsOutcome s table levels ≡ accepted depths) where
   inputs : ℕ
   inputs = ballotBytes s
 

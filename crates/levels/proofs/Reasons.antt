@@ -25,7 +25,7 @@ use Rattle.tally.specs.Answer.{refused, accepted, outcome, sizeOf}
 use Rattle.tally.specs.Test.{testReasons, testOutcome}
 use Rattle.tally.proofs.TestReasons.{orElse, first-append, TestPassed}
 use Rattle.levels.specs.Answer.{depthsOf}
-use Rattle.levels.specs.Levels.{levelsReasons, levelsSaid, afterwards, levelsWritten}
+use Rattle.levels.specs.Levels.{levelsReasons, levelsOutcome, afterwards, levelsWritten}
 
 -- a refusal is the first reason that applies
 pub outcome-refused : {A : Type 0} (o : Option Reason) (v : A) (r : Reason) → outcome o v ≡ refused r → o ≡ some r
@@ -113,13 +113,13 @@ module _ (s : Shape) (table levels : List ℕ) where
       go none false f g = let q = sym (by none false f g) ∙ e in let z : _≡_ {A = ℕ} 0 1 = cc in absurd (omega arith)
       go none true f g = (f, eqb-true (length levels) (length (gatesOf table)) g)
 
-  pub call-refused : (r : Reason) → firstOf (levelsReasons s table levels) ≡ some r → (refused r ≡ levelsSaid s table levels) × (levels ≡ levelsWritten s table levels)
-  unfolding levelsSaid levelsWritten outcome afterwards
+  pub call-refused : (r : Reason) → firstOf (levelsReasons s table levels) ≡ some r → (refused r ≡ levelsOutcome s table levels) × (levels ≡ levelsWritten s table levels)
+  unfolding levelsOutcome levelsWritten outcome afterwards
   call-refused r e = (rw e, rw e)
 
   pub call-accepted : firstOf (levelsReasons s table levels) ≡ none
-      → (accepted (depthsOf (ballotBytes s) (gatesOf table)) ≡ levelsSaid s table levels) × (levelsOf (ballotBytes s) (gatesOf table) ≡ levelsWritten s table levels)
-  unfolding levelsSaid levelsWritten outcome afterwards
+      → (accepted (depthsOf (ballotBytes s) (gatesOf table)) ≡ levelsOutcome s table levels) × (levelsOf (ballotBytes s) (gatesOf table) ≡ levelsWritten s table levels)
+  unfolding levelsOutcome levelsWritten outcome afterwards
   call-accepted e = (rw e, rw e)
 
 -- the answer of an accepted call

@@ -30,7 +30,7 @@ pub record Depths : Type 0 where
 unfoldable pub depthsOf : ℕ → List Gate → Depths
 depthsOf inputs gs = record { gates = length gs; conditional = conditionalCount gs; rounds = roundsOf inputs gs }
 
-unfoldable pub depthsSaid : Answer → Outcome Depths
-depthsSaid (Accepted gates conditional rounds) =
+unfoldable pub depthsOutcome : Answer → Outcome Depths
+depthsOutcome (Accepted gates conditional rounds) =
     accepted (record { gates = gates; conditional = conditional; rounds = rounds })
-depthsSaid (Refused r) = refused (levelReasonOf r)
+depthsOutcome (Refused r) = refused (levelReasonOf r)

@@ -4,27 +4,26 @@ use mathlib.Core.Path.{_≡_}
 use mathlib.Core.Bool.{true}
 use mathlib.Core.List.{List, [], _∷_}
 use Prim.Native.Nat.{ℕ, _≤_, _<_}
-use lib.Dec.{T}
-use lib.ListN.{length, getD}
+use lib.ListN.{getD}
 use Rattle.gates.specs.Kind.{conditionalOf}
 use Rattle.gates.specs.Gate.{gatesOf}
 use Rattle.gates.specs.inner.Step.{gateAt}
 use Rattle.gate_levels.specs.Levels.{wireLevel}
 use Rattle.jury.specs.declared.shape.Shape.{Shape}
 use Rattle.jury.specs.Shape.{ballotBytes}
-use Rattle.jury.specs.Reason.{Reason}
-use Rattle.tally.specs.Answer.{refused, accepted, hasNumberIn}
+use Rattle.tally.specs.Answer.{accepted}
+use Rattle.tally.specs.Memory.{Lent, KeepsMemory}
 use Rattle.levels.specs.Answer.{Depths, depthsOf}
-use Rattle.levels.specs.Levels.{levelsSaid, levelsWritten}
+use Rattle.levels.specs.Levels.{levelsOutcome, levelsWritten}
 
--- A refusal's number is that of a reason which concerns the call, a refusal alters nothing, and no call changes a
--- length.
-pub record Memory : Type 0 where
-  pub number : (s : Shape) (table levels : List ℕ) (r : Reason) → levelsSaid s table levels ≡ refused r
-      → T (hasNumberIn (1 ∷ 2 ∷ 3 ∷ 200 ∷ []) r)
-  pub refusal : (s : Shape) (table levels : List ℕ) (r : Reason) → levelsSaid s table levels ≡ refused r
-      → levelsWritten s table levels ≡ levels
-  pub lengths : (s : Shape) (table levels : List ℕ) → length (levelsWritten s table levels) ≡ length levels
+-- The table that the call may write to. It holds no secrets.
+abbrev pub levelTable : (s : Shape) (table levels : List ℕ) → Lent
+levelTable s table levels = record { before = levels; after = levelsWritten s table levels }
+
+abbrev pub Memory : Type 0
+Memory =
+    (s : Shape) (table levels : List ℕ)
+    → KeepsMemory (1 ∷ 2 ∷ 3 ∷ 200 ∷ []) (levelsOutcome s table levels) (levelTable s table levels ∷ []) []
 
 -- One operand x of gate g: its level is at most the gate's, and below it where the gate is conditional.
 pub record OperandBelow (s : Shape) (table levels : List ℕ) (g x : ℕ) : Type 0 where
@@ -44,5 +43,5 @@ pub record Depth (s : Shape) (table levels : List ℕ) (depths : Depths) : Type 
 
 pub record Demands : Type 0 where
   pub memory : Memory
-  pub depth : (s : Shape) (table levels : List ℕ) (depths : Depths) → levelsSaid s table levels ≡ accepted depths
+  pub depth : (s : Shape) (table levels : List ℕ) (depths : Depths) → levelsOutcome s table levels ≡ accepted depths
       → Depth s table levels depths

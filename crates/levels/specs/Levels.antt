@@ -18,8 +18,9 @@ use Rattle.levels.specs.Answer.{Depths, depthsOf}
 unfoldable pub levelsReasons : Shape → List ℕ → List ℕ → List (Option Reason)
 levelsReasons s table levels = testReasons s table ++ unless (eqb (length levels) (length (gatesOf table))) 200 ∷ []
 
-unfoldable pub levelsSaid : Shape → List ℕ → List ℕ → Outcome Depths
-levelsSaid s table levels = outcome (firstOf (levelsReasons s table levels)) (depthsOf (ballotBytes s) (gatesOf table))
+unfoldable pub levelsOutcome : Shape → List ℕ → List ℕ → Outcome Depths
+levelsOutcome s table levels =
+    outcome (firstOf (levelsReasons s table levels)) (depthsOf (ballotBytes s) (gatesOf table))
 
 -- A lent table afterwards: new where the call is accepted, as it was on a refusal.
 unfoldable pub afterwards : Option Reason → List ℕ → List ℕ → List ℕ

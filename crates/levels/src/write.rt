@@ -4,12 +4,12 @@ use crate::answer::LevelRefusal;
 use gate_levels::level;
 use jury::shape::Shape;
 ghost use mathlib.Core.Path.{_≡_};
-ghost use Rattle.levels.specs.Answer.{depthsSaid};
-ghost use Rattle.levels.specs.Levels.{levelsSaid, levelsWritten};
+ghost use Rattle.levels.specs.Answer.{depthsOutcome};
+ghost use Rattle.levels.specs.Levels.{levelsOutcome, levelsWritten};
 
 // Writes the level of each gate of anyone's list, for a jury of a shape.
 pub fn write(shape: Shape, table: &[u32], levels: &mut [u32]) -> Answer
-    ensures { λ r. ⌜ depthsSaid r ≡ levelsSaid shape (now (table .entry)) (now (levels .entry)) ⌝ }
+    ensures { λ r. ⌜ depthsOutcome r ≡ levelsOutcome shape (now (table .entry)) (now (levels .entry)) ⌝ }
     ensures { λ _. ⌜ now (levels .exit) ≡ levelsWritten shape (now (table .entry)) (now (levels .entry)) ⌝ }
 {
     match tally::test::test(shape, table) {

@@ -1,14 +1,14 @@
 -- The calls of trustees apart, in an election that the one call accepts: each is accepted, and leaves what they together hold.
 -- Assumes nothing.
 use mathlib.Core.Path.{_≡_, _∙_, refl, sym, ap}
-use mathlib.Core.Bool.{Bool, true, false, cond}
+use mathlib.Core.Bool.{true}
 use mathlib.Core.Option.{none}
 use mathlib.Core.List.{List, [], _∷_}
 use Prim.Native.Nat.{ℕ, zero, suc, _+_, _*_, _≤_, _<_}
 use native.Mathlib.Omega.{arith}
-use lib.Dec.{eqb, leb}
+use lib.Dec.{leb}
 use lib.ListN.{length, getD, take, drop, replicate, length-append, length-replicate}
-use lib.Seq.{sets, length-sets, getD-drop}
+use lib.Seq.{getD-drop}
 use borrow.Author.Tests.{eq-eqb, le-leb, lt-ltb}
 use Rattle.gates.specs.Gate.{gatesOf}
 use Rattle.gates.specs.Board.{conditionalCount, Bits}
@@ -20,20 +20,21 @@ use Rattle.tally.specs.Answer.{sizeOf}
 use Rattle.tally.specs.Test.{testReasons}
 use Rattle.levels.specs.Answer.{depthsOf}
 use Rattle.trustee_shares.specs.Shares.{opened, part, Held}
-use Rattle.trustee_shares.specs.Views.{piece, ballotsOf, dealtOf, closingParts, GoodDealing}
+use Rattle.trustee_shares.specs.Views.{piece, ballotsOf, dealtOf, GoodDealing}
 use Rattle.trustee_shares.proofs.Tables.{length-piece}
 use Rattle.trustee_gates.specs.Dealing.{onlyBits}
 use Rattle.trustee_gates.proofs.Tests.{all-pass}
-use Rattle.trustee_rounds.specs.Rounds.{enters, publishes, closes, startWires, startPublished}
+use Rattle.trustee_rounds.specs.Rounds.{enters, publishes, startWires, startPublished}
 use Rattle.trustee_rounds.specs.Together.{sumsFrom, sumsOf, turnOf, wiresAfter, publishedAfter, holdingsAfter}
 use Rattle.trustee_rounds.proofs.Publishing.{length-sums}
 use Rattle.trustee_rounds.proofs.Closing.{length-enters, length-publishes}
 use Rattle.trustees.specs.Call.{Call}
 use Rattle.trustees.proofs.Reasons.{CallPassed, passed-dealing}
 use Rattle.trustee_alone.specs.Own.{isTrustee, tablesFit}
-use Rattle.trustee_alone.specs.Start.{ownReasons, startReasons, startSaid, startedWires, startedPublished}
-use Rattle.trustee_alone.specs.Rounds.{tableReasons, roundReasons, roundSaid, ownTurn, wiresMade, publishedMade, roundedWires, roundedPublished}
+use Rattle.trustee_alone.specs.Start.{ownReasons, startReasons, startOutcome, startedWires, startedPublished}
+use Rattle.trustee_alone.specs.Rounds.{tableReasons, roundReasons, roundOutcome, ownTurn, wiresMade, publishedMade, roundedWires, roundedPublished}
 use Rattle.trustee_alone.specs.Demands.{heardBefore, CallsOf}
+use Rattle.trustee_alone.proofs.Memory.{length-closes}
 use Rattle.trustee_alone.proofs.Tests.{pass, end, behind, and-both, outcome-none, left-new}
 
 -- pieces of bits are bits
@@ -64,14 +65,6 @@ unfolding sumsFrom
 sums-bits t zero j published i = omega arith
 sums-bits t (suc n) j published zero = opened-bit t (λ p. part (published p) j)
 sums-bits t (suc n) j published (suc i) = sums-bits t n (suc j) published i
-
-length-closes : (round last conditional k : ℕ) (ws published : List ℕ) → length (closes round last conditional k ws published) ≡ length published
-unfolding closes
-length-closes round last conditional k ws published = go (eqb round last)
-  where
-    go : (b : Bool) → length (cond b (sets published (2 * conditional) (closingParts k ws)) published) ≡ length published
-    go true = length-sets published (2 * conditional) (closingParts k ws)
-    go false = refl
 
 module _ (c : Call) (passed : CallPassed c) (p : ℕ) (l : p < c .trustees) where
   good : GoodDealing (c .trustees) (gatesOf (c .table)) (c .ballots) (c .lent .dealing)
@@ -155,7 +148,7 @@ module _ (c : Call) (passed : CallPassed c) (p : ℕ) (l : p < c .trustees) wher
       ∙ pass _ 202 [] (and-both _ _ true (eq-eqb (length (heardBefore c r)) (2 * conditionalCount (gatesOf (c .table))) (heard-long r)) (heard-bits r)) ∙ end
 
   pub calls-of : CallsOf c p
-  unfolding startSaid startedWires startedPublished roundSaid roundedWires roundedPublished wiresMade publishedMade ownTurn holdingsAfter wiresAfter publishedAfter turnOf heardBefore
+  unfolding startOutcome startedWires startedPublished roundOutcome roundedWires roundedPublished wiresMade publishedMade ownTurn holdingsAfter wiresAfter publishedAfter turnOf heardBefore
   calls-of =
       record {
         start = λ ws published e f.

@@ -3,47 +3,41 @@
 use mathlib.Core.Path.{_≡_}
 use mathlib.Core.List.{List, [], _∷_}
 use Prim.Native.Nat.{ℕ, suc, _+_, _*_, _≤_, _<_}
-use lib.Dec.{T}
-use lib.ListN.{length, replicate}
+use lib.ListN.{length}
 use Rattle.gates.specs.Gate.{Gate, gatesOf}
 use Rattle.gates.specs.Board.{conditionalCount}
 use Rattle.gate_levels.specs.Levels.{levelsOf, roundsOf}
 use Rattle.jury.specs.declared.shape.Shape.{Shape}
 use Rattle.jury.specs.Shape.{ballotBytes}
-use Rattle.jury.specs.Reason.{Reason}
-use Rattle.tally.specs.Answer.{refused, accepted, hasNumberIn, Size, sizeOf}
+use Rattle.tally.specs.Answer.{accepted, Size, sizeOf}
+use Rattle.tally.specs.Memory.{Lent, KeepsMemory}
 use Rattle.levels.specs.Answer.{depthsOf}
 use Rattle.trustee_shares.specs.Views.{joined, Dealing, ballotsOf, dealtOf}
 use Rattle.trustee_rounds.specs.Together.{sumsOf, Holdings, publishedAfter, holdingsAfter}
 use Rattle.trustees.specs.Call.{Call}
 use Rattle.trustees.specs.Result.{trusteesResult, closingSums}
-use Rattle.trustee_alone.specs.Start.{startSaid, startedWires, startedPublished}
-use Rattle.trustee_alone.specs.Rounds.{roundSaid, roundedWires, roundedPublished}
-use Rattle.trustee_alone.specs.Finish.{finishSaid, finishedWires}
+use Rattle.trustee_alone.specs.Start.{startOutcome, startedWires, startedPublished}
+use Rattle.trustee_alone.specs.Rounds.{roundOutcome, roundedWires, roundedPublished}
+use Rattle.trustee_alone.specs.Finish.{finishOutcome, finishedWires}
 
--- A refusal's number is that of a reason which concerns the call, and a refusal alters nothing; an accepted finish
--- leaves zeros.
+-- A table before and after a call.
+abbrev pub lent : (before after : List ℕ) → Lent
+lent before after = record { before = before; after = after }
+
+-- Demand 1. Start and rounds may write to the wire parts and to the published bits; the finish empties the wire parts.
 pub record Memory : Type 0 where
-  pub start-number : (s : Shape) (table : List ℕ) (t p : ℕ) (parts dealt ws published : List ℕ) (r : Reason)
-      → startSaid s table t p parts dealt ws published ≡ refused r
-      → T (hasNumberIn (1 ∷ 2 ∷ 3 ∷ 16 ∷ 17 ∷ 18 ∷ []) r)
-  pub round-number : (s : Shape) (table : List ℕ) (t p round : ℕ) (levels dealt heard ws published : List ℕ)
-      (r : Reason) → roundSaid s table t p round levels dealt heard ws published ≡ refused r
-      → T (hasNumberIn (1 ∷ 2 ∷ 3 ∷ 16 ∷ 17 ∷ 18 ∷ 200 ∷ 201 ∷ 202 ∷ []) r)
-  pub finish-number : (s : Shape) (table ws : List ℕ) (r : Reason) → finishSaid s table ws ≡ refused r
-      → T (hasNumberIn (1 ∷ 2 ∷ 3 ∷ 17 ∷ []) r)
-  pub start-refused : (s : Shape) (table : List ℕ) (t p : ℕ) (parts dealt ws published : List ℕ) (r : Reason)
-      → startSaid s table t p parts dealt ws published ≡ refused r
-      → (startedWires s table t p parts dealt ws published ≡ ws)
-      × (startedPublished s table t p parts dealt ws published ≡ published)
-  pub round-refused : (s : Shape) (table : List ℕ) (t p round : ℕ) (levels dealt heard ws published : List ℕ)
-      (r : Reason) → roundSaid s table t p round levels dealt heard ws published ≡ refused r
-      → (roundedWires s table t p round levels dealt heard ws published ≡ ws)
-      × (roundedPublished s table t p round levels dealt heard ws published ≡ published)
-  pub finish-refused : (s : Shape) (table ws : List ℕ) (r : Reason) → finishSaid s table ws ≡ refused r
-      → finishedWires s table ws ≡ ws
-  pub finish-empties : (s : Shape) (table ws : List ℕ) (size : Size) → finishSaid s table ws ≡ accepted size
-      → finishedWires s table ws ≡ replicate (length ws) 0
+  pub start : (s : Shape) (table : List ℕ) (t p : ℕ) (parts dealt ws published : List ℕ)
+      → KeepsMemory (1 ∷ 2 ∷ 3 ∷ 16 ∷ 17 ∷ 18 ∷ []) (startOutcome s table t p parts dealt ws published)
+      (lent ws (startedWires s table t p parts dealt ws published)
+      ∷ lent published (startedPublished s table t p parts dealt ws published) ∷ []) []
+  pub round : (s : Shape) (table : List ℕ) (t p round : ℕ) (levels dealt heard ws published : List ℕ)
+      → KeepsMemory (1 ∷ 2 ∷ 3 ∷ 16 ∷ 17 ∷ 18 ∷ 200 ∷ 201 ∷ 202 ∷ [])
+      (roundOutcome s table t p round levels dealt heard ws published)
+      (lent ws (roundedWires s table t p round levels dealt heard ws published)
+      ∷ lent published (roundedPublished s table t p round levels dealt heard ws published) ∷ []) []
+  pub finish : (s : Shape) (table ws : List ℕ)
+      → KeepsMemory (1 ∷ 2 ∷ 3 ∷ 17 ∷ []) (finishOutcome s table ws) (lent ws (finishedWires s table ws) ∷ [])
+      (lent ws (finishedWires s table ws) ∷ [])
 
 -- The sizes of the one call's list, and what the trustees of that call hold before round r when each is on its own.
 abbrev pub inputsIn : Call → ℕ
@@ -77,7 +71,7 @@ dealtIn c p = dealtOf (gatesOf (c .table)) (c .lent .dealing) p
 
 -- The start of trustee p on these tables, and its round r, are accepted and leave what the trustees together hold.
 pub record StartOf (c : Call) (p : ℕ) (ws published : List ℕ) : Type 0 where
-  pub answer : startSaid (c .shape) (c .table) (c .trustees) p (partsIn c p) (dealtIn c p) ws published
+  pub answer : startOutcome (c .shape) (c .table) (c .trustees) p (partsIn c p) (dealtIn c p) ws published
       ≡ accepted (sizeOf (gatesOf (c .table)))
   pub wires : startedWires (c .shape) (c .table) (c .trustees) p (partsIn c p) (dealtIn c p) ws published
       ≡ holdingsIn c 0 .wireParts p
@@ -85,7 +79,7 @@ pub record StartOf (c : Call) (p : ℕ) (ws published : List ℕ) : Type 0 where
       ≡ holdingsIn c 0 .published p
 
 pub record RoundOf (c : Call) (p r : ℕ) : Type 0 where
-  pub answer : roundSaid (c .shape) (c .table) (c .trustees) p r (levelsOf (inputsIn c) (gatesOf (c .table)))
+  pub answer : roundOutcome (c .shape) (c .table) (c .trustees) p r (levelsOf (inputsIn c) (gatesOf (c .table)))
       (dealtIn c p) (heardBefore c r) (holdingsIn c r .wireParts p) (holdingsIn c r .published p)
       ≡ accepted (depthsOf (inputsIn c) (gatesOf (c .table)))
   pub wires : roundedWires (c .shape) (c .table) (c .trustees) p r (levelsOf (inputsIn c) (gatesOf (c .table)))

@@ -17,8 +17,8 @@ unfoldable pub finishReasons : Shape → List ℕ → List ℕ → List (Option 
 finishReasons s table wireParts =
     testReasons s table ++ unless (eqb (length wireParts) (ballotBytes s + length (gatesOf table))) 17 ∷ []
 
-unfoldable pub finishSaid : Shape → List ℕ → List ℕ → Outcome Size
-finishSaid s table wireParts = outcome (firstOf (finishReasons s table wireParts)) (sizeOf (gatesOf table))
+unfoldable pub finishOutcome : Shape → List ℕ → List ℕ → Outcome Size
+finishOutcome s table wireParts = outcome (firstOf (finishReasons s table wireParts)) (sizeOf (gatesOf table))
 
 unfoldable pub finishedWires : Shape → List ℕ → List ℕ → List ℕ
 finishedWires s table wireParts =

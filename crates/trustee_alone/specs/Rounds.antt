@@ -41,8 +41,8 @@ roundReasons s table t p round levels dealt heard wireParts published =
     published
 
 -- An accepted call answers G, C and R.
-unfoldable pub roundSaid : Shape → List ℕ → ℕ → ℕ → ℕ → List ℕ → List ℕ → List ℕ → List ℕ → List ℕ → Outcome Depths
-roundSaid s table t p round levels dealt heard wireParts published =
+unfoldable pub roundOutcome : Shape → List ℕ → ℕ → ℕ → ℕ → List ℕ → List ℕ → List ℕ → List ℕ → List ℕ → Outcome Depths
+roundOutcome s table t p round levels dealt heard wireParts published =
     outcome (firstOf (roundReasons s table t p round levels dealt heard wireParts published))
     (depthsOf (ballotBytes s) (gatesOf table))
 

@@ -33,8 +33,8 @@ startReasons s table t p parts dealt wireParts published =
     ++ ownReasons (ballotBytes s) (s .candidates) (sizeOf (gatesOf table)) t p parts dealt wireParts published
 
 -- An accepted call answers G and C.
-unfoldable pub startSaid : Shape → List ℕ → ℕ → ℕ → List ℕ → List ℕ → List ℕ → List ℕ → Outcome Size
-startSaid s table t p parts dealt wireParts published =
+unfoldable pub startOutcome : Shape → List ℕ → ℕ → ℕ → List ℕ → List ℕ → List ℕ → List ℕ → Outcome Size
+startOutcome s table t p parts dealt wireParts published =
     outcome (firstOf (startReasons s table t p parts dealt wireParts published)) (sizeOf (gatesOf table))
 
 -- Both tables afterwards; a refusal alters nothing.

@@ -12,10 +12,10 @@ ghost use mathlib.Core.Path.{_≡_};
 ghost use Rattle.jury.specs.Reason.{firstOf};
 ghost use Rattle.gates.specs.Gate.{gatesOf};
 ghost use Rattle.tally.specs.Answer.{outcome};
-ghost use Rattle.levels.specs.Answer.{depthsOf, depthsSaid};
+ghost use Rattle.levels.specs.Answer.{depthsOf, depthsOutcome};
 ghost use Rattle.trustee_alone.specs.inner.Ready.{TablesReady};
 ghost use Rattle.trustee_alone.specs.Rounds.{tableReasons, roundReasons};
-ghost use Rattle.trustee_alone.specs.Rounds.{roundSaid, roundedWires, roundedPublished};
+ghost use Rattle.trustee_alone.specs.Rounds.{roundOutcome, roundedWires, roundedPublished};
 ghost use Rattle.jury.specs.Shape.{ballotBytes};
 
 // Reasons 16 to 18 and 200 to 202, for a list that passed its test.
@@ -36,7 +36,7 @@ fn test_tables(
 ) -> Answer
     requires { ⌜ TablesReady inputs k gates conditional (now table) ⌝ }
     ensures { λ r. ⌜
-        depthsSaid r
+        depthsOutcome r
         ≡ outcome
         (firstOf
         (tableReasons inputs k (gatesOf (now (table .entry))) t p round (now (levels .entry)) (now (dealt .entry))
@@ -89,7 +89,7 @@ fn test_round(
     published: &[u8],
 ) -> Answer
     ensures { λ r. ⌜
-        depthsSaid r
+        depthsOutcome r
         ≡ outcome
         (firstOf
         (roundReasons shape (now (table .entry)) t p round (now (levels .entry)) (now (dealt .entry))
@@ -132,8 +132,8 @@ pub fn round(
     published: &mut [u8],
 ) -> Answer
     ensures { λ r. ⌜
-        depthsSaid r
-        ≡ roundSaid shape (now (table .entry)) t p round (now (levels .entry)) (now (dealt .entry))
+        depthsOutcome r
+        ≡ roundOutcome shape (now (table .entry)) t p round (now (levels .entry)) (now (dealt .entry))
         (now (heard .entry)) (now (wires .entry)) (now (published .entry))
         ⌝ }
     ensures { λ _. ⌜

@@ -9,7 +9,7 @@ ghost use mathlib.Core.Path.{_≡_};
 ghost use Rattle.jury.specs.Reason.{refusedFor, firstOf};
 ghost use Rattle.tally.specs.Answer.{outcomeOf};
 ghost use Rattle.trustees.specs.inner.Sizes.{SmallSizes};
-ghost use Rattle.trustee_alone.specs.Start.{ownReasons, startSaid, startedWires, startedPublished};
+ghost use Rattle.trustee_alone.specs.Start.{ownReasons, startOutcome, startedWires, startedPublished};
 
 // Reasons 16 to 18.
 fn test_own(
@@ -63,7 +63,7 @@ pub fn start(
 ) -> Answer
     ensures { λ r. ⌜
         outcomeOf r
-        ≡ startSaid shape (now (table .entry)) t p (now (parts .entry)) (now (dealt .entry)) (now (wires .entry))
+        ≡ startOutcome shape (now (table .entry)) t p (now (parts .entry)) (now (dealt .entry)) (now (wires .entry))
         (now (published .entry))
         ⌝ }
     ensures { λ _. ⌜

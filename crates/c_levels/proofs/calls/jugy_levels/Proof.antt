@@ -5,7 +5,7 @@ use mathlib.Core.Path.{ap}
 use mathlib.Core.List.{List, [], _∷_}
 use Prim.Native.Nat.{ℕ}
 use borrow.Author.Needs.{needs}
-use Rattle.levels.specs.Levels.{levelsSaid, levelsWritten}
+use Rattle.levels.specs.Levels.{levelsOutcome, levelsWritten}
 use Rattle.c_answers.specs.Numbers.{shapeOf}
 use Rattle.c_answers.proofs.Answering.{short-call, put-call}
 use Rattle.c_levels.specs.Numbers.{depthAnswer, depthNumbers}
@@ -16,7 +16,7 @@ returns : tie.Need-returns
 returns c =
     let a = c .before .before .before .before .args in
     let s = shapeOf (a .candidates) (a .grades) (a .ballots) in
-    short-call depthAnswer (a .answer .now) (c .if1 .taken) (depthNumbers (levelsSaid s (a .table .now) (a .levels .now)))
+    short-call depthAnswer (a .answer .now) (c .if1 .taken) (depthNumbers (levelsOutcome s (a .table .now) (a .levels .now)))
     (a .levels .now ∷ []) (levelsWritten s (a .table .now) (a .levels .now) ∷ [])
 
 write-requires : tie.Need-write-requires
@@ -39,7 +39,7 @@ returns-2 c =
     let put = c .before .before .put-depths in
     let h = c .before .before .before .before .before .before .before .before .if1 .left in
     let s = shapeOf (a .candidates) (a .grades) (a .ballots) in
-    put-call depthAnswer (a .answer .now) h (depthNumbers (levelsSaid s (a .table .now) (a .levels .now))) _ _ _
+    put-call depthAnswer (a .answer .now) h (depthNumbers (levelsOutcome s (a .table .now) (a .levels .now))) _ _ _
     (put .ensures) (ap depthNumbers (outcome .ensures .0))
     (a .levels .now ∷ []) (levelsWritten s (a .table .now) (a .levels .now) ∷ []) _
     (ap (λ (l : List ℕ). l ∷ []) (outcome .ensures .1))

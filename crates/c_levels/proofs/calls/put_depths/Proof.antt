@@ -6,7 +6,7 @@ use Prim.Native.Nat.{ℕ}
 use lib.ListN.{drop}
 use borrow.Author.Needs.{needs}
 use Rattle.levels.specs.declared.answer.Answer.{Answer}
-use Rattle.levels.specs.Answer.{levelReasonOf, depthsSaid}
+use Rattle.levels.specs.Answer.{levelReasonOf, depthsOutcome}
 use Rattle.c_answers.specs.Numbers.{statusOf}
 use Rattle.c_answers.proofs.Answering.{two}
 use Rattle.c_levels.specs.Numbers.{depthNumbers}
@@ -41,10 +41,10 @@ same-length : tie.Need-same-length
 same-length c = search needs
 
 returns : tie.Need-returns
-unfolding statusOf depthNumbers depthsSaid
+unfolding statusOf depthNumbers depthsOutcome
 returns c =
     let a = c .before .before .before .before .before .before .before .before .before .args in
-    let e = ap (λ (s : Answer). depthNumbers (depthsSaid s)) (c .before .before .before .before .before .before .outcome .given .1) in
+    let e = ap (λ (s : Answer). depthNumbers (depthsOutcome s)) (c .before .before .before .before .before .before .outcome .given .1) in
     record {
       returns = sym (ap statusOf e);
       writes = c .before .before .put .ensures ∙ sym (ap (λ (r : List ℕ). r ++ drop 5 (a .answer .now)) e);
@@ -54,11 +54,11 @@ same-length-2 : tie.Need-same-length-2
 same-length-2 c = search needs
 
 returns-2 : tie.Need-returns-2
-unfolding statusOf depthNumbers depthsSaid
+unfolding statusOf depthNumbers depthsOutcome
 returns-2 c =
     let a = c .before .before .before .before .before .before .before .before .before .before .before .args in
     let why = levelReasonOf (c .before .before .before .before .before .before .before .before .outcome2 .given .0 .0) in
-    let e = ap (λ (s : Answer). depthNumbers (depthsSaid s)) (c .before .before .before .before .before .before .before .before .outcome2 .given .1) in
+    let e = ap (λ (s : Answer). depthNumbers (depthsOutcome s)) (c .before .before .before .before .before .before .before .before .outcome2 .given .1) in
     let number = c .before .before .before .before .before .before .number in
     let place = c .before .before .before .before .before .place in
     let f = two (number .result) (place .result) (why .number) (why .place) (0 ∷ 0 ∷ 0 ∷ []) (number .ensures) (place .ensures) ∙ sym e in

@@ -5,7 +5,7 @@ use mathlib.Core.Path.{ap}
 use mathlib.Core.List.{List, [], _∷_}
 use Prim.Native.Nat.{ℕ}
 use borrow.Author.Needs.{needs}
-use Rattle.trustee_alone.specs.Finish.{finishSaid, finishedWires}
+use Rattle.trustee_alone.specs.Finish.{finishOutcome, finishedWires}
 use Rattle.c_answers.specs.Numbers.{sizeAnswer, sizeNumbers, shapeOf}
 use Rattle.c_answers.proofs.Answering.{short-call, put-call}
 use Rattle.c_trustee.proofs.calls.jugy_trustee_finish.Statement.{statement}
@@ -15,7 +15,7 @@ returns : tie.Need-returns
 returns c =
     let a = c .before .before .before .before .args in
     let s = shapeOf (a .candidates) (a .grades) (a .ballots) in
-    short-call sizeAnswer (a .answer .now) (c .if1 .taken) (sizeNumbers (finishSaid s (a .table .now) (a .wires .now))) (a .wires .now ∷ [])
+    short-call sizeAnswer (a .answer .now) (c .if1 .taken) (sizeNumbers (finishOutcome s (a .table .now) (a .wires .now))) (a .wires .now ∷ [])
     (finishedWires s (a .table .now) (a .wires .now) ∷ [])
 
 finish-requires : tie.Need-finish-requires
@@ -39,7 +39,7 @@ returns-2 c =
     let a = long .before .before .before .before .args in
     let s = shapeOf (a .candidates) (a .grades) (a .ballots) in
     let left = outcome .finish .ensures in
-    put-call sizeAnswer (a .answer .now) (long .if1 .left) (sizeNumbers (finishSaid s (a .table .now) (a .wires .now))) _ _ _
+    put-call sizeAnswer (a .answer .now) (long .if1 .left) (sizeNumbers (finishOutcome s (a .table .now) (a .wires .now))) _ _ _
     (put .put-size .ensures) (ap sizeNumbers (left .0)) (a .wires .now ∷ [])
     (finishedWires s (a .table .now) (a .wires .now) ∷ []) _
     (ap (λ (l : List ℕ). l ∷ []) (left .1))

@@ -5,7 +5,7 @@ use mathlib.Core.Path.{_≡_, refl, ap}
 use mathlib.Core.List.{List, [], _∷_}
 use Prim.Native.Nat.{ℕ}
 use borrow.Author.Needs.{needs}
-use Rattle.trustee_alone.specs.Rounds.{roundSaid, roundedWires, roundedPublished}
+use Rattle.trustee_alone.specs.Rounds.{roundOutcome, roundedWires, roundedPublished}
 use Rattle.c_answers.specs.Numbers.{shapeOf}
 use Rattle.c_levels.specs.Numbers.{depthAnswer, depthNumbers}
 use Rattle.c_answers.proofs.Answering.{short-call, put-call}
@@ -20,7 +20,7 @@ returns : tie.Need-returns
 returns c =
     let a = c .before .before .before .before .before .before .before .before .args in
     let s = shapeOf (a .candidates) (a .grades) (a .ballots) in
-    short-call depthAnswer (a .answer .now) (c .if1 .taken) (depthNumbers (roundSaid s (a .table .now) (a .trustees) (a .trustee) (a .round) (a .levels .now) (a .dealt .now) (a .heard .now) (a .wires .now) (a .published .now))) (a .wires .now ∷ a .published .now ∷ [])
+    short-call depthAnswer (a .answer .now) (c .if1 .taken) (depthNumbers (roundOutcome s (a .table .now) (a .trustees) (a .trustee) (a .round) (a .levels .now) (a .dealt .now) (a .heard .now) (a .wires .now) (a .published .now))) (a .wires .now ∷ a .published .now ∷ [])
     (roundedWires s (a .table .now) (a .trustees) (a .trustee) (a .round) (a .levels .now) (a .dealt .now) (a .heard .now) (a .wires .now) (a .published .now) ∷ roundedPublished s (a .table .now) (a .trustees) (a .trustee) (a .round) (a .levels .now) (a .dealt .now) (a .heard .now) (a .wires .now) (a .published .now) ∷ [])
 
 round-requires : tie.Need-round-requires
@@ -47,7 +47,7 @@ returns-2 c =
     let a = long .before .before .before .before .before .before .before .before .args in
     let s = shapeOf (a .candidates) (a .grades) (a .ballots) in
     let left = outcome .round .ensures in
-    put-call depthAnswer (a .answer .now) (long .if1 .left) (depthNumbers (roundSaid s (a .table .now) (a .trustees) (a .trustee) (a .round) (a .levels .now) (a .dealt .now) (a .heard .now) (a .wires .now) (a .published .now))) _ _ _
+    put-call depthAnswer (a .answer .now) (long .if1 .left) (depthNumbers (roundOutcome s (a .table .now) (a .trustees) (a .trustee) (a .round) (a .levels .now) (a .dealt .now) (a .heard .now) (a .wires .now) (a .published .now))) _ _ _
     (put .put-depths .ensures) (ap depthNumbers (left .0)) (a .wires .now ∷ a .published .now ∷ [])
     (roundedWires s (a .table .now) (a .trustees) (a .trustee) (a .round) (a .levels .now) (a .dealt .now) (a .heard .now) (a .wires .now) (a .published .now) ∷ roundedPublished s (a .table .now) (a .trustees) (a .trustee) (a .round) (a .levels .now) (a .dealt .now) (a .heard .now) (a .wires .now) (a .published .now) ∷ []) _
     (both (left .1 .0) (left .1 .1))

@@ -5,7 +5,7 @@ use mathlib.Core.Path.{_≡_, refl, ap}
 use mathlib.Core.List.{List, [], _∷_}
 use Prim.Native.Nat.{ℕ}
 use borrow.Author.Needs.{needs}
-use Rattle.trustee_alone.specs.Start.{startSaid, startedWires, startedPublished}
+use Rattle.trustee_alone.specs.Start.{startOutcome, startedWires, startedPublished}
 use Rattle.c_answers.specs.Numbers.{sizeAnswer, sizeNumbers, shapeOf}
 use Rattle.c_answers.proofs.Answering.{short-call, put-call}
 use Rattle.c_trustee.proofs.calls.jugy_trustee_start.Statement.{statement}
@@ -19,7 +19,7 @@ returns : tie.Need-returns
 returns c =
     let a = c .before .before .before .before .before .before .before .args in
     let s = shapeOf (a .candidates) (a .grades) (a .ballots) in
-    short-call sizeAnswer (a .answer .now) (c .if1 .taken) (sizeNumbers (startSaid s (a .table .now) (a .trustees) (a .trustee) (a .parts .now) (a .dealt .now) (a .wires .now) (a .published .now))) (a .wires .now ∷ a .published .now ∷ [])
+    short-call sizeAnswer (a .answer .now) (c .if1 .taken) (sizeNumbers (startOutcome s (a .table .now) (a .trustees) (a .trustee) (a .parts .now) (a .dealt .now) (a .wires .now) (a .published .now))) (a .wires .now ∷ a .published .now ∷ [])
     (startedWires s (a .table .now) (a .trustees) (a .trustee) (a .parts .now) (a .dealt .now) (a .wires .now) (a .published .now) ∷ startedPublished s (a .table .now) (a .trustees) (a .trustee) (a .parts .now) (a .dealt .now) (a .wires .now) (a .published .now) ∷ [])
 
 start-requires : tie.Need-start-requires
@@ -46,7 +46,7 @@ returns-2 c =
     let a = long .before .before .before .before .before .before .before .args in
     let s = shapeOf (a .candidates) (a .grades) (a .ballots) in
     let left = outcome .start .ensures in
-    put-call sizeAnswer (a .answer .now) (long .if1 .left) (sizeNumbers (startSaid s (a .table .now) (a .trustees) (a .trustee) (a .parts .now) (a .dealt .now) (a .wires .now) (a .published .now))) _ _ _
+    put-call sizeAnswer (a .answer .now) (long .if1 .left) (sizeNumbers (startOutcome s (a .table .now) (a .trustees) (a .trustee) (a .parts .now) (a .dealt .now) (a .wires .now) (a .published .now))) _ _ _
     (put .put-size .ensures) (ap sizeNumbers (left .0)) (a .wires .now ∷ a .published .now ∷ [])
     (startedWires s (a .table .now) (a .trustees) (a .trustee) (a .parts .now) (a .dealt .now) (a .wires .now) (a .published .now) ∷ startedPublished s (a .table .now) (a .trustees) (a .trustee) (a .parts .now) (a .dealt .now) (a .wires .now) (a .published .now) ∷ []) _
     (both (left .1 .0) (left .1 .1))

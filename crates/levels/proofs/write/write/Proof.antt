@@ -11,7 +11,7 @@ use Rattle.jury.specs.Reason.{reasonAt, reasonOf}
 use Rattle.basics.proofs.Flags.{true-T}
 use Rattle.tally.specs.Answer.{accepted, outcomeOf}
 use Rattle.tally.proofs.TestReasons.{test-passed}
-use Rattle.levels.specs.Answer.{levelReasonOf, depthsSaid}
+use Rattle.levels.specs.Answer.{levelReasonOf, depthsOutcome}
 use Rattle.levels.proofs.Reasons.{ListFacts, list-facts, of-list, other-length, all-pass, call-refused, call-accepted, depths-are}
 use Rattle.levels.proofs.write.write.Statement.{statement}
 use Rattle.levels.proofs.write.write.Tie as tie
@@ -33,7 +33,7 @@ enum-known-gates : tie.Need-enum-known-gates
 enum-known-gates c = search needs
 
 returns : tie.Need-returns
-unfolding depthsSaid levelReasonOf
+unfolding depthsOutcome levelReasonOf
 returns c =
     let a = c .before .before .before .before .before .before .before .args in
     let f = facts (c .before .before) in
@@ -54,7 +54,7 @@ write-requires c κs =
     rw e (record { some-input = f .some-input; few = f .few; good = f .good; levels-length = long (c .before .before) })
 
 returns-2 : tie.Need-returns-2
-unfolding depthsSaid levelReasonOf outcomeOf
+unfolding depthsOutcome levelReasonOf outcomeOf
 returns-2 c =
     let a = c .before .before .before .before .before .before .args in
     let g = c .before .reason .given in
@@ -64,7 +64,7 @@ same-length : tie.Need-same-length
 same-length c = search needs
 
 returns-3 : tie.Need-returns-3
-unfolding depthsSaid
+unfolding depthsOutcome
 returns-3 c =
     let done = c .before .before in
     let asked = done .before .before in

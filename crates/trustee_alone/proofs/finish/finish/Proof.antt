@@ -15,7 +15,7 @@ use Rattle.tally.specs.Answer.{outcomeOf, sizeOf}
 use Rattle.tally.specs.Test.{testReasons, testOutcome}
 use Rattle.tally.proofs.TestReasons.{test-passed}
 use Rattle.levels.proofs.Reasons.{outcome-refused, ListFacts, list-facts}
-use Rattle.trustee_alone.specs.Finish.{finishReasons, finishSaid, finishedWires}
+use Rattle.trustee_alone.specs.Finish.{finishReasons, finishOutcome, finishedWires}
 use Rattle.trustee_alone.proofs.Tests.{pass, fail, end, before, behind, outcome-some, outcome-none, left-old, left-new}
 use Rattle.trustee_alone.proofs.Sizes.{size-is}
 use Rattle.trustee_alone.proofs.finish.finish.Statement.{statement}
@@ -44,7 +44,7 @@ enum-told : tie.Need-enum-told
 enum-told c = search needs
 
 returns : tie.Need-returns
-unfolding outcomeOf finishReasons finishSaid finishedWires testOutcome
+unfolding outcomeOf finishReasons finishOutcome finishedWires testOutcome
 returns c =
     let a = c .before .before .before .before .before .args in
     let r = reasonOf (c .enum-told .given .0 .0) in
@@ -62,7 +62,7 @@ same-length : tie.Need-same-length
 same-length c = search needs
 
 returns-2 : tie.Need-returns-2
-unfolding outcomeOf reasonOf finishReasons finishSaid finishedWires
+unfolding outcomeOf reasonOf finishReasons finishOutcome finishedWires
 returns-2 c =
     let a = c .before .before .before .before .before .before .before .before .before .before .args in
     let why = behind (testReasons (a .shape) (a .table .now)) _ (facts (c .before .before .before .before .before) .reasons) ∙ fail _ 17 [] (sym (length-is (c .before)) ∙ not-true (c .before .has-length .result) (c .if1 .taken)) in
@@ -75,7 +75,7 @@ same-length-2 : tie.Need-same-length-2
 same-length-2 c = search needs
 
 returns-3 : tie.Need-returns-3
-unfolding outcomeOf finishReasons finishSaid finishedWires
+unfolding outcomeOf finishReasons finishOutcome finishedWires
 returns-3 c =
     let a = c .before .before .before .before .before .before .before .before .before .before .before .before .before .before .args in
     let known = c .before .before .before .before .before .before .before .before .before in

@@ -14,21 +14,21 @@ use Rattle.jury.specs.Shape.{withinLimits, ballotBytes}
 use Rattle.jury.specs.Reason.{firstOf}
 use Rattle.basics.proofs.Flags.{true-T}
 use Rattle.jury.proofs.Limits.{bounds, inputs-bound}
-use Rattle.levels.specs.Answer.{Depths, depthsOf, depthsSaid, levelReasonOf}
+use Rattle.levels.specs.Answer.{Depths, depthsOf, depthsOutcome, levelReasonOf}
 use Rattle.levels.proofs.Reasons.{outcome-refused, outcome-accepted}
 use Rattle.trustee_rounds.specs.Rounds.{Turn, enters, publishes, closes}
-use Rattle.trustee_alone.specs.Rounds.{roundReasons, roundSaid, ownTurn, wiresMade, publishedMade, roundedWires, roundedPublished}
-use Rattle.trustee_alone.proofs.Tests.{pass, before, outcome-some, outcome-none, left-old, left-new}
+use Rattle.trustee_alone.specs.Rounds.{roundReasons, roundOutcome, ownTurn, wiresMade, publishedMade, roundedWires, roundedPublished}
+use Rattle.trustee_alone.proofs.Tests.{pass, outcome-some, outcome-none, left-old, left-new}
 use Rattle.trustee_alone.proofs.Passed.{Passed, round-passed}
 use Rattle.trustee_alone.proofs.round.round.Statement.{statement}
 use Rattle.trustee_alone.proofs.round.round.Tie as tie
 
 -- the tests passed, and the answer is the list's own
 accepted-by : (c : tie.After-answer) → let a = c .before .before .before .before .before .before .before .before .before .before .before .args in (firstOf (roundReasons (a .shape) (a .table .now) (a .t) (a .p) (a .round) (a .levels .now) (a .dealt .now) (a .heard .now) (a .wires .now) (a .published .now)) ≡ none) × ((depthsOf (ballotBytes (a .shape)) (gatesOf (a .table .now))) ≡ record { gates = c .answer .given .0 .0; conditional = c .answer .given .0 .1 .0; rounds = c .answer .given .0 .1 .1 .0 })
-unfolding depthsSaid
+unfolding depthsOutcome
 accepted-by c =
     let a = c .before .before .before .before .before .before .before .before .before .before .before .args in
-    outcome-accepted (firstOf (roundReasons (a .shape) (a .table .now) (a .t) (a .p) (a .round) (a .levels .now) (a .dealt .now) (a .heard .now) (a .wires .now) (a .published .now))) (depthsOf (ballotBytes (a .shape)) (gatesOf (a .table .now))) _ (sym (c .before .before .test-round .ensures) ∙ ap depthsSaid (c .answer .given .1))
+    outcome-accepted (firstOf (roundReasons (a .shape) (a .table .now) (a .t) (a .p) (a .round) (a .levels .now) (a .dealt .now) (a .heard .now) (a .wires .now) (a .published .now))) (depthsOf (ballotBytes (a .shape)) (gatesOf (a .table .now))) _ (sym (c .before .before .test-round .ensures) ∙ ap depthsOutcome (c .answer .given .1))
 
 -- what is known then
 known : (c : tie.After-answer) → let a = c .before .before .before .before .before .before .before .before .before .before .before .args in Passed (a .shape) (a .table .now) (a .round) (a .levels .now) (a .dealt .now) (a .heard .now) (a .wires .now) (a .published .now)
@@ -52,11 +52,11 @@ same-length-2 : tie.Need-same-length-2
 same-length-2 c = search needs
 
 returns : tie.Need-returns
-unfolding depthsSaid roundSaid roundedWires roundedPublished
+unfolding depthsOutcome roundOutcome roundedWires roundedPublished
 returns c =
     let a = c .before .before .before .before .before .before .before .before .before .before .before .args in
     let r = levelReasonOf (c .enum-told .given .0 .0) in
-    let e = ap depthsSaid (c .enum-told .given .1) in
+    let e = ap depthsOutcome (c .enum-told .given .1) in
     let why = outcome-refused (firstOf (roundReasons (a .shape) (a .table .now) (a .t) (a .p) (a .round) (a .levels .now) (a .dealt .now) (a .heard .now) (a .wires .now) (a .published .now))) (depthsOf (ballotBytes (a .shape)) (gatesOf (a .table .now))) r (sym (c .before .before .test-round .ensures) ∙ e) in
     (e ∙ outcome-some (firstOf (roundReasons (a .shape) (a .table .now) (a .t) (a .p) (a .round) (a .levels .now) (a .dealt .now) (a .heard .now) (a .wires .now) (a .published .now))) (depthsOf (ballotBytes (a .shape)) (gatesOf (a .table .now))) r why, (left-old (firstOf (roundReasons (a .shape) (a .table .now) (a .t) (a .p) (a .round) (a .levels .now) (a .dealt .now) (a .heard .now) (a .wires .now) (a .published .now))) (wiresMade (a .shape) (a .table .now) (a .p) (a .round) (a .levels .now) (a .dealt .now) (a .heard .now) (a .wires .now)) (a .wires .now) r why, left-old (firstOf (roundReasons (a .shape) (a .table .now) (a .t) (a .p) (a .round) (a .levels .now) (a .dealt .now) (a .heard .now) (a .wires .now) (a .published .now))) (publishedMade (a .shape) (a .table .now) (a .p) (a .round) (a .levels .now) (a .dealt .now) (a .heard .now) (a .wires .now) (a .published .now)) (a .published .now) r why))
 
@@ -94,7 +94,7 @@ same-length-4 : tie.Need-same-length-4
 same-length-4 c = search needs
 
 returns-2 : tie.Need-returns-2
-unfolding depthsSaid depthsOf roundSaid roundedWires roundedPublished wiresMade publishedMade ownTurn
+unfolding depthsOutcome depthsOf roundOutcome roundedWires roundedPublished wiresMade publishedMade ownTurn
 returns-2 c =
     let a = c .before .before .before .before .before .before .before .before .before .before .before .before .before .before .before .before .before .before .before .before .args in
     let ok = c .before .before .before .before .before .before .before .before .before in

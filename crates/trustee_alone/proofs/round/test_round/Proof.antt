@@ -11,7 +11,7 @@ use Rattle.basics.proofs.Flags.{true-T}
 use Rattle.tally.specs.Answer.{outcome, outcomeOf, sizeOf}
 use Rattle.tally.specs.Test.{testReasons, testOutcome}
 use Rattle.tally.proofs.TestReasons.{test-passed}
-use Rattle.levels.specs.Answer.{depthsOf, depthsSaid, levelReasonOf}
+use Rattle.levels.specs.Answer.{depthsOf, depthsOutcome, levelReasonOf}
 use Rattle.levels.proofs.Reasons.{outcome-refused, ListFacts, list-facts}
 use Rattle.trustee_alone.specs.Rounds.{tableReasons, roundReasons}
 use Rattle.trustee_alone.proofs.Tests.{before, behind, outcome-some}
@@ -45,7 +45,7 @@ test-tables-requires c κs =
     rw e (tables-ready (a .shape) (a .table .now) _ _ (facts (c .before .before)))
 
 returns : tie.Need-returns
-unfolding depthsSaid levelReasonOf outcomeOf roundReasons testOutcome
+unfolding depthsOutcome levelReasonOf outcomeOf roundReasons testOutcome
 returns c =
     let a = c .before .before .before .before .before .before .before .before .before .before .args in
     let g = c .before .reason .given in

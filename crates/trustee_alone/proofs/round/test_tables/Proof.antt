@@ -16,12 +16,12 @@ use Rattle.gate_levels.specs.Levels.{levelsOf, roundsOf}
 use Rattle.gate_levels.specs.Compared.{sameNumbers}
 use Rattle.jury.specs.Reason.{reasonAt, reasonOf, firstOf}
 use Rattle.tally.specs.Answer.{Size, sizeOf}
-use Rattle.levels.specs.Answer.{depthsOf, depthsSaid, levelReasonOf}
+use Rattle.levels.specs.Answer.{depthsOf, depthsOutcome, levelReasonOf}
 use Rattle.levels.proofs.Reasons.{depths-are}
 use Rattle.trustee_gates.specs.Dealing.{onlyBits}
 use Rattle.trustee_alone.specs.Own.{isTrustee, tablesFit}
 use Rattle.trustee_alone.specs.Rounds.{tableReasons}
-use Rattle.trustee_alone.proofs.Tests.{pass, fail, end, before, and-both, and-not, outcome-some, outcome-none}
+use Rattle.trustee_alone.proofs.Tests.{pass, fail, end, and-both, and-not, outcome-some, outcome-none}
 use Rattle.trustee_alone.proofs.Sizes.{small-sizes, size-is, own-same, other-same, other-long}
 use Rattle.trustee_alone.proofs.round.test_tables.Statement.{statement}
 use Rattle.trustee_alone.proofs.round.test_tables.Tie as tie
@@ -61,7 +61,7 @@ is-trustee-requires : tie.Need-is-trustee-requires
 is-trustee-requires c κs = search needs
 
 returns : tie.Need-returns
-unfolding depthsSaid levelReasonOf reasonOf tableReasons
+unfolding depthsOutcome levelReasonOf reasonOf tableReasons
 returns c =
     let s = c .before .before .before .before .before .before .before .before in
     let a = s .args in
@@ -71,7 +71,7 @@ tables-fit-requires : tie.Need-tables-fit-requires
 tables-fit-requires c κs = let s = c .before .before .before .before .before .before .before .before in small-sizes (s .args .inputs) (s .args .k) (s .args .gates) (s .args .conditional) (s .args .table .now) (s .pre)
 
 returns-2 : tie.Need-returns-2
-unfolding depthsSaid levelReasonOf reasonOf tableReasons
+unfolding depthsOutcome levelReasonOf reasonOf tableReasons
 returns-2 c =
     let s = c .before .before .before .before .before .before .before .before .before .before in
     let a = s .args in
@@ -81,14 +81,14 @@ only-bits-requires : tie.Need-only-bits-requires
 only-bits-requires c κs = search needs
 
 returns-3 : tie.Need-returns-3
-unfolding depthsSaid levelReasonOf reasonOf tableReasons
+unfolding depthsOutcome levelReasonOf reasonOf tableReasons
 returns-3 c =
     let s = c .before .before .before .before .before .before .before .before .before .before .before .before in
     let a = s .args in
     outcome-some (firstOf (tableReasons (a .inputs) (a .k) (gatesOf (a .table .now)) (a .t) (a .p) (a .round) (a .levels .now) (a .dealt .now) (a .heard .now) (a .wires .now) (a .published .now))) (depthsOf (a .inputs) (gatesOf (a .table .now))) (reasonAt 18 0) (pass _ 16 _ (trustee (c .before .before .before .before)) ∙ pass _ 17 _ (fits (c .before .before)) ∙ fail _ 18 _ (sym (c .before .only-bits .ensures) ∙ not-true (c .before .only-bits .result) (c .if3 .taken)))
 
 returns-4 : tie.Need-returns-4
-unfolding depthsSaid levelReasonOf reasonOf tableReasons
+unfolding depthsOutcome levelReasonOf reasonOf tableReasons
 returns-4 c =
     let s = c .before .before .before .before .before .before .before .before .before .before .before .before .before in
     let a = s .args in
@@ -106,14 +106,14 @@ enum-told : tie.Need-enum-told
 enum-told c = search needs
 
 returns-5 : tie.Need-returns-5
-unfolding depthsSaid levelReasonOf reasonOf tableReasons
+unfolding depthsOutcome levelReasonOf reasonOf tableReasons
 returns-5 c =
     let s = c .before .before .before .before .before .before .before .before .before .before .before .before .before .before .before .before in
     let a = s .args in
     outcome-some (firstOf (tableReasons (a .inputs) (a .k) (gatesOf (a .table .now)) (a .t) (a .p) (a .round) (a .levels .now) (a .dealt .now) (a .heard .now) (a .wires .now) (a .published .now))) (depthsOf (a .inputs) (gatesOf (a .table .now))) (reasonAt 200 0) (pass _ 16 _ (trustee (c .before .before .before .before .before .before .before .before)) ∙ pass _ 17 _ (fits (c .before .before .before .before .before .before)) ∙ pass _ 18 _ (bits (c .before .before .before .before)) ∙ fail _ 200 _ (other-same (a .inputs) (gatesOf (a .table .now)) (a .levels .now) (sym (c .before .before .compare .ensures) ∙ c .enum-told .given .1)))
 
 returns-6 : tie.Need-returns-6
-unfolding depthsSaid levelReasonOf reasonOf tableReasons
+unfolding depthsOutcome levelReasonOf reasonOf tableReasons
 returns-6 c =
     let s = c .before .before .before .before .before .before .before .before .before .before .before .before .before .before .before .before .before .before in
     let a = s .args in
@@ -123,7 +123,7 @@ mul-if6 : tie.Need-mul-if6
 mul-if6 c = let s = c .before .before .before .before .before .before .before .before .before .before .before .before .before .before .before .before .before .before in omega (arith, s .pre .few, s .pre .conditional-are, count-most (gatesOf (s .args .table .now)))
 
 returns-7 : tie.Need-returns-7
-unfolding depthsSaid levelReasonOf reasonOf tableReasons
+unfolding depthsOutcome levelReasonOf reasonOf tableReasons
 returns-7 c =
     let s = c .before .before .before .before .before .before .before .before .before .before .before .before .before .before .before .before .before .before .before in
     let a = s .args in
@@ -133,14 +133,14 @@ only-bits-requires-2 : tie.Need-only-bits-requires-2
 only-bits-requires-2 c κs = search needs
 
 returns-8 : tie.Need-returns-8
-unfolding depthsSaid levelReasonOf reasonOf tableReasons
+unfolding depthsOutcome levelReasonOf reasonOf tableReasons
 returns-8 c =
     let s = c .before .before .before .before .before .before .before .before .before .before .before .before .before .before .before .before .before .before .before .before .before in
     let a = s .args in
     outcome-some (firstOf (tableReasons (a .inputs) (a .k) (gatesOf (a .table .now)) (a .t) (a .p) (a .round) (a .levels .now) (a .dealt .now) (a .heard .now) (a .wires .now) (a .published .now))) (depthsOf (a .inputs) (gatesOf (a .table .now))) (reasonAt 202 0) (pass _ 16 _ (trustee (c .before .before .before .before .before .before .before .before .before .before .before .before .before)) ∙ pass _ 17 _ (fits (c .before .before .before .before .before .before .before .before .before .before .before)) ∙ pass _ 18 _ (bits (c .before .before .before .before .before .before .before .before .before)) ∙ pass _ 200 _ (same (c .before .before .before .before .before) .0) ∙ pass _ 201 _ (early (c .before .before .before)) ∙ fail _ 202 [] (and-both _ _ false (long (c .before .before)) (sym (c .before .only-bits2 .ensures) ∙ not-true (c .before .only-bits2 .result) (c .if7 .taken))))
 
 returns-9 : tie.Need-returns-9
-unfolding depthsSaid levelReasonOf reasonOf tableReasons
+unfolding depthsOutcome levelReasonOf reasonOf tableReasons
 returns-9 c =
     let s = c .before .before .before .before .before .before .before .before .before .before .before .before .before .before .before .before .before .before .before .before .before in
     let a = s .args in

@@ -20,7 +20,7 @@ use Rattle.tally.proofs.TestReasons.{test-passed}
 use Rattle.levels.proofs.Reasons.{outcome-refused, ListFacts, list-facts}
 use Rattle.trustee_rounds.specs.Rounds.{startWires, startPublished}
 use Rattle.trustee_alone.specs.Own.{tablesFit}
-use Rattle.trustee_alone.specs.Start.{ownReasons, startReasons, startSaid, startedWires, startedPublished}
+use Rattle.trustee_alone.specs.Start.{ownReasons, startReasons, startOutcome, startedWires, startedPublished}
 use Rattle.trustee_alone.proofs.Tests.{passed, before, behind, both-passed, outcome-some, outcome-none, left-old, left-new}
 use Rattle.trustee_alone.proofs.Sizes.{tables-ready, small-sizes, size-is, Fit, fit, started, started-published}
 use Rattle.trustee_alone.proofs.start.start.Statement.{statement}
@@ -70,7 +70,7 @@ enum-told : tie.Need-enum-told
 enum-told c = search needs
 
 returns : tie.Need-returns
-unfolding outcomeOf startReasons startSaid startedWires startedPublished testOutcome
+unfolding outcomeOf startReasons startOutcome startedWires startedPublished testOutcome
 returns c =
     let a = c .before .before .before .before .before .before .before .before .args in
     let r = reasonOf (c .enum-told .given .0 .0) in
@@ -97,7 +97,7 @@ same-length-2 : tie.Need-same-length-2
 same-length-2 c = search needs
 
 returns-2 : tie.Need-returns-2
-unfolding outcomeOf refusedFor startSaid startedWires startedPublished
+unfolding outcomeOf refusedFor startOutcome startedWires startedPublished
 returns-2 c =
     let a = c .before .before .before .before .before .before .before .before .before .before .before .before .before .before .before .before .args in
     let r = reasonOf (c .before .reason .given .0 .0) in
@@ -126,7 +126,7 @@ same-length-4 : tie.Need-same-length-4
 same-length-4 c = search needs
 
 returns-3 : tie.Need-returns-3
-unfolding outcomeOf startSaid startedWires startedPublished
+unfolding outcomeOf startOutcome startedWires startedPublished
 returns-3 c =
     let a = c .before .before .before .before .before .before .before .before .before .before .before .before .before .before .before .before .before .before .before .before .before .before .before .before .before .before .before .args in
     let told = c .before .before .before .before .before .before .before .before .before .before .before .before in
