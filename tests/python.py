@@ -4,8 +4,9 @@
     python3 tests/python.py    prints what was tried; needs no network
 
 Examples in docstrings, annotations and docstrings of all that is public, words of reasons against the header; lists,
-boards, tapes and texts; urns; trustees together and apart; dispatched calls with pieces of wrong lengths; batches; numbers outside what
-C can hold; `pip install` into an empty folder, where the library is looked for, and when it is built.
+boards, tapes and texts; urns; trustees together and apart; dispatched calls with pieces of wrong lengths; batches;
+numbers outside what C can hold; `pip install` into an empty folder, where the library is looked for, and when it is
+built.
 """
 
 import array
