@@ -4,8 +4,9 @@
     python3 tests/python.py    prints what was tried; needs no network
 
 Examples in docstrings, annotations and docstrings of all that is public, words of reasons against the header; lists,
-boards, tapes and texts; urns; trustees; dispatched calls with pieces of wrong lengths; batches; numbers outside what
-C can hold; `pip install` into an empty folder, where the library is looked for, and when it is built.
+boards, tapes and texts; urns; trustees together and apart; dispatched calls with pieces of wrong lengths; batches;
+numbers outside what C can hold; `pip install` into an empty folder, where the library is looked for, and when it is
+built.
 """
 
 import array
@@ -28,8 +29,8 @@ from random_juries import random_ballots
 from running import flat, random_gates
 
 import jugyvaros
-from jugyvaros import (Dealing, GateList, Jury, Refused, Shape, Urn, batch, count, deal, dispatch, fresh_tape, library,
-                       tally)
+from jugyvaros import (Dealing, GateList, Jury, Refused, Shape, Trustee, Urn, batch, count, deal, dispatch, fresh_tape,
+                       library, tally)
 from jugyvaros.reasons import ADVICE, REASONS
 
 HUGE = 2 ** 64
@@ -281,6 +282,35 @@ def trustees(rng):
     refused(5, 0, tally, gates, b"\2\0\0\1", good)
 
 
+def apart(rng):
+    """Trustees who each run alone publish what the tally by all of them does, and a round that is none is refused."""
+    for shape, number in itertools.product(SHAPES, (2, 5)):
+        gates, ballots = GateList.own(shape), bytes(random_ballots(rng, *shape))
+        dealing, opened = deal(gates, ballots, number), 2 * gates.conditional
+        trustees = [Trustee(gates, number, place) for place in range(number)]
+        for trustee, shares, triples in zip(trustees, *dealing):
+            trustee.start(shares, triples)
+        sums = bytes(opened)
+        for turn in range(gates.levels + 1):
+            said = [trustee.round(turn, sums[:opened]) for trustee in trustees]
+            sums = bytes(sum(bits) % 2 for bits in zip(*said))
+        together = tally(gates, ballots, dealing)
+        assert said == together.published and sums[opened:] == together.closing
+        refused(201, 0, trustees[0].round, gates.levels + 1, sums[:opened])
+        refused(202, 0, trustees[0].round, 0, sums[:opened] + b"\0")
+        for trustee in trustees:
+            assert trustee.rounds == gates.levels
+            trustee.finish()
+            assert not any(trustee._wires) and not any(trustee._triples)
+    for number, place in ((1, 0), (6, 0), (3, 3), (HUGE, 0), (3, -1)):
+        refused(16, 0, Trustee(gates, number, place).start, dealing.ballot_shares[0], dealing.triples[0])
+    one = Trustee(gates, 3, 0)
+    refused(17, 0, one.start, dealing.ballot_shares[0][1:], dealing.triples[0])
+    refused(17, 0, one.start, dealing.ballot_shares[0], dealing.triples[0] + b"\0")
+    refused(18, 0, one.start, b"\2" + dealing.ballot_shares[0][1:], dealing.triples[0])
+    assert not any(one._wires) and not any(one._triples)
+
+
 def dispatched(rng):
     """Each jury's board is its own. A piece of another length is that jury's fault, whatever the next one has."""
     for many, share in itertools.product(range(1, 9), (1, 7, 4096, 65536)):
@@ -455,11 +485,11 @@ def built():
 def main():
     rng = random.Random(33)
     documented()
-    for part in (shapes, lists, counterparts, urns, trustees, dispatched, batches):
+    for part in (shapes, lists, counterparts, urns, trustees, apart, dispatched, batches):
         part(rng)
     bad_lists()
-    # 9, 10 and 24 are about lengths that the package sees to itself; 21 and 22 are of the season sheet
-    assert SEEN == {*range(1, 9), *range(11, 21), 23}, sorted(SEEN)
+    # 9, 10, 24 and 200 are about tables that the package sees to itself; 21 and 22 are of the season sheet
+    assert SEEN == {*range(1, 9), *range(11, 21), 23, 201, 202}, sorted(SEEN)
     emptied()
     installed()
     built()

@@ -18,10 +18,11 @@ from .gates import Board, Gate, GateList, fresh_tape
 from .reasons import Refused
 from .repository import NotBuilt
 from .shape import Measure, Shape, count
+from .trustee import Trustee
 from .trustees import Dealing, Tally, deal, tally
 from .urn import Urn
 
 __all__ = [
     "Board", "Dealing", "Dispatched", "Gate", "GateList", "Jury", "Measure", "NotBuilt", "Refused", "Shape", "Tally",
-    "Urn", "batch", "count", "deal", "dispatch", "fresh_tape", "tally",
+    "Trustee", "Urn", "batch", "count", "deal", "dispatch", "fresh_tape", "tally",
 ]

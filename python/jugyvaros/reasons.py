@@ -41,13 +41,15 @@ ADVICE = {
     23: "write a kind and its operands in decimal, single spaces, a line feed after each line",
     24: "lend a longer output",
     200: "take the levels that the core writes for this list",
+    201: "the rounds of a list are 0 to the largest of its levels",
+    202: "hand over two bits for each conditional gate, 0 where a sum is not known yet",
 }
 
 
 class Refused(Exception):
     """The core turned a call away, and altered nothing.
 
-    number  the reason, 1 to 24, as in c/jugyvaros.h
+    number  the reason, as in c/jugyvaros.h
     place   where the fault is, counted from 0; 0 where the reason has no place
     words   what the reason means
     """

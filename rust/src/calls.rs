@@ -146,7 +146,7 @@ pub(crate) fn answered<const N: usize>(call: impl FnOnce(*mut usize, usize) -> u
 }
 
 /// The same for an entry point that answers G and C.
-fn sized(call: impl FnOnce(*mut usize, usize) -> usize) -> Result<Size, Refusal> {
+pub(crate) fn sized(call: impl FnOnce(*mut usize, usize) -> usize) -> Result<Size, Refusal> {
     answered(call).map(|[_, _, gates, conditional]| Size { gates, conditional })
 }
 

@@ -1,6 +1,7 @@
 //! Levels of a list: which conditional gates may be opened together, and in how many rounds.
 
-use crate::{answered, Refusal, Shape};
+use crate::calls::answered;
+use crate::{Refusal, Shape};
 
 mod c {
     extern "C" {
@@ -21,8 +22,11 @@ mod c {
 /// G and C of a list, and R, its largest level.
 #[derive(Clone, Copy, Debug, PartialEq, Eq)]
 pub struct Depths {
+    /// G, its gates.
     pub gates: usize,
+    /// C, those of them that are conditional.
     pub conditional: usize,
+    /// R, so many rounds of openings.
     pub rounds: usize,
 }
 

@@ -17,7 +17,8 @@
 //! ```
 //!
 //! Besides: an [`Urn`] that ballots go into and come out of, [`trustees`] who each hold a share of every bit, a
-//! [`Dispatch`] of up to eight juries in rounds, and a [`Batch`] that runs 64 juries at once.
+//! [`trustee`] on a machine of its own, who needs the [`levels`] of a list, a [`Dispatch`] of up to eight juries in
+//! rounds, and a [`Batch`] that runs 64 juries at once.
 //!
 //! The types own their buffers, which have the right lengths. Those that held ballots or tapes are emptied when
 //! they are dropped. Below them, each function of the same name as an entry point of `c/jugyvaros.h` takes
@@ -29,10 +30,12 @@
 pub mod batch;
 mod calls;
 pub mod dispatch;
+pub mod levels;
 mod list;
 mod reason;
 mod secret;
 mod text;
+pub mod trustee;
 pub mod trustees;
 pub mod urn;
 

@@ -87,6 +87,18 @@ impl GateList {
         self.conditional() + self.shape.candidates
     }
 
+    /// The level of each gate: how many conditional gates the longest chain up to it has.
+    pub fn levels(&self) -> Vec<u32> {
+        let mut levels = vec![0; self.gates()];
+        crate::levels::levels(self.shape, &self.table, &mut levels).expect("the list fits its shape");
+        levels
+    }
+
+    /// R, the largest level: openings of one level can be made together, so this is how often they wait.
+    pub fn rounds(&self) -> usize {
+        self.levels().into_iter().max().unwrap_or(0) as usize
+    }
+
     /// A fresh tape from the system's random numbers. It is for one run: a tape used twice gives away what the
     /// wires hold.
     pub fn fresh_tape(&self) -> io::Result<Secret<u8>> {

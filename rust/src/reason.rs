@@ -63,6 +63,9 @@ reasons! {
     GatesPerRound = 20: "a jury's gates of a round are 0 or above 65,536";
     Line = 23: "not a line of a gate, by form, kind or a number of 2^32 or more" at "the line";
     Output = 24: "what would be written has no room in the output";
+    Levels = 200: "the level table has not G numbers, or not the list's own levels where they are read";
+    Round = 201: "the round is above R";
+    Heard = 202: "the sums are not 2 C bits";
 }
 
 impl Reason {

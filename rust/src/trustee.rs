@@ -3,8 +3,9 @@
 //! All trustees start, then do the rounds 0 to R together. `c/jugyvaros.h` says what the tables hold and what may be
 //! sent.
 
+use crate::calls::{answered, sized};
 use crate::levels::Depths;
-use crate::{answered, sized, Refusal, Shape, Size};
+use crate::{Refusal, Shape, Size};
 
 mod c {
     extern "C" {
@@ -16,10 +17,10 @@ mod c {
             table_length: usize,
             trustees: usize,
             trustee: usize,
-            parts: *const u8,
-            parts_length: usize,
-            dealt: *const u8,
-            dealt_length: usize,
+            ballot_shares: *const u8,
+            ballot_shares_length: usize,
+            triples: *const u8,
+            triples_length: usize,
             wires: *mut u8,
             wires_length: usize,
             published: *mut u8,
@@ -38,8 +39,8 @@ mod c {
             round: usize,
             levels: *const u32,
             levels_length: usize,
-            dealt: *const u8,
-            dealt_length: usize,
+            triples: *const u8,
+            triples_length: usize,
             heard: *const u8,
             heard_length: usize,
             wires: *mut u8,
@@ -66,15 +67,25 @@ mod c {
 /// Who computes: trustee `number`, counted from 0, of `trustees`, for a list of a shape.
 #[derive(Clone, Copy, Debug)]
 pub struct Seat<'a> {
+    /// The jury's shape.
     pub shape: Shape,
+    /// The list that all trustees run, four numbers a gate.
     pub table: &'a [u32],
+    /// t, from 2 to 5.
     pub trustees: usize,
+    /// Which of them this is, from 0 to t - 1.
     pub number: usize,
 }
 
 impl Seat<'_> {
-    /// Starts: `wires` is I + G bytes, `published` 2 C + k.
-    pub fn start(&self, parts: &[u8], dealt: &[u8], wires: &mut [u8], published: &mut [u8]) -> Result<Size, Refusal> {
+    /// Starts with its I ballot shares and 3 C bits of triples: `wires` is I + G bytes, `published` 2 C + k.
+    pub fn start(
+        &self,
+        ballot_shares: &[u8],
+        triples: &[u8],
+        wires: &mut [u8],
+        published: &mut [u8],
+    ) -> Result<Size, Refusal> {
         let [k, d, n] = self.shape.numbers();
         // SAFETY: every pointer comes from a slice and is handed over with its length; what is written is a `&mut`.
         sized(|answer, length| unsafe {
@@ -86,10 +97,10 @@ impl Seat<'_> {
                 self.table.len(),
                 self.trustees,
                 self.number,
-                parts.as_ptr(),
-                parts.len(),
-                dealt.as_ptr(),
-                dealt.len(),
+                ballot_shares.as_ptr(),
+                ballot_shares.len(),
+                triples.as_ptr(),
+                triples.len(),
                 wires.as_mut_ptr(),
                 wires.len(),
                 published.as_mut_ptr(),
@@ -105,7 +116,7 @@ impl Seat<'_> {
         &self,
         round: usize,
         levels: &[u32],
-        dealt: &[u8],
+        triples: &[u8],
         heard: &[u8],
         wires: &mut [u8],
         published: &mut [u8],
@@ -124,8 +135,8 @@ impl Seat<'_> {
                 round,
                 levels.as_ptr(),
                 levels.len(),
-                dealt.as_ptr(),
-                dealt.len(),
+                triples.as_ptr(),
+                triples.len(),
                 heard.as_ptr(),
                 heard.len(),
                 wires.as_mut_ptr(),
@@ -139,7 +150,7 @@ impl Seat<'_> {
         .map(Depths::of)
     }
 
-    /// Empties the wire parts.
+    /// Empties its shares of the wires.
     pub fn finish(&self, wires: &mut [u8]) -> Result<Size, Refusal> {
         let [k, d, n] = self.shape.numbers();
         // SAFETY: every pointer comes from a slice and is handed over with its length; what is written is a `&mut`.

@@ -1,7 +1,6 @@
 //! Houses in processes of their own, beside the one call and the plain count.
 
-use jugyvaros::trustees::{deal, tally};
-use jugyvaros::{count, measure, write, Shape};
+use jugyvaros::{count, GateList, Shape};
 use std::io::Write;
 use std::process::{Command, Output, Stdio};
 use std::time::{Duration, Instant};
@@ -56,24 +55,18 @@ fn told(output: &Output, word: &str) -> Vec<u64> {
 #[test]
 fn houses_apart_close_as_the_one_call() {
     let mut seed = 34;
-    for shape in [[2, 3, 3], [3, 2, 4], [3, 0, 3], [4, 0, 5]] {
-        let [candidates, grades, n] = shape;
-        let shape = Shape { candidates, grades, ballots: n };
-        let m = measure(shape).unwrap();
-        let mut table = vec![0; 4 * m.gates];
-        write(shape, &mut table).unwrap();
+    for shape in [Shape::graded(2, 3, 3), Shape::graded(3, 2, 4), Shape::ranked(3, 3), Shape::ranked(4, 5)] {
+        let list = GateList::own(shape).unwrap();
         for t in 2..=5 {
             let ballots = ballots(shape, &mut seed);
             let output = houses(&words(t, shape, ""), &ballots);
             assert!(output.status.success(), "{}", String::from_utf8_lossy(&output.stderr));
             let plain = count(shape, &ballots).unwrap();
-            let dealing = deal(&ballots, m.conditional, t, || mixed(&mut seed) as u8);
-            let mut wires = vec![0; t * (m.inputs + m.gates)];
-            let mut published = vec![0; t * (2 * m.conditional + candidates)];
-            let one = tally(shape, &table, &ballots, &dealing, &mut wires, &mut published).unwrap();
+            let one = list.tally(&ballots, &list.deal(&ballots, t).unwrap()).unwrap();
             let winners: Vec<u8> = told(&output, "winners").into_iter().map(|byte| byte as u8).collect();
-            assert_eq!(winners, plain[..candidates]);
-            assert_eq!(winners, one.closing[..candidates]);
+            assert_eq!(winners, plain[..shape.candidates]);
+            assert_eq!(winners, one.closing());
+            assert_eq!(told(&output, "rounds")[0], list.rounds() as u64);
             assert_eq!(told(&output, "exchanges")[0], told(&output, "rounds")[0] + 1);
             assert!(told(&output, "bytes")[0] > 0);
         }

@@ -1,7 +1,7 @@
 //! Levels through the wrapper.
 
 use jugyvaros::levels::levels;
-use jugyvaros::{Reason, Shape};
+use jugyvaros::{GateList, Reason, Shape};
 
 const SHAPE: Shape = Shape { candidates: 2, grades: 2, ballots: 1 };
 
@@ -14,6 +14,8 @@ fn levels_of_a_small_list() {
     let depths = levels(SHAPE, &LIST, &mut found).unwrap();
     assert_eq!((depths.gates, depths.conditional, depths.rounds), (3, 2, 2));
     assert_eq!(found, [1, 1, 2]);
+    let list = GateList::new(SHAPE, LIST.to_vec()).unwrap();
+    assert_eq!((list.levels(), list.rounds()), (found.to_vec(), 2));
 }
 
 #[test]

@@ -4,16 +4,14 @@
 //!     houses T K D N < BALLOTS        the I ballot bytes of a jury of K blends, D grades (0: rankings) and N ballots
 //!
 //! prints the rounds R, the exchanges, the bytes that all houses sent, the time and the closing bytes. Where a house
-//! goes away, falls silent or sends a wrong length, everybody ends with an error. For trials a house may be told to do so:
+//! goes away, falls silent or sends a wrong length, everybody ends with an error. For trials a house may be told to do
+//! so:
 //!     --leave P R    house P goes away in round R      --short P R    it sends a byte too few      --silent P R
 //!     --wait MS      how long anybody waits for anybody, 10,000 unless said otherwise
 
-use jugyvaros::levels::levels;
 use jugyvaros::trustee::Seat;
-use jugyvaros::trustees::deal;
-use jugyvaros::{measure, write, Measures, Shape};
+use jugyvaros::{GateList, Secret, Shape};
 use std::error::Error;
-use std::fs::File;
 use std::io::{ErrorKind, Read, Write};
 use std::net::{Ipv4Addr, TcpListener, TcpStream};
 use std::process::{Child, Command, ExitCode, Stdio};
@@ -24,12 +22,10 @@ type Outcome<T> = Result<T, Box<dyn Error>>;
 
 const POLL: Duration = Duration::from_millis(2);
 
-/// What everybody knows: the shape, its own list and levels, who takes part and how long anybody waits.
+/// What everybody knows: the shape's own list and its levels, who takes part and how long anybody waits.
 struct Plan {
     houses: usize,
-    shape: Shape,
-    measures: Measures,
-    table: Vec<u32>,
+    list: GateList,
     levels: Vec<u32>,
     rounds: usize,
     wait: Duration,
@@ -37,25 +33,21 @@ struct Plan {
 
 impl Plan {
     fn new(houses: usize, shape: Shape, wait: Duration) -> Outcome<Plan> {
-        let measures = measure(shape)?;
-        let mut table = vec![0; 4 * measures.gates];
-        write(shape, &mut table)?;
-        let mut found = vec![0; measures.gates];
-        let rounds = levels(shape, &table, &mut found)?.rounds;
-        Ok(Plan { houses, shape, measures, table, levels: found, rounds, wait })
+        let list = GateList::own(shape)?;
+        Ok(Plan { houses, levels: list.levels(), rounds: list.rounds(), list, wait })
     }
 
     /// The places of a trustee's published bits that are new after a round.
     fn places(&self, round: usize) -> Vec<usize> {
-        let conditional = |&g: &usize| matches!(self.table[4 * g], 4 | 5 | 7);
-        let mut places: Vec<usize> = (0..self.measures.gates)
+        let conditional = |&g: &usize| matches!(self.list.table()[4 * g], 4 | 5 | 7);
+        let mut places: Vec<usize> = (0..self.list.gates())
             .filter(conditional)
             .enumerate()
             .filter(|&(_, g)| self.levels[g] as usize == round + 1)
             .flat_map(|(i, _)| [2 * i, 2 * i + 1])
             .collect();
         if round == self.rounds {
-            places.extend((0..self.shape.candidates).map(|j| 2 * self.measures.conditional + j));
+            places.extend((0..self.list.shape().candidates).map(|j| 2 * self.list.conditional() + j));
         }
         places
     }
@@ -143,7 +135,7 @@ fn coordinate(plan: &Plan) -> Outcome<()> {
             send(stream, &sums).map_err(|error| format!("house {house} in round {round}: {error}"))?;
         }
     }
-    let closing: Vec<String> = (0..plan.shape.candidates).map(|i| bit(&sums, i).to_string()).collect();
+    let closing: Vec<String> = (0..plan.list.shape().candidates).map(|i| bit(&sums, i).to_string()).collect();
     println!("houses {}\nrounds {}\nexchanges {}", plan.houses, plan.rounds, plan.rounds + 1);
     println!("bytes {sent}\nmilliseconds {}\nwinners {}", start.elapsed().as_millis(), closing.join(" "));
     Ok(())
@@ -157,22 +149,23 @@ struct Fault {
     round: usize,
 }
 
-/// A house: it reads its own ballot and dealer parts, and hears nothing but the sums.
+/// A house: it reads its own ballot shares and triples, and hears nothing but the sums.
 fn tally(plan: &Plan, number: usize, port: u16, fault: &Fault) -> Outcome<()> {
-    let m = plan.measures;
-    let (mut parts, mut dealt) = (vec![0; m.inputs], vec![0; 3 * m.conditional]);
-    std::io::stdin().read_exact(&mut parts)?;
-    std::io::stdin().read_exact(&mut dealt)?;
-    let seat = Seat { shape: plan.shape, table: &plan.table, trustees: plan.houses, number };
-    let mut wires = vec![0; m.inputs + m.gates];
-    let mut published = vec![0; 2 * m.conditional + plan.shape.candidates];
-    let mut heard = vec![0; 2 * m.conditional];
-    seat.start(&parts, &dealt, &mut wires, &mut published)?;
+    let (list, opened) = (&plan.list, 2 * plan.list.conditional());
+    let mut ballot_shares = Secret::<u8>::zeros(list.inputs());
+    let mut triples = Secret::<u8>::zeros(3 * list.conditional());
+    std::io::stdin().read_exact(&mut ballot_shares)?;
+    std::io::stdin().read_exact(&mut triples)?;
+    let seat = Seat { shape: list.shape(), table: list.table(), trustees: plan.houses, number };
+    let mut wires = Secret::zeros(list.inputs() + list.gates());
+    let mut published = vec![0; opened + list.shape().candidates];
+    let mut heard = vec![0; opened];
+    seat.start(&ballot_shares, &triples, &mut wires, &mut published)?;
     let mut stream = TcpStream::connect((Ipv4Addr::LOCALHOST, port))?;
     bounded(&stream, plan.wait)?;
     stream.write_all(&[number as u8])?;
     for round in 0..=plan.rounds {
-        seat.round(round, &plan.levels, &dealt, &heard, &mut wires, &mut published)?;
+        seat.round(round, &plan.levels, &triples, &heard, &mut wires, &mut published)?;
         let places = plan.places(round);
         let mut message = packed(places.iter().map(|&place| published[place]));
         if fault.house == number && fault.round == round {
@@ -185,7 +178,7 @@ fn tally(plan: &Plan, number: usize, port: u16, fault: &Fault) -> Outcome<()> {
         }
         send(&mut stream, &message)?;
         let sums = receive(&mut stream, places.len().div_ceil(8))?;
-        for (i, &place) in places.iter().enumerate().filter(|&(_, &place)| place < 2 * m.conditional) {
+        for (i, &place) in places.iter().enumerate().filter(|&(_, &place)| place < opened) {
             heard[place] = bit(&sums, i);
         }
     }
@@ -227,18 +220,13 @@ fn await_all(mut children: Vec<Child>, wait: Duration) -> Outcome<()> {
     Ok(())
 }
 
-/// The dealer: it splits the ballots, hands each house its own parts, and forgets them.
+/// The dealer: it shares the ballots, hands each house its own shares, and forgets them.
 fn deal_out(plan: &Plan, words: &[String]) -> Outcome<()> {
     let mut ballots = Vec::new();
     std::io::stdin().read_to_end(&mut ballots)?;
-    jugyvaros::count(plan.shape, &ballots)?;
-    let m = plan.measures;
-    let mut source = File::open("/dev/urandom")?;
-    let dealing = deal(&ballots, m.conditional, plan.houses, || {
-        let mut byte = [0];
-        source.read_exact(&mut byte).expect("random bytes");
-        byte[0]
-    });
+    let ballots = Secret::from(ballots);
+    jugyvaros::count(plan.list.shape(), &ballots)?;
+    let dealing = plan.list.deal(&ballots, plan.houses)?;
     let mut coordinator = part(words, &["coordinator".into()])?;
     let mut told = coordinator.stdout.take().expect("its output");
     let mut port = String::new();
@@ -247,11 +235,12 @@ fn deal_out(plan: &Plan, words: &[String]) -> Outcome<()> {
         port.push(char::from(byte[0]));
     }
     let mut children = vec![coordinator];
+    let (inputs, each) = (plan.list.inputs(), 3 * plan.list.conditional());
     for p in 0..plan.houses {
         let mut house = part(words, &["house".into(), p.to_string(), port.clone()])?;
         let mut lent = house.stdin.take().expect("its input");
-        lent.write_all(&dealing.parts[p * m.inputs..(p + 1) * m.inputs])?;
-        lent.write_all(&dealing.dealt[p * 3 * m.conditional..(p + 1) * 3 * m.conditional])?;
+        lent.write_all(&dealing.ballot_shares[p * inputs..(p + 1) * inputs])?;
+        lent.write_all(&dealing.triples[p * each..(p + 1) * each])?;
         children.push(house);
     }
     await_all(children, plan.wait)?;
