@@ -12,7 +12,7 @@ sys.path.insert(0, str(ROOT / "python"))
 from jugyvaros import GateList, Shape  # noqa: E402  (the line above is what finds it)
 
 PAGE = ROOT / "docs/EXAMPLE.md"
-SHAPE = Shape(2, 2, 1)
+SHAPE, LARGER = Shape(2, 2, 1), Shape(2, 3, 3)
 OPERANDS = (0, 0, 1, 1, 2, 2, 2, 3)
 WORDS = ("0", "1", "{0}", "not {0}", "{0} and {1}", "{0} or {1}", "{0} xor {1}", "{1} if {0} else {2}")
 # The tape of the first jury: any bits would do.
@@ -54,11 +54,19 @@ def page():
         own = inputs + g
         rows.append(f"| `{text}` | w{own} = {WORDS[gate.kind].format(*operands)} | {mark} | {wires[0][own]} | {wires[1][own]} |")
     other = SHAPE.encode([[1, 2]])
+    larger = GateList.own(LARGER)
+    larger_first, larger_second = LARGER.encode([[1, 2], [2, 2], [2, 3]]), LARGER.encode([[1, 3], [1, 3], [3, 1]])
+    larger_tape = bytes((PATTERN * larger.conditional)[:larger.conditional])
+    larger_counterpart = larger.counterpart(larger_first, larger_tape, larger_second)
+    assert larger_tape != larger_counterpart
     return TEXT.format(
         count=count, conditional=conditional, levels=gates.levels, inputs=inputs, last=inputs - 1, rows="\n".join(rows),
         first=bits(first), second=bits(second), other=bits(other), tape=bits(tape), counterpart=bits(counterpart),
         board=bits(bytes(boards[0])), closing=bits(boards[0].closing), shown=bits(boards[0].shown),
-        other_closing=bits(gates.run(other).closing), first_gate=inputs, g_shown=conditional)
+        other_closing=bits(gates.run(other).closing), larger_first=bits(larger_first), larger_second=bits(larger_second),
+        larger_tape=bits(larger_tape), larger_counterpart=bits(larger_counterpart),
+        larger_board=bits(bytes(larger.run(larger_first, larger_tape))), are="is" if conditional == 1 else "are",
+        rounds="round" if gates.levels == 1 else "rounds")
 
 
 TEXT = """# An example: two blends, two grades, one juror
@@ -71,7 +79,7 @@ blend 1. Gate g makes wire w{inputs} + g.
 
 ## The own list
 
-The core generates a circuit of G = {count} gates, of which C = {conditional} are conditional; its depth is {levels} rounds. On the left
+The core generates a circuit of G = {count} gates, of which C = {conditional} {are} conditional; its depth is {levels} {rounds}. On the left
 stands the text that `tools/list` prints: the kind, then the operands that it uses. On the right are the wires of two juries:
 A, whose juror likes both blends (ballot {first}), and B, whose juror likes neither ({second}). In both the blends are equal, so both win.
 
@@ -88,7 +96,7 @@ Jury A is run with the tape {tape}: one secret random bit for each conditional g
 publishes its first operand plus its own tape bit, modulo 2, and the last two wires follow:
 
     board of A   {board}
-                 {shown} masked, then the closing bytes {closing}
+                 the masked bits {shown}, then the closing bytes {closing}
 
 ## The one tape that gives jury B the same board
 
@@ -96,10 +104,18 @@ publishes its first operand plus its own tape bit, modulo 2, and the last two wi
     tape of B    {counterpart}
     board of B   {board}
 
-Jury B's ballots are different, and so are the wires behind the masks. But a mask can turn any bit into any other: tape
-bit i of B has to be board byte i plus B's own wire, modulo 2, so there is one such tape and no second one. A tape is drawn
-at random, so both tapes are equally likely, and the board says nothing about which of the two juries sat. That is demand 3,
-for every list and every two juries with equal closing bytes.
+A mask can turn any bit into any other: tape bit i of B has to be board byte i plus B's own wire, modulo 2, so there is
+one such tape and no second one. In this small list the only wire that is shown happens to be the same for both juries, and
+so is the tape. A jury of three jurors and three grades shows more. Here are two of them in which blend 0 wins:
+
+    ballots of A {larger_first}
+    ballots of B {larger_second}
+    tape of A    {larger_tape}
+    tape of B    {larger_counterpart}
+    common board {larger_board}
+
+A tape is drawn at random, so both tapes are equally likely, and the board says nothing about which of the two juries sat.
+That is demand 3, for every list and every two juries with equal closing bytes.
 
 With other winners there is no such tape: a juror who likes blend 0 alone ({other}) gives the closing bytes {other_closing}, and
 no mask hides those.
