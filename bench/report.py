@@ -4,6 +4,7 @@ import pathlib
 import platform
 import re
 import statistics
+import subprocess
 import sys
 import textwrap
 
@@ -70,7 +71,7 @@ INSTRUCTIONS = ["core, instructions", "C, instructions", "ratio"]
 
 
 def calls_table(times, counts):
-    """The five entry points beside C."""
+    """Write, test, run and count beside C."""
     rows, above = [], []
     for (op, *numbers), (gates, core, c, ratio) in sorted(times.items(), key=lambda row: OPS.index(row[0][0])):
         a, b, shape = counts[op, tuple(numbers), "core"], counts[op, tuple(numbers), "c"], shape_of(numbers)
@@ -215,10 +216,19 @@ def machine():
     return f"{names[0] if names else platform.machine()}, {os.cpu_count()} cores"
 
 
+def commit():
+    """The commit measured, so that figures of lists that have changed since can be told from today's."""
+    described = subprocess.run(
+        ["git", "describe", "--always", "--dirty"], cwd=HERE, capture_output=True, text=True, check=False
+    )
+    return described.stdout.strip() or "unknown"
+
+
 INTRODUCTION = """\
 # The core against the same work in C
 
-Made by `bench/run` on {machine}. C is `bench/core.c` by `gcc -O2`, with the same tests made.
+Made by `bench/run` on {machine}, at commit {commit}. C is `bench/core.c` by
+`gcc -O2`, with the same tests made.
 
 - A time is the processor time of one call, the least over 201 short rounds of many calls each.
 - The time ratio is the middle one of the rounds' ratios: both take turns round by round, so that a slow stretch of the
@@ -281,7 +291,7 @@ def main():
     }
     calls = calls_table(times, counts)
     print(calls, *tables.values(), sep="\n\n")
-    text = INTRODUCTION.format(machine=machine()) + f"\n{calls}\n\n![ratios](result.svg)\n"
+    text = INTRODUCTION.format(machine=machine(), commit=commit()) + f"\n{calls}\n\n![ratios](result.svg)\n"
     text += "".join(f"\n## {title}\n\n{wrapped(said)}\n\n{tables[name]}\n" for title, said, name in SECTIONS)
     (HERE / "RESULT.md").write_text(text)
     (HERE / "result.svg").write_text(plot(times, counts))
