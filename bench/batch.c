@@ -1,11 +1,13 @@
-/* Times a run for 64 juries beside as many calls of jugy_run, one a jury, in one process. Every call makes all its tests and
- * empties its wire table.
- *   batch    K D N GATES BATCH_NS SINGLES_NS RATIO a line, as timing.h says; the ratio says how many times faster the batch is
+/* Times a run for 64 juries beside as many calls of jugy_run, one a jury, in one process. Every call makes all its
+ * tests and empties its wire table. Packing the juries into numbers is not counted: it is done before.
+ *   batch    K D N GATES BATCH_NS SINGLES_NS RATIO a line, as timing.h says; the ratio says how many times faster the
+ *            batch is
  * The boards are compared first. */
 #include "jury.h"
 #include "timing.h"
 
-static const size_t shapes[][3] = {{2, 3, 3}, {3, 4, 10}, {5, 5, 31}, {5, 6, 100}, {8, 7, 255}};
+static const size_t shapes[][3] = {{2, 3, 3},   {3, 4, 10}, {5, 5, 31}, {5, 6, 100},
+                                   {8, 7, 255}, {3, 0, 10}, {5, 0, 31}, {8, 0, 255}};
 
 enum { JURIES = 64 };
 enum { BATCH, SINGLES, WAYS };
@@ -17,8 +19,8 @@ static size_t call(int way) {
     const struct jury *j = juries;
     size_t answer[JUGY_RUN_ANSWER], reason = 0;
     if (way == BATCH)
-        return jugy_run_batch(j->k, j->d, j->n, j->table, 4 * j->gates, words, j->inputs, tape, j->marks, wires, j->inputs + j->gates, board,
-                              j->marks + j->k, answer, JUGY_RUN_ANSWER);
+        return jugy_run_batch(j->k, j->d, j->n, j->table, 4 * j->gates, words, j->inputs, tape, j->marks, wires,
+                              j->inputs + j->gates, board, j->marks + j->k, answer, JUGY_RUN_ANSWER);
     for (int i = 0; i < JURIES; i++)
         reason |= run(&juries[i]);
     return reason;
@@ -60,9 +62,10 @@ int main(void) {
     for (size_t s = 0; s < sizeof shapes / sizeof *shapes; s++) {
         struct timing of[WAYS];
         set_up(shapes[s]);
-        take_turns(call, WAYS, 15, 1e-3, of);
-        printf("%zu %zu %zu %zu %.0f %.0f %.1f\n", juries[0].k, juries[0].d, juries[0].n, juries[0].gates, 1e9 * of[BATCH].least,
-               1e9 * of[SINGLES].least, of[SINGLES].ratio);
+        take_turns(call, WAYS, MOST_ROUNDS, 1e-4, of);
+        print_shape(&juries[0]);
+        print_times(juries[0].gates, of[BATCH].least, of[SINGLES].least, of[SINGLES].ratio);
+        printf("\n");
         take_down();
     }
     return 0;

@@ -1,5 +1,5 @@
 /* Times write, test, run and count of the core beside the same work in C (core.c), in one run.
- *   bench same    compares the results of both at every shape there is
+ *   bench same    compares the results of both at every graded shape there is
  *   bench times   OP K D N GATES CORE_NS C_NS RATIO a line, as timing.h says
  *   bench counts  one call each between callgrind's dumps, labelled OP-K-D-N-WHO
  * Each pair's results are compared first. */
@@ -69,8 +69,10 @@ static void same(void) {
 
 static void times(void) {
     struct timing of[WAYS];
-    take_turns(call, WAYS, 201, 5e-4, of);
-    printf("%s %zu %zu %zu %zu %.1f %.1f %.3f\n", ops[op], j.k, j.d, j.n, j.gates, 1e9 * of[CORE].least, 1e9 * of[IN_C].least, of[CORE].ratio);
+    take_turns(call, WAYS, MOST_ROUNDS, 5e-4, of);
+    printf("%s ", ops[op]), print_shape(&j);
+    print_times(j.gates, of[CORE].least, of[IN_C].least, of[CORE].ratio);
+    printf("\n");
 }
 
 static void counts(void) {

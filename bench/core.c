@@ -18,7 +18,7 @@ static size_t put(struct said s, size_t *answer) {
 
 static int within(size_t k, size_t d, size_t n) { return 1 <= k && k <= 8 && 2 <= d && d <= 7 && 1 <= n && n <= 255; }
 
-/* ---- writing: the circuit of crates/circuit, gate for gate */
+/* ---- writing: the circuit of crates/graded_circuit, gate for gate */
 
 enum { ZERO, ONE, COPY, NOT, AND, OR, XOR, CHOICE };
 
@@ -153,23 +153,49 @@ static uint32_t candidate(struct writer *w, const struct plan *p, uint32_t c) {
     return key;
 }
 
+/* For each digit whether x and y differ in it. */
+static uint32_t differences(struct writer *w, uint32_t x, uint32_t y, uint32_t digits) {
+    uint32_t n = (uint32_t)w->wire;
+    for (uint32_t i = 0; i < digits; i++)
+        emit(w, XOR, x + i, y + i, 0);
+    return n;
+}
+
+/* Whether x and y differ, whether they do in their high halves, and where the wires for single digits stand. The high
+ * half is the `high` highest digits, which are gone through by themselves; 0 of them, and there is one half. */
+struct difference {
+    uint32_t any, in_high, digits;
+};
+
+static struct difference unequal(struct writer *w, uint32_t x, uint32_t y, uint32_t digits, uint32_t high) {
+    uint32_t n = differences(w, x, y, digits), low = digits - high, in_low = chain(w, OR, n, n + 1, 1, low - 1);
+    if (high == 0)
+        return (struct difference){in_low, n, n};
+    uint32_t in_high = chain(w, OR, n + low, n + low + 1, 1, high - 1);
+    return (struct difference){emit(w, OR, in_high, in_low, 0), in_high, n};
+}
+
 /* Whether x and y differ, and, where they do, whether x is larger or comes first. */
 struct order {
     uint32_t differ, first;
 };
 
-static uint32_t unequal(struct writer *w, uint32_t x, uint32_t y, uint32_t digits) {
-    uint32_t n = (uint32_t)w->wire;
-    for (uint32_t i = 0; i < digits; i++)
-        emit(w, XOR, x + i, y + i, 0);
-    return chain(w, OR, n, n + 1, 1, digits - 1);
+/* x's digit in the highest of the digits that differ, else its lowest one. */
+static uint32_t above(struct writer *w, uint32_t differ, uint32_t x, uint32_t digits) {
+    uint32_t last = x;
+    for (uint32_t i = 1; i < digits; i++)
+        last = emit(w, CHOICE, differ + i, x + i, last);
+    return last;
 }
 
-static struct order versus(struct writer *w, uint32_t x, uint32_t y, uint32_t digits) {
-    uint32_t n = (uint32_t)w->wire, differ = unequal(w, x, y, digits), above = x;
-    for (uint32_t i = 1; i < digits; i++)
-        above = emit(w, CHOICE, n + i, x + i, above);
-    return (struct order){differ, above};
+static struct order versus(struct writer *w, uint32_t x, uint32_t y, uint32_t digits, uint32_t high) {
+    struct difference differ = unequal(w, x, y, digits, high);
+    uint32_t low = digits - high, first = above(w, differ.digits, x, low);
+    if (high > 0) {
+        uint32_t of_high = above(w, differ.digits + low, x + low, high);
+        first = emit(w, CHOICE, differ.in_high, of_high, first);
+    }
+    return (struct order){differ.any, first};
 }
 
 /* How many of the wires are 1, where these are the first ones. */
@@ -199,12 +225,13 @@ static struct words either(struct writer *w, uint32_t f, struct words one, struc
 }
 
 /* The words of the grades nearest to the median at which the keys differ, below it and from it on. */
-static void nearest(struct writer *w, const struct plan *p, struct words keys, struct words *down, struct words *up) {
+static void nearest(struct writer *w, const struct plan *p, struct words keys, uint32_t high, struct words *down,
+                    struct words *up) {
     const uint32_t last = p->d - 2, digits = p->digits;
     uint32_t below[MOST_GRADES], from[MOST_GRADES];
     for (uint32_t g = 1; g < last; g++) {
         struct words here = words_of(p, keys, g);
-        uint32_t differ = unequal(w, here.x, here.y, digits);
+        uint32_t differ = unequal(w, here.x, here.y, digits, high).any;
         below[g] = emit(w, AND, differ, here.x + digits, 0);
         from[g] = emit(w, XOR, differ, below[g], 0);
     }
@@ -216,50 +243,86 @@ static void nearest(struct writer *w, const struct plan *p, struct words keys, s
         *up = either(w, from[g], words_of(p, keys, g), *up, digits);
 }
 
-static uint32_t carry_of_sum(struct writer *w, uint32_t x, uint32_t y, uint32_t e, uint32_t digits) {
-    uint32_t sum = half_adder(w, x, y, e);
+/* The carry out of the high half of a sum: that of the low half where all digits differ, else the highest digit in
+ * which they do not. */
+static uint32_t high_reach(struct writer *w, uint32_t x, uint32_t y, uint32_t carry, uint32_t digits) {
+    uint32_t n = differences(w, x, y, digits), own = x;
     for (uint32_t i = 1; i < digits; i++)
-        sum = full_adder(w, x + i, y + i, sum + 1);
-    return sum + 1;
+        own = emit(w, CHOICE, n + i, own, x + i);
+    uint32_t passes = chain(w, AND, n, n + 1, 1, digits - 1);
+    return emit(w, CHOICE, passes, carry, own);
 }
 
-/* Keys with equal medians: of the two nearest differences, the one that is struck first decides. */
-static struct order outward(struct writer *w, const struct plan *p, struct words keys) {
-    const uint32_t digits = p->digits, best = keys.x + digits, last = words_of(p, keys, p->d - 2).x + digits;
-    struct words down, up;
-    nearest(w, p, keys, &down, &up);
-    struct order lower = versus(w, down.x, down.y, digits), upper = versus(w, up.x, up.y, digits);
-    uint32_t carry_x = carry_of_sum(w, down.x, up.x, p->n % 2, digits);
-    uint32_t carry_y = carry_of_sum(w, down.y, up.y, p->n % 2, digits);
-    uint32_t reached = emit(w, CHOICE, lower.first, carry_x, carry_y);
-    uint32_t short_of_n = emit(w, NOT, reached, 0, 0);
-    uint32_t both_sides = emit(w, XOR, best, last, 0);
-    uint32_t upper_first = emit(w, CHOICE, both_sides, short_of_n, best);
+/* Whether the sum of x, y and the bit e has a digit more than they. */
+static uint32_t reach(struct writer *w, uint32_t x, uint32_t y, uint32_t e, uint32_t digits) {
+    uint32_t low = digits / 2, carry = emit(w, e ? OR : AND, x, y, 0);
+    if (digits == 1)
+        return carry;
+    for (uint32_t i = 1; i < low; i++) {
+        uint32_t differ = emit(w, XOR, x + i, y + i, 0);
+        carry = emit(w, CHOICE, differ, carry, x + i);
+    }
+    return high_reach(w, x + low, y + low, carry, digits - low);
+}
+
+/* The upper one of the two nearest differences decides, where there is one; not if both are there, say the opposite,
+ * and the lower one is struck first. What the medians say stands above both. */
+static struct order resolve(struct writer *w, struct order medians, struct order lower, struct order upper,
+                            uint32_t lower_first) {
     uint32_t both_differ = emit(w, AND, lower.differ, upper.differ, 0);
-    uint32_t upper_of_both = emit(w, AND, both_differ, upper_first, 0);
-    uint32_t by_lower = emit(w, XOR, lower.differ, upper_of_both, 0);
     uint32_t just_one = emit(w, XOR, lower.differ, upper.differ, 0);
-    uint32_t differ = emit(w, XOR, just_one, both_differ, 0);
-    uint32_t first = emit(w, CHOICE, by_lower, lower.first, upper.first);
+    uint32_t one_differs = emit(w, XOR, just_one, both_differ, 0);
+    uint32_t by_upper = emit(w, CHOICE, upper.differ, upper.first, lower.first);
+    uint32_t opposite = emit(w, XOR, lower.first, upper.first, 0);
+    uint32_t same_medians = emit(w, NOT, medians.differ, 0, 0);
+    uint32_t opposite_there = emit(w, AND, opposite, same_medians, 0);
+    uint32_t both_and_opposite = emit(w, AND, both_differ, opposite_there, 0);
+    uint32_t by_lower = emit(w, AND, both_and_opposite, lower_first, 0);
+    uint32_t first = emit(w, CHOICE, medians.differ, medians.first, by_upper);
+    uint32_t differ = emit(w, OR, medians.differ, one_differs, 0);
+    return (struct order){differ, emit(w, XOR, first, by_lower, 0)};
+}
+
+/* Below equal medians the two nearest differences decide. Words that were chosen are compared in halves. */
+static struct order outward(struct writer *w, const struct plan *p, struct words keys, struct order medians,
+                            uint32_t high) {
+    const uint32_t digits = p->digits, best = keys.x + digits, last = words_of(p, keys, p->d - 2).x + digits;
+    const uint32_t cut = p->d == 3 ? high : digits / 2;
+    struct words down, up;
+    nearest(w, p, keys, high, &down, &up);
+    struct order lower = versus(w, down.x, down.y, digits, cut), upper = versus(w, up.x, up.y, digits, cut);
+    uint32_t reach_x = reach(w, down.x, up.x, p->n % 2, digits);
+    uint32_t reach_y = reach(w, down.y, up.y, p->n % 2, digits);
+    uint32_t reached = emit(w, CHOICE, lower.first, reach_x, reach_y);
+    uint32_t all_from_median = emit(w, NOT, best, 0, 0);
+    uint32_t both_sides = emit(w, XOR, best, last, 0);
+    uint32_t lower_first = emit(w, CHOICE, both_sides, reached, all_from_median);
+    return resolve(w, medians, lower, upper, lower_first);
+}
+
+/* The last two wires are the answer, whichever way. */
+static struct order below_medians(struct writer *w, const struct plan *p, struct words keys, struct order medians,
+                                  uint32_t high) {
+    if (p->d > 2 && p->digits > 0)
+        return outward(w, p, keys, medians, high);
+    uint32_t differ, first;
+    if (p->digits == 0) {
+        differ = emit(w, COPY, medians.differ, 0, 0);
+        first = emit(w, COPY, medians.first, 0, 0);
+    } else {
+        struct order sums = versus(w, keys.x, keys.y, p->digits, high);
+        differ = emit(w, OR, medians.differ, sums.differ, 0);
+        first = emit(w, CHOICE, medians.differ, medians.first, sums.first);
+    }
     return (struct order){differ, first};
 }
 
-static struct order below_medians(struct writer *w, const struct plan *p, struct words keys) {
-    if (p->digits == 0) {
-        uint32_t none = emit(w, ZERO, 0, 0, 0);
-        return (struct order){none, none};
-    }
-    return p->d == 2 ? versus(w, keys.x, keys.y, p->digits) : outward(w, p, keys);
-}
-
-static struct order contest(struct writer *w, const struct plan *p, struct words keys) {
+static struct order contest(struct writer *w, const struct plan *p, struct words keys, uint32_t high) {
     const uint32_t stride = p->digits + 1;
     uint32_t median_y = median(w, keys.y + p->digits, stride, p->d - 1, p->places + 1);
     uint32_t median_x = median(w, keys.x + p->digits, stride, p->d - 1, p->places + 1);
-    struct order medians = versus(w, median_y, median_x, p->places + 1), rest = below_medians(w, p, keys);
-    uint32_t differ = emit(w, OR, medians.differ, rest.differ, 0);
-    uint32_t first = emit(w, CHOICE, medians.differ, medians.first, rest.first);
-    return (struct order){differ, first};
+    struct order medians = versus(w, median_y, median_x, p->places + 1, 0);
+    return below_medians(w, p, keys, medians, high);
 }
 
 /* Candidates side by side: the key of the best, and, for more than one, a wire each that says who is as good. */
@@ -275,9 +338,11 @@ static void still_won(struct writer *w, struct group g, uint32_t stays) {
             emit(w, AND, g.won + i, stays, 0);
 }
 
-/* The key is left out: the last merge keeps none. */
+/* Words that were chosen before, so of more than two candidates, are compared in halves. The key is left out: the last
+ * merge keeps none. */
 static struct order merge(struct writer *w, const struct plan *p, struct group x, struct group y, struct group *both) {
-    struct order keys = contest(w, p, (struct words){x.key, y.key});
+    uint32_t high = x.size + y.size > 2 ? p->digits / 2 : 0;
+    struct order keys = contest(w, p, (struct words){x.key, y.key}, high);
     uint32_t x_first = emit(w, AND, keys.differ, keys.first, 0);
     uint32_t y_first = emit(w, XOR, keys.differ, x_first, 0);
     uint32_t x_stays = emit(w, NOT, y_first, 0, 0);
@@ -329,32 +394,38 @@ static size_t accumulator_gates(uint32_t count, uint32_t levels) {
 static size_t candidate_gates(const struct plan *p) {
     size_t gates = counter_gates(p->n, p->offset, p->digits) + key_gates(p);
     if (p->d > 2)
-        gates += (p->d - 3) * accumulator_gates(p->n, p->digits) + counter_gates(p->n, p->worst, p->digits) + p->digits + 1;
+        gates += (p->d - 3) * accumulator_gates(p->n, p->digits) + counter_gates(p->n, p->worst, p->digits)
+                 + p->digits + 1;
     return gates;
 }
 
 static size_t versus_gates(uint32_t digits) { return 3 * digits - 2; }
 
+static size_t reach_gates(uint32_t digits) { return 3 * digits - digits / 2 - 2; }
+
 static size_t below_medians_gates(const struct plan *p) {
     if (p->digits == 0)
-        return 1;
+        return 2;
     if (p->d == 2)
-        return versus_gates(p->digits);
-    size_t side = 2 * p->digits + 1, chosen = 4 * p->digits, sums = 6 * p->digits, resolved = 10;
-    return (p->d - 3) * (side + chosen) + 2 * versus_gates(p->digits) + sums + resolved;
+        return versus_gates(p->digits) + 2;
+    size_t side = 2 * p->digits + 1, chosen = 4 * p->digits, resolved = 16;
+    return (p->d - 3) * (side + chosen) + 2 * versus_gates(p->digits) + 2 * reach_gates(p->digits) + resolved;
 }
 
 static size_t contest_gates(const struct plan *p) {
     size_t median = 0;
     for (uint32_t count = p->d - 1; count > 0; count /= 2)
         median += count;
-    return 2 * median + versus_gates(p->places + 1) + below_medians_gates(p) + 2;
+    return 2 * median + versus_gates(p->places + 1) + below_medians_gates(p);
 }
 
-static size_t won_gates(uint32_t size) { return size == 1 ? 0 : won_gates(size / 2) + won_gates(size - size / 2) + size; }
+static size_t won_gates(uint32_t size) {
+    return size == 1 ? 0 : won_gates(size / 2) + won_gates(size - size / 2) + size;
+}
 
 static size_t list_gates(const struct plan *p) {
-    return p->k * candidate_gates(p) + (p->k - 1) * (contest_gates(p) + 4) + won_gates(p->k) + (p->k - 2) * key_gates(p);
+    return p->k * candidate_gates(p) + (p->k - 1) * (contest_gates(p) + 4) + won_gates(p->k)
+           + (p->k - 2) * key_gates(p);
 }
 
 static uint32_t low_digits(uint32_t m) {
@@ -427,16 +498,16 @@ static size_t first_above_one(const uint8_t *bytes, size_t length) {
 }
 
 /* Reasons 4 to 6; reason 0 where there is none. */
-static struct said test_ballots(size_t k, size_t d, size_t n, const uint8_t *bytes, size_t length) {
+static struct said test_ballots(size_t k, size_t d, size_t n, const uint8_t *ballots, size_t length) {
     if (length != n * k * d)
         return refused(4, 0);
-    size_t bad = first_above_one(bytes, length);
+    size_t bad = first_above_one(ballots, length);
     if (bad < length)
         return refused(5, bad);
     for (size_t row = 0; row < n * k; row++) {
         size_t ones = 0;
         for (size_t g = 0; g < d; g++)
-            ones += bytes[row * d + g] == 1;
+            ones += ballots[row * d + g] == 1;
         if (ones != 1)
             return refused(6, row);
     }
@@ -457,8 +528,8 @@ static uint8_t value(uint32_t kind, uint8_t a, uint8_t b, uint8_t c) {
 }
 
 /* Reasons 7 to 10 of a run whose list has been tested; what was said of the list where there is none. */
-static struct said test_lent(struct said s, size_t k, size_t inputs, const uint8_t *tape, size_t tape_length, size_t wires_length,
-                             size_t board_length) {
+static struct said test_lent(struct said s, size_t k, size_t inputs, const uint8_t *tape, size_t tape_length,
+                             size_t wires_length, size_t board_length) {
     if (tape_length != s.conditional)
         return refused(7, 0);
     size_t bad = first_above_one(tape, tape_length);
@@ -486,22 +557,22 @@ static void evaluate(struct said s, size_t k, size_t inputs, const uint32_t *tab
     memset(wires, 0, inputs + s.gates);
 }
 
-size_t core_run(size_t k, size_t d, size_t n, const uint32_t *table, size_t table_length, const uint8_t *bytes,
-                size_t bytes_length, const uint8_t *tape, size_t tape_length, uint8_t *wires, size_t wires_length,
+size_t core_run(size_t k, size_t d, size_t n, const uint32_t *table, size_t table_length, const uint8_t *ballots,
+                size_t ballots_length, const uint8_t *tape, size_t tape_length, uint8_t *wires, size_t wires_length,
                 uint8_t *board, size_t board_length, size_t *answer, size_t answer_length) {
     if (answer_length < 4)
         return 255;
     struct said s = test(k, d, n, table, table_length);
     if (s.reason)
         return put(s, answer);
-    struct said b = test_ballots(k, d, n, bytes, bytes_length);
+    struct said b = test_ballots(k, d, n, ballots, ballots_length);
     if (b.reason)
         return put(b, answer);
-    s = test_lent(s, k, bytes_length, tape, tape_length, wires_length, board_length);
+    s = test_lent(s, k, ballots_length, tape, tape_length, wires_length, board_length);
     if (s.reason)
         return put(s, answer);
-    memcpy(wires, bytes, bytes_length);
-    evaluate(s, k, bytes_length, table, tape, wires, board);
+    memcpy(wires, ballots, ballots_length);
+    evaluate(s, k, ballots_length, table, tape, wires, board);
     return put(s, answer);
 }
 
@@ -529,11 +600,11 @@ static int comes_before(const uint16_t *a, const uint16_t *b, size_t d, size_t n
     return lower_x > lower_y;
 }
 
-size_t core_count(size_t k, size_t d, size_t n, const uint8_t *bytes, size_t bytes_length, size_t *answer,
+size_t core_count(size_t k, size_t d, size_t n, const uint8_t *ballots, size_t ballots_length, size_t *answer,
                   size_t answer_length) {
     if (answer_length < 10)
         return 255;
-    struct said s = within(k, d, n) ? test_ballots(k, d, n, bytes, bytes_length) : refused(1, 0);
+    struct said s = within(k, d, n) ? test_ballots(k, d, n, ballots, ballots_length) : refused(1, 0);
     answer[0] = s.reason;
     answer[1] = s.place;
     for (size_t i = 0; i < 8; i++)
@@ -544,7 +615,7 @@ size_t core_count(size_t k, size_t d, size_t n, const uint8_t *bytes, size_t byt
     for (size_t b = 0; b < n; b++)
         for (size_t c = 0; c < k; c++)
             for (size_t g = 0; g < d; g++)
-                counts[c][g] += bytes[(b * k + c) * d + g];
+                counts[c][g] += ballots[(b * k + c) * d + g];
     size_t first = 0;
     for (size_t c = 1; c < k; c++)
         if (comes_before(counts[c], counts[first], d, n))

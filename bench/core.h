@@ -10,10 +10,10 @@ size_t core_write(size_t k, size_t d, size_t n, uint32_t *table, size_t table_le
                   size_t answer_length);
 size_t core_test(size_t k, size_t d, size_t n, const uint32_t *table, size_t table_length, size_t *answer,
                  size_t answer_length);
-size_t core_run(size_t k, size_t d, size_t n, const uint32_t *table, size_t table_length, const uint8_t *bytes,
-                size_t bytes_length, const uint8_t *tape, size_t tape_length, uint8_t *wires, size_t wires_length,
+size_t core_run(size_t k, size_t d, size_t n, const uint32_t *table, size_t table_length, const uint8_t *ballots,
+                size_t ballots_length, const uint8_t *tape, size_t tape_length, uint8_t *wires, size_t wires_length,
                 uint8_t *board, size_t board_length, size_t *answer, size_t answer_length);
-size_t core_count(size_t k, size_t d, size_t n, const uint8_t *bytes, size_t bytes_length, size_t *answer,
+size_t core_count(size_t k, size_t d, size_t n, const uint8_t *ballots, size_t ballots_length, size_t *answer,
                   size_t answer_length);
 
 #endif

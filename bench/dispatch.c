@@ -1,13 +1,15 @@
-/* Eight juries through the dispatcher against eight undivided runs, at shares of 1, 64 and 4,096 gates: the least times and the
- * ratios, as timing.h says. The boards of both are compared first. Built and run by bench/run. */
+/* Eight juries through the dispatcher against eight undivided runs, at 1, 64 and 4,096 gates a round.
+ *     dispatch    GATES_PER_ROUND GATES DISPATCH_NS UNDIVIDED_NS RATIO a line, as timing.h says
+ * The boards of both are compared first. */
 #include "jury.h"
 #include "timing.h"
 
 enum { JURIES = 8 };
-static const size_t shapes[JURIES][3] = {{8, 7, 255}, {4, 5, 99}, {2, 3, 3}, {5, 5, 25}, {1, 2, 1}, {3, 7, 60}, {6, 4, 40}, {2, 2, 200}};
+static const size_t shapes[JURIES][3] = {{8, 7, 255}, {4, 5, 99}, {2, 3, 3},  {5, 5, 25},
+                                         {1, 2, 1},   {3, 7, 60}, {6, 4, 40}, {2, 2, 200}};
 
 enum { UNDIVIDED, WAYS = 4 };
-static const size_t shares[WAYS] = {[1] = 1, 64, 4096};
+static const size_t gates_per_round[WAYS] = {[1] = 1, 64, 4096};
 
 static struct jury juries[JURIES];
 static size_t stated[4 * JURIES], gates, inputs, marks, shown;
@@ -17,8 +19,8 @@ static uint8_t *ballots, *tapes, *wires, *boards;
 static size_t call(int way) {
     size_t answer[JUGY_DISPATCH_ANSWER], reason = 0;
     if (way != UNDIVIDED)
-        return jugy_dispatch(JURIES, shares[way], stated, 4 * JURIES, lists, 4 * gates, ballots, inputs, tapes, marks, wires, inputs + gates,
-                             boards, shown, answer, JUGY_DISPATCH_ANSWER);
+        return jugy_dispatch(JURIES, gates_per_round[way], stated, 4 * JURIES, lists, 4 * gates, ballots, inputs, tapes,
+                             marks, wires, inputs + gates, boards, shown, answer, JUGY_DISPATCH_ANSWER);
     for (int i = 0; i < JURIES; i++)
         reason |= run(&juries[i]);
     return reason;
@@ -30,7 +32,8 @@ static void set_up(void) {
         juries[i] = jury_of(shapes[i]);
         gates += j->gates, inputs += j->inputs, marks += j->marks, shown += j->marks + j->k;
     }
-    lists = lent(16 * gates), ballots = lent(inputs), tapes = lent(marks), wires = filled(inputs + gates, 0), boards = lent(shown);
+    lists = lent(16 * gates), ballots = lent(inputs), tapes = lent(marks), wires = filled(inputs + gates, 0),
+    boards = lent(shown);
     uint32_t *list = lists;
     uint8_t *ballot = ballots, *tape = tapes;
     for (int i = 0; i < JURIES; i++) {
@@ -58,9 +61,11 @@ int main(void) {
     struct timing of[WAYS];
     set_up();
     compare();
-    take_turns(call, WAYS, 61, 0, of);
-    printf("eight juries, %zu gates: undivided %.3f ms\n", gates, 1e3 * of[UNDIVIDED].least);
-    for (int way = 1; way < WAYS; way++)
-        printf("share %zu: %.3f ms, %.2f times\n", shares[way], 1e3 * of[way].least, of[way].ratio);
-    return of[WAYS - 1].ratio <= 1.1 ? 0 : 1;
+    take_turns(call, WAYS, MOST_ROUNDS, 0, of);
+    for (int way = 1; way < WAYS; way++) {
+        printf("%zu", gates_per_round[way]);
+        print_times(gates, of[way].least, of[UNDIVIDED].least, of[way].ratio);
+        printf("\n");
+    }
+    return 0;
 }

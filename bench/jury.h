@@ -19,13 +19,26 @@ static inline void fail_at(const struct jury *j, const char *why) {
     exit(1);
 }
 
+static inline uint32_t next(uint32_t *seed) { return *seed = *seed * 1664525 + 1013904223; }
+
+/* A juror's ranking, with ties. */
+static inline void rank(uint8_t *ballot, size_t k, uint32_t *seed) {
+    uint32_t ranks[8];
+    for (size_t i = 0; i < k; i++)
+        ranks[i] = (next(seed) >> 16) % k;
+    for (size_t i = 0; i < k * k; i++)
+        ballot[i] = ranks[i / k] < ranks[i % k];
+}
+
 /* New ballots, a new tape and a new board, for the same list and the same wire table. */
 static inline void draw(struct jury *j, uint32_t seed) {
     j->ballots = filled(j->inputs, 0), j->tape = lent(j->marks), j->board = filled(j->marks + j->k, 0);
-    for (size_t row = 0; row < j->n * j->k; row++, seed = seed * 1664525 + 1013904223)
-        j->ballots[row * j->d + (seed >> 16) % j->d] = 1;
-    for (size_t i = 0; i < j->marks; i++, seed = seed * 1664525 + 1013904223)
-        j->tape[i] = seed >> 31;
+    for (size_t row = 0; j->d && row < j->n * j->k; row++)
+        j->ballots[row * j->d + (next(&seed) >> 16) % j->d] = 1;
+    for (size_t ballot = 0; !j->d && ballot < j->n; ballot++)
+        rank(j->ballots + ballot * j->k * j->k, j->k, &seed);
+    for (size_t i = 0; i < j->marks; i++)
+        j->tape[i] = next(&seed) >> 31;
 }
 
 static inline struct jury jury_of(const size_t *shape) {
@@ -43,9 +56,11 @@ static inline struct jury jury_of(const size_t *shape) {
 
 static inline size_t run(const struct jury *j) {
     size_t answer[JUGY_RUN_ANSWER];
-    return jugy_run(j->k, j->d, j->n, j->table, 4 * j->gates, j->ballots, j->inputs, j->tape, j->marks, j->wires, j->inputs + j->gates,
-                    j->board, j->marks + j->k, answer, JUGY_RUN_ANSWER);
+    return jugy_run(j->k, j->d, j->n, j->table, 4 * j->gates, j->ballots, j->inputs, j->tape, j->marks, j->wires,
+                    j->inputs + j->gates, j->board, j->marks + j->k, answer, JUGY_RUN_ANSWER);
 }
+
+static inline void print_shape(const struct jury *j) { printf("%zu %zu %zu", j->k, j->d, j->n); }
 
 static inline void free_drawn(const struct jury *j) { free(j->ballots), free(j->tape), free(j->board); }
 

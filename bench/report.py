@@ -1,25 +1,41 @@
-"""Makes the benchmark's table and plot from what bench/run measured. Standard library only."""
+"""Makes the benchmark's tables and plot from what bench/run measured. Standard library only."""
 import os
 import pathlib
 import platform
 import re
 import statistics
+import subprocess
 import sys
+import textwrap
 
 HERE = pathlib.Path(__file__).parent
 OPS = ["write", "test", "run", "count"]
-# The most that a time ratio should be. Before the core writes a list it counts the gates of one candidate and of the levels.
+# The most that a time ratio should be.
 GOALS = {"write": 2.0, "test": 1.1, "run": 1.1, "count": 1.1}
+URN_GOAL = 1.2
+TEXT_GOAL = 1.1
+# Of eight juries in rounds of 4,096 gates, beside undivided runs.
+DISPATCH_GOAL = (4096, 1.1)
+# How many times faster 64 juries at once should be; request 2.11 asks for 8.
+BATCH_GOAL, BATCH_ASKED = 32, 8
 
 
-def read_times(path):
-    """Of the lines of one call, one for each place of the code: its gates, the least times and the middle ratio."""
+def read_times(folder, words):
+    """By the first words of a line: gates, the least times, the middle ratio, and the middle of whatever follows.
+
+    Each line is there once for each place of the code.
+    """
     lines = {}
-    for line in path.read_text().splitlines():
-        op, k, d, n, gates, core, c, ratio = line.split()
-        lines.setdefault((op, (int(k), int(d), int(n))), []).append((int(gates), float(core), float(c), float(ratio)))
-    return {call: (rows[0][0], min(row[1] for row in rows), min(row[2] for row in rows), statistics.median(row[3] for row in rows))
-            for call, rows in lines.items()}
+    for line in (folder / "times").read_text().splitlines():
+        fields = line.split()
+        key = tuple(int(word) if word.isdigit() else word for word in fields[:words])
+        lines.setdefault(key, []).append([float(number) for number in fields[words:]])
+
+    def over_places(rows):
+        gates, core, other, *middle = zip(*rows)
+        return [int(gates[0]), min(core), min(other), *map(statistics.median, middle)]
+
+    return {key: over_places(rows) for key, rows in lines.items()}
 
 
 def read_counts(folder):
@@ -35,110 +51,162 @@ def read_counts(folder):
     return counts
 
 
-def above_goal(found):
-    """The sentence below a table that names those whose time ratio, as the table shows it, is above the goal."""
-    return "\n\nTime ratios above their goal: " + (", ".join(found) or "none") + "."
+def table_of(columns, rows, found=None, what="Time ratios above their goal"):
+    """A table, its first columns words and the others numbers; below it a sentence that names what misses its goal."""
+    words, numbers = columns
+    head, *body = ["| " + " | ".join(map(str, line)) + " |" for line in [[*words, *numbers], *rows]]
+    text = "\n".join([head, "|" + "---|" * len(words) + "--:|" * len(numbers), *body])
+    return text if found is None else text + f"\n\n{what}: " + (", ".join(found) or "none") + "."
 
 
-def table(times, counts):
-    lines = [
-        "| call | shape | gates | core, µs | C, µs | time ratio | goal | core, instructions | C, instructions | ratio |",
-        "|---|---|--:|--:|--:|--:|--:|--:|--:|--:|",
-    ]
-    above = []
-    for (op, numbers), (gates, core, c, ratio) in sorted(times.items(), key=lambda row: OPS.index(row[0][0])):
-        a, b, shape = counts[op, numbers, "core"], counts[op, numbers, "c"], " ".join(map(str, numbers))
-        lines.append(f"| {op} | {shape} | {gates} | {core / 1000:.2f} | {c / 1000:.2f} | {ratio:.2f} | {GOALS[op]} | {a} | {b} | {a / b:.2f} |")
+def micro(nanoseconds):
+    return f"{nanoseconds / 1000:.2f}"
+
+
+def shape_of(numbers):
+    return " ".join(map(str, numbers))
+
+
+INSTRUCTIONS = ["core, instructions", "C, instructions", "ratio"]
+
+
+def calls_table(times, counts):
+    """Write, test, run and count beside C."""
+    rows, above = [], []
+    for (op, *numbers), (gates, core, c, ratio) in sorted(times.items(), key=lambda row: OPS.index(row[0][0])):
+        a, b, shape = counts[op, tuple(numbers), "core"], counts[op, tuple(numbers), "c"], shape_of(numbers)
+        rows.append([op, shape, gates, micro(core), micro(c), f"{ratio:.2f}", GOALS[op], a, b, f"{a / b:.2f}"])
         if round(ratio, 2) > GOALS[op]:
             above.append(f"{op} at {shape}")
-    return "\n".join(lines) + above_goal(above)
+    columns = ["call", "shape"], ["gates", "core, µs", "C, µs", "time ratio", "goal", *INSTRUCTIONS]
+    return table_of(columns, rows, above)
 
 
-def batch_table(path):
-    """A run for 64 juries beside 64 single runs of the same library: how many times faster it is."""
-    lines = [
-        "| shape | gates | 64 juries at once, µs | 64 single runs, µs | times faster | asked |",
-        "|---|--:|--:|--:|--:|--:|",
-    ]
-    for line in path.read_text().splitlines():
-        k, d, n, gates, batch, singles, ratio = line.split()
-        lines.append(f"| {k} {d} {n} | {gates} | {float(batch) / 1000:.2f} | {float(singles) / 1000:.2f} | {ratio} | 8 |")
-    return "\n".join(lines)
+def urn_table(folder):
+    """The calls on an urn, by slots and ballots in it."""
+    times, counts = read_times(folder, 4), read_counts(folder)
+    rows, above = [], []
+    for (op, *numbers), (ballots, core, c, ratio) in times.items():
+        k, d, slots = numbers
+        a, b = counts[op, tuple(numbers), "core"], counts[op, tuple(numbers), "c"]
+        took = [f"{core:.0f}", f"{c:.0f}", f"{ratio:.2f}", URN_GOAL]
+        rows.append([op, f"{k} {d}", slots, ballots, *took, a, b, f"{a / b:.2f}"])
+        if round(ratio, 2) > URN_GOAL:
+            above.append(f"{op} at {slots} slots")
+    columns = ["call", "k d"], ["slots", "ballots", "core, ns", "C, ns", "time ratio", "goal", *INSTRUCTIONS]
+    return table_of(columns, rows, above)
+
+
+def urn_run_table(folder):
+    """The run on an urn, and the run on the same ballots, both beside the run on an urn in C."""
+    rows, above = [], []
+    for numbers, (gates, core, c, ratio, plain) in read_times(folder, 3).items():
+        rows.append([shape_of(numbers), gates, micro(core), micro(c), f"{ratio:.2f}", URN_GOAL, f"{plain:.2f}"])
+        if round(ratio, 2) > URN_GOAL:
+            above.append(shape_of(numbers))
+    columns = ["shape"], ["gates", "core, µs", "C, µs", "time ratio", "goal", "run, time ratio"]
+    return table_of(columns, rows, above)
+
+
+def text_table(folder):
+    """Lists as text: per line, and as a stream of characters."""
+    rows, above = [], []
+    times = sorted(read_times(folder, 4).items(), key=lambda row: row[0][0])
+    for (op, *numbers), (gates, core, _, ratio, characters) in times:
+        speed = [f"{core / gates:.1f}", f"{1000 * characters / core:.0f}"]
+        rows.append([op, shape_of(numbers), gates, int(characters), *speed, f"{ratio:.2f}", TEXT_GOAL])
+        if round(ratio, 2) > TEXT_GOAL:
+            above.append(f"{op} at {shape_of(numbers)}")
+    columns = ["call", "shape"], ["gates", "characters", "ns a line", "MB/s", "time ratio", "goal"]
+    return table_of(columns, rows, above)
+
+
+def trustees_table(folder):
+    """The tally by 2 and by 5 trustees, and how its time grows between them."""
+    times = read_times(folder, 4)
+    rows = []
+    for (trustees, *numbers), (gates, core, c, ratio) in times.items():
+        growth = [f"{core / times[(2, *numbers)][1]:.2f}", f"{trustees / 2:.2f}"]
+        rows.append([shape_of(numbers), gates, trustees, micro(core), micro(c), f"{ratio:.2f}", *growth])
+    columns = ["shape"], ["gates", "trustees", "core, µs", "C, µs", "time ratio", "time beside 2", "trustees beside 2"]
+    return table_of(columns, rows)
+
+
+def dispatch_table(folder):
+    """Eight juries in rounds beside their undivided runs, and whether the goal is met."""
+    share, goal = DISPATCH_GOAL
+    rows, above = [], []
+    for (gates_per_round,), (gates, core, undivided, ratio) in read_times(folder, 1).items():
+        here = goal if gates_per_round == share else ""
+        rows.append([gates_per_round, gates, micro(core), micro(undivided), f"{ratio:.2f}", here])
+        if here and round(ratio, 2) > here:
+            above.append(f"rounds of {gates_per_round} gates")
+    columns = [], ["gates a round", "gates", "in rounds, µs", "undivided, µs", "time ratio", "goal"]
+    return table_of(columns, rows, above), not above
+
+
+def batch_table(folder):
+    """A run for 64 juries beside 64 single runs of the same library, and whether the goal is met everywhere."""
+    rows, below = [], []
+    for numbers, (gates, batch, singles, faster) in read_times(folder, 3).items():
+        rows.append([shape_of(numbers), gates, micro(batch), micro(singles), f"{faster:.1f}", BATCH_GOAL, BATCH_ASKED])
+        if round(faster, 1) < BATCH_GOAL:
+            below.append(shape_of(numbers))
+    took = ["64 juries at once, µs", "64 single runs, µs", "times faster"]
+    columns = ["shape"], ["gates", *took, "goal, at least", "asked, at least"]
+    return table_of(columns, rows, below, "Below their goal"), not below
 
 
 def plot(times, counts):
     """Bars of the time ratios, with a mark for the ratio of instructions, by call and shape."""
+    times = {(op, tuple(shape)): row for (op, *shape), row in times.items()}
     shapes = sorted({shape for _, shape in times}, key=lambda s: s[0] * s[1] * s[2])
     left, top, height, bar, gap = 60, 40, 260, 22, 30
     group = bar * len(shapes) + gap
     width = left + group * len(OPS) + 170
-    most = max([1.5] + list(GOALS.values()) + [r[3] for r in times.values()] + [counts[o, s, "core"] / counts[o, s, "c"] for o, s in times]) * 1.08
+    work = {call: counts[(*call, "core")] / counts[(*call, "c")] for call in times}
+    most = max([1.5, *GOALS.values(), *(row[3] for row in times.values()), *work.values()]) * 1.08
     y = lambda v: top + height * (1 - v / most)
     colours = ["#c6dbef", "#9ecae1", "#6baed6", "#3182bd", "#08519c"]
+    end = left + group * len(OPS)
+
+    def line(x1, x2, at, look):
+        return f'<line x1="{x1:.1f}" x2="{x2:.1f}" y1="{at:.1f}" y2="{at:.1f}" {look}/>'
+
+    def text(x, at, words, look=""):
+        return f'<text x="{x:.1f}" y="{at:.1f}"{look}>{words}</text>'
+
+    middle, right = ' text-anchor="middle"', ' text-anchor="end"'
+    dashed, red = 'stroke="#333" stroke-dasharray="4 3"', 'stroke="#d7301f" stroke-width="2"'
     out = [
-        f'<svg xmlns="http://www.w3.org/2000/svg" width="{width}" height="{top + height + 50}" font-family="sans-serif" font-size="12">',
+        f'<svg xmlns="http://www.w3.org/2000/svg" width="{width}" height="{top + height + 50}" '
+        'font-family="sans-serif" font-size="12">',
         '<rect width="100%" height="100%" fill="white"/>',
-        f'<text x="{left}" y="20" font-size="14">The core against the same work in C (gcc -O2): ratio, 1 is equal</text>',
+        text(left, 20, "The core against the same work in C (gcc -O2): ratio, 1 is equal", ' font-size="14"'),
     ]
     for tick in [0.5 * i for i in range(int(most / 0.5) + 1)]:
-        out.append(f'<line x1="{left}" x2="{left + group * len(OPS)}" y1="{y(tick):.1f}" y2="{y(tick):.1f}" stroke="#ddd"/>')
-        out.append(f'<text x="{left - 8}" y="{y(tick) + 4:.1f}" text-anchor="end">{tick:.1f}</text>')
-    out.append(f'<line x1="{left}" x2="{left + group * len(OPS)}" y1="{y(1):.1f}" y2="{y(1):.1f}" stroke="#333"/>')
+        out += [line(left, end, y(tick), 'stroke="#ddd"'), text(left - 8, y(tick) + 4, f"{tick:.1f}", right)]
+    out.append(line(left, end, y(1), 'stroke="#333"'))
     for i, op in enumerate(OPS):
         for j, shape in enumerate(shapes):
-            x = left + gap / 2 + i * group + j * bar
-            ratio = times[op, shape][3]
-            work = counts[op, shape, "core"] / counts[op, shape, "c"]
-            out.append(f'<rect x="{x:.1f}" y="{y(ratio):.1f}" width="{bar - 3}" height="{y(0) - y(ratio):.1f}" fill="{colours[j]}"/>')
-            out.append(f'<line x1="{x - 1:.1f}" x2="{x + bar - 2:.1f}" y1="{y(work):.1f}" y2="{y(work):.1f}" stroke="#d7301f" stroke-width="2"/>')
-        goal, start, end = y(GOALS[op]), left + i * group + gap / 4, left + (i + 1) * group
-        out.append(f'<line x1="{start:.1f}" x2="{end:.1f}" y1="{goal:.1f}" y2="{goal:.1f}" stroke="#333" stroke-dasharray="4 3"/>')
-        out.append(f'<text x="{end:.1f}" y="{goal - 4:.1f}" text-anchor="end">{GOALS[op]}</text>')
-        out.append(f'<text x="{left + i * group + group / 2:.1f}" y="{top + height + 18}" text-anchor="middle">{op}</text>')
-    out.append(f'<text x="{left + group * len(OPS) / 2:.1f}" y="{top + height + 40}" text-anchor="middle">call, at each shape k d n</text>')
-    out.append(f'<text transform="translate(18 {top + height / 2:.1f}) rotate(-90)" text-anchor="middle">core / C</text>')
-    x = left + group * len(OPS) + 15
+            x, ratio = left + gap / 2 + i * group + j * bar, times[op, shape][3]
+            size = f'width="{bar - 3}" height="{y(0) - y(ratio):.1f}"'
+            out.append(f'<rect x="{x:.1f}" y="{y(ratio):.1f}" {size} fill="{colours[j]}"/>')
+            out.append(line(x - 1, x + bar - 2, y(work[op, shape]), red))
+        goal, until = y(GOALS[op]), left + (i + 1) * group
+        out += [line(left + i * group + gap / 4, until, goal, dashed), text(until, goal - 4, GOALS[op], right)]
+        out.append(text(left + i * group + group / 2, top + height + 18, op, middle))
+    out.append(text(left + group * len(OPS) / 2, top + height + 40, "call, at each shape k d n", middle))
+    out.append(f'<text transform="translate(18 {top + height / 2:.1f}) rotate(-90)"{middle}>core / C</text>')
+    x = end + 15
     for j, shape in enumerate(shapes):
         out.append(f'<rect x="{x}" y="{top + 20 * j}" width="14" height="14" fill="{colours[j]}"/>')
-        out.append(f'<text x="{x + 20}" y="{top + 20 * j + 12}">{" ".join(map(str, shape))}</text>')
-    end = top + 20 * len(shapes)
-    out.append(f'<line x1="{x}" x2="{x + 14}" y1="{end + 8}" y2="{end + 8}" stroke="#d7301f" stroke-width="2"/>')
-    out.append(f'<text x="{x + 20}" y="{end + 12}">instructions</text>')
-    out.append(f'<line x1="{x}" x2="{x + 14}" y1="{end + 28}" y2="{end + 28}" stroke="#333" stroke-dasharray="4 3"/>')
-    out.append(f'<text x="{x + 20}" y="{end + 32}">goal, by call</text>')
+        out.append(text(x + 20, top + 20 * j + 12, shape_of(shape)))
+    below = top + 20 * len(shapes)
+    out += [line(x, x + 14, below + 8, red), text(x + 20, below + 12, "instructions")]
+    out += [line(x, x + 14, below + 28, dashed), text(x + 20, below + 32, "goal, by call")]
     out.append("</svg>")
     return "\n".join(out) + "\n"
-
-
-URN_GOAL = 1.2
-
-
-def urn_table(folder):
-    """The calls on an urn: rows of the same kind, by slots and ballots in it."""
-    times, counts = read_times(folder / "times"), read_counts(folder)
-    lines = [
-        "| call | k d | slots | ballots | core, ns | C, ns | time ratio | goal | core, instructions | C, instructions | ratio |",
-        "|---|---|--:|--:|--:|--:|--:|--:|--:|--:|--:|",
-    ]
-    above = []
-    for (op, (k, d, slots)), (ballots, core, c, ratio) in times.items():
-        a, b = counts[op, (k, d, slots), "core"], counts[op, (k, d, slots), "c"]
-        lines.append(f"| {op} | {k} {d} | {slots} | {ballots} | {core:.0f} | {c:.0f} | {ratio:.2f} | {URN_GOAL} | {a} | {b} | {a / b:.2f} |")
-        if round(ratio, 2) > URN_GOAL:
-            above.append(f"{op} at {slots} slots")
-    return "\n".join(lines) + above_goal(above)
-
-
-def urn_run_table(path):
-    """The run on an urn, and the run on the same ballots, both beside the run on an urn in C."""
-    lines = ["| shape | gates | core, µs | C, µs | time ratio | goal | run, time ratio |", "|---|--:|--:|--:|--:|--:|--:|"]
-    above = []
-    for line in path.read_text().splitlines():
-        k, d, n, gates, core, c, ratio, plain = line.split()
-        lines.append(f"| {k} {d} {n} | {gates} | {float(core) / 1000:.2f} | {float(c) / 1000:.2f} | {float(ratio):.2f} | {URN_GOAL} | {float(plain):.2f} |")
-        if round(float(ratio), 2) > URN_GOAL:
-            above.append(f"{k} {d} {n}")
-    return "\n".join(lines) + above_goal(above)
 
 
 def machine():
@@ -148,36 +216,88 @@ def machine():
     return f"{names[0] if names else platform.machine()}, {os.cpu_count()} cores"
 
 
+def commit():
+    """The commit measured, so that figures of lists that have changed since can be told from today's."""
+    described = subprocess.run(
+        ["git", "describe", "--always", "--dirty"], cwd=HERE, capture_output=True, text=True, check=False
+    )
+    return described.stdout.strip() or "unknown"
+
+
+INTRODUCTION = """\
+# The core against the same work in C
+
+Made by `bench/run` on {machine}, at commit {commit}. C is `bench/core.c` by
+`gcc -O2`, with the same tests made.
+
+- A time is the processor time of one call, the least over 201 short rounds of many calls each.
+- The time ratio is the middle one of the rounds' ratios: both take turns round by round, so that a slow stretch of the
+  machine meets both. It may differ a little from the quotient of the two least times.
+- All of this is done at four places of the library's code, 16 bytes apart, since a loop's time depends on where it
+  stands: the times are the least, the ratio lies in the middle of the four. So are all tables below.
+- The goal is the most that the time ratio should be. Writing may take twice the time of C. The core first works out
+  how long the list will be, so that a refusal alters nothing: of a graded list by adding up the spans of its parts, as
+  C does by a formula; of a ranked one by writing it into an empty table.
+- Instructions are those of one call, counted by callgrind, and repeat.
+"""
+
+# Title, what is to be said, and the name of the table.
+SECTIONS = [
+    (
+        "The urn",
+        "C is `tests/library_c/urn_reference.c`. Half of the slots hold ballots; the juror withdrawn is the last of "
+        "the chain.",
+        "urn",
+    ),
+    (
+        "The run on an urn",
+        "C is `bench/urn_run.c`. The urn is full but for one slot. The last column is `run` on the same ballots, "
+        "beside the same C.",
+        "urn_run",
+    ),
+    ("Lists as text", "C is `bench/text.c`. Shapes with 0 grades are rankings.", "text"),
+    ("Trustees", "C is `bench/trustees.c`. The dealing is made before, and tested in every call.", "trustees"),
+    (
+        "Eight juries in rounds",
+        "Beside eight undivided runs of the same library. The shapes are in `bench/dispatch.c`.",
+        "dispatch",
+    ),
+    (
+        "The run for 64 juries",
+        "Beside 64 single runs of the same library. Every call makes all its tests and empties its wire table. Packing "
+        "the juries into numbers is not counted: the fair draws them packed. Shapes with 0 grades are rankings.",
+        "batch",
+    ),
+]
+
+
+def wrapped(text, width=118):
+    """A paragraph in lines."""
+    return textwrap.fill(text, width, break_long_words=False, break_on_hyphens=False)
+
+
 def main():
     folder = pathlib.Path(sys.argv[1])
-    times, counts = read_times(folder / "calls" / "times"), read_counts(folder / "calls")
-    text = table(times, counts)
-    urn, urn_run = urn_table(folder / "urn"), urn_run_table(folder / "urn_run_times")
-    batch = batch_table(folder / "batch_times")
-    print(text, urn, urn_run, batch, sep="\n\n")
-    (HERE / "RESULT.md").write_text(
-        "# The core against the same work in C\n\n"
-        f"Made by `bench/run` on {machine()}. C is `bench/core.c` by `gcc -O2`, with the same tests made.\n\n"
-        "- A time is the processor time of one call, the least over 201 short rounds of many calls each.\n"
-        "- The time ratio is the middle one of the rounds' ratios: core and C take turns round by round, so that a slow stretch\n"
-        "  of the machine meets both. It may differ a little from the quotient of the two least times.\n"
-        "- All of this is done at four places of the library's code, 16 bytes apart, since a loop's time depends on where it stands:\n"
-        "  the times are the least, the ratio lies in the middle of the four.\n"
-        "- The goal is the most that the time ratio should be. Writing may take twice the time of C: by the program that\n"
-        "  writes, the core first counts the gates of one candidate and of the levels, while C has a formula for the number.\n"
-        "- Instructions are those of one call, counted by callgrind, and repeat.\n\n"
-        f"{text}\n\n![ratios](result.svg)\n\n"
-        "## The urn\n\n"
-        "C is `tests/library_c/urn_reference.c`. Half of the slots hold ballots; the juror withdrawn is the last of the chain.\n"
-        "Times and ratios are taken at four places of the code, as above.\n\n"
-        f"{urn}\n\n"
-        "## The run on an urn\n\n"
-        "C is `bench/urn_run.c`. The urn is full but for one slot. The last column is `run` on the same ballots, beside the same C.\n\n"
-        f"{urn_run}\n\n"
-        "## The run for 64 juries\n\n"
-        f"{batch}\n"
-    )
+    times, counts = read_times(folder / "calls", 4), read_counts(folder / "calls")
+    dispatch, dispatch_met = dispatch_table(folder / "dispatch")
+    batch, batch_met = batch_table(folder / "batch")
+    tables = {
+        "urn": urn_table(folder / "urn"),
+        "urn_run": urn_run_table(folder / "urn_run"),
+        "text": text_table(folder / "text"),
+        "trustees": trustees_table(folder / "trustees"),
+        "dispatch": dispatch,
+        "batch": batch,
+    }
+    calls = calls_table(times, counts)
+    print(calls, *tables.values(), sep="\n\n")
+    text = INTRODUCTION.format(machine=machine(), commit=commit()) + f"\n{calls}\n\n![ratios](result.svg)\n"
+    text += "".join(f"\n## {title}\n\n{wrapped(said)}\n\n{tables[name]}\n" for title, said, name in SECTIONS)
+    (HERE / "RESULT.md").write_text(text)
     (HERE / "result.svg").write_text(plot(times, counts))
+    if not batch_met or not dispatch_met:
+        sys.exit("bench/report.py: a goal is missed: see above")
 
 
-main()
+if __name__ == "__main__":
+    main()

@@ -1,8 +1,11 @@
 /* Lists as text: the library against the same passes in C, in one run, as timing.h says.
- *     text K D N    prints nanoseconds a line, MB/s and the ratio for writing and for reading */
+ *     text    write or read K D N GATES CORE_NS C_NS RATIO CHARACTERS a line
+ * Texts and lists of both are compared first. */
 #include "../tests/library_c/kinds.h"
 #include "jury.h"
 #include "timing.h"
+
+static const size_t shapes[][3] = {{2, 3, 3}, {5, 6, 100}, {8, 7, 255}, {5, 0, 31}};
 
 static inline size_t digits(uint32_t n) {
     size_t count = 1;
@@ -29,7 +32,8 @@ __attribute__((noinline)) static int gate_is_good(size_t own, const uint32_t *ga
     return 1;
 }
 
-__attribute__((noinline)) static size_t write_text(size_t inputs, const uint32_t *table, size_t gates, uint8_t *output, size_t room) {
+__attribute__((noinline)) static size_t write_text(size_t inputs, const uint32_t *table, size_t gates, uint8_t *output,
+                                                   size_t room) {
     size_t total = 0, at = 0;
     for (size_t g = 0; g < gates; g++)
         if (!gate_is_good(inputs + g, table + 4 * g))
@@ -80,7 +84,8 @@ static inline int line(const uint8_t *text, size_t length, size_t *at, uint32_t 
     return *at < length && text[(*at)++] == '\n';
 }
 
-__attribute__((noinline)) static size_t read_text(size_t inputs, size_t k, const uint8_t *text, size_t length, uint32_t *output, size_t room) {
+__attribute__((noinline)) static size_t read_text(size_t inputs, size_t k, const uint8_t *text, size_t length,
+                                                  uint32_t *output, size_t room) {
     size_t lines = 0, g = 0;
     uint32_t gate[4];
     for (size_t i = 0; i < length; i++)
@@ -118,21 +123,35 @@ static size_t call(int way) {
                    : write_text(j.inputs, j.table, j.gates, text, room) != length;
 }
 
-int main(int argc, char **argv) {
-    if (argc != 4)
-        return 2;
+static void set_up(const size_t *shape) {
     size_t answer[JUGY_TEXT_ANSWER];
-    j = jury_of((size_t[]){strtoul(argv[1], 0, 10), strtoul(argv[2], 0, 10), strtoul(argv[3], 0, 10)});
+    j = jury_of(shape);
     room = 44 * j.gates, numbers = filled(16 * j.gates, 0), text = filled(room, 0);
     if (jugy_write_text(j.k, j.d, j.n, j.table, 4 * j.gates, text, room, answer, JUGY_TEXT_ANSWER))
         fail_at(&j, "no text");
     length = answer[2];
-    for (reading = 0; reading < 2; reading++) {
-        struct timing of[WAYS];
-        take_turns(call, WAYS, 41, 1e-2, of);
-        printf("%s %zu %zu %zu: %zu gates, %zu characters, %.1f ns a line, %.0f MB/s, %.2f times C\n", reading ? "read " : "write", j.k, j.d, j.n,
-               j.gates, length, 1e9 * of[CORE].least / (double)j.gates, 1e-6 * (double)length / of[CORE].least, of[CORE].ratio);
+    uint8_t *expected = copy_of(text, room);
+    if ((reading = 0, call(IN_C)) || memcmp(expected, text, room))
+        fail_at(&j, "the two texts differ");
+    for (int way = 0; way < WAYS; way++) {
+        memset(numbers, 9, 16 * j.gates);
+        if ((reading = 1, call(way)) || memcmp(numbers, j.table, 16 * j.gates))
+            fail_at(&j, "not read back");
     }
-    free(numbers), free(text), free_jury(&j);
+    free(expected);
+}
+
+int main(void) {
+    for (size_t s = 0; s < sizeof shapes / sizeof *shapes; s++) {
+        set_up(shapes[s]);
+        for (reading = 0; reading < 2; reading++) {
+            struct timing of[WAYS];
+            take_turns(call, WAYS, MOST_ROUNDS, 5e-4, of);
+            printf("%s ", reading ? "read" : "write"), print_shape(&j);
+            print_times(j.gates, of[CORE].least, of[IN_C].least, of[CORE].ratio);
+            printf(" %zu\n", length);
+        }
+        free(numbers), free(text), free_jury(&j);
+    }
     return 0;
 }

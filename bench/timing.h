@@ -56,6 +56,11 @@ static inline void take_turns(work *call, int ways, int rounds, double length, s
     }
 }
 
+/* Behind the words that say what was done: how many gates, the least times in nanoseconds, and the ratio. */
+static inline void print_times(size_t gates, double time, double other, double ratio) {
+    printf(" %zu %.1f %.1f %.4f", gates, 1e9 * time, 1e9 * other, ratio);
+}
+
 /* One call between callgrind's dumps. */
 static inline void counted(work *call, int way, const char *label) {
     CALLGRIND_ZERO_STATS;

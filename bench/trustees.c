@@ -1,6 +1,6 @@
 /* The tally by trustees: the library against the same work in C, in one run, as timing.h says.
- *     trustees K D N    prints microseconds a call and the ratio at 2 and at 5 trustees, and the growth between them
- * The file core.c is taken in whole, for its tests of list, ballots and bits. */
+ *     trustees    TRUSTEES K D N GATES CORE_NS C_NS RATIO a line
+ * What is published is compared first. The file core.c is taken in whole, for its tests of list, ballots and bits. */
 #include "core.c"
 #include "../tests/library_c/dealing.h"
 #include "jury.h"
@@ -13,7 +13,8 @@ static inline uint8_t opened(const uint8_t *table, size_t size, size_t t, size_t
     return sum;
 }
 
-static int dealing_is_good(size_t t, size_t I, size_t C, const uint8_t *ballots, const uint8_t *parts, const uint8_t *dealt) {
+static int dealing_is_good(size_t t, size_t I, size_t C, const uint8_t *ballots, const uint8_t *parts,
+                           const uint8_t *dealt) {
     if (first_above_one(parts, t * I) < t * I || first_above_one(dealt, t * 3 * C) < t * 3 * C)
         return 0;
     for (size_t x = 0; x < I; x++)
@@ -38,8 +39,9 @@ static inline uint8_t part_of_kind(size_t p, uint32_t kind, uint8_t a, uint8_t b
     }
 }
 
-__attribute__((noinline)) static int tally(size_t k, size_t d, size_t n, const uint32_t *table, size_t gates, const uint8_t *ballots, size_t t,
-                                           const uint8_t *parts, const uint8_t *dealt, uint8_t *wires, uint8_t *published, size_t *closing) {
+__attribute__((noinline)) static int tally(size_t k, size_t d, size_t n, const uint32_t *table, size_t gates,
+                                           const uint8_t *ballots, size_t t, const uint8_t *parts, const uint8_t *dealt,
+                                           uint8_t *wires, uint8_t *published, size_t *closing) {
     struct said s = test(k, d, n, table, 4 * gates);
     size_t I = n * k * d, C = s.conditional, W = I + gates, D = 3 * C, P = 2 * C + k, i = 0;
     if (s.reason || test_ballots(k, d, n, ballots, I).reason || !dealing_is_good(t, I, C, ballots, parts, dealt))
@@ -80,6 +82,8 @@ __attribute__((noinline)) static int tally(size_t k, size_t d, size_t n, const u
     return 1;
 }
 
+static const size_t shapes[][3] = {{2, 3, 3}, {5, 6, 100}, {8, 7, 255}};
+
 static struct jury j;
 static size_t trustees, sizes[4], closing[2][8];
 static uint8_t *parts, *dealt, *wires, *published[2];
@@ -89,14 +93,15 @@ enum { IN_C, CORE, WAYS };
 static size_t call(int way) {
     size_t answer[JUGY_TRUSTEES_ANSWER], reason;
     if (way == IN_C)
-        return !tally(j.k, j.d, j.n, j.table, j.gates, j.ballots, trustees, parts, dealt, wires, published[way], closing[way]);
-    reason = jugy_trustees(j.k, j.d, j.n, j.table, 4 * j.gates, j.ballots, j.inputs, trustees, parts, sizes[0], dealt, sizes[1], wires, sizes[2],
-                           published[way], sizes[3], answer, JUGY_TRUSTEES_ANSWER);
+        return !tally(j.k, j.d, j.n, j.table, j.gates, j.ballots, trustees, parts, dealt, wires, published[way],
+                      closing[way]);
+    reason = jugy_trustees(j.k, j.d, j.n, j.table, 4 * j.gates, j.ballots, j.inputs, trustees, parts, sizes[0], dealt,
+                           sizes[1], wires, sizes[2], published[way], sizes[3], answer, JUGY_TRUSTEES_ANSWER);
     memcpy(closing[way], answer + 4, sizeof closing[way]);
     return reason;
 }
 
-static struct timing of_core(size_t t) {
+static void times(size_t t) {
     struct timing of[WAYS];
     size_t each[4] = {j.inputs, 3 * j.marks, j.inputs + j.gates, 2 * j.marks + j.k};
     trustees = t;
@@ -111,18 +116,19 @@ static struct timing of_core(size_t t) {
     }
     if (memcmp(published[IN_C], published[CORE], sizes[3]) || memcmp(closing[IN_C], closing[CORE], sizeof *closing))
         fail_at(&j, "the two differ");
-    take_turns(call, WAYS, 61, 1e-3, of);
+    take_turns(call, WAYS, MOST_ROUNDS, 5e-4, of);
+    printf("%zu ", t), print_shape(&j);
+    print_times(j.gates, of[CORE].least, of[IN_C].least, of[CORE].ratio);
+    printf("\n");
     free(parts), free(dealt), free(wires), free(published[IN_C]), free(published[CORE]);
-    return of[CORE];
 }
 
-int main(int count, char **words) {
-    if (count != 4)
-        return 2;
-    j = jury_of((size_t[]){strtoul(words[1], 0, 10), strtoul(words[2], 0, 10), strtoul(words[3], 0, 10)});
-    struct timing two = of_core(2), five = of_core(5);
-    printf("%zu %zu %zu: 2 trustees %.1f us, ratio %.2f; 5 trustees %.1f us, ratio %.2f; growth %.2f for 2.50\n", j.k, j.d, j.n, 1e6 * two.least,
-           two.ratio, 1e6 * five.least, five.ratio, five.least / two.least);
-    free_jury(&j);
+int main(void) {
+    for (size_t s = 0; s < sizeof shapes / sizeof *shapes; s++) {
+        j = jury_of(shapes[s]);
+        times(2);
+        times(5);
+        free_jury(&j);
+    }
     return 0;
 }

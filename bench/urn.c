@@ -81,8 +81,10 @@ static void set_up(size_t count) {
 static void times(size_t count) {
     struct timing of[WAYS];
     set_up(count);
-    take_turns(call_and_put_back, WAYS, 201, 2e-4, of);
-    printf("%s %d %d %zu %zu %.1f %.1f %.3f\n", ops[op], K, D, slots, ballots, 1e9 * of[CORE].least, 1e9 * of[IN_C].least, of[CORE].ratio);
+    take_turns(call_and_put_back, WAYS, MOST_ROUNDS, 2e-4, of);
+    printf("%s %d %d %zu", ops[op], K, D, slots);
+    print_times(ballots, of[CORE].least, of[IN_C].least, of[CORE].ratio);
+    printf("\n");
 }
 
 static void counts(size_t count) {

@@ -1,5 +1,6 @@
 /* Times a run on an urn beside the same work in C, in one run.
- *     urn_run    K D N GATES CORE_NS C_NS RATIO RUN_RATIO a line, as timing.h says, the last of jugy_run on the same ballots beside the same C
+ *     urn_run    K D N GATES CORE_NS C_NS RATIO RUN_RATIO a line, as timing.h says, the last of jugy_run on the same
+ *                ballots beside the same C
  * Wire tables and boards of all are compared first. The urn is full but for one slot, and its chain goes through the slots
  * backwards. The file core.c is taken in whole, for its tests and its gates. */
 #include "core.c"
@@ -37,8 +38,9 @@ static size_t ballots_in(size_t k, size_t d, const uint8_t *urn, size_t length) 
 }
 
 static size_t core_run_urn(size_t k, size_t d, size_t n, const uint32_t *table, size_t table_length, const uint8_t *urn,
-                           size_t urn_length, const uint8_t *tape, size_t tape_length, uint8_t *wires, size_t wires_length,
-                           uint8_t *board, size_t board_length, size_t *answer, size_t answer_length) {
+                           size_t urn_length, const uint8_t *tape, size_t tape_length, uint8_t *wires,
+                           size_t wires_length, uint8_t *board, size_t board_length, size_t *answer,
+                           size_t answer_length) {
     if (answer_length < 4)
         return 255;
     if (!within(k, d, n))
@@ -71,8 +73,9 @@ static size_t call(int way) {
     size_t answer[JUGY_RUN_ANSWER];
     if (way == PLAIN)
         return run(&j);
-    return (way == IN_C ? core_run_urn : jugy_run_urn)(j.k, j.d, j.n, j.table, 4 * j.gates, urn, length, j.tape, j.marks, j.wires,
-                                                       j.inputs + j.gates, j.board, j.marks + j.k, answer, JUGY_RUN_ANSWER);
+    return (way == IN_C ? core_run_urn : jugy_run_urn)(j.k, j.d, j.n, j.table, 4 * j.gates, urn, length, j.tape,
+                                                       j.marks, j.wires, j.inputs + j.gates, j.board, j.marks + j.k,
+                                                       answer, JUGY_RUN_ANSWER);
 }
 
 static void set_up(const size_t *shape) {
@@ -104,9 +107,10 @@ int main(void) {
     for (size_t s = 0; s < sizeof shapes / sizeof *shapes; s++) {
         struct timing of[WAYS];
         set_up(shapes[s]);
-        take_turns(call, WAYS, 101, 2e-4, of);
-        printf("%zu %zu %zu %zu %.1f %.1f %.3f %.3f\n", j.k, j.d, j.n, j.gates, 1e9 * of[CORE].least, 1e9 * of[IN_C].least, of[CORE].ratio,
-               of[PLAIN].ratio);
+        take_turns(call, WAYS, MOST_ROUNDS, 2e-4, of);
+        print_shape(&j);
+        print_times(j.gates, of[CORE].least, of[IN_C].least, of[CORE].ratio);
+        printf(" %.4f\n", of[PLAIN].ratio);
         free(urn), free_jury(&j);
     }
     return 0;

@@ -1,5 +1,6 @@
 /* Writes the list of a jury of two blends, three grades and three ballots, runs it and prints who wins.
- * Build: cc -o example c/example.c target/staticlib/libjugyvaros.a */
+ * Build: cc -o example c/example.c target/staticlib/libjugyvaros.a
+ * or, once installed: cc -o example example.c $(pkg-config --cflags --libs jugyvaros) */
 #include <stdio.h>
 #include <stdlib.h>
 #include <sys/random.h>
@@ -49,8 +50,8 @@ int main(void) {
 
     accepted("write", jugy_write(k, d, n, table, 4 * gates, answer, JUGY_WRITE_ANSWER), answer);
     accepted("run",
-             jugy_run(k, d, n, table, 4 * gates, ballots, sizeof ballots, tape, conditional, wires, inputs + gates, board,
-                      conditional + k, answer, JUGY_RUN_ANSWER),
+             jugy_run(k, d, n, table, 4 * gates, ballots, sizeof ballots, tape, conditional, wires, inputs + gates,
+                      board, conditional + k, answer, JUGY_RUN_ANSWER),
              answer);
 
     printf("jury %zu %zu %zu: %zu gates, %zu conditional\n", k, d, n, gates, conditional);

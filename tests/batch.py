@@ -1,17 +1,17 @@
-"""Runs for 64 juries at once, through the library: each jury against its single run and against the requirements, written apart.
+"""Runs for 64 juries at once, through the library: each jury against its single run and the reference.
 
-    python3 tests/batch.py    prints how many calls there were, by answer
+    python3 tests/batch.py    prints how many calls there were, by reason
 
-Own lists and strangers' lists with every kind, lists without a conditional gate, words of all ones, a bad row and a bad
+Own lists and random lists with every kind, lists without a conditional gate, words of all ones, a bad row and a bad
 ranking in every jury, each length one short and one long, shapes at their limits, and all pairs of faults.
 """
 
-import collections
 import itertools
 import random
 
-import document01 as doc
-from core import Core, Lent, numbers
+import reference as doc
+from core import Core, Lent, numbers, output
+from random_juries import random_ballots
 from running import flat, random_gates
 
 JURIES = 64
@@ -43,23 +43,10 @@ def batch_fault(k, d, n, table, words, tape, wires, board):
     return doc.lent_fault(doc.ballot_bytes(k, d, n), k, doc.gates_of(table), [0] * len(tape), wires, board)
 
 
-class Batch(Core):
-    """The five entry points and the run for 64 juries."""
-
-    NAMES = Core.NAMES + ("jugy_run_batch",)
-
-    def run_batch(self, shape, table, words, tape, wires, board):
-        """The answer, and wire table and board afterwards."""
-        written = [Lent("Q", wires), Lent("Q", board)]
-        said = self.call("jugy_run_batch", shape, 4, [numbers(table), Lent("Q", words), Lent("Q", tape)], written)
-        return said, written[0].items(), written[1].items()
-
-
 class Tester:
     def __init__(self):
-        self.core = Batch()
+        self.core = Core()
         self.rng = random.Random(64)
-        self.answers = collections.Counter()
 
     def check(self, shape, table, words, tape, wires=None, board=None, single=True):
         """One call: its answer, and of an accepted one every jury beside its single run and beside the reference."""
@@ -69,9 +56,8 @@ class Tester:
         wires = [OLD] * (doc.ballot_bytes(k, d, n) + len(gates) if wires is None else wires)
         board = [OLD] * (count + k if board is None else board)
         fault = batch_fault(k, d, n, table, words, tape, wires, board)
-        said, wires_after, board_after = self.core.run_batch(shape, table, words, tape, wires, board)
+        said, wires_after, board_after = self.core.run(shape, table, words, tape, wires, board, "jugy_run_batch", "Q")
         assert said == doc.answer(fault, table), (shape, said, fault)
-        self.answers["accepted" if fault is None else fault[0]] += 1
         if fault is not None:
             return                                           # Core.call has seen that a refusal alters nothing
         assert wires_after == [0] * len(wires), shape
@@ -83,26 +69,19 @@ class Tester:
                 alone = self.core.run(shape, table, ballots, bits, [9] * len(wires), [9] * len(board))
                 assert alone[0] == said and alone[2] == lane(j, board_after), (shape, j)
 
-    def jury(self, shape):
-        """Random ballots that are accepted."""
-        k, d, n = shape
-        if d == 0:
-            rankings = [[self.rng.randrange(k) for _ in range(k)] for _ in range(n)]
-            return [int(x < y) for ranks in rankings for x in ranks for y in ranks]
-        return [int(g == best) for best in (self.rng.randrange(d) for _ in range(n * k)) for g in range(d)]
-
-    def juries(self, shape):
-        return [self.jury(shape) for _ in range(JURIES)]
+    def juries(self, shape, many=JURIES):
+        return [random_ballots(self.rng, *shape) for _ in range(many)]
 
     def tape(self, table):
         return [self.rng.getrandbits(JURIES) for _ in range(doc.conditional_count(doc.gates_of(table)))]
 
     def own_lists(self):
-        for shape in [(1, 2, 1), (2, 3, 3), (3, 4, 5), (8, 2, 2), (1, 7, 9), (4, 3, 7), (1, 0, 1), (2, 0, 3), (3, 0, 5), (4, 0, 7)]:
+        for shape in [(1, 2, 1), (2, 3, 3), (3, 4, 5), (8, 2, 2), (1, 7, 9), (4, 3, 7), (1, 0, 1), (2, 0, 3),
+                      (3, 0, 5), (4, 0, 7)]:
             table = self.core.own_list(shape)
             self.check(shape, table, words_of(self.juries(shape)), self.tape(table))
 
-    def strangers(self):
+    def random_lists(self):
         for _ in range(40):
             shape = (self.rng.randint(1, 4), self.rng.choice((0, 2, 3, 4)), self.rng.randint(1, 3))
             k, d, n = shape
@@ -122,7 +101,7 @@ class Tester:
             self.check(shape, table, ballot, [0] * 3)
 
     def bad_rows(self):
-        """An empty row, and rows with two and three ones, in each jury alone, first row and last; then in two juries."""
+        """An empty row, and rows with two and three ones, in each jury alone, first row and last; then in two."""
         shape, table = (2, 3, 2), flat([(4, 0, 1, 0)] * 2)
         good, tape = self.juries(shape), self.tape(table)
         for j in range(JURIES):
@@ -138,7 +117,7 @@ class Tester:
         self.check(shape, table, [ALL] * 12, tape, single=False)
 
     def bad_rankings(self):
-        """A clash, on the diagonal and off it, and a gap, in each jury alone, first ballot and last; then of two juries."""
+        """A clash, on the diagonal and off it, and a gap, in each jury alone, first ballot and last; then in two."""
         shape, table = (3, 0, 2), flat([(4, 0, 1, 0)] * 3)
         good, tape = self.juries(shape), self.tape(table)
         clashes, gap = ([1] + [0] * 8, [0, 1, 0, 1, 0, 0, 0, 0, 0]), [0, 1, 0] + [0] * 6
@@ -147,7 +126,8 @@ class Tester:
                 bad = list(good)
                 bad[j] = good[j][:9 * ballot] + bits + good[j][9 * ballot + 9:]
                 self.check(shape, table, words_of(bad), tape, single=False)
-        for (first, a), (second, b) in itertools.product(zip((0, 31, 62), (gap, clashes[0], gap)), zip((1, 32, 63), (clashes[1], gap, gap))):
+        for (first, a), (second, b) in itertools.product(zip((0, 31, 62), (gap, clashes[0], gap)),
+                                                         zip((1, 32, 63), (clashes[1], gap, gap))):
             bad = list(good)
             bad[first], bad[second] = a + good[first][9:], good[second][:9] + b
             self.check(shape, table, words_of(bad), tape, single=False)
@@ -159,9 +139,11 @@ class Tester:
         shape, table = (2, 2, 2), flat([(4, 0, 1, 0), (1, 0, 0, 0), (7, 0, 2, 3)])
         words, tape = words_of(self.juries(shape)), self.tape(table)
         ways = [
-            [("shape", s) for s in [(0, 2, 2), (9, 2, 2), (2, 1, 2), (2, 8, 2), (2, 2, 0), (2, 2, 256), (2, 2, 2 ** 64 - 1)]],
+            [("shape", s) for s in [(0, 2, 2), (9, 2, 2), (2, 1, 2), (2, 8, 2), (2, 2, 0), (2, 2, 256),
+                                    (2, 2, 2 ** 64 - 1)]],
             [("table", t) for t in [table[:4], table[:-1], table + [0], []]],
-            [("table", t) for t in [flat([(8, 0, 0, 0)]) + table[4:], table[:4] + flat([(2, 9, 0, 0)]) + table[8:], table[:8] + [7, 10, 0, 0]]],
+            [("table", t) for t in [flat([(8, 0, 0, 0)]) + table[4:], table[:4] + flat([(2, 9, 0, 0)]) + table[8:],
+                                    table[:8] + [7, 10, 0, 0]]],
             [("words", w) for w in [words[:-1], words + [0], []]],
             [("words", [0] + words[1:]), ("words", words[:-1] + [ALL])],
             [("tape", t) for t in [tape[:-1], tape + [1], []]],
@@ -174,23 +156,30 @@ class Tester:
                                        *(itertools.product(a, b) for a, b in itertools.combinations(ways, 2))):
             self.check(**{**plain, **dict(changes)}, single=False)
 
+    def short_answers(self):
+        """An answer array that is too short: status 255, and nothing is altered, of a good call and of a bad one."""
+        table, words = flat([(4, 0, 1, 0)]), words_of(self.juries((1, 2, 1)))
+        for tape in ([ALL], []):
+            lent = [numbers(table), Lent("Q", words), Lent("Q", tape), output([OLD] * 3, "Q"), output([OLD] * 2, "Q")]
+            self.core.ignores_short_answers("jugy_run_batch", 1, 2, 1, *lent, answers=4)
+
     def shapes(self):
         """Shapes at their limits, with one list that fits them all."""
         for shape in itertools.product((1, 8), (0, 2, 7), (1, 255)):
             k, d, n = shape
             last = doc.ballot_bytes(k, d, n) - 1
             table = flat([(4, 0, last, 0), (7, last, 0, last + 1)] * 2 + [(5, 0, last, 0)] * k)
-            words = words_of([self.jury(shape) for _ in range(4)] * 16)
+            words = words_of(self.juries(shape, 4) * 16)
             self.check(shape, table, words, self.tape(table), single=k * n < 300)
 
 
 def main():
     tester = Tester()
-    for part in (tester.own_lists, tester.strangers, tester.free_lists, tester.all_ones, tester.bad_rows, tester.bad_rankings, tester.faults, tester.shapes):
+    for part in (tester.own_lists, tester.random_lists, tester.free_lists, tester.all_ones, tester.bad_rows,
+                 tester.bad_rankings,
+                 tester.faults, tester.shapes, tester.short_answers):
         part()
-    reasons = [1, 2, 3, 4, 6, 11, 12, 7, 9, 10]
-    assert set(tester.answers) == {"accepted", *reasons}, tester.answers
-    print("tests/batch.py: ok,", ", ".join(f"{tester.answers[answer]} times {answer}" for answer in ["accepted", *reasons]))
+    print("tests/batch.py: ok,", tester.core.saw(run_batch={1, 2, 3, 4, 6, 11, 12, 7, 9, 10}))
 
 
 if __name__ == "__main__":

@@ -1,46 +1,50 @@
-"""The exported functions, for tests in Python: the static library linked into a shared object and called by ctypes.
+"""The exported functions, for tests in Python, through the package that everybody else uses (python/jugyvaros).
 
-Needs target/staticlib/libjugyvaros.a, which tools/library makes, and a C compiler (cc). Whatever is lent has
-guards on both sides, and every call is held to leaving them, and what is lent for reading, as they were.
+The package finds, builds and declares them. What it would lend is replaced here by buffers with guards on both sides,
+and every call is held to leaving the guards, and what is lent for reading, as they were.
 """
 
 import array
-import ctypes
+import collections
 import pathlib
-import subprocess
+import sys
 
 ROOT = pathlib.Path(__file__).resolve().parent.parent
+sys.path.insert(0, str(ROOT / "python"))
+
+from jugyvaros import library  # noqa: E402  (the line above is what finds it)
+from jugyvaros.library import SHORT_ANSWER  # noqa: E402
+from jugyvaros.reasons import REASONS  # noqa: E402
+
 OLD = 9                                                      # what an answer array holds before a call
 
 
 class Lent:
-    """Numbers or bytes lent to a call."""
+    """Numbers or bytes lent to a call, for reading or to be written."""
 
     GUARD = b"\xa5" * 16
 
-    def __init__(self, code, items):
-        self.before = array.array(code)
-        self.before.frombytes(self.GUARD)
-        self.first = len(self.before)
-        items = array.array(code, items)
-        self.length = len(items)
-        self.before += items
-        self.before.frombytes(self.GUARD)
-        self.data = array.array(code, self.before)
+    def __init__(self, code, items, written=False):
+        self.code, self.length, self.written = code, len(items), written
+        inner = bytes(items) if code == "B" else array.array(code, items).tobytes()
+        self.before = self.GUARD + inner + self.GUARD
+        self.data = array.array("B", self.before)
 
     def arguments(self):
-        start, _ = self.data.buffer_info()
-        return [ctypes.c_void_p(start + self.first * self.data.itemsize), ctypes.c_size_t(self.length)]
+        return [self.data.buffer_info()[0] + len(self.GUARD), self.length]
 
     def items(self):
-        return self.data[self.first:self.first + self.length].tolist()
+        return array.array(self.code, self.data[len(self.GUARD):-len(self.GUARD)].tobytes()).tolist()
 
     def is_as_before(self):
-        return self.data == self.before
+        return self.data.tobytes() == self.before
 
-    def has_its_guards(self):
-        behind = self.first + self.length
-        return self.data[:self.first] == self.before[:self.first] and self.data[behind:] == self.before[behind:]
+    def is_kept(self):
+        """The guards stand, and where it is lent for reading its items too."""
+        if not self.written:
+            return self.is_as_before()
+        ends = self.data[:len(self.GUARD)].tobytes(), self.data[-len(self.GUARD):].tobytes()
+        return ends == (self.GUARD, self.GUARD)
 
 
 def numbers(items):
@@ -48,48 +52,71 @@ def numbers(items):
     return Lent("I", items)
 
 
+def sizes(items):
+    return Lent("L", items)
+
+
 def bytes_of(items):
     return Lent("B", items)
 
 
-class Core:
-    """The five entry points. An answer is ["accepted", its values..] or ["refused", reason, place]."""
+def output(items, code="B"):
+    """What a call writes."""
+    return Lent(code, items, written=True)
 
-    NAMES = ("jugy_measure", "jugy_write", "jugy_test", "jugy_run", "jugy_count")
+
+class Core:
+    """The exported functions. An answer is ["accepted", its values..] or ["refused", reason, place]."""
 
     def __init__(self):
-        archive, shared = (ROOT / "target/staticlib" / name for name in ("libjugyvaros.a", "jugyvaros.so"))
-        subprocess.run(["cc", "-shared", "-o", shared, "-Wl,--whole-archive", archive, "-Wl,--no-whole-archive"], check=True)
-        self.library = ctypes.CDLL(str(shared))
-        for name in self.NAMES:
-            getattr(self.library, name).restype = ctypes.c_size_t
         self.calls = 0
+        self.answers = collections.defaultdict(collections.Counter)
 
-    def call(self, name, shape, needed, read=(), written=()):
-        """The status with the whole answer array. What is read comes before what is written, as in all five functions."""
+    def raw(self, name, *arguments, answers):
+        """The status with the whole answer array, of any length. Guards, and what is lent for reading, have to stay."""
         self.calls += 1
-        answer = Lent("L", [OLD] * needed)
-        arguments = list(map(ctypes.c_size_t, shape))
-        for lent in (*read, *written, answer):
-            arguments += lent.arguments()
-        status = getattr(self.library, name)(*arguments)
-        assert all(lent.is_as_before() for lent in read), (name, shape)
-        assert all(lent.has_its_guards() for lent in (*written, answer)), (name, shape)
-        reason, place, *values = answer.items()
-        assert status == reason and reason <= 12, (name, shape, status)
+        answer = output([OLD] * answers, "L")
+        prepared = []
+        for argument in (*arguments, answer):
+            prepared += argument.arguments() if isinstance(argument, Lent) else [argument]
+        status = library.function(name)(*prepared)
+        assert all(lent.is_kept() for lent in (*arguments, answer) if isinstance(lent, Lent)), name
+        return status, answer.items()
+
+    def call(self, name, *arguments, answers):
+        """A call with an answer array as long as the function needs. A refusal alters nothing else that is lent."""
+        status, (reason, place, *values) = self.raw(name, *arguments, answers=answers)
+        assert status == reason and (reason == 0 or reason in REASONS), (name, status, reason)
+        self.answers[name][reason] += 1
         if reason:
-            assert all(lent.is_as_before() for lent in written) and not any(values), (name, shape)
+            assert not any(values) and all(lent.is_as_before() for lent in arguments if isinstance(lent, Lent)), name
             return ["refused", reason, place]
-        assert place == 0, (name, shape)
+        assert place == 0, name
         return ["accepted", *values]
 
+    def saw(self, **reasons):
+        """How often each function gave each answer, in words; it gave just these reasons, and was accepted too."""
+        for name, wanted in reasons.items():
+            found = set(self.answers[f"jugy_{name}"])
+            assert found == {0, *wanted}, (name, sorted(found), sorted(wanted))
+        return "; ".join(f"{name} {self.told(name)}" for name in reasons)
+
+    def told(self, name):
+        return ", ".join(f"{reason}: {many}" for reason, many in sorted(self.answers[f"jugy_{name}"].items()))
+
+    def ignores_short_answers(self, name, *arguments, answers):
+        """With an answer array that is shorter than it needs, a function returns 255 and alters nothing at all."""
+        for length in range(answers):
+            assert self.raw(name, *arguments, answers=length) == (SHORT_ANSWER, [OLD] * length), (name, length)
+            assert all(lent.is_as_before() for lent in arguments if isinstance(lent, Lent)), (name, length)
+
     def measure(self, shape):
-        return self.call("jugy_measure", shape, 5)
+        return self.call("jugy_measure", *shape, answers=5)
 
     def write(self, shape, table):
         """The answer, and the table afterwards."""
-        lent = numbers(table)
-        return self.call("jugy_write", shape, 4, written=[lent]), lent.items()
+        lent = output(table, "I")
+        return self.call("jugy_write", *shape, lent, answers=4), lent.items()
 
     def own_list(self, shape):
         """The numbers of a shape's own list."""
@@ -99,14 +126,14 @@ class Core:
         return table
 
     def test(self, shape, table):
-        return self.call("jugy_test", shape, 4, [numbers(table)])
+        return self.call("jugy_test", *shape, numbers(table), answers=4)
 
-    def run(self, shape, table, ballots, tape, wires, board):
+    def run(self, shape, table, ballots, tape, wires, board, name="jugy_run", code="B"):
         """The answer, and wire table and board afterwards."""
-        written = [bytes_of(wires), bytes_of(board)]
-        said = self.call("jugy_run", shape, 4, [numbers(table), bytes_of(ballots), bytes_of(tape)], written)
+        written = [output(wires, code), output(board, code)]
+        said = self.call(name, *shape, numbers(table), Lent(code, ballots), Lent(code, tape), *written, answers=4)
         return said, written[0].items(), written[1].items()
 
     def count(self, shape, ballots):
         """The answer with eight closing bytes, or the refusal."""
-        return self.call("jugy_count", shape, 10, [bytes_of(ballots)])
+        return self.call("jugy_count", *shape, bytes_of(ballots), answers=10)

@@ -1,17 +1,16 @@
-"""Counting plainly, through the library: accepted and refused juries against the requirements, written apart.
+"""Counting plainly, through the library: accepted and refused juries against the reference.
 
-    python3 tests/counting.py    prints how many calls there were, by answer
+    python3 tests/counting.py    prints how many calls there were, by reason
 
 Shapes at their limits, each reason at its edges, all pairs of faults, the panels, random and damaged juries.
 """
 
-import collections
 import itertools
 import random
 
-import document01 as doc
+import reference as doc
 import juries
-from core import Core
+from core import Core, bytes_of
 from juries import level, peaked, row, tied, uniform
 
 # The least and the largest n of each width, and 254.
@@ -66,14 +65,16 @@ def shapes():
     """Limits from both sides. What lies outside has ballots that would fit, so that nothing else turns it away."""
     for k, d, n in itertools.product((1, 8), (2, 7), (1, 255)):
         yield with_any_grades(k, d, n)
-    for k, d, n in [(9, 2, 1), (9, 7, 3), (1, 1, 1), (8, 1, 2), (1, 8, 1), (3, 8, 2), (1, 2, 256), (2, 3, 256), (9, 7, 256)]:
+    for k, d, n in [(9, 2, 1), (9, 7, 3), (1, 1, 1), (8, 1, 2), (1, 8, 1), (3, 8, 2), (1, 2, 256), (2, 3, 256),
+                    (9, 7, 256)]:
         yield with_any_grades(k, d, n)
     for k, d, n in [(0, 2, 1), (1, 0, 1), (1, 2, 0), (0, 7, 255), (8, 7, 0), (0, 0, 0)]:
         yield Case(k, d, n, ballots=[])
     for k, d, n in itertools.product((2, HUGE), (3, HUGE), (1, HUGE)):
         yield Case(k, d, n, ballots=[0, 1, 0, 1, 0, 0])
     # Shapes that are within limits modulo 2 ^ 8, 2 ^ 16 or 2 ^ 32, with the ballots of those.
-    for k, d, n in [(257, 2, 1), (1, 258, 1), (1, 2, 257), (65_537, 3, 1), (2, 65_539, 1), (2, 3, 65_537), (2 ** 32 + 1, 2, 1), (1, 2 ** 32 + 2, 1), (1, 2, 2 ** 32 + 1)]:
+    for k, d, n in [(257, 2, 1), (1, 258, 1), (1, 2, 257), (65_537, 3, 1), (2, 65_539, 1), (2, 3, 65_537),
+                    (2 ** 32 + 1, 2, 1), (1, 2 ** 32 + 2, 1), (1, 2, 2 ** 32 + 1)]:
         yield Case(k, d, n, ballots=with_any_grades(k % 256, d % 256, n % 256).ballots)
 
 
@@ -172,14 +173,13 @@ def cases():
 
 def main():
     core = Core()
-    answers = collections.Counter()
     for case in cases():
         expected = case.expected()
         found = core.count(case.shape(), case.ballots)
         assert found == expected, (case.shape(), case.ballots, expected, found)
-        answers["accepted" if found[0] == "accepted" else f"refused for {found[1]}"] += 1
-        answers["accepted, and nobody wins"] += found[0] == "accepted" and sum(found[1:]) == 0
-    print(f"counting: {core.calls} calls agree:", ", ".join(f"{name} {many}" for name, many in sorted(answers.items())))
+        assert found[0] == "refused" or any(found[1:]), case.shape()      # somebody always wins
+    core.ignores_short_answers("jugy_count", 1, 2, 1, bytes_of([1, 0]), answers=10)
+    print(f"tests/counting.py: {core.calls} calls agree:", core.saw(count={1, 4, 5, 6}))
 
 
 if __name__ == "__main__":

@@ -1,69 +1,54 @@
 #!/usr/bin/env python3
-"""The dispatcher, through the library, against a model written apart: up to eight juries whose pieces follow each other.
+"""The dispatcher, through the library, against an independent model: up to eight juries in rounds.
 
-    python3 tests/dispatch.py    prints how many calls there were, by answer
+    python3 tests/dispatch.py    prints how many calls there were, by reason
 
-Shares of 1, of a divisor of G, of G and above it; one long jury beside seven short ones; tables longer by 0, 1 and many;
-pieces that are one too short in the first, a middle and the last jury; a stated G of 2 ^ 62; each fault in two juries at
-once; numbers of juries and shares outside their limits; statements that are missing. Every table has guards on both sides.
+Rounds of 1 gate, of a divisor of G, of G and of more; one long jury beside seven short ones; tables longer by 0, 1 and
+many; pieces that are one too short in the first, a middle and the last jury; a stated G of 2 ^ 62; each fault in two
+juries at once; numbers of juries and of gates a round outside their limits; headers that are missing. Every table has
+guards on both sides.
 """
 
-import collections
-import ctypes
 import itertools
 import random
 
-import document01 as doc
-from core import Core, Lent, bytes_of, numbers
+import reference as doc
+from core import Core, bytes_of, numbers, output, sizes
+from random_juries import random_ballots
+from running import flat, random_gates
 
 MOST_SIZE = 2 ** 64 - 1
+TABLES = ("lists", "ballots", "tapes", "wires", "boards")
 OLD = 9                                                      # what wire tables and boards hold before a call
 
 
-def random_gates(rng, inputs, count):
-    """Well-formed gates of every kind over any earlier wires."""
-    gates = []
-    for own in range(inputs, inputs + count):
-        kind = rng.randrange(8)
-        gates.append([kind] + [rng.randrange(own) if i < doc.OPERANDS[kind] else 0 for i in range(3)])
-    return gates
-
-
-def random_ballots(rng, k, d, n):
-    """Rows with one 1, or rankings with ties where there are no grades."""
-    if d:
-        return [int(g == best) for best in (rng.randrange(d) for _ in range(n * k)) for g in range(d)]
-    ranks = [[rng.randrange(k) for _ in range(k)] for _ in range(n)]
-    return [int(of[i] < of[j]) for of in ranks for i in range(k) for j in range(k)]
-
-
 class Jury:
-    """A jury's statement and pieces. Wires and board are given by their lengths."""
+    """A jury's header and pieces. Wires and board are given by their lengths."""
 
     def __init__(self, rng, k, d, n, gates):
         self.k, self.d, self.n = k, d, n
         self.stated = gates
         inputs = doc.ballot_bytes(k, d, n)
         made = random_gates(rng, inputs, gates)
-        self.list = [x for gate in made for x in gate]
+        self.list = flat(made)
         self.ballots = random_ballots(rng, k, d, n)
         count = doc.conditional_count(doc.gates_of(self.list))
         self.tape = [rng.randrange(2) for _ in range(count)]
         self.wires = inputs + gates
         self.board = count + k
 
-    def statement(self):
+    def header(self):
         return [self.k, self.d, self.n, self.stated]
 
 
 class Call:
     """All that a call is handed, as lists; extra is what each table has behind the last piece."""
 
-    def __init__(self, juries, share, extra=0, count=None, missing=0):
+    def __init__(self, juries, gates_per_round, extra=0, count=None, missing=0):
         self.count = len(juries) if count is None else count
-        self.share = share
-        stated = [x for jury in juries for x in jury.statement()]
-        self.statements = stated[: len(stated) - missing]
+        self.gates_per_round = gates_per_round
+        stated = [x for jury in juries for x in jury.header()]
+        self.headers = stated[: len(stated) - missing]
         self.lists = [x for jury in juries for x in jury.list] + [7] * extra
         self.ballots = [x for jury in juries for x in jury.ballots] + [5] * extra
         self.tapes = [x for jury in juries for x in jury.tape] + [6] * extra
@@ -71,79 +56,62 @@ class Call:
         self.boards = [OLD] * (sum(jury.board for jury in juries) + extra)
 
     def but(self, **changes):
-        other = Call([], self.share)
+        other = Call([], self.gates_per_round)
         other.__dict__.update(self.__dict__)
         other.__dict__.update(changes)
         return other
 
 
+def next_jury(left, k, d, n, gates):
+    """The next jury's fault or None, the lengths of its pieces, and its board. What does not fit counts as empty."""
+    def piece(name):
+        return left[name][:lengths[name]] if lengths[name] <= len(left[name]) else []
+
+    inputs, lengths = doc.ballot_bytes(k, d, n), {"lists": 4 * gates}
+    count = doc.conditional_count(doc.gates_of(piece("lists")))
+    lengths.update(ballots=inputs, tapes=count, wires=inputs + gates, boards=count + k)
+    table, ballots, tape, wires, board = map(piece, TABLES)
+    fault = doc.run_fault(k, d, n, table, ballots, tape, wires, board)
+    if fault is not None:
+        return fault, lengths, []
+    return None, lengths, doc.run_list(k, d, n, table, ballots, tape, wires, board)[2]
+
+
 def model(call):
     """Reason, place, eight rounds, wires and boards afterwards."""
-    nothing = [0] * 8
-    as_lent = (list(call.wires), list(call.boards))
+    refusal = [0] * 8, list(call.wires), list(call.boards)
     if not 1 <= call.count <= 8:
-        return (19, 0, nothing, *as_lent)
-    if not 1 <= call.share <= 65536:
-        return (20, 0, nothing, *as_lent)
-    left = {name: list(getattr(call, name)) for name in ("lists", "ballots", "tapes", "wires", "boards")}
-    juries = []
+        return (19, 0, *refusal)
+    if not 1 <= call.gates_per_round <= 65536:
+        return (20, 0, *refusal)
+    left = {name: list(getattr(call, name)) for name in TABLES}
+    headers = call.headers + [0] * (4 * call.count - len(call.headers))
+    rounds, zeros, boards = [], [], []
     for j in range(call.count):
-        k, d, n, stated = (call.statements[4 * j + i] if 4 * j + i < len(call.statements) else 0 for i in range(4))
-        fault = None if doc.shape_is_within(k, d, n) else 1
-        sizes = {}
-
-        def cut(name, size, reason):
-            nonlocal fault
-            sizes[name] = size
-            if fault is None and size > len(left[name]):
-                fault = reason
-            return left[name][:size] if fault is None else []
-
-        table = cut("lists", 4 * stated, 2)
-        if fault is None:
-            found = doc.test_fault(k, d, n, table)
-            fault = found and found[0]
-        count = doc.conditional_count(doc.gates_of(table)) if fault is None else 0
-        ballots = cut("ballots", doc.ballot_bytes(k, d, n), 4)
-        if fault is None:
-            found = doc.ballots_fault(k, d, n, ballots)
-            fault = found and found[0]
-        tape = cut("tapes", count, 7)
-        if fault is None and doc.first_above_one(tape) is not None:
-            fault = 8
-        cut("wires", doc.ballot_bytes(k, d, n) + stated, 9)
-        cut("boards", count + k, 10)
+        gates = headers[4 * j + 3]
+        fault, lengths, board = next_jury(left, *headers[4 * j:4 * j + 4])
         if fault is not None:
-            return (fault, j, nothing, *as_lent)
-        for name, size in sizes.items():
-            del left[name][:size]
-        values, shown = doc.run_gates(ballots, doc.gates_of(table), tape)
-        juries.append((stated, sizes["wires"], shown + values[len(values) - k:]))
-    wires = [0] * sum(size for _, size, _ in juries) + left["wires"]
-    boards = [x for _, _, board in juries for x in board] + left["boards"]
-    rounds = [-(-stated // call.share) for stated, _, _ in juries]
-    return (0, 0, rounds + [0] * (8 - len(rounds)), wires, boards)
+            return (fault[0], j, *refusal)
+        for name, length in lengths.items():
+            del left[name][:length]
+        rounds.append(-(-gates // call.gates_per_round))
+        zeros += [0] * lengths["wires"]
+        boards += board
+    return (0, 0, rounds + [0] * (8 - len(rounds)), zeros + left["wires"], boards + left["boards"])
 
 
-class Dispatcher(Core):
-    NAMES = (*Core.NAMES, "jugy_dispatch")
+def lent_to(call):
+    """The arguments of a call."""
+    read = [sizes(call.headers), numbers(call.lists), bytes_of(call.ballots), bytes_of(call.tapes)]
+    return [call.count, call.gates_per_round, *read, output(call.wires), output(call.boards)]
 
-    def dispatch(self, call):
-        """The same of the library."""
-        self.calls += 1
-        statements = Lent("L", call.statements)
-        read = [statements, numbers(call.lists), bytes_of(call.ballots), bytes_of(call.tapes)]
-        written = [bytes_of(call.wires), bytes_of(call.boards)]
-        answer = Lent("L", [OLD] * 10)
-        arguments = [ctypes.c_size_t(call.count), ctypes.c_size_t(call.share)]
-        for lent in (*read, *written, answer):
-            arguments += lent.arguments()
-        status = self.library.jugy_dispatch(*arguments)
-        assert all(lent.is_as_before() for lent in read)
-        assert all(lent.has_its_guards() for lent in (*written, answer))
-        reason, place, *rounds = answer.items()
-        assert status == reason
-        return (reason, place, rounds, written[0].items(), written[1].items())
+
+def dispatch(core, call):
+    """The same of the library."""
+    arguments = lent_to(call)
+    said, *values = core.call("jugy_dispatch", *arguments, answers=10)
+    reason, place, rounds = (*values, [0] * 8) if said == "refused" else (0, 0, values)
+    return (reason, place, rounds, arguments[-2].items(), arguments[-1].items())
 
 
 def bad_juries(jury):
@@ -168,73 +136,86 @@ def bad_juries(jury):
         yield "tape byte", but(tape=[2] + jury.tape[1:])
 
 
-def main():
-    rng = random.Random(28)
-    core = Dispatcher()
-    answers = collections.Counter()
+class Tests:
+    def __init__(self):
+        self.rng = random.Random(28)
+        self.core = Core()
+        self.juries = [self.jury(20, d=4), Jury(self.rng, 4, 0, 3, 20), self.jury(20, d=2)]
+        self.good = Call(self.juries, 8)
 
-    def check(call):
-        expected, found = model(call), core.dispatch(call)
+    def check(self, call):
+        expected, found = model(call), dispatch(self.core, call)
         assert found == expected, (expected[:3], found[:3], call.__dict__)
-        answers[expected[0]] += 1
         return expected
 
-    def jury(gates=None, d=None):
-        k, n = rng.randint(1, 8), rng.randint(1, 9)
-        grades = rng.choice((0, 0, 2, 3, 4, 5, 6, 7)) if d is None else d
-        return Jury(rng, k, grades, n, gates if gates is not None else k + rng.randrange(40))
+    def jury(self, gates=None, d=None):
+        k, n = self.rng.randint(1, 8), self.rng.randint(1, 9)
+        grades = self.rng.choice((0, 0, 2, 3, 4, 5, 6, 7)) if d is None else d
+        return Jury(self.rng, k, grades, n, gates if gates is not None else k + self.rng.randrange(40))
 
-    for count in range(1, 9):
-        for extra in (0, 1, 50):
-            for share in (1, 2, 5, 7, 64, 4096, 65536):
-                check(Call([jury() for _ in range(count)], share, extra))
-    for share in (1, 3, 4, 12, 13, 24, 25):                  # divisors of 24, and their neighbours
-        check(Call([jury(24) for _ in range(3)], share, 1))
-    check(Call([jury(3000)] + [jury(9) for _ in range(7)], 1))
-    check(Call([jury(9) for _ in range(7)] + [jury(3000)], 1000))
+    def accepted(self):
+        """Every number of juries with rounds of many sizes, and one long jury beside seven short ones."""
+        for count, extra, gates in itertools.product(range(1, 9), (0, 1, 50), (1, 2, 5, 7, 64, 4096, 65536)):
+            self.check(Call([self.jury() for _ in range(count)], gates, extra))
+        for gates in (1, 3, 4, 12, 13, 24, 25):              # divisors of 24, and their neighbours
+            self.check(Call([self.jury(24) for _ in range(3)], gates, 1))
+        self.check(Call([self.jury(3000)] + [self.jury(9) for _ in range(7)], 1))
+        self.check(Call([self.jury(9) for _ in range(7)] + [self.jury(3000)], 1000))
 
-    juries = [jury(20, d=4), Jury(rng, 4, 0, 3, 20), jury(20, d=2)]
-    good = Call(juries, 8)
-    for count in (0, 9, 2 ** 32, MOST_SIZE):
-        check(good.but(count=count))
-        check(good.but(count=count, share=0))
-    for share in (0, 65537, MOST_SIZE):
-        check(good.but(share=share))
-    for gates in (0, 2 ** 20 + 1, 2 ** 30, 2 ** 62, 2 ** 62 + 1, 2 ** 63, MOST_SIZE):
-        for j in range(3):
-            statements = list(good.statements)
-            statements[4 * j + 3] = gates
-            check(good.but(statements=statements))
-    for name in ("lists", "ballots", "tapes", "wires", "boards"):
-        for short in (1, 2, 4, len(getattr(good, name))):    # the last jury's piece, or all
-            check(good.but(**{name: getattr(good, name)[:-short]}))
-        for j in (1, 2):                                     # the first or the middle jury is the last
-            part = Call(juries[:j], 8)
-            check(part.but(count=3, **{name: getattr(part, name)[:-1]}))
-    for missing in range(1, 13):
-        check(Call(juries, 8, missing=missing))
-    for of in juries[:2]:
-        for j, (_, bad) in itertools.product(range(3), bad_juries(of)):
-            check(Call(juries[:j] + [bad] + juries[j + 1:], 8, 3))
-    for (_, first), (_, second) in itertools.product(bad_juries(juries[0]), bad_juries(juries[1])):
-        check(Call([first, second], 8))
+    def limits(self):
+        """Numbers of juries, of gates a round and of a list's gates outside their limits; headers that are missing."""
+        for count in (0, 9, 2 ** 32, MOST_SIZE):
+            self.check(self.good.but(count=count))
+            self.check(self.good.but(count=count, gates_per_round=0))
+        for gates in (0, 65537, MOST_SIZE):
+            self.check(self.good.but(gates_per_round=gates))
+        numbers_of_gates = (0, 2 ** 20 + 1, 2 ** 30, 2 ** 62, 2 ** 62 + 1, 2 ** 63, MOST_SIZE)
+        for gates, j in itertools.product(numbers_of_gates, range(3)):
+            headers = list(self.good.headers)
+            headers[4 * j + 3] = gates
+            self.check(self.good.but(headers=headers))
+        for missing in range(1, 13):
+            self.check(Call(self.juries, 8, missing=missing))
 
-    # whatever the other juries and the share are, a jury's board and rounds are its own
-    for _ in range(200):
-        one = jury()
-        others = [jury() for _ in range(rng.randint(0, 7))]
-        place, share = rng.randint(0, len(others)), rng.choice((1, 3, 16, 65536))
-        all_of = check(Call(others[:place] + [one] + others[place:], share, rng.randrange(3)))
-        alone = check(Call([one], share))
-        start = sum(other.board for other in others[:place])
-        assert all_of[2][place] == alone[2][0]
-        assert all_of[4][start:start + one.board] == alone[4]
-        said, _, board = core.run((one.k, one.d, one.n), one.list, one.ballots, one.tape, [OLD] * one.wires, [OLD] * one.board)
-        assert said[0] == "accepted" and board == alone[4]
+    def short_tables(self):
+        for name in TABLES:
+            for short in (1, 2, 4, len(getattr(self.good, name))):   # the last jury's piece, or all
+                self.check(self.good.but(**{name: getattr(self.good, name)[:-short]}))
+            for j in (1, 2):                                 # the first or the middle jury is the last
+                part = Call(self.juries[:j], 8)
+                self.check(part.but(count=3, **{name: getattr(part, name)[:-1]}))
 
-    told = ", ".join(f"{reason}: {answers[reason]}" for reason in sorted(answers))
-    assert set(answers) == {0, 1, 2, 3, 4, 5, 6, 7, 8, 9, 10, 11, 12, 19, 20}, told
-    print(f"tests/dispatch.py: {core.calls} calls as expected, by reason {told}")
+    def bad_pieces(self):
+        """Each fault in each jury, and every two in two juries."""
+        for of in self.juries[:2]:
+            for j, (_, bad) in itertools.product(range(3), bad_juries(of)):
+                self.check(Call(self.juries[:j] + [bad] + self.juries[j + 1:], 8, 3))
+        for (_, first), (_, second) in itertools.product(bad_juries(self.juries[0]), bad_juries(self.juries[1])):
+            self.check(Call([first, second], 8))
+
+    def alone(self):
+        """Whatever the other juries and the rounds are, a jury's board and number of rounds are its own."""
+        for _ in range(200):
+            one, others = self.jury(), [self.jury() for _ in range(self.rng.randint(0, 7))]
+            place, gates = self.rng.randint(0, len(others)), self.rng.choice((1, 3, 16, 65536))
+            among = self.check(Call(others[:place] + [one] + others[place:], gates, self.rng.randrange(3)))
+            alone = self.check(Call([one], gates))
+            start = sum(other.board for other in others[:place])
+            assert among[2][place] == alone[2][0] and among[4][start:start + one.board] == alone[4]
+            buffers = [OLD] * one.wires, [OLD] * one.board
+            said, _, board = self.core.run((one.k, one.d, one.n), one.list, one.ballots, one.tape, *buffers)
+            assert said[0] == "accepted" and board == alone[4]
+
+    def short_answers(self):
+        for call in (self.good, self.good.but(count=0), self.good.but(boards=[])):
+            self.core.ignores_short_answers("jugy_dispatch", *lent_to(call), answers=10)
+
+
+def main():
+    tests = Tests()
+    for part in (tests.accepted, tests.limits, tests.short_tables, tests.bad_pieces, tests.alone, tests.short_answers):
+        part()
+    print(f"tests/dispatch.py: {tests.core.calls} calls as expected:", tests.core.saw(dispatch={*range(1, 13), 19, 20}))
 
 
 if __name__ == "__main__":

@@ -3,10 +3,11 @@
 Most random ones have candidates that are nearly equal: these tell a wrong rule, or a wrong gate, soonest.
 """
 
-import document01 as doc
+import reference as doc
 import sorted_judgment
 
-# The panels P1 to P11, as request 2.1 has them: counts, best grade first, and the closing bytes. P1 has too many ballots for a shape.
+# The panels P1 to P11, as request 2.1 has them: counts, best grade first, and the closing bytes. P1 has too many
+# ballots for a shape.
 PANELS = [
     ([[31, 151, 529, 254, 35], [21, 48, 442, 301, 188], [101, 7, 2, 86, 804]], [1, 0, 0]),
     ([[1, 0, 0], [0, 1, 0]], [1, 0]),

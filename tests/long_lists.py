@@ -5,7 +5,7 @@
 
 import random
 
-import document01 as doc
+import reference as doc
 from core import Core
 from running import OLD, flat, random_gates
 
@@ -40,6 +40,7 @@ def main():
         expected_run = doc.run_list(k, d, n, table, ballots, tape, wires, board)
         assert core.run(shape, table, ballots, tape, wires, board) == expected_run, ("run", name)
         print(name + ":", *expected)
+    core.saw(test={2, 3}, run={2, 3})
 
 
 if __name__ == "__main__":

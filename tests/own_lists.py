@@ -2,18 +2,18 @@
 
     python3 tests/own_lists.py    prints how many lists were evaluated, and on how many juries
 
-A list is taken as the library writes it, evaluated here on many juries at once, and its closing bytes are compared with the
-rule, read plainly (document01.py) and in another way (sorted_judgment.py): random juries of all k and d and 16 sizes of all
-widths, all ballots of the small shapes, all pairs of grade counts of two candidates for ten shapes, and the
-panels. `library_test shapes` in C has every shape there is, on a jury each.
+A list is taken as the library writes it, evaluated here on many juries at once, and its closing bytes are compared
+with the rule, read plainly (reference.py) and in another way (sorted_judgment.py): random juries of all k and d and
+16 sizes of all widths, all ballots of the small shapes, all pairs of grade counts of two candidates for ten shapes,
+and the panels. `library_test shapes` in C has every shape there is, on a jury each.
 """
 
 import itertools
 import random
 
-import document01 as doc
+import reference as doc
 import juries
-from core import Core
+from core import Core, output
 
 SIZES = [1, 2, 3, 4, 7, 8, 15, 16, 31, 32, 63, 64, 100, 127, 128, 255]
 MOST_NUMBER = 2 ** 32 - 1
@@ -160,12 +160,13 @@ def write_at_edges(core):
         lengths = [need - 1, need, need + 1, need + 2, need + 3, need + 4, 2 * need]
         for length in {0, 3, 4, need - 4, *lengths}:
             old = [MOST_NUMBER, 7, 0, 8, 1][length % 5]
-            expected = (["refused", 2, 0], [old] * length) if length < need else (answer, numbers + [old] * (length - need))
+            expected = (["refused", 2, 0], [old] * length) if length < need else (answer,
+                                                                                  numbers + [old] * (length - need))
             assert core.write(shape, [old] * length) == expected, (shape, length)
 
 
 def write_outside(core):
-    """Shapes outside the limits, with no room, with much and with too little for any list: the shape is looked at first."""
+    """Shapes outside the limits, with no room, with much and with too little for any list: the shape comes first."""
     shapes = [(0, 2, 1), (9, 2, 1), (1, 1, 1), (1, 8, 1), (1, 2, 0), (1, 2, 256), (9, 8, 256), (0, 0, 0)]
     shapes += [(257, 3, 3), (2, 259, 3), (2, 3, 259), (65_538, 3, 3), (2, 65_539, 3), (2, 3, 65_539)]
     shapes += [(2 ** 32 + 2, 3, 3), (2, 2 ** 32 + 3, 3), (2, 3, 2 ** 32 + 3), (MOST_SIZE, MOST_SIZE, MOST_SIZE)]
@@ -179,8 +180,11 @@ def main():
     core = Core()
     write_at_edges(core)
     write_outside(core)
+    core.ignores_short_answers("jugy_measure", 2, 3, 3, answers=5)
+    core.ignores_short_answers("jugy_write", 2, 3, 3, output([7] * len(core.own_list((2, 3, 3))), "I"), answers=4)
     lists, many = evaluate_lists(core)
-    print(f"own_lists: {core.calls} calls agree, {lists} lists evaluated on {many} juries")
+    told = core.saw(measure={1}, write={1, 2})
+    print(f"tests/own_lists.py: {core.calls} calls agree: {told}; {lists} lists evaluated on {many} juries")
 
 
 if __name__ == "__main__":

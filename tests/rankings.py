@@ -1,16 +1,16 @@
-"""Ranked juries, through the library: tested, counted, run and written for, against the requirements, written apart.
+"""Ranked juries, through the library: tested, counted, run and written for, against the reference.
 
     python3 tests/rankings.py    prints how many calls and juries there were
 
-A ranking is given by ranks, one a candidate: a smaller rank is better, equal ones are a tie. The rule is read in two ways: by
-all simple paths (document01.py) and by asking who reaches whom over links of some strength or more (below).
+A ranking is given by ranks, one a candidate: a smaller rank is better, equal ones are a tie. The rule is read in two
+ways: by all simple paths (reference.py) and by asking who reaches whom over links of some strength or more (below).
 """
 
 import collections
 import itertools
 import random
 
-import document01 as doc
+import reference as doc
 from core import Core
 from own_lists import closing
 
@@ -88,12 +88,8 @@ def bound(k, n):
 class Rankings:
     def __init__(self):
         self.core = Core()
-        self.answers = collections.Counter()
         self.lists = {}
         self.juries = 0
-
-    def note(self, said):
-        self.answers["accepted" if said[0] == "accepted" else f"refused for {said[1]}"] += 1
 
     def count(self, k, n, ballots, d=0):
         """Counts plainly, and compares."""
@@ -105,7 +101,6 @@ class Rankings:
         else:
             expected = ["refused", *fault]
         assert found == expected, (k, n, ballots, expected, found)
-        self.note(found)
 
     def run(self, k, d, n, table, ballots, tape, wires, board):
         """Runs a list, and compares answer, wire table and board."""
@@ -113,7 +108,6 @@ class Rankings:
         expected = doc.run_list(k, d, n, table, ballots, tape, *old)
         found = self.core.run((k, d, n), table, ballots, tape, *old)
         assert list(found) == list(expected), (k, d, n, expected[0], found[0])
-        self.note(found[0])
 
     def own_list(self, k, n):
         """The list of a shape as the library writes it; tested, measured and within the bound."""
@@ -137,7 +131,6 @@ class Rankings:
             assert said == expected, (jury, said, expected)
             found = self.core.count((k, 0, n), ballots)
             assert found == ["accepted", *expected, *[0] * (8 - k)], (jury, found)
-            self.note(found)
         self.juries += len(juries)
 
 
@@ -222,12 +215,35 @@ def random_juries(tests, rng):
 
 def small_shapes(tests):
     """All ranked juries of the shapes that have few."""
-    for k, n in [(1, 1), (1, 2), (1, 3), (2, 1), (2, 2), (2, 3), (2, 4), (2, 5), (2, 6), (3, 1), (3, 2), (3, 3), (4, 1), (4, 2)]:
+    for k, n in [(1, 1), (1, 2), (1, 3), (2, 1), (2, 2), (2, 3), (2, 4), (2, 5), (2, 6), (3, 1), (3, 2), (3, 3),
+                 (4, 1), (4, 2)]:
         tests.evaluate(k, n, list(itertools.product(weak_orders(k), repeat=n)))
 
 
+# Faults of a call for three candidates and two ballots, with the reason of each.
+FAULTS = [
+    lambda c: c["ballots"].__setitem__(slice(0, 9), [0, 1, 0, 0, 0, 0, 0, 0, 0]),   # 12
+    lambda c: c["ballots"].__setitem__(slice(9, 18), [0, 1, 0, 0, 0, 1, 1, 0, 0]),  # 12
+    lambda c: c["ballots"].__setitem__(4, 1),            # 11
+    lambda c: c["ballots"].__setitem__(17, 1),
+    lambda c: c["ballots"].__setitem__(0, 2),            # 5
+    lambda c: c["ballots"].__setitem__(17, 255),
+    lambda c: c["ballots"].pop(),                        # 4
+    lambda c: c["tape"].append(0),                       # 7
+    lambda c: c["tape"].__setitem__(0, 2),               # 8
+    lambda c: c.__setitem__("wires", c["wires"] + 1),    # 9
+    lambda c: c.__setitem__("board", c["board"] - 1),    # 10
+    lambda c: c["table"].pop(),                          # 2
+    lambda c: c["table"].__setitem__(0, 8),              # 3
+    lambda c: c["table"].__setitem__(1, 18),
+    lambda c: c.__setitem__("d", 1),                     # 1
+    lambda c: c.__setitem__("n", 256),
+    lambda c: c.__setitem__("k", 0),
+]
+
+
 def runs(tests, rng):
-    """Runs of own lists and of strangers', with random tapes, and all pairs of faults."""
+    """Runs of own lists with random tapes."""
     for k, n in [(1, 1), (2, 3), (3, 4), (4, 5), (8, 2)]:
         gates = tests.own_list(k, n)
         table = [x for gate in gates for x in gate]
@@ -236,28 +252,14 @@ def runs(tests, rng):
             ballots = ballots_of(random_jury(rng, k, n))
             tape = [rng.randrange(2) for _ in range(conditional)]
             tests.run(k, 0, n, table, ballots, tape, n * k * k + len(gates), conditional + k)
-    faults = [
-        lambda c: c["ballots"].__setitem__(slice(0, 9), [0, 1, 0, 0, 0, 0, 0, 0, 0]),   # 12
-        lambda c: c["ballots"].__setitem__(slice(9, 18), [0, 1, 0, 0, 0, 1, 1, 0, 0]),  # 12
-        lambda c: c["ballots"].__setitem__(4, 1),            # 11
-        lambda c: c["ballots"].__setitem__(17, 1),
-        lambda c: c["ballots"].__setitem__(0, 2),            # 5
-        lambda c: c["ballots"].__setitem__(17, 255),
-        lambda c: c["ballots"].pop(),                        # 4
-        lambda c: c["tape"].append(0),                       # 7
-        lambda c: c["tape"].__setitem__(0, 2),               # 8
-        lambda c: c.__setitem__("wires", c["wires"] + 1),    # 9
-        lambda c: c.__setitem__("board", c["board"] - 1),    # 10
-        lambda c: c["table"].pop(),                          # 2
-        lambda c: c["table"].__setitem__(0, 8),              # 3
-        lambda c: c["table"].__setitem__(1, 18),
-        lambda c: c.__setitem__("d", 1),                     # 1
-        lambda c: c.__setitem__("n", 256),
-        lambda c: c.__setitem__("k", 0),
-    ]
+
+
+def pairs_of_faults(tests):
+    """Every fault alone and every two at once, run and counted."""
     gates = tests.own_list(3, 2)
-    for first, second in itertools.combinations_with_replacement(faults, 2):
-        case = {"k": 3, "d": 0, "n": 2, "table": [x for gate in gates for x in gate], "ballots": ballots_of([[0, 1, 1], [2, 0, 1]])}
+    for first, second in itertools.combinations_with_replacement(FAULTS, 2):
+        case = {"k": 3, "d": 0, "n": 2, "table": [x for gate in gates for x in gate],
+                "ballots": ballots_of([[0, 1, 1], [2, 0, 1]])}
         case["tape"] = [i % 2 for i in range(doc.conditional_count(gates))]
         case["wires"], case["board"] = 18 + len(gates), len(case["tape"]) + 3
         first(case)
@@ -276,8 +278,10 @@ def main():
     small_shapes(tests)
     random_juries(tests, rng)
     runs(tests, rng)
-    answers = ", ".join(f"{name} {many}" for name, many in sorted(tests.answers.items()))
-    print(f"rankings: {len(tests.lists)} lists on {tests.juries} juries, {tests.core.calls} calls agree: {answers}")
+    pairs_of_faults(tests)
+    told = tests.core.saw(count={1, 4, 5, 11, 12}, run={1, 2, 3, 4, 5, 11, 12, 7, 8, 9, 10})
+    lists, calls = len(tests.lists), tests.core.calls
+    print(f"tests/rankings.py: {lists} lists on {tests.juries} juries, {calls} calls agree: {told}")
 
 
 if __name__ == "__main__":

@@ -1,19 +1,20 @@
 #!/usr/bin/env python3
-"""Runs the rehearsal program on many inputs and compares what it prints with the requirements, written apart.
+"""Runs the rehearsal program on many inputs and compares what it prints with the reference.
 
-    python3 tests/rehearsal.py    needs target/bin/rehearsal (rt check rehearsal builds it), and the library for the size of a list
+    python3 tests/rehearsal.py    needs target/bin/rehearsal (rt check rehearsal builds it) and the library
 
-Inputs: the example in [rehearsal], the examples of the repository with what they are said to show, empty and short inputs,
-inputs that come in pieces, inputs longer than what is kept, faults in shape and ballots, lists too large for the table
-beside faulty ballots, and random juries.
+Inputs: the example in [rehearsal], the examples of the repository with what they are said to show, empty and short
+inputs, inputs that come in pieces, the longest good input, inputs about and longer than what is kept, faults in shape
+and ballots, lists too large for the table beside faulty ballots, and random juries.
 """
 
 import random
 import subprocess
 
-import document01 as doc
+import reference as doc
 from core import ROOT, Core
 from programs import Comparisons, Program
+from random_juries import random_ballots
 
 PROGRAM = Program("rehearsal")
 CORE = Core()
@@ -28,6 +29,8 @@ EXAMPLES = {
     "raised-after": "jury 2 3 3\nwinners 1 0\n",
     "even-jury": "jury 2 3 4\nwinners 1 0\n",
     "yes-no": "jury 4 2 5\nwinners 0 0 1 0\n",
+    "named-blends": "jury 3 5 7\nwinners 1 0 0\n",
+    "close-call": "jury 3 5 7\nwinners 1 0 0\n",
     "ranked-cycle": "jury 3 0 3\nwinners 1 1 1\n",
     "ranked-margins": "jury 3 0 5\nwinners 0 1 0\n",
 }
@@ -39,6 +42,16 @@ TEXTS = [
     ("ranking a b\na > b\n", bytes([2, 0, 1, 0, 1, 0, 0])),
     ("ranking a b\n b=a # a tie\n", bytes([2, 0, 1, 0, 0, 0, 0])),
     ("ranking x y z\ny\n", bytes([3, 0, 1, 0, 0, 0, 1, 0, 1, 0, 0, 0])),
+    ("grades 3: yuzu lime\n2 3\n", bytes([2, 3, 1, 0, 1, 0, 0, 0, 1])),
+    ("grades 2 : a\n2\n", bytes([1, 2, 1, 0, 1])),
+    ("grades 2: a b\n1\n", "-: line 2: 1 grades, but the names are of 2"),
+    ("grades 2\n1 2\n1\n", "-: line 3: 1 grades, but the ballots before are of 2"),
+    ("grades 2: a a\n1 1\n", "-: line 1: two candidates"),
+    ("grades 2:\n1 1\n", "-: line 1: 'grades' and a colon are followed"),
+    ("grades 2: a b c d e f g h i\n1\n", "-: line 1: 'grades' and a colon are followed"),
+    ("grades: a b\n1 1\n", "-: line 1: the first line"),
+    ("", "-: line 1: the file says nothing"),
+    ("\ufeffgrades 2\n1\n", "-: line 1: begins with a byte-order mark"),
     ("ranking a b\na > c\n", "-: line 2: 'c' is none"),
     ("ranking a b\na > a\n", "-: line 2: 'a' stands twice"),
     ("ranking a b\na > > b\n", "-: line 2: '' is none"),
@@ -55,7 +68,7 @@ TEXTS = [
 def made_of(text):
     """What tools/jury makes of a text: bytes, or its complaint."""
     made = subprocess.run([ROOT / "tools" / "jury", "-"], input=text.encode(), capture_output=True)
-    return made.stdout if made.returncode == 0 else made.stderr.decode()
+    return made.stdout if made.returncode == 0 else made.stderr.decode().removeprefix("tools/jury: ")
 
 
 def fits(k, d, n):
@@ -83,15 +96,7 @@ def expected(data):
 
 def jury(rng, k, d, n):
     """A random jury; without grades it ranks."""
-    if d == 0:
-        rankings = [[rng.randrange(k) for _ in range(k)] for _ in range(n)]
-        return bytes([k, d, n, *(x < y for ranks in rankings for x in ranks for y in ranks)])
-    rows = []
-    for _ in range(n * k):
-        row = [0] * d
-        row[rng.randrange(d)] = 1
-        rows += row
-    return bytes([k, d, n, *rows])
+    return bytes([k, d, n, *random_ballots(rng, k, d, n)])
 
 
 def damaged(rng, data):
@@ -108,16 +113,41 @@ def damaged(rng, data):
     return bytes(data)
 
 
+def longest_shape():
+    """Of the shapes whose list the table holds, the one with the most ballot bytes."""
+    shapes = [(k, d, n) for k in range(1, 9) for d in (0, *range(2, 8)) for n in range(1, 256)]
+    return max((shape for shape in shapes if fits(*shape)), key=lambda shape: doc.ballot_bytes(*shape))
+
+
+def long_inputs(rng):
+    """The longest good input, shorter and longer by one, and lengths about the bytes that are kept."""
+    good = jury(rng, *longest_shape())
+    assert doc.ballots_fault(*good[:3], good[3:]) is None and len(good) > 2_500
+    for data in (good, good + b"\0", good + b"\1", good[:-1], good[:-1] + b"\2", good + bytes(KEPT),
+                 good[:-1] + b"\2" + bytes(KEPT)):
+        yield data
+    for length in (KEPT - 1, KEPT, KEPT + 1, 2 * KEPT, 65_536):
+        yield bytes(length)
+        yield (good * 40)[:length]
+        yield bytes([1, 2, 255]) + bytes(length)
+    # more bytes than are kept: what comes behind them is neither counted nor looked at
+    for shape in ((8, 7, 255), (8, 0, 255)):
+        yield jury(rng, *shape) + b"\2" * KEPT
+
+
 def inputs(rng):
     example = bytes([2, 3, 3, 1, 0, 0, 0, 1, 0, 0, 1, 0, 0, 1, 0, 0, 1, 0, 0, 0, 1])
     for size in range(len(example) + 1):
         yield example[:size]
     yield example + b"\0"
-    yield bytes(KEPT)
-    yield bytes([1, 2, 255]) + bytes(KEPT)
-    for k, d, n in [(0, 2, 1), (9, 2, 1), (1, 1, 1), (1, 8, 1), (1, 2, 0), (8, 7, 255), (5, 6, 100), (1, 0, 0), (0, 0, 1), (9, 0, 1), (8, 0, 255)]:
+    yield from long_inputs(rng)
+    for k, d, n in [(0, 2, 1), (9, 2, 1), (1, 1, 1), (1, 8, 1), (1, 2, 0), (8, 7, 255), (5, 6, 100), (1, 0, 0),
+                    (0, 0, 1), (9, 0, 1), (8, 0, 255)]:
         yield bytes([k, d, n])
         yield bytes([k, d, n]) + b"\2" * doc.ballot_bytes(k, d, n)
+    # rankings that say both ways, and that leave a third out, in the last ballot
+    for ballot in ([0, 1, 0, 1, 0, 0, 0, 0, 0], [0, 1, 0, 0, 0, 0, 0, 0, 0], [0] * 8 + [1]):
+        yield bytes([3, 0, 2, *[0] * 9, *ballot])
     # a list just in the table, and one just too large for it
     for k, d in [(3, 5), (5, 0)]:
         for n in range(1, 256):
@@ -137,14 +167,20 @@ def main():
     rng = random.Random(8)
     compared = Comparisons()
     compare = compared.compare
+    seen = set()
     for data in inputs(rng):
-        compare(data[:24].hex(" "), PROGRAM.said(data), expected(data))
+        wanted = expected(data)
+        compare(data[:24].hex(" "), PROGRAM.said(data), wanted)
+        seen.add(wanted.split()[1] if wanted.startswith("refused") else "accepted")
+    compare("every answer that there is", seen, {"accepted", *"1 2 4 5 6 11 12".split()})
     for data in [jury(rng, 2, 3, 3), jury(rng, 3, 5, 15), jury(rng, 8, 7, 3), jury(rng, 4, 0, 6)]:
         cut = rng.randrange(len(data))
-        for pieces in [[data[:cut], data[cut:]], [data[:1], data[1:2], data[2:4], data[4:]], [data[i : i + 1] for i in range(min(40, len(data)))] + [data[40:]]]:
+        for pieces in [[data[:cut], data[cut:]], [data[:1], data[1:2], data[2:4], data[4:]],
+                       [data[i : i + 1] for i in range(min(40, len(data)))] + [data[40:]]]:
             compare("in pieces", PROGRAM.said_in_pieces(pieces), expected(data))
     for name, wanted in EXAMPLES.items():
-        data = subprocess.run([ROOT / "tools" / "jury", ROOT / "examples" / f"{name}.txt"], stdout=subprocess.PIPE, check=True).stdout
+        data = subprocess.run([ROOT / "tools" / "jury", ROOT / "examples" / f"{name}.txt"], stdout=subprocess.PIPE,
+                              check=True).stdout
         compare(name, PROGRAM.said(data), wanted)
         compare(name, expected(data), wanted)
     for text, wanted in TEXTS:

@@ -1,19 +1,19 @@
 """Testing and running lists, through the library: anyone's lists for juries, accepted and refused, against the
-requirements, written apart.
+reference.
 
-    python3 tests/running.py    prints how many calls there were, by answer
+    python3 tests/running.py    prints how many calls there were, by reason
 
-Shapes at their limits, each reason at its edges for a test and for a run, every kind on all values, every tape of one list,
-empty slices, all pairs of faults, strangers' lists and damaged ones.
+Shapes at their limits, each reason at its edges for a test and for a run, every kind on all values, every tape of one
+list, empty slices, all pairs of faults, random lists and damaged ones.
 """
 
-import collections
 import itertools
 import random
 
-import document01 as doc
-from core import Core
+import reference as doc
+from core import Core, bytes_of, numbers, output
 from juries import row
+from random_juries import random_ballots
 
 MOST_NUMBER = 2 ** 32 - 1
 MOST_SIZE = 2 ** 64 - 1
@@ -104,9 +104,11 @@ def shapes():
     """Limits from both sides. What lies outside has a list, ballots and lengths that would fit."""
     for k, d, n in itertools.product((1, 8), (2, 7), (1, 255)):
         yield from both(jury(k, d, n))
-    for k, d, n in [(0, 2, 1), (9, 2, 1), (9, 7, 3), (1, 1, 2), (8, 1, 2), (1, 8, 1), (3, 8, 2), (1, 2, 256), (2, 3, 256), (9, 8, 56)]:
+    for k, d, n in [(0, 2, 1), (9, 2, 1), (9, 7, 3), (1, 1, 2), (8, 1, 2), (1, 8, 1), (3, 8, 2), (1, 2, 256),
+                    (2, 3, 256), (9, 8, 56)]:
         yield from both(jury(k, d, n))
-    for k, d, n in [(1, 0, 1), (1, 2, 0), (0, 7, 255), (8, 7, 0), (0, 0, 0), (MOST_SIZE, 2, 1), (1, MOST_SIZE, 1), (1, 2, MOST_SIZE), (MOST_SIZE, MOST_SIZE, MOST_SIZE)]:
+    for k, d, n in [(1, 0, 1), (1, 2, 0), (0, 7, 255), (8, 7, 0), (0, 0, 0), (MOST_SIZE, 2, 1), (1, MOST_SIZE, 1),
+                    (1, 2, MOST_SIZE), (MOST_SIZE, MOST_SIZE, MOST_SIZE)]:
         yield from both(jury(1, 2, 1).but(k=k, d=d, n=n))
     for k, d, n in [(257, 2, 1), (1, 258, 1), (1, 2, 257), (65_537, 2, 1), (1, 65_538, 1), (1, 2, 65_537)]:
         yield from both(jury(1, 2, 1).but(k=k, d=d, n=n))     # within limits modulo 2 ^ 8 or 2 ^ 16
@@ -172,11 +174,12 @@ def each_kind():
 
 
 def every_tape():
-    """One list on two sets of ballots under each tape: closing bytes stay, and each board of one is one of the other."""
+    """One list on two sets of ballots under each tape: closing bytes stay, and each has the boards of the other."""
     gates = [(6, 0, 3, 0), (2, 6, 0, 0), (7, 6, 1, 2), (4, 8, 5, 0), (5, 9, 0, 0), (3, 10, 0, 0)]
     boards = []
     for voters in ([1, 0, 0, 0, 0, 1], [0, 0, 1, 0, 0, 1]):
-        runs = [Case(2, 3, 1, gates, voters, tape) for tape in itertools.product((0, 1), repeat=doc.conditional_count(gates))]
+        runs = [Case(2, 3, 1, gates, voters, tape) for tape in itertools.product((0, 1),
+                                                                                 repeat=doc.conditional_count(gates))]
         boards.append({tuple(run.expected()[2]) for run in runs})
         yield from runs
     assert boards[0] == boards[1] and len(boards[0]) == 2 ** doc.conditional_count(gates)
@@ -190,7 +193,8 @@ def ballots():
     for k, d, n in [(1, 2, 1), (2, 3, 3), (3, 7, 4)]:
         good = jury(k, d, n)
         whole = good.ballots
-        for other in (whole[:-1], whole + [0], whole + [1], whole + [2], whole[:-d], whole + row(d, 0), [], whole + whole):
+        for other in (whole[:-1], whole + [0], whole + [1], whole + [2], whole[:-d], whole + row(d, 0), [],
+                      whole + whole):
             yield good.but(ballots=other)
         for place, byte in itertools.product((0, len(whole) // 2, len(whole) - 1), (2, 255)):
             yield good.but(ballots=changed(whole, place, byte))
@@ -238,8 +242,8 @@ def empty_slices():
             yield good.but(**{x: y for x, y in nothing.items() if x != name})
 
 
-# A fault's reason, and what it does to a case of the shape 2, 3, 2 whose list has four gates, three of them conditional. A
-# fault that stands later leaves those before it in place as far as it can.
+# A fault's reason, and what it does to a case of the shape 2, 3, 2 whose list has four gates, three of them
+# conditional. A fault that stands later leaves those before it in place as far as it can.
 FAULTS = [
     (10, lambda c: c.but(board=4)),
     (10, lambda c: c.but(board=6)),
@@ -288,15 +292,11 @@ def pairs_of_faults():
             yield case.but(call=TEST)
 
 
-def random_ballots(rng, k, d, n):
-    return [x for _ in range(k * n) for x in row(d, rng.randrange(d))]
-
-
 def random_shape(rng):
     return rng.randrange(1, 9), rng.randrange(2, 8), rng.choice([1, 1, 2, 3, 4])
 
 
-def strangers(rng, count, most):
+def random_lists(rng, count, most):
     """Well-formed lists that nobody meant anything by."""
     for _ in range(count):
         k, d, n = random_shape(rng)
@@ -306,8 +306,8 @@ def strangers(rng, count, most):
 
 
 def damaged(rng, count):
-    """Strangers' lists, ballots and tapes with one to three things changed anywhere."""
-    for case in strangers(rng, count, 12):
+    """Random lists, ballots and tapes with one to three things changed anywhere."""
+    for case in random_lists(rng, count, 12):
         for _ in range(rng.randrange(1, 4)):
             name = rng.choice(["table", "table", "ballots", "tape", "wires", "board"])
             value = getattr(case, name)
@@ -341,20 +341,23 @@ def long_lists(rng):
 
 def cases():
     rng = random.Random(4)
-    fixed = [shapes(), list_lengths(), operands(), kinds(), each_kind(), every_tape(), ballots(), lent(), empty_slices()]
-    made = [strangers(rng, 150, 20), damaged(rng, 110), long_lists(rng)]
+    fixed = [shapes(), list_lengths(), operands(), kinds(), each_kind(), every_tape(), ballots(), lent(),
+             empty_slices()]
+    made = [random_lists(rng, 150, 20), damaged(rng, 110), long_lists(rng)]
     return itertools.chain(*fixed, pairs_of_faults(), *made)
 
 
 def main():
     core = Core()
-    answers = collections.Counter()
     for case in cases():
         expected, found = case.expected(), case.found(core)
         assert found == expected, (case.call, case.shape(), case.table, case.ballots, case.tape, expected, found)
-        reason = case.reason()
-        answers[f"{case.call} refused for {reason:2}" if reason else f"{case.call} accepted"] += 1
-    print(f"running: {core.calls} calls agree:", ", ".join(f"{name} {many}" for name, many in sorted(answers.items())))
+    table = [numbers(flat([(4, 0, 1, 0)]))]
+    core.ignores_short_answers("jugy_test", 1, 2, 1, *table, answers=4)
+    core.ignores_short_answers("jugy_run", 1, 2, 1, *table, bytes_of([1, 0]), bytes_of([1]), output([OLD] * 3),
+                               output([OLD] * 2), answers=4)
+    # 11 and 12 are of rankings: tests/rankings.py
+    print(f"tests/running.py: {core.calls} calls agree:", core.saw(test={1, 2, 3}, run=set(range(1, 11))))
 
 
 if __name__ == "__main__":

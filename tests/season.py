@@ -1,10 +1,11 @@
 #!/usr/bin/env python3
-"""Runs the season sheet on many inputs and compares what it prints with request 2.9, written apart; then tries tools/season.
+"""Runs the season sheet on many inputs and compares what it prints with an independent sum; tries tools/season.
 
-    python3 tests/season.py    needs target/bin/season_sheet and target/bin/rehearsal (rt check builds them), and the library
+    python3 tests/season.py    needs target/bin/season_sheet and target/bin/rehearsal (rt check), and the library
 
-Inputs: no run, one, 4,096 and 4,097; all lengths near 12 and near 49,152; every value of each byte of a shape, every mask for
-every k; faults in pairs; inputs that come in pieces; the largest totals; random sheets, some of them damaged.
+Inputs: no run, one, 4,096 and 4,097; all lengths near 12 and near 49,152; every value of each byte of a shape, every
+mask for every k; faults in pairs; inputs that come in pieces; the largest totals; random sheets, some of them
+damaged.
 """
 
 import pathlib
@@ -13,7 +14,7 @@ import subprocess
 import tempfile
 import xml.etree.ElementTree
 
-import document01 as doc
+import reference as doc
 from core import ROOT, Core
 from programs import Comparisons, Program
 
@@ -46,7 +47,8 @@ def expected(data):
 
 def random_run(rng):
     k = rng.randint(1, 8)
-    return run_bytes(k, rng.randint(2, 7), rng.randint(1, 255), rng.randrange(2**k), rng.choice([0, 1, 0x01020304, LARGEST, rng.randrange(2**32)]), rng.randrange(2**32))
+    return run_bytes(k, rng.randint(2, 7), rng.randint(1, 255), rng.randrange(2**k),
+                     rng.choice([0, 1, 0x01020304, LARGEST, rng.randrange(2**32)]), rng.randrange(2**32))
 
 
 def random_sheet(rng, runs):
@@ -81,7 +83,8 @@ def shapes_and_masks():
 def pairs_of_faults(rng):
     """A wrong length beside a bad run, and two bad runs of any two kinds."""
     good = run_bytes(*GOOD)
-    bad = [run_bytes(0, 3, 3, 0, 1, 1), run_bytes(9, 3, 3, 1, 1, 1), run_bytes(2, 1, 3, 1, 1, 1), run_bytes(2, 8, 3, 1, 1, 1), run_bytes(2, 3, 0, 1, 1, 1),
+    bad = [run_bytes(0, 3, 3, 0, 1, 1), run_bytes(9, 3, 3, 1, 1, 1), run_bytes(2, 1, 3, 1, 1, 1),
+           run_bytes(2, 8, 3, 1, 1, 1), run_bytes(2, 3, 0, 1, 1, 1),
            run_bytes(2, 3, 3, 4, 1, 1), run_bytes(1, 3, 3, 128, 1, 1)]
     for first in bad:
         yield first + b"\0"
@@ -107,7 +110,8 @@ def inputs(rng):
 
 
 def tool(*arguments, **options):
-    return subprocess.run([ROOT / "tools" / arguments[0], *arguments[1:]], stdout=subprocess.PIPE, stderr=subprocess.PIPE, text=True, **options)
+    return subprocess.run([ROOT / "tools" / arguments[0], *arguments[1:]], stdout=subprocess.PIPE,
+                          stderr=subprocess.PIPE, text=True, **options)
 
 
 def tools_agree(compare):
@@ -115,8 +119,10 @@ def tools_agree(compare):
     with tempfile.TemporaryDirectory() as folder:
         season = pathlib.Path(folder) / "season"
         wanted, most = b"", 0
-        for name, shape, mask in [("clear-winner", (3, 5, 7), 1), ("even-jury", (2, 3, 4), 1), ("yes-no", (4, 2, 5), 4)]:
-            compare(name, tool("rehearse", "--record", season, ROOT / "examples" / f"{name}.txt").stdout, tool("rehearse", ROOT / "examples" / f"{name}.txt").stdout)
+        for name, shape, mask in [("clear-winner", (3, 5, 7), 1), ("even-jury", (2, 3, 4), 1),
+                                  ("yes-no", (4, 2, 5), 4)]:
+            jury = ROOT / "examples" / f"{name}.txt"
+            compare(name, tool("rehearse", "--record", season, jury).stdout, tool("rehearse", jury).stdout)
             gates, conditional = Core().measure(shape)[1:3]
             wanted, most = wanted + run_bytes(*shape, mask, gates, conditional), most + gates
             compare(name, season.read_bytes().hex(), wanted.hex())
@@ -129,20 +135,27 @@ def tools_agree(compare):
         labels = {text.text for text in svg.findall("{*}text")}
         compare("the drawing", (lines, {"runs of the season", "3", f"{most:,}"} <= labels), ([4, 4], True))
         season.write_bytes(wanted + b"\0")
-        compare("a broken file", [tool("season", what, season, input="jury 2 3 3\nwinners 1 0\n").returncode for what in ("append", "sheet", "draw")], [1] * 3)
+        for what in ("append", "sheet", "draw"):
+            compare("a broken file", tool("season", what, season, input="jury 2 3 3\nwinners 1 0\n").returncode, 1)
 
 
 def main():
     rng = random.Random(29)
     compared = Comparisons()
     compare = compared.compare
+    seen = set()
     for data in inputs(rng):
-        compare(f"{len(data)} bytes, {data[:24].hex(' ')}", PROGRAM.said(data), expected(data))
+        wanted = expected(data)
+        compare(f"{len(data)} bytes, {data[:24].hex(' ')}", PROGRAM.said(data), wanted)
+        seen.add(" ".join(wanted.split()[:2]) if wanted.startswith("refused") else "accepted")
+    compare("every answer that there is", seen, {"accepted", "refused 21", "refused 22"})
     for data in [random_sheet(rng, 3), random_sheet(rng, 4096), random_sheet(rng, 4097)]:
         cut = rng.randrange(len(data))
-        for pieces in [[data[:cut], data[cut:]], [data[:1], data[1:13], data[13:]], [data[i : i + 1] for i in range(36)] + [data[36:]]]:
+        for pieces in [[data[:cut], data[cut:]], [data[:1], data[1:13], data[13:]],
+                       [data[i : i + 1] for i in range(36)] + [data[36:]]]:
             compare("in pieces", PROGRAM.said_in_pieces(pieces), expected(data))
-    compare("the largest totals", expected(run_bytes(8, 7, 255, 255, LARGEST, LARGEST) * 4096), "runs 4096\ngates 17592186040320\nconditional 17592186040320\nballots 1044480\nshared 4096\n")
+    compare("the largest totals", expected(run_bytes(8, 7, 255, 255, LARGEST, LARGEST) * 4096),
+            "runs 4096\ngates 17592186040320\nconditional 17592186040320\nballots 1044480\nshared 4096\n")
     tools_agree(compare)
     compared.end("season")
 

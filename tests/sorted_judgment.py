@@ -1,4 +1,4 @@
-"""Majority judgment once more, by sorting: the plain reading in document01 is compared with it.
+"""Majority judgment once more, by sorting: the plain reading in reference is compared with it.
 
 A candidate here is the list of its grades, one a juror, and neither counts nor running sums occur.
 """

@@ -1,19 +1,19 @@
-"""The tally by trustees, through the library, against a model written apart.
+"""The tally by trustees, through the library, against an independent model.
 
-    python3 tests/trustees.py    prints how many calls there were, by answer
+    python3 tests/trustees.py    prints how many calls there were, by reason
 
-Small lists with every dealing counted: for whichever trustee is left out, each dealing of one election has exactly one
-counterpart in another with the same closing bytes. Random elections on own and on strangers' lists, every reason at its
-edges, all pairs of faults, and old contents of both tables that are written.
+Small lists with every dealing counted: for whichever trustee is left out, each dealing of one election has exactly
+one counterpart in another with the same closing bytes. Random elections, graded and ranked, on own and on random
+lists, every reason at its edges, all pairs of faults, and old contents of both tables that are written.
 """
 
 import collections
-import ctypes
 import itertools
 import random
 
-import document01 as doc
-from core import Core, Lent, bytes_of, numbers
+import reference as doc
+from core import Core, bytes_of, numbers, output
+from random_juries import random_ballots
 from running import flat, random_gates
 
 ANSWER = 12
@@ -21,8 +21,8 @@ ONE, AND, OR, XOR, CHOICE = 1, 4, 5, 6, 7
 CONDITIONAL = (AND, OR, CHOICE)
 
 
-class House:
-    """A trustee: it knows its number, its own bits, and what was opened."""
+class Trustee:
+    """One trustee: it knows its number, its own bits, and what was opened."""
 
     def __init__(self, number, ballot_bits, triples):
         self.first = number == 0
@@ -69,30 +69,31 @@ def parity(bits):
 
 
 def protocol(gates, inputs, k, t, parts, dealt):
-    """The houses after a run of the list."""
-    count = sum(g[0] in CONDITIONAL for g in gates)
-    houses = [House(p, parts[p * inputs : (p + 1) * inputs], dealt[3 * count * p : 3 * count * (p + 1)]) for p in range(t)]
+    """The trustees after a run of the list."""
+    count = doc.conditional_count(gates)
+    trustees = [Trustee(p, parts[p * inputs : (p + 1) * inputs],
+                        dealt[3 * count * p : 3 * count * (p + 1)]) for p in range(t)]
     i = 0
     for gate in gates:
         if gate[0] in CONDITIONAL:
-            shown = [house.publish(gate, i) for house in houses]
+            shown = [trustee.publish(gate, i) for trustee in trustees]
             e, f = parity(x for x, _ in shown), parity(y for _, y in shown)
-            for house in houses:
-                house.add(gate, house.product(i, e, f))
+            for trustee in trustees:
+                trustee.add(gate, trustee.product(i, e, f))
             i += 1
         else:
-            for house in houses:
-                house.add(gate, None)
-    for house in houses:
-        house.said += house.held[len(house.held) - k :]
-    return houses
+            for trustee in trustees:
+                trustee.add(gate, None)
+    for trustee in trustees:
+        trustee.said += trustee.held[len(trustee.held) - k :]
+    return trustees
 
 
 class Call:
     """A call with all that it lends. Tables that are written are given by their lengths."""
 
     def __init__(self, shape, gates, ballots, t, parts, dealt, old=9):
-        count = sum(g[0] in CONDITIONAL for g in gates)
+        count = doc.conditional_count(gates)
         self.shape, self.table, self.ballots, self.t = tuple(shape), flat(gates), list(ballots), t
         self.parts, self.dealt, self.old = list(parts), list(dealt), old
         self.wires = t * (len(ballots) + len(gates))
@@ -107,7 +108,7 @@ class Call:
         return other
 
     def gates(self):
-        return [tuple(self.table[i : i + 4]) for i in range(0, len(self.table) // 4 * 4, 4)]
+        return doc.gates_of(self.table)
 
     def fault(self):
         """Reason and place by the model, or none."""
@@ -118,7 +119,7 @@ class Call:
         if not 2 <= self.t <= 5:
             return 16, 0
         gates, inputs, t = self.gates(), len(self.ballots), self.t
-        count = sum(g[0] in CONDITIONAL for g in gates)
+        count = doc.conditional_count(gates)
         needed = (t * inputs, t * 3 * count, t * (inputs + len(gates)), t * (2 * count + k))
         if (len(self.parts), len(self.dealt), self.wires, self.published) != needed:
             return 17, 0
@@ -133,49 +134,32 @@ class Call:
         return None
 
 
+def lent_to(call):
+    """The arguments of a call."""
+    read = [bytes_of(call.parts), bytes_of(call.dealt)]
+    written = [output([call.old] * call.wires), output([call.old] * call.published)]
+    return [*call.shape, numbers(call.table), bytes_of(call.ballots), call.t, *read, *written]
+
+
 class Trustees(Core):
-    def __init__(self):
-        super().__init__()
-        self.library.jugy_trustees.restype = ctypes.c_size_t
-        self.seen = collections.Counter()
-
-    def tally(self, call, needed=ANSWER, answer_length=ANSWER + 2):
-        """Status, answer array, wire parts and published bits; what is only read is held to stay."""
-        self.calls += 1
-        read = [numbers(call.table), bytes_of(call.ballots)], [bytes_of(call.parts), bytes_of(call.dealt)]
-        written = [bytes_of([call.old] * call.wires), bytes_of([call.old] * call.published)]
-        answer = Lent("L", [77] * answer_length)
-        arguments = list(map(ctypes.c_size_t, call.shape))
-        for lent in read[0]:
-            arguments += lent.arguments()
-        arguments.append(ctypes.c_size_t(call.t))
-        for lent in (*read[1], *written, answer):
-            arguments += lent.arguments()
-        status = self.library.jugy_trustees(*arguments)
-        assert all(lent.is_as_before() for lent in read[0] + read[1])
-        assert all(lent.has_its_guards() for lent in (*written, answer))
-        return status, answer.items(), written[0].items(), written[1].items()
-
     def check(self, call):
-        status, answer, wires, published = self.tally(call)
+        """One call against the model. Of an accepted one, the trustees as the model has them."""
+        lent = lent_to(call)
+        said = self.call("jugy_trustees", *lent, answers=ANSWER)
         fault = call.fault()
-        self.seen[fault[0] if fault else 0] += 1
-        assert answer[ANSWER:] == [77, 77]
         if fault:
-            assert (status, answer[:ANSWER]) == (fault[0], [*fault] + [0] * 10), (fault, answer, call.shape)
-            assert wires == [call.old] * call.wires and published == [call.old] * call.published
+            assert said == ["refused", *fault], (fault, said, call.shape)
             return None
         gates, k = call.gates(), call.shape[0]
-        houses = protocol(gates, len(call.ballots), k, call.t, call.parts, call.dealt)
-        plain = doc.run_gates(call.ballots, gates, [0] * sum(g[0] in CONDITIONAL for g in gates))[0]
+        trustees = protocol(gates, len(call.ballots), k, call.t, call.parts, call.dealt)
+        plain = doc.run_gates(call.ballots, gates, [0] * doc.conditional_count(gates))[0]
         for x, wire in enumerate(plain):
-            assert parity(house.held[x] for house in houses) == wire
+            assert parity(trustee.held[x] for trustee in trustees) == wire
         closing = plain[len(plain) - k :]
-        count = sum(g[0] in CONDITIONAL for g in gates)
-        assert (status, answer[:ANSWER]) == (0, [0, 0, len(gates), count, *closing] + [0] * (8 - k)), (answer, closing)
-        assert wires == [0] * call.wires
-        assert published == [bit for house in houses for bit in house.said]
-        return houses
+        assert said == ["accepted", len(gates), doc.conditional_count(gates), *closing] + [0] * (8 - k), (said, closing)
+        assert lent[-2].items() == [0] * call.wires
+        assert lent[-1].items() == [bit for trustee in trustees for bit in trustee.said]
+        return trustees
 
 
 def dealings(rng, ballots, count, t):
@@ -189,7 +173,7 @@ def dealings(rng, ballots, count, t):
         w.append(parity(w) ^ (parity(u) & parity(v)))
         triples.append((u, v, w))
     dealt = [bit for p in range(t) for u, v, w in triples for bit in (u[p], v[p], w[p])]
-    return [bit for house in parts for bit in house], dealt
+    return [bit for share in parts for bit in share], dealt
 
 
 def all_dealings(ballots, count, t):
@@ -198,17 +182,18 @@ def all_dealings(ballots, count, t):
         if any(parity(parts[x::inputs]) != ballots[x] for x in range(inputs)):
             continue
         for dealt in itertools.product((0, 1), repeat=3 * count * t):
-            if all(parity(dealt[3 * i + 2 :: 3 * count]) == parity(dealt[3 * i :: 3 * count]) * parity(dealt[3 * i + 1 :: 3 * count]) for i in range(count)):
+            sums = [parity(dealt[place :: 3 * count]) for place in range(3 * count)]
+            if all(w == u * v for u, v, w in zip(sums[::3], sums[1::3], sums[2::3])):
                 yield parts, dealt
 
 
-def view(call, houses, published, q):
+def view(call, trustees, published, q):
     inputs, count = len(call.ballots), len(call.dealt) // 3 // call.t
     others = [p for p in range(call.t) if p != q]
     return (
         tuple(tuple(call.parts[p * inputs : (p + 1) * inputs]) for p in others),
         tuple(tuple(call.dealt[3 * count * p : 3 * count * (p + 1)]) for p in others),
-        tuple(tuple(houses[p].held) for p in others),
+        tuple(tuple(trustees[p].held) for p in others),
         tuple(published),
     )
 
@@ -217,16 +202,16 @@ def count_counterparts(core, shape, gates, t):
     """All dealings of all elections of a shape: those of two elections with equal closing bytes have the same views."""
     k, d, n = shape
     rows = [[int(i == j) for j in range(d)] for i in range(d)]
-    count = sum(g[0] in CONDITIONAL for g in gates)
+    count = doc.conditional_count(gates)
     views = collections.defaultdict(list)
     for ballots in itertools.product(rows, repeat=n * k):
         ballots = [bit for row in ballots for bit in row]
         seen = [collections.Counter() for _ in range(t)]
         for parts, dealt in all_dealings(ballots, count, t):
             call = Call(shape, gates, ballots, t, parts, dealt)
-            houses = core.check(call)
+            trustees = core.check(call)
             for q in range(t):
-                seen[q][view(call, houses, [b for h in houses for b in h.said], q)] += 1
+                seen[q][view(call, trustees, [b for each in trustees for b in each.said], q)] += 1
         for q in range(t):
             # exactly one dealing for a view, so that counterparts are unique
             assert set(seen[q].values()) == {1}
@@ -242,14 +227,9 @@ def count_counterparts(core, shape, gates, t):
 
 def valid_call(rng, core, shape, t, gates=None):
     k, d, n = shape
-    if gates is None:
-        table = core.own_list(shape)
-        gates = [tuple(table[i : i + 4]) for i in range(0, len(table), 4)]
-    ballots = []
-    for _ in range(n * k):
-        best = rng.randrange(d)
-        ballots += [int(i == best) for i in range(d)]
-    parts, dealt = dealings(rng, ballots, sum(g[0] in CONDITIONAL for g in gates), t)
+    gates = doc.gates_of(core.own_list(shape)) if gates is None else gates
+    ballots = random_ballots(rng, k, d, n)
+    parts, dealt = dealings(rng, ballots, doc.conditional_count(gates), t)
     return Call(shape, gates, ballots, t, parts, dealt, old=rng.randrange(256))
 
 
@@ -257,6 +237,18 @@ def changed(items, place, value):
     items = list(items)
     items[place] = value
     return items
+
+
+def bad_ballots(call):
+    """Bits that are no ballots: a row without a grade, or rankings that say both ways and that leave a third out."""
+    if call.shape[1]:
+        return {"row": {"ballots": changed(call.ballots, call.ballots.index(1), 0)}}
+    rest = call.ballots[9:]
+    return {
+        "before itself": {"ballots": call.ballots[:-1] + [1]},
+        "both ways": {"ballots": [0, 1, 0, 1, 0, 0, 0, 0, 0] + rest},
+        "no weak order": {"ballots": [0, 1, 0, 0, 0, 0, 0, 0, 0] + rest},
+    }
 
 
 def faults(call):
@@ -270,7 +262,7 @@ def faults(call):
         "gate": {"table": changed(call.table, 0, 8)},
         "ballots": {"ballots": call.ballots + [0]},
         "byte": {"ballots": changed(call.ballots, len(call.ballots) - 1, 2)},
-        "row": {"ballots": changed(call.ballots, call.ballots.index(1), 0)},
+        **bad_ballots(call),
         "no trustee": {"t": 0},
         "one trustee": {"t": 1},
         "six": {"t": 6},
@@ -289,65 +281,76 @@ def faults(call):
         "ballot part": {"parts": changed(call.parts, 0, 1 - call.parts[0])},
         "dealer part": {"dealt": changed(call.dealt, 0, call.dealt[0] + 2)},
         "product": {"dealt": changed(call.dealt, last, 1 - call.dealt[last])},
-        "two parts exchanged": {"parts": changed(changed(call.parts, two[0], 3), two[1], call.parts[two[0]] ^ call.parts[two[1]] ^ 1)},
+        "two parts exchanged": {"parts": changed(changed(call.parts, two[0], 3), two[1],
+                                                 call.parts[two[0]] ^ call.parts[two[1]] ^ 1)},
     }
 
 
-def main():
-    rng = random.Random(7)
-    core = Trustees()
+# Tiny lists, and numbers of trustees, of which every dealing is tried: free gates, each conditional kind, operands that
+# coincide.
+TINY = [
+    ([(2, 0, 0, 0)], (2, 3)),
+    ([(3, 1, 0, 0), (6, 0, 2, 0)], (2, 3)),
+    ([(AND, 0, 1, 0)], (2,)),
+    ([(OR, 0, 1, 0)], (2,)),
+    ([(CHOICE, 0, 1, 0)], (2,)),
+    ([(CHOICE, 1, 1, 1)], (2,)),
+]
+SHAPES = [(1, 2, 1), (2, 3, 3), (3, 2, 4), (8, 7, 2), (2, 2, 9), (1, 0, 1), (2, 0, 3), (3, 0, 5), (5, 0, 4), (8, 0, 2)]
 
-    # every dealing of tiny lists: free gates, each conditional kind, operands that coincide
-    tiny = (1, 2, 1)
-    lists = [
-        ([(2, 0, 0, 0)], (2, 3)),
-        ([(3, 1, 0, 0), (6, 0, 2, 0)], (2, 3)),
-        ([(AND, 0, 1, 0)], (2,)),
-        ([(OR, 0, 1, 0)], (2,)),
-        ([(CHOICE, 0, 1, 0)], (2,)),
-        ([(CHOICE, 1, 1, 1)], (2,)),
-    ]
-    pairs = sum(count_counterparts(core, tiny, gates, t) for gates, counts in lists for t in counts)
-    assert pairs
 
-    # random elections: own lists and strangers'
-    for shape in ((1, 2, 1), (2, 3, 3), (3, 2, 4), (8, 7, 2), (2, 2, 9)):
-        for t in range(2, 6):
-            core.check(valid_call(rng, core, shape, t))
+def elections(rng, core):
+    """Random elections, graded and ranked: own lists and random ones."""
+    for shape, t in itertools.product(SHAPES, range(2, 6)):
+        core.check(valid_call(rng, core, shape, t))
     for _ in range(300):
-        shape = rng.randrange(1, 5), rng.randrange(2, 5), rng.randrange(1, 4)
-        inputs = shape[0] * shape[1] * shape[2]
-        gates = random_gates(rng, inputs, rng.randrange(shape[0], 40))
+        shape = rng.randrange(1, 5), rng.choice((0, 2, 3, 4)), rng.randrange(1, 4)
+        gates = random_gates(rng, doc.ballot_bytes(*shape), rng.randrange(shape[0], 40))
         core.check(valid_call(rng, core, shape, rng.randrange(2, 6), gates))
 
-    # each fault, and all pairs
-    call = valid_call(rng, core, (2, 3, 2), 3)
+
+def refusals(core, call):
+    """Each fault of a call, and all pairs."""
     single = faults(call)
     for one in single.values():
         assert core.check(call.but(**one)) is None
     for one, other in itertools.combinations(single.values(), 2):
         if not set(one) & set(other):
             assert core.check(call.but(**one, **other)) is None
-    # every part is looked at
+
+
+def every_part(rng, core, call):
+    """Every part is looked at."""
     for place in range(len(call.parts)):
         assert core.check(call.but(parts=changed(call.parts, place, call.parts[place] + 2))) is None
         assert core.check(call.but(parts=changed(call.parts, place, 1 - call.parts[place]))) is None
-    for place in rng.sample(range(len(call.dealt)), 60):
+    for place in rng.sample(range(len(call.dealt)), min(60, len(call.dealt))):
         assert core.check(call.but(dealt=changed(call.dealt, place, call.dealt[place] + 2))) is None
-    # an answer array that is too short
-    for length in range(ANSWER):
-        status, answer, wires, published = core.tally(call, answer_length=length)
-        assert status == 255 and answer == [77] * length
-        assert wires == [call.old] * call.wires and published == [call.old] * call.published
-    # C = 0, and old contents of both tables
-    gates = [(XOR, 0, 1, 0), (ONE, 0, 0, 0), (3, 4, 0, 0)]
-    free = valid_call(rng, core, (2, 2, 1), 5, gates)
+
+
+def old_contents(rng, core, call):
+    """Whatever both tables held, with conditional gates and without."""
+    free = valid_call(rng, core, (2, 2, 1), 5, [(XOR, 0, 1, 0), (ONE, 0, 0, 0), (3, 4, 0, 0)])
     assert not free.dealt
     for old in (0, 1, 255):
         core.check(free.but(old=old))
         core.check(call.but(old=old))
-    told = ", ".join(f"{reason}: {count}" for reason, count in sorted(core.seen.items()))
-    print(f"tests/trustees.py: ok, {core.calls} calls, {pairs} pairs of elections, by reason {told}")
+
+
+def main():
+    rng = random.Random(7)
+    core = Trustees()
+    pairs = sum(count_counterparts(core, (1, 2, 1), gates, t) for gates, counts in TINY for t in counts)
+    assert pairs
+    elections(rng, core)
+    for shape in ((2, 3, 2), (3, 0, 2)):
+        call = valid_call(rng, core, shape, 3)
+        refusals(core, call)
+        every_part(rng, core, call)
+        old_contents(rng, core, call)
+    core.ignores_short_answers("jugy_trustees", *lent_to(call), answers=ANSWER)
+    told = core.saw(trustees={1, 2, 3, 4, 5, 6, 11, 12, 16, 17, 18})
+    print(f"tests/trustees.py: ok, {core.calls} calls, {pairs} pairs of elections: {told}")
 
 
 if __name__ == "__main__":

@@ -1,51 +1,29 @@
 #!/usr/bin/env python3
-"""The exported calls on an urn against a model written apart, over the static library: soundness of every urn of two and
-three slots over small bytes, every kind of damage, urns of 256 slots, pairs of faults, long random sequences of calls, tables of
-every length made empty, and previews of different urns that have the same told of them.
-Needs gcc and target/staticlib/libjugyvaros.a."""
-import ctypes
+"""The exported calls on an urn against an independent model, over the static library: soundness of every urn of two
+and three slots over small bytes, every kind of damage, urns of 256 slots, pairs of faults, long random sequences of
+calls, tables of every length made empty, and previews of different urns that have the same told of them. Needs a C
+compiler and target/staticlib/libjugyvaros.a. All buffers have guards on both sides (core.py)."""
 import itertools
-import pathlib
 import random
-import subprocess
 import sys
 
-ROOT = pathlib.Path(__file__).resolve().parent.parent
-SHORT = 255
+from core import Core, bytes_of, output
+
+CORE = Core()
+PREVIEWS = ("jugy_preview_admit", "jugy_preview_withdraw")
 
 
-def load():
-    out = ROOT / "target" / "urn"
-    out.mkdir(parents=True, exist_ok=True)
-    library = out / "libjugyvaros.so"
-    archive = ROOT / "target" / "staticlib" / "libjugyvaros.a"
-    subprocess.run(["gcc", "-shared", "-o", library, "-Wl,--whole-archive", archive, "-Wl,--no-whole-archive"], check=True)
-    return ctypes.CDLL(str(library))
-
-
-LIBRARY = load()
-SIZE = ctypes.c_size_t
-
-
-def buffer(data):
-    """An array of exactly these bytes; one byte that no call may read stands for an empty one."""
-    return (ctypes.c_uint8 * max(len(data), 1))(*data)
+def lent_to(name, k, d, urn, juror=None, ballot=None):
+    """The arguments of a call: a preview is lent the urn for reading only."""
+    table = bytes_of(urn) if name in PREVIEWS else output(urn)
+    return [k, d, table, *([] if juror is None else [juror]), *([] if ballot is None else [bytes_of(ballot)])]
 
 
 def call(name, k, d, urn, juror=None, ballot=None):
     """Reason, place, number of ballots, and the urn afterwards."""
-    lent = buffer(urn)
-    answer = (SIZE * 3)(7, 7, 7)
-    arguments = [SIZE(k), SIZE(d), lent, SIZE(len(urn))]
-    if juror is not None:
-        arguments.append(SIZE(juror))
-    if ballot is not None:
-        arguments += [buffer(ballot), SIZE(len(ballot))]
-    function = getattr(LIBRARY, name)
-    function.restype = SIZE
-    status = function(*arguments, answer, SIZE(3))
-    assert status == answer[0]
-    return tuple(answer), bytes(lent)[: len(urn)]
+    lent = lent_to(name, k, d, urn, juror, ballot)
+    said, *values = CORE.call(name, *lent, answers=3)
+    return (*values, 0) if said == "refused" else (0, 0, *values), bytes(lent[2].items())
 
 
 # The model: an urn is taken apart into its chains by sets, and put together again from them.
@@ -228,7 +206,7 @@ def made_empty():
 
 
 def told(rounds):
-    """Two urns of other lengths, slots, jurors, ballots and orders, of which a preview may tell the same and no more."""
+    """Two urns of other lengths, slots, jurors, ballots and orders, of which a preview may tell the same."""
     def facts(k, d, urn, juror):
         chains = take_apart(k, d, urn)
         return chains and (len(chains[0]), juror in (j for _, j, _ in chains[0]), bool(chains[1]))
@@ -258,7 +236,7 @@ def told(rounds):
 
 
 def edges():
-    """Lengths about the limits, chains that cross, equal jurors far apart, and an urn handed over with k and d exchanged."""
+    """Lengths about the limits, chains that cross, equal jurors far apart, and an urn with k and d exchanged."""
     k, d, size = 2, 3, 8
     for slots, more in itertools.product((1, 2, 255, 256, 257), (-1, 0, 1)):
         urn = bytearray(slots * size)
@@ -273,10 +251,13 @@ def edges():
     assert compare(k, d, sound, 9, good_ballot(k, d))[0] == (0, 0, 4)
     # its rows of three bytes are no rows of two
     assert compare(d, k, sound, 9, good_ballot(d, k))[0] == (13, 0, 0)
-    places = {"one juror in the first and the last": (5 * size + 1, 1), "juror 0": (size + 1, 0), "chain into the free one": (5 * size, 2),
+    places = {"one juror in the first and the last": (5 * size + 1, 1), "juror 0": (size + 1, 0),
+              "chain into the free one": (5 * size, 2),
               "free chain into the ballots": (4 * size, 3), "self loop": (size, 1), "long loop": (5 * size, 3),
-              "past the last slot": (5 * size, 6), "both chains begin alike": (0, 2), "slots in no chain": (2 * size, 0),
-              "slot 0 not zero": (size - 1, 1), "free slot's juror": (4 * size + 1, 9), "free slot's last byte": (5 * size - 1, 1),
+              "past the last slot": (5 * size, 6), "both chains begin alike": (0, 2),
+              "slots in no chain": (2 * size, 0),
+              "slot 0 not zero": (size - 1, 1), "free slot's juror": (4 * size + 1, 9),
+              "free slot's last byte": (5 * size - 1, 1),
               "a byte 2": (size + 2, 2), "an empty row": (size + 2, 0)}
     for what, (place, byte) in places.items():
         damaged = bytearray(sound)
@@ -290,17 +271,10 @@ def short_answers():
     """No call alters anything where the answer array is too short."""
     urn, ballot = empty(1, 2, 3), b"\1\0"
     _, urn = model(1, 2, urn, 5, ballot)
-    lists = {"empty_urn": (), "admit": (1, ballot), "withdraw": (5,), "preview_admit": (1, ballot), "preview_withdraw": (5,)}
-    for (name, given), length in itertools.product(lists.items(), range(3)):
-        lent = buffer(urn)
-        answer = (SIZE * 3)(7, 7, 7)
-        arguments = [SIZE(1), SIZE(2), lent, SIZE(len(urn)), *map(SIZE, given[:1])]
-        if len(given) > 1:
-            arguments += [buffer(ballot), SIZE(len(ballot))]
-        function = getattr(LIBRARY, "jugy_" + name)
-        function.restype = SIZE
-        status = function(*arguments, answer, SIZE(length))
-        assert status == SHORT and tuple(answer) == (7, 7, 7) and bytes(lent) == urn, name
+    lists = {"empty_urn": (), "admit": (1, ballot), "withdraw": (5,), "preview_admit": (1, ballot),
+             "preview_withdraw": (5,)}
+    for name, given in lists.items():
+        CORE.ignores_short_answers(f"jugy_{name}", *lent_to(f"jugy_{name}", 1, 2, urn, *given), answers=3)
 
 
 def main():
@@ -313,7 +287,11 @@ def main():
     made_empty()
     told(20000)
     short_answers()
-    print("tests/urn: ok")
+    admission, withdrawal = {1, 13, 14, 4, 5, 6, 15}, {1, 13, 14}
+    print("tests/urn.py: ok,", CORE.saw(empty_urn={1, 13}, admit=admission, preview_admit=admission,
+                                        withdraw=withdrawal,
+                                       preview_withdraw=withdrawal))
 
 
-main()
+if __name__ == "__main__":
+    main()

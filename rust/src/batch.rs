@@ -1,18 +1,24 @@
 //! A list that 64 juries of one shape run at once: each number holds a bit for each jury, jury 0 in the lowest.
 //!
-//! [`pack`] and [`unpack`] go from the bytes of 64 juries to such numbers and back.
+//! [`pack`] and [`unpack`] go from the bytes of 64 juries to such numbers and back. Whoever has fewer juries
+//! fills them up with copies: all 64 are tested and run.
 
-use crate::{c, run_by, Refusal, Shape, Size};
+use crate::calls::{c, run_by};
+use crate::{count, winners, Board, GateList, JuryRefusal, Reason, Refusal, Secret, Shape, Size};
+use std::io;
 
 /// How many juries a call serves.
 pub const JURIES: usize = 64;
 
-/// The numbers in which jury j has the bytes of list j, each of them 0 or 1. All lists are of one length; a jury that is not
-/// given has zeros.
-pub fn pack<T: AsRef<[u8]>>(juries: &[T]) -> Vec<u64> {
+/// The numbers in which jury j has the bytes of list j, each of them 0 or 1. All lists are of one length; a
+/// jury that is not given has zeros.
+///
+/// # Panics
+/// Where there are more than 64 lists, lists of different lengths, or a byte above 1.
+pub fn pack<T: AsRef<[u8]>>(juries: &[T]) -> Secret<u64> {
     assert!(juries.len() <= JURIES, "a number has room for 64 juries");
     let length = juries.first().map_or(0, |bytes| bytes.as_ref().len());
-    let mut words = vec![0; length];
+    let mut words = Secret::zeros(length);
     for (j, bytes) in juries.iter().enumerate() {
         let bytes = bytes.as_ref();
         assert!(bytes.len() == length, "the juries have lists of one length");
@@ -25,14 +31,20 @@ pub fn pack<T: AsRef<[u8]>>(juries: &[T]) -> Vec<u64> {
 }
 
 /// The bytes of jury j.
-pub fn unpack(words: &[u64], j: usize) -> Vec<u8> {
+///
+/// # Panics
+/// Where j is above 63.
+pub fn unpack(words: &[u64], j: usize) -> Secret<u8> {
     assert!(j < JURIES, "juries are 0 to 63");
-    words.iter().map(|word| (word >> j & 1) as u8).collect()
+    let mut bytes = Secret::zeros(words.len());
+    for (byte, word) in bytes.iter_mut().zip(words) {
+        *byte = (word >> j & 1) as u8;
+    }
+    bytes
 }
 
-/// Runs a list on the ballots of 64 juries, with one tape number for each conditional gate. Lengths count numbers: as many as a
-/// single run has bytes. The first jury with the fault is the place of reasons 6, 11 and 12; reasons 5 and 8 never come. `wires`
-/// is all zero afterwards.
+/// Runs a list on the ballots of 64 juries, with one tape number for each conditional gate. Lengths count
+/// numbers: as many as a single run has bytes. Reasons 5 and 8 never come. `wires` is all zero afterwards.
 pub fn run(
     shape: Shape,
     table: &[u32],
@@ -40,58 +52,83 @@ pub fn run(
     tape: &[u64],
     wires: &mut [u64],
     board: &mut [u64],
-) -> Result<Size, Refusal> {
+) -> Result<Size, JuryRefusal> {
     run_by(c::jugy_run_batch, shape, table, ballots, tape, wires, board)
+        .map_err(|refusal| located(shape, ballots, refusal))
 }
 
-#[cfg(test)]
-mod tests {
-    use super::*;
-    use crate::{measure, write, Reason};
-
-    /// Jury j's ballots: each row's 1 stands at a grade of its own.
-    fn ballots(shape: Shape, j: usize) -> Vec<u8> {
-        let rows = shape.ballots * shape.candidates;
-        let best = |row: usize| (row * 7 + j * 5 + row * j) % shape.grades;
-        (0..rows).flat_map(|row| (0..shape.grades).map(move |g| u8::from(g == best(row)))).collect()
-    }
-
-    #[test]
-    fn packed_bytes_come_back() {
-        let juries: Vec<Vec<u8>> = (0..JURIES).map(|j| vec![u8::from(j % 3 == 0), u8::from(j == 63), 1]).collect();
-        let words = pack(&juries);
-        assert_eq!((0..JURIES).map(|j| unpack(&words, j)).collect::<Vec<_>>(), juries);
-    }
-
-    #[test]
-    fn each_jury_has_its_single_run() {
-        let shape = Shape { candidates: 3, grades: 4, ballots: 5 };
-        let own = measure(shape).unwrap();
-        let mut table = vec![0; 4 * own.gates];
-        write(shape, &mut table).unwrap();
-        let juries: Vec<Vec<u8>> = (0..JURIES).map(|j| ballots(shape, j)).collect();
-        let tape: Vec<u64> = (0..own.conditional as u64).map(|i| i.wrapping_mul(0x9E37_79B9_7F4A_7C15)).collect();
-        let mut wires = vec![9; own.inputs + own.gates];
-        let mut board = vec![9; own.conditional + shape.candidates];
-        let said = run(shape, &table, &pack(&juries), &tape, &mut wires, &mut board).unwrap();
-        assert_eq!((said.gates, said.conditional), (own.gates, own.conditional));
-        assert!(wires.iter().all(|&word| word == 0));
-        for (j, jury) in juries.iter().enumerate() {
-            let mut single_wires = vec![0; wires.len()];
-            let mut single = vec![0; board.len()];
-            crate::run(shape, &table, jury, &unpack(&tape, j), &mut single_wires, &mut single).unwrap();
-            assert_eq!(single, unpack(&board, j));
+/// The core's place of a fault in ballots is the first jury that has it. Where in that jury it is, a test of it
+/// alone says.
+fn located(shape: Shape, ballots: &[u64], refusal: Refusal) -> JuryRefusal {
+    match refusal.reason {
+        Reason::BallotRow | Reason::NotAsymmetric | Reason::NotWeakOrder => {
+            let alone = count(shape, &unpack(ballots, refusal.place)).err();
+            JuryRefusal { jury: Some(refusal.place), refusal: alone.unwrap_or(refusal) }
         }
+        _ => refusal.into(),
+    }
+}
+
+/// A list with room to run it for 64 juries, again and again.
+///
+/// ```
+/// use jugyvaros::batch::pack;
+/// use jugyvaros::{Batch, GateList, Shape};
+///
+/// let list = GateList::own(Shape::graded(2, 2, 1))?;
+/// // even juries like blend 0, odd ones blend 1
+/// let ballots: Vec<[u8; 4]> = (0..64).map(|j| if j % 2 == 0 { [1, 0, 0, 1] } else { [0, 1, 1, 0] }).collect();
+/// let mut batch = Batch::new(&list);
+/// let tape = batch.fresh_tape()?;
+/// let boards = batch.run(&pack(&ballots), &tape)?;
+/// assert_eq!((boards.winners(0), boards.winners(63)), (vec![0], vec![1]));
+/// # Ok::<(), Box<dyn std::error::Error>>(())
+/// ```
+#[derive(Debug)]
+pub struct Batch<'a> {
+    list: &'a GateList,
+    wires: Secret<u64>,
+    board: Vec<u64>,
+}
+
+impl<'a> Batch<'a> {
+    /// Room for runs of this list.
+    pub fn new(list: &'a GateList) -> Batch<'a> {
+        Batch { list, wires: Secret::zeros(list.wires()), board: vec![0; list.board_length()] }
     }
 
-    #[test]
-    fn the_first_jury_with_a_bad_row_is_the_place() {
-        let shape = Shape { candidates: 1, grades: 2, ballots: 1 };
-        let table = [2, 0, 0, 0];
-        let mut wires = [5; 3];
-        let mut board = [5; 1];
-        let refused = run(shape, &table, &[u64::MAX, 1 << 63], &[], &mut wires, &mut board).unwrap_err();
-        assert_eq!((refused.reason, refused.place), (Reason::BallotRow, 63));
-        assert_eq!((wires, board), ([5; 3], [5; 1]));
+    /// Fresh tapes for 64 juries from the system's random numbers, for one run.
+    pub fn fresh_tape(&self) -> io::Result<Secret<u64>> {
+        Secret::random_words(self.list.conditional())
+    }
+
+    /// Runs the list on I numbers of ballots with C numbers of tape.
+    pub fn run(&mut self, ballots: &[u64], tape: &[u64]) -> Result<Boards<'_>, JuryRefusal> {
+        run(self.list.shape(), self.list.table(), ballots, tape, &mut self.wires, &mut self.board)?;
+        Ok(Boards { words: &self.board, conditional: self.list.conditional() })
+    }
+}
+
+/// The boards of 64 juries, a bit for each jury.
+#[derive(Clone, Copy, Debug)]
+pub struct Boards<'a> {
+    words: &'a [u64],
+    conditional: usize,
+}
+
+impl<'a> Boards<'a> {
+    /// A number for each candidate: bit j is its closing byte in jury j.
+    pub fn closing(self) -> &'a [u64] {
+        &self.words[self.conditional..]
+    }
+
+    /// The board of jury j.
+    pub fn board(self, j: usize) -> Board {
+        Board::new(unpack(self.words, j).to_vec(), self.conditional)
+    }
+
+    /// The candidates that win in jury j.
+    pub fn winners(self, j: usize) -> Vec<usize> {
+        winners(&unpack(self.closing(), j))
     }
 }

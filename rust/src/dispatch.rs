@@ -1,12 +1,13 @@
 //! Up to eight juries in rounds. `c/jugyvaros.h` draws the tables, which are made here from a list of juries.
 
-use crate::{answered, Reason, Refusal, Shape};
+use crate::calls::answered;
+use crate::{run, Board, GateList, JuryRefusal, Reason, Refusal, Secret, Shape};
 
 mod c {
     extern "C" {
         pub fn jugy_dispatch(
             juries: usize,
-            share: usize,
+            gates_per_round: usize,
             statements: *const usize,
             statements_length: usize,
             lists: *const u32,
@@ -25,89 +26,171 @@ mod c {
     }
 }
 
-/// One jury of a call: its shape, its list of gates, its ballots and a fresh, secret tape. Each has exactly the length that shape
-/// and list ask for: the next jury's piece begins behind it, so what is too much would be read as that piece's start.
-#[derive(Clone, Copy, Debug)]
+/// One jury of a call: its shape, its list of gates, its ballots and a fresh, secret tape.
+#[derive(Clone, Copy)]
 pub struct Jury<'a> {
+    /// The shape of the jury.
     pub shape: Shape,
+    /// Its list, four numbers a gate.
     pub table: &'a [u32],
+    /// Its I ballot bytes.
     pub ballots: &'a [u8],
+    /// Its C tape bits, which no other jury has.
     pub tape: &'a [u8],
+}
+
+/// Says how long the pieces are and not what they hold.
+impl std::fmt::Debug for Jury<'_> {
+    fn fmt(&self, f: &mut std::fmt::Formatter<'_>) -> std::fmt::Result {
+        let (numbers, ballots, tape) = (self.table.len(), self.ballots.len(), self.tape.len());
+        write!(f, "Jury({}: {numbers} numbers, {ballots} ballot bytes, {tape} tape bits)", self.shape)
+    }
+}
+
+impl Jury<'_> {
+    /// Makes all tests of a run on this jury's pieces. A run on an empty wire table is refused for its length,
+    /// which is never right, once every other test of the pieces has passed; nothing is altered.
+    fn test(&self) -> Result<(), Refusal> {
+        match run(self.shape, self.table, self.ballots, self.tape, &mut [], &mut []) {
+            Err(Refusal { reason: Reason::WiresLength, .. }) | Ok(_) => Ok(()),
+            Err(refusal) => Err(refusal),
+        }
+    }
 }
 
 /// What a jury got: how many rounds had gates of its list, and its finished board.
 #[derive(Clone, Debug, PartialEq, Eq)]
 pub struct Finished {
+    /// In how many rounds the jury was given gates.
     pub rounds: usize,
-    pub board: Vec<u8>,
+    /// Its board, equal to that of an undivided run.
+    pub board: Board,
 }
 
-/// The first reason that applies, and the jury that it is found in, counted from 0; 0 for `Juries` and `GatesPerRound`. Where in
-/// its pieces is not said: a run on them alone says it.
-#[derive(Clone, Copy, Debug, PartialEq, Eq)]
-pub struct Refused {
-    pub reason: Reason,
-    pub jury: usize,
+/// What the core is lent: of each table, the juries' pieces one after the other.
+struct Tables {
+    headers: Vec<usize>,
+    lists: Vec<u32>,
+    ballots: Secret<u8>,
+    tapes: Secret<u8>,
+    wires: Secret<u8>,
+    boards: Vec<u8>,
 }
 
-impl std::fmt::Display for Refused {
-    fn fmt(&self, f: &mut std::fmt::Formatter<'_>) -> std::fmt::Result {
-        write!(f, "refused {} {}: {}", self.reason.number(), self.jury, self.reason.words())?;
-        match self.reason {
-            Reason::Juries | Reason::GatesPerRound => Ok(()),
-            reason if reason.has_place() => write!(f, " of jury {}", self.jury),
-            _ => write!(f, ", jury {}", self.jury),
+impl Tables {
+    /// The tables of juries that passed their tests: each piece has the length that shape and list ask for.
+    fn of(juries: &[Jury]) -> Tables {
+        let wires = juries.iter().map(|jury| jury.ballots.len() + jury.table.len() / 4).sum();
+        let boards = juries.iter().map(|jury| jury.tape.len() + jury.shape.candidates).sum();
+        let header = |jury: &Jury| {
+            let [k, d, n] = jury.shape.numbers();
+            [k, d, n, jury.table.len() / 4]
+        };
+        Tables {
+            headers: juries.iter().flat_map(header).collect(),
+            lists: juries.iter().flat_map(|jury| jury.table).copied().collect(),
+            ballots: Secret::join(juries.iter().map(|jury| jury.ballots)),
+            tapes: Secret::join(juries.iter().map(|jury| jury.tape)),
+            wires: Secret::zeros(wires),
+            boards: vec![0; boards],
         }
+    }
+
+    /// Calls the core: each jury's number of rounds, or the reason with its jury as place.
+    fn run(&mut self, juries: usize, gates_per_round: usize) -> Result<[usize; 8], Refusal> {
+        // SAFETY: every pointer comes from a vector and is handed over with its length; what is written is
+        // borrowed mutably.
+        let [_, _, rounds @ ..]: [usize; 10] = answered(|answer, length| unsafe {
+            c::jugy_dispatch(
+                juries,
+                gates_per_round,
+                self.headers.as_ptr(),
+                self.headers.len(),
+                self.lists.as_ptr(),
+                self.lists.len(),
+                self.ballots.as_ptr(),
+                self.ballots.len(),
+                self.tapes.as_ptr(),
+                self.tapes.len(),
+                self.wires.as_mut_ptr(),
+                self.wires.len(),
+                self.boards.as_mut_ptr(),
+                self.boards.len(),
+                answer,
+                length,
+            )
+        })?;
+        Ok(rounds)
     }
 }
 
-impl std::error::Error for Refused {}
+/// Refuses a call that has a bad number of juries or of gates a round: on empty tables these are the first reasons.
+fn test_call(juries: usize, gates_per_round: usize) -> Result<(), Refusal> {
+    match Tables::of(&[]).run(juries, gates_per_round) {
+        Err(refusal) if matches!(refusal.reason, Reason::Juries | Reason::GatesPerRound) => Err(refusal),
+        _ => Ok(()),
+    }
+}
 
-/// Runs the juries in rounds of up to `share` gates each.
-pub fn dispatch(juries: &[Jury], share: usize) -> Result<Vec<Finished>, Refused> {
-    let statements: Vec<usize> = juries
-        .iter()
-        .flat_map(|jury| {
-            let [k, d, n] = jury.shape.numbers();
-            [k, d, n, jury.table.len() / 4]
-        })
-        .collect();
-    let lists: Vec<u32> = juries.iter().flat_map(|jury| jury.table).copied().collect();
-    let ballots: Vec<u8> = juries.iter().flat_map(|jury| jury.ballots).copied().collect();
-    let tapes: Vec<u8> = juries.iter().flat_map(|jury| jury.tape).copied().collect();
-    let sizes: Vec<usize> = juries.iter().map(|jury| jury.tape.len() + jury.shape.candidates).collect();
-    let mut wires = vec![0; ballots.len() + lists.len() / 4];
-    let mut boards = vec![0; sizes.iter().sum()];
-    // SAFETY: every pointer comes from a vector or an array and is handed over with its length; what is written is borrowed mutably.
-    let [_, _, rounds @ ..]: [usize; 10] = answered(|answer, length| unsafe {
-        c::jugy_dispatch(
-            juries.len(),
-            share,
-            statements.as_ptr(),
-            statements.len(),
-            lists.as_ptr(),
-            lists.len(),
-            ballots.as_ptr(),
-            ballots.len(),
-            tapes.as_ptr(),
-            tapes.len(),
-            wires.as_mut_ptr(),
-            wires.len(),
-            boards.as_mut_ptr(),
-            boards.len(),
-            answer,
-            length,
-        )
-    })
-    .map_err(|Refusal { reason, place }| Refused { reason, jury: place })?;
-    let mut left = boards.as_slice();
-    Ok(sizes
-        .iter()
-        .zip(rounds)
-        .map(|(&size, rounds)| {
-            let (board, rest) = left.split_at(size);
-            left = rest;
-            Finished { rounds, board: board.to_vec() }
-        })
-        .collect())
+/// Runs the juries in rounds of up to so many gates each. The tables are made once every jury has passed its
+/// tests, so no piece can reach into the next jury's.
+pub fn dispatch(juries: &[Jury], gates_per_round: usize) -> Result<Vec<Finished>, JuryRefusal> {
+    test_call(juries.len(), gates_per_round)?;
+    for (j, jury) in juries.iter().enumerate() {
+        jury.test().map_err(|refusal| JuryRefusal { jury: Some(j), refusal })?;
+    }
+    let mut tables = Tables::of(juries);
+    let rounds = tables.run(juries.len(), gates_per_round).map_err(|Refusal { reason, place }| JuryRefusal {
+        jury: Some(place),
+        refusal: Refusal { reason, place: 0 },
+    })?;
+    let mut left = tables.boards.as_slice();
+    let finished = juries.iter().zip(rounds).map(|(jury, rounds)| {
+        let (board, rest) = left.split_at(jury.tape.len() + jury.shape.candidates);
+        left = rest;
+        Finished { rounds, board: Board::new(board.to_vec(), jury.tape.len()) }
+    });
+    Ok(finished.collect())
+}
+
+/// Juries that share a unit: up to eight of them, served in rounds.
+///
+/// ```
+/// use jugyvaros::{Dispatch, GateList, Shape};
+///
+/// let long = GateList::own(Shape::graded(3, 4, 20))?;
+/// let short = GateList::own(Shape::graded(1, 2, 1))?;
+/// // every juror of the long jury gives all blends the best grade
+/// let level = [1, 0, 0, 0].repeat(60);
+/// let (long_tape, short_tape) = (long.fresh_tape()?, short.fresh_tape()?);
+/// let mut unit = Dispatch::new(64);
+/// unit.add(&long, &level, &long_tape);
+/// unit.add(&short, &[1, 0], &short_tape);
+/// let finished = unit.run()?;
+/// assert_eq!(finished[0].board.winners(), [0, 1, 2]);
+/// assert!(finished[1].rounds <= finished[0].rounds);
+/// # Ok::<(), Box<dyn std::error::Error>>(())
+/// ```
+#[derive(Clone, Debug)]
+pub struct Dispatch<'a> {
+    gates_per_round: usize,
+    juries: Vec<Jury<'a>>,
+}
+
+impl<'a> Dispatch<'a> {
+    /// No jury yet; each will get up to so many gates a round.
+    pub fn new(gates_per_round: usize) -> Dispatch<'a> {
+        Dispatch { gates_per_round, juries: Vec::new() }
+    }
+
+    /// Adds a jury behind those that are there, and answers its number.
+    pub fn add(&mut self, list: &'a GateList, ballots: &'a [u8], tape: &'a [u8]) -> usize {
+        self.juries.push(Jury { shape: list.shape(), table: list.table(), ballots, tape });
+        self.juries.len() - 1
+    }
+
+    /// Runs all of them. The tapes are used up by it.
+    pub fn run(self) -> Result<Vec<Finished>, JuryRefusal> {
+        dispatch(&self.juries, self.gates_per_round)
+    }
 }

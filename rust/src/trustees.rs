@@ -1,8 +1,25 @@
-//! A tally by trustees, each of whom holds one bit of every wire. `c/jugyvaros.h` draws the four tables.
+//! A tally by trustees, each of whom holds a share of every wire: one bit, and all trustees' bits add up to the
+//! wire modulo 2. `c/jugyvaros.h` draws the four tables.
 //!
-//! A dealing serves one tally only: its bits are secret, random and fresh, or the trustees learn more than the closing bytes.
+//! A dealing serves one tally only: its bits are secret, random and fresh, or the trustees learn more than the
+//! closing bytes. Whoever deals, and whoever calls the tally, sees the plain ballots.
+//!
+//! ```
+//! use jugyvaros::{GateList, Shape};
+//!
+//! let ballots = [1, 0, 0, 0, 1, 0, 0, 1, 0, 0, 1, 0, 0, 1, 0, 0, 0, 1];
+//! let list = GateList::own(Shape::graded(2, 3, 3))?;
+//! let dealing = list.deal(&ballots, 3)?;
+//! let tally = list.tally(&ballots, &dealing)?;
+//! assert_eq!(tally.winners(), [0]);
+//! // a trustee publishes two bits for each conditional gate, and one for each blend
+//! assert_eq!(tally.published(2).len(), 2 * list.conditional() + 2);
+//! # Ok::<(), Box<dyn std::error::Error>>(())
+//! ```
 
-use crate::{answered, Refusal, Shape};
+use crate::calls::answered;
+use crate::{winners, GateList, Refusal, Secret, Shape};
+use std::io;
 
 mod c {
     extern "C" {
@@ -12,13 +29,13 @@ mod c {
             n: usize,
             table: *const u32,
             table_length: usize,
-            bytes: *const u8,
-            bytes_length: usize,
+            ballots: *const u8,
+            ballots_length: usize,
             trustees: usize,
-            parts: *const u8,
-            parts_length: usize,
-            dealt: *const u8,
-            dealt_length: usize,
+            ballot_shares: *const u8,
+            ballot_shares_length: usize,
+            triples: *const u8,
+            triples_length: usize,
             wires: *mut u8,
             wires_length: usize,
             published: *mut u8,
@@ -29,49 +46,74 @@ mod c {
     }
 }
 
-/// Ballot parts and dealer parts of t trustees, trustee after trustee.
+/// The trustees' shares of the ballots, and of a triple of bits u, v and u v for each conditional gate, trustee
+/// after trustee.
 #[derive(Clone, Debug, PartialEq, Eq)]
 pub struct Dealing {
+    /// t, from 2 to 5.
     pub trustees: usize,
-    pub parts: Vec<u8>,
-    pub dealt: Vec<u8>,
+    /// t I bytes: each trustee's share of the ballot bytes.
+    pub ballot_shares: Secret<u8>,
+    /// t 3 C bytes: for each conditional gate, a trustee's shares of u, of v and of their product.
+    pub triples: Secret<u8>,
+}
+
+impl Dealing {
+    /// A dealing for a list of so many conditional gates, by the system's random numbers. A number of trustees
+    /// outside 2 to 5 counts as the nearest within: the tally refuses it by the field `trustees`, which holds
+    /// what was given.
+    pub fn fresh(ballots: &[u8], conditional: usize, trustees: usize) -> io::Result<Dealing> {
+        let t = trustees.clamp(2, 5);
+        let random = Secret::random_bits(ballots.len() * (t - 1) + conditional * (2 + 3 * (t - 1)))?;
+        let mut next = random.iter();
+        let mut dealing = deal(ballots, conditional, t, || *next.next().expect("a random bit for each draw"));
+        dealing.trustees = trustees;
+        Ok(dealing)
+    }
+}
+
+/// Shares a bit: each trustee's share goes to its place in pieces of one size, and all of them but the last are random.
+fn share(bit: u8, table: &mut [u8], size: usize, at: usize, random: &mut impl FnMut() -> u8) {
+    let last = table.len() / size - 1;
+    let mut left = bit;
+    for p in 0..last {
+        let part = random() % 2;
+        table[p * size + at] = part;
+        left ^= part;
+    }
+    table[last * size + at] = left;
+}
+
+/// A dealing of these ballots, for a list of so many conditional gates. The random bytes have to be secret and fresh.
+///
+/// # Panics
+/// Where there are not 2 to 5 trustees.
+pub fn deal(ballots: &[u8], conditional: usize, trustees: usize, mut random: impl FnMut() -> u8) -> Dealing {
+    assert!((2..=5).contains(&trustees), "there are 2 to 5 trustees");
+    let (inputs, each) = (ballots.len(), 3 * conditional);
+    let mut ballot_shares = Secret::zeros(trustees * inputs);
+    let mut triples = Secret::zeros(trustees * each);
+    for (x, &byte) in ballots.iter().enumerate() {
+        share(byte, &mut ballot_shares, inputs, x, &mut random);
+    }
+    for i in 0..conditional {
+        let (u, v) = (random() % 2, random() % 2);
+        for (j, bit) in [u, v, u & v].into_iter().enumerate() {
+            share(bit, &mut triples, each, 3 * i + j, &mut random);
+        }
+    }
+    Dealing { trustees, ballot_shares, triples }
 }
 
 /// G and C of the list, and the opened closing bits as eight bytes.
 #[derive(Clone, Copy, Debug, PartialEq, Eq)]
 pub struct Tallied {
+    /// G, the gates of the list.
     pub gates: usize,
+    /// C, the conditional ones.
     pub conditional: usize,
+    /// The closing bytes, zeros behind the last candidate.
     pub closing: [u8; 8],
-}
-
-/// Splits a bit among t trustees: all parts but the last are random.
-fn split(bit: u8, trustees: usize, random: &mut impl FnMut() -> u8) -> Vec<u8> {
-    let mut parts: Vec<u8> = (1..trustees).map(|_| random() % 2).collect();
-    parts.push(parts.iter().fold(bit, |sum, part| sum ^ part));
-    parts
-}
-
-/// A random dealing of these ballots, for a list of so many conditional gates. The random bytes have to be secret and fresh.
-pub fn deal(ballots: &[u8], conditional: usize, trustees: usize, mut random: impl FnMut() -> u8) -> Dealing {
-    assert!((2..=5).contains(&trustees), "there are 2 to 5 trustees");
-    let inputs = ballots.len();
-    let mut parts = vec![0; trustees * inputs];
-    for (x, &byte) in ballots.iter().enumerate() {
-        for (p, part) in split(byte, trustees, &mut random).into_iter().enumerate() {
-            parts[p * inputs + x] = part;
-        }
-    }
-    let mut dealt = vec![0; trustees * 3 * conditional];
-    for i in 0..conditional {
-        let (u, v) = (random() % 2, random() % 2);
-        for (j, bit) in [u, v, u & v].into_iter().enumerate() {
-            for (p, part) in split(bit, trustees, &mut random).into_iter().enumerate() {
-                dealt[p * 3 * conditional + 3 * i + j] = part;
-            }
-        }
-    }
-    Dealing { trustees, parts, dealt }
 }
 
 /// Tallies: `wires` is t (I + G) bytes and all zero afterwards, `published` t (2 C + k) bytes.
@@ -95,10 +137,10 @@ pub fn tally(
             ballots.as_ptr(),
             ballots.len(),
             dealing.trustees,
-            dealing.parts.as_ptr(),
-            dealing.parts.len(),
-            dealing.dealt.as_ptr(),
-            dealing.dealt.len(),
+            dealing.ballot_shares.as_ptr(),
+            dealing.ballot_shares.len(),
+            dealing.triples.as_ptr(),
+            dealing.triples.len(),
             wires.as_mut_ptr(),
             wires.len(),
             published.as_mut_ptr(),
@@ -109,4 +151,40 @@ pub fn tally(
     })?;
     let closing = closing.map(|byte| byte as u8);
     Ok(Tallied { gates, conditional, closing })
+}
+
+/// What a tally leaves to be published.
+#[derive(Clone, Debug, PartialEq, Eq)]
+pub struct Tally {
+    closing: Vec<u8>,
+    published: Vec<u8>,
+    each: usize,
+}
+
+impl Tally {
+    /// A byte for each candidate: under the shape's own list, 1 for each that wins.
+    pub fn closing(&self) -> &[u8] {
+        &self.closing
+    }
+
+    /// The candidates, counted from 0, whose closing byte is 1.
+    pub fn winners(&self) -> Vec<usize> {
+        winners(&self.closing)
+    }
+
+    /// What this trustee, counted from 0, publishes: its two masked bits for each conditional gate, then its
+    /// closing bits.
+    pub fn published(&self, trustee: usize) -> &[u8] {
+        &self.published[trustee * self.each..(trustee + 1) * self.each]
+    }
+}
+
+/// Tallies by a list, with tables of the right lengths. What has none, since there are not 2 to 5 trustees, is
+/// refused for that.
+pub(crate) fn tally_list(list: &GateList, ballots: &[u8], dealing: &Dealing) -> Result<Tally, Refusal> {
+    let (t, each) = (dealing.trustees.clamp(2, 5), 2 * list.conditional() + list.shape().candidates);
+    let mut wires = Secret::zeros(t * list.wires());
+    let mut published = vec![0; t * each];
+    let said = tally(list.shape(), list.table(), ballots, dealing, &mut wires, &mut published)?;
+    Ok(Tally { closing: said.closing[..list.shape().candidates].to_vec(), published, each })
 }

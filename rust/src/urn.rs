@@ -1,24 +1,26 @@
-//! An urn for graded ballots: made empty, admission, withdrawal and their previews. `c/jugyvaros.h` draws the bytes of an urn.
+//! An urn for graded ballots: made empty, admission, withdrawal, their previews, and a run on what is in it.
+//! `c/jugyvaros.h` draws the bytes of an urn and says when it is sound.
 //!
 //! Each call answers the number of ballots in the urn afterwards, or its refusal, in which case the urn is as it was.
 
-use crate::{answered, Refusal};
+use crate::calls::{answered, c::jugy_run_urn, run_by};
+use crate::{Reason, Refusal, Secret, Shape, Size};
 
 mod c {
     extern "C" {
         pub fn jugy_empty_urn(
             k: usize,
             d: usize,
-            bytes: *mut u8,
-            bytes_length: usize,
+            urn: *mut u8,
+            urn_length: usize,
             answer: *mut usize,
             answer_length: usize,
         ) -> usize;
         pub fn jugy_admit(
             k: usize,
             d: usize,
-            bytes: *mut u8,
-            bytes_length: usize,
+            urn: *mut u8,
+            urn_length: usize,
             juror: usize,
             ballot: *const u8,
             ballot_length: usize,
@@ -28,8 +30,8 @@ mod c {
         pub fn jugy_withdraw(
             k: usize,
             d: usize,
-            bytes: *mut u8,
-            bytes_length: usize,
+            urn: *mut u8,
+            urn_length: usize,
             juror: usize,
             answer: *mut usize,
             answer_length: usize,
@@ -37,8 +39,8 @@ mod c {
         pub fn jugy_preview_admit(
             k: usize,
             d: usize,
-            bytes: *const u8,
-            bytes_length: usize,
+            urn: *const u8,
+            urn_length: usize,
             juror: usize,
             ballot: *const u8,
             ballot_length: usize,
@@ -48,8 +50,8 @@ mod c {
         pub fn jugy_preview_withdraw(
             k: usize,
             d: usize,
-            bytes: *const u8,
-            bytes_length: usize,
+            urn: *const u8,
+            urn_length: usize,
             juror: usize,
             answer: *mut usize,
             answer_length: usize,
@@ -68,19 +70,13 @@ pub fn empty(k: usize, d: usize, urn: &mut [u8]) -> Result<usize, Refusal> {
     ballots(|answer, length| unsafe { c::jugy_empty_urn(k, d, urn.as_mut_ptr(), urn.len(), answer, length) })
 }
 
-/// An empty urn of so many slots, 2 to 256, for k candidates and d grades.
-pub fn new(k: usize, d: usize, slots: usize) -> Result<Vec<u8>, Refusal> {
-    // one above each limit is refused as any number above it, so no longer table is needed
-    let mut urn = vec![0; slots.min(257) * (2 + k.min(9) * d.min(8))];
-    empty(k, d, &mut urn)?;
-    Ok(urn)
-}
-
 /// Admits the ballot of a juror.
 pub fn admit(k: usize, d: usize, urn: &mut [u8], juror: usize, ballot: &[u8]) -> Result<usize, Refusal> {
     let (bytes, size) = (ballot.as_ptr(), ballot.len());
     // SAFETY: as in `empty`.
-    ballots(|answer, length| unsafe { c::jugy_admit(k, d, urn.as_mut_ptr(), urn.len(), juror, bytes, size, answer, length) })
+    ballots(|answer, length| unsafe {
+        c::jugy_admit(k, d, urn.as_mut_ptr(), urn.len(), juror, bytes, size, answer, length)
+    })
 }
 
 /// Withdraws the ballot of a juror.
@@ -93,11 +89,104 @@ pub fn withdraw(k: usize, d: usize, urn: &mut [u8], juror: usize) -> Result<usiz
 pub fn preview_admit(k: usize, d: usize, urn: &[u8], juror: usize, ballot: &[u8]) -> Result<usize, Refusal> {
     let (bytes, size) = (ballot.as_ptr(), ballot.len());
     // SAFETY: as in `empty`; the urn is read alone.
-    ballots(|answer, length| unsafe { c::jugy_preview_admit(k, d, urn.as_ptr(), urn.len(), juror, bytes, size, answer, length) })
+    ballots(|answer, length| unsafe {
+        c::jugy_preview_admit(k, d, urn.as_ptr(), urn.len(), juror, bytes, size, answer, length)
+    })
 }
 
 /// What `withdraw` would answer.
 pub fn preview_withdraw(k: usize, d: usize, urn: &[u8], juror: usize) -> Result<usize, Refusal> {
     // SAFETY: as in `empty`; the urn is read alone.
     ballots(|answer, length| unsafe { c::jugy_preview_withdraw(k, d, urn.as_ptr(), urn.len(), juror, answer, length) })
+}
+
+/// Runs a list on the ballots in an urn, in chain order: what [`crate::run`] does on these ballots one after
+/// the other. The tape is fresh, secret random bits, never used again; afterwards `wires` is all zero, and
+/// `board` may be published.
+pub fn run(
+    shape: Shape,
+    table: &[u32],
+    urn: &[u8],
+    tape: &[u8],
+    wires: &mut [u8],
+    board: &mut [u8],
+) -> Result<Size, Refusal> {
+    run_by(jugy_run_urn, shape, table, urn, tape, wires, board)
+}
+
+/// An urn that holds its bytes.
+///
+/// ```
+/// use jugyvaros::{GateList, Reason, Shape, Urn};
+///
+/// let mut urn = Urn::new(2, 3, 10)?;
+/// urn.admit(7, &[1, 0, 0, 0, 1, 0])?;
+/// urn.admit(9, &[0, 0, 1, 1, 0, 0])?;
+/// assert_eq!(urn.preview_admit(7, &[1, 0, 0, 0, 1, 0]).unwrap_err().reason, Reason::Juror);
+/// assert_eq!(urn.withdraw(9)?, 1);
+///
+/// let list = GateList::own(Shape::graded(2, 3, urn.ballots()))?;
+/// assert_eq!(list.run_urn(&urn, &list.fresh_tape()?)?.winners(), [0]);
+/// # Ok::<(), Box<dyn std::error::Error>>(())
+/// ```
+#[derive(Clone, Debug, PartialEq, Eq)]
+pub struct Urn {
+    candidates: usize,
+    grades: usize,
+    bytes: Secret<u8>,
+}
+
+impl Urn {
+    /// An empty urn of so many slots, 2 to 256, for so many candidates and grades. One slot is not for a ballot.
+    pub fn new(candidates: usize, grades: usize, slots: usize) -> Result<Urn, Refusal> {
+        // one above each limit is refused as any number above it, so no longer table is needed
+        let mut bytes = Secret::zeros(slots.min(257) * (2 + candidates.min(9) * grades.min(8)));
+        empty(candidates, grades, &mut bytes)?;
+        Ok(Urn { candidates, grades, bytes })
+    }
+
+    /// An urn that was kept as bytes, where it is sound. The bytes are moved here, and emptied with the urn.
+    pub fn from_bytes(candidates: usize, grades: usize, bytes: Vec<u8>) -> Result<Urn, Refusal> {
+        let urn = Urn { candidates, grades, bytes: bytes.into() };
+        match urn.preview_withdraw(0) {
+            // 0 is no juror's number: only a sound urn gets as far as this test
+            Err(Refusal { reason: Reason::Juror, .. }) => Ok(urn),
+            Err(refusal) => Err(refusal),
+            Ok(_) => unreachable!("0 is no juror's number"),
+        }
+    }
+
+    /// Its bytes, the ballots in clear among them.
+    pub fn bytes(&self) -> &[u8] {
+        &self.bytes
+    }
+
+    /// How many ballots are in it.
+    pub fn ballots(&self) -> usize {
+        let next = |slot: &usize| match usize::from(self.bytes[slot * (2 + self.candidates * self.grades)]) {
+            0 => None,
+            slot => Some(slot),
+        };
+        std::iter::successors(next(&0), next).count()
+    }
+
+    /// Admits the ballot of a juror.
+    pub fn admit(&mut self, juror: usize, ballot: &[u8]) -> Result<usize, Refusal> {
+        admit(self.candidates, self.grades, &mut self.bytes, juror, ballot)
+    }
+
+    /// Withdraws the ballot of a juror.
+    pub fn withdraw(&mut self, juror: usize) -> Result<usize, Refusal> {
+        withdraw(self.candidates, self.grades, &mut self.bytes, juror)
+    }
+
+    /// What [`Urn::admit`] would answer. The urn stays as it is.
+    pub fn preview_admit(&self, juror: usize, ballot: &[u8]) -> Result<usize, Refusal> {
+        preview_admit(self.candidates, self.grades, &self.bytes, juror, ballot)
+    }
+
+    /// What [`Urn::withdraw`] would answer. The urn stays as it is.
+    pub fn preview_withdraw(&self, juror: usize) -> Result<usize, Refusal> {
+        preview_withdraw(self.candidates, self.grades, &self.bytes, juror)
+    }
 }

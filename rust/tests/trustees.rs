@@ -1,63 +1,63 @@
 //! A tally by trustees through the wrapper: the sums are the plain count's bytes, and a bad dealing is turned away.
-use jugyvaros::trustees::{deal, tally, Dealing, Tallied};
-use jugyvaros::{count, measure, write, Reason, Refusal, Shape};
+mod common;
 
-const SHAPE: Shape = Shape {
-    candidates: 2,
-    grades: 3,
-    ballots: 3,
-};
-const BALLOTS: [u8; 18] = [1, 0, 0, 0, 1, 0, 0, 1, 0, 0, 1, 0, 0, 1, 0, 0, 0, 1];
-
-/// Bytes that need not be secret, for tests.
-fn bytes(seed: u32) -> impl FnMut() -> u8 {
-    let mut state = seed;
-    move || {
-        state = state.wrapping_mul(1664525).wrapping_add(1013904223);
-        (state >> 24) as u8
-    }
-}
-
-fn tally_of(dealing: &Dealing) -> (Result<Tallied, Refusal>, Vec<u8>, Vec<u8>) {
-    let m = measure(SHAPE).unwrap();
-    let mut table = vec![0; 4 * m.gates];
-    write(SHAPE, &mut table).unwrap();
-    let t = dealing.trustees;
-    let mut wires = vec![9; t * (m.inputs + m.gates)];
-    let mut published = vec![9; t * (2 * m.conditional + SHAPE.candidates)];
-    let said = tally(SHAPE, &table, &BALLOTS, dealing, &mut wires, &mut published);
-    (said, wires, published)
-}
+use common::{ballots, numbers, refusal, BALLOTS, SHAPE};
+use jugyvaros::trustees::{deal, tally, Dealing};
+use jugyvaros::{count, GateList, Reason, Refusal, Shape};
 
 #[test]
 fn sums_are_the_closing_bytes() {
-    let m = measure(SHAPE).unwrap();
-    let plain = count(SHAPE, &BALLOTS).unwrap();
-    for t in 2..=5 {
-        let (said, wires, published) = tally_of(&deal(&BALLOTS, m.conditional, t, bytes(t as u32)));
-        let said = said.unwrap();
-        assert_eq!((said.gates, said.conditional, said.closing), (m.gates, m.conditional, plain));
-        assert!(wires.iter().all(|&byte| byte == 0));
-        assert!(published.iter().all(|&byte| byte < 2));
+    let mut random = numbers(2);
+    for shape in [SHAPE, Shape::ranked(4, 3), Shape::graded(1, 2, 1)] {
+        let list = GateList::own(shape).unwrap();
+        let ballots = ballots(shape, &mut random);
+        let plain = count(shape, &ballots).unwrap();
+        for t in 2..=5 {
+            let dealing = list.deal(&ballots, t).unwrap();
+            let tally = list.tally(&ballots, &dealing).unwrap();
+            assert_eq!(tally.closing(), &plain[..shape.candidates]);
+            let each = 2 * list.conditional() + shape.candidates;
+            assert!((0..t).all(|p| tally.published(p).len() == each && tally.published(p).iter().all(|&bit| bit < 2)));
+            for (i, &byte) in tally.closing().iter().enumerate() {
+                assert_eq!((0..t).fold(0, |sum, p| sum ^ tally.published(p)[2 * list.conditional() + i]), byte);
+            }
+        }
     }
 }
 
 #[test]
-fn bad_dealings() {
-    let m = measure(SHAPE).unwrap();
-    let good = deal(&BALLOTS, m.conditional, 3, bytes(1));
-    let refusal = |dealing: Dealing| {
-        let (said, wires, published) = tally_of(&dealing);
+fn the_wires_are_emptied_and_a_refusal_alters_nothing() {
+    let list = GateList::own(SHAPE).unwrap();
+    let mut random = numbers(1);
+    let good = deal(&BALLOTS, list.conditional(), 3, || random(2) as u8);
+    let wires_length = 3 * (list.inputs() + list.gates());
+    let published_length = 3 * (2 * list.conditional() + 2);
+    let run = |dealing: &Dealing| {
+        let (mut wires, mut published) = (vec![9; wires_length], vec![9; published_length]);
+        let said = tally(SHAPE, list.table(), &BALLOTS, dealing, &mut wires, &mut published);
+        (said, wires, published)
+    };
+    let (said, wires, published) = run(&good);
+    assert_eq!((said.unwrap().gates, said.unwrap().conditional), (list.gates(), list.conditional()));
+    assert!(wires.iter().all(|&byte| byte == 0) && published.iter().all(|&byte| byte < 2));
+    let refused = |dealing: Dealing| -> Refusal {
+        let (said, wires, published) = run(&dealing);
         assert!(wires.iter().chain(&published).all(|&byte| byte == 9));
+        assert_eq!(list.tally(&BALLOTS, &dealing).unwrap_err(), said.unwrap_err());
         said.unwrap_err()
     };
     let mut part = good.clone();
-    part.parts[0] ^= 1;
-    assert_eq!(refusal(part), Refusal { reason: Reason::Dealing, place: 0 });
+    part.ballot_shares[0] ^= 1;
+    assert_eq!(refused(part), refusal(Reason::Dealing));
+    let mut product = good.clone();
+    product.triples[2] ^= 1;
+    assert_eq!(refused(product), refusal(Reason::Dealing));
     let mut short = good.clone();
-    short.dealt.pop();
-    assert_eq!(refusal(short), Refusal { reason: Reason::PartTables, place: 0 });
-    let mut alone = good;
-    alone.trustees = 1;
-    assert_eq!(refusal(alone), Refusal { reason: Reason::Trustees, place: 0 });
+    short.triples = good.triples[1..].to_vec().into();
+    assert_eq!(refused(short), refusal(Reason::PartTables));
+    for trustees in [0, 1, 6, usize::MAX] {
+        assert_eq!(refused(Dealing { trustees, ..good.clone() }), refusal(Reason::Trustees));
+        let dealing = list.deal(&BALLOTS, trustees).unwrap();
+        assert_eq!(list.tally(&BALLOTS, &dealing).unwrap_err(), refusal(Reason::Trustees));
+    }
 }

@@ -1,90 +1,168 @@
-/* The run for 64 juries on heap buffers of exactly the lent length, for valgrind: random lists and juries of small shapes, each
- * jury compared with its single run; and calls with a length one off, after which nothing may be altered. */
+/* The run for 64 juries on heap buffers of exactly the lent length, for valgrind: random lists, graded and ranked,
+ * good and with up to two faults. Each jury of an accepted call is compared with the reference's single run, a
+ * refusal's reason and place with the reference's tests of the juries one by one, and what it was lent with its
+ * copy. */
 #include "../../c/jugyvaros.h"
-#include "kinds.h"
-#include "lent.h"
-#include <stdio.h>
+#include "random_jury.h"
+#include "seen.h"
 
-static uint64_t any_word(void) {
-    uint64_t word = 0;
-    for (int i = 0; i < 4; i++)
-        word = word << 16 | below(65536);
-    return word;
-}
+enum { JURIES = 64 };
+enum { BALLOTS, TAPE, WIRES, BOARD, TABLES };
 
 static void fail(const char *why) {
     printf("batch_test: %s\n", why);
     exit(1);
 }
 
-static uint64_t *words(size_t count) {
-    uint64_t *p = lent(8 * count);
+/* What is lent to one call. */
+struct call {
+    size_t k, d, n, table_length, lengths[TABLES], answer_length;
+    uint32_t *table;
+    uint64_t *tables[TABLES];
+};
+
+static uint64_t *any_words(size_t count) {
+    uint64_t *words = lent(8 * count);
     for (size_t i = 0; i < count; i++)
-        p[i] = any_word();
-    return p;
+        for (int j = 0; j < 4; j++)
+            words[i] = words[i] << 16 | below(65536);
+    return words;
 }
 
-static uint8_t *lane(const uint64_t *p, size_t count, int j) {
-    uint8_t *bytes = lent(count);
-    for (size_t i = 0; i < count; i++)
-        bytes[i] = p[i] >> j & 1;
+static struct call good_call(void) {
+    struct call c = {
+        .k = 1 + below(3), .d = below(3) ? 2 + below(3) : 0, .n = 1 + below(3), .answer_length = JUGY_RUN_ANSWER};
+    size_t inputs = ballot_bytes(c.k, c.d, c.n), gates = c.k + below(30);
+    c.table_length = 4 * gates, c.table = lent(16 * gates);
+    random_list(c.table, inputs, gates);
+    size_t marks = marks_in(c.table, gates), lengths[TABLES] = {inputs, marks, inputs + gates, marks + c.k};
+    memcpy(c.lengths, lengths, sizeof lengths);
+    uint8_t *jury = lent(inputs);
+    c.tables[BALLOTS] = filled(8 * inputs, 0);
+    for (int j = 0; j < JURIES; j++) {
+        random_ballots(jury, c.k, c.d, c.n);
+        for (size_t i = 0; i < inputs; i++)
+            c.tables[BALLOTS][i] |= (uint64_t)jury[i] << j;
+    }
+    for (int i = TAPE; i < TABLES; i++)
+        c.tables[i] = any_words(c.lengths[i]);
+    free(jury);
+    return c;
+}
+
+/* The first ballot of a jury says that 0 is before 1, and no more. */
+static void put_gap(uint64_t *ballots, size_t k, uint64_t jury) {
+    for (size_t i = 0; i < k * k; i++)
+        ballots[i] &= ~jury;
+    ballots[1] |= jury;
+}
+
+static void damage(struct call *c) {
+    int i = (int)below(TABLES);
+    switch (below(6)) {
+    case 0: c->n = below(2) ? 0 : 256; break;
+    case 1: c->table_length -= 1 + below(3); break;
+    case 2: c->table[4 * below((uint32_t)(c->table_length / 4))] = 8; break;
+    case 3:
+        free(c->tables[i]);
+        c->lengths[i] += c->lengths[i] && below(2) ? (size_t)-1 : 1;
+        c->tables[i] = any_words(c->lengths[i]);
+        break;
+    case 4:
+        if (can_have_gap(c->k, c->d, c->lengths[BALLOTS]) && below(2))
+            put_gap(c->tables[BALLOTS], c->k, (uint64_t)1 << below(JURIES));
+        else if (c->lengths[BALLOTS])
+            c->tables[BALLOTS][below((uint32_t)c->lengths[BALLOTS])] ^= (uint64_t)1 << below(JURIES);
+        break;
+    default: c->answer_length = below(JUGY_RUN_ANSWER); break;
+    }
+}
+
+/* The bytes of jury j. */
+static uint8_t *lane(const struct call *c, int table, int j) {
+    uint8_t *bytes = lent(c->lengths[table]);
+    for (size_t i = 0; i < c->lengths[table]; i++)
+        bytes[i] = c->tables[table][i] >> j & 1;
     return bytes;
 }
 
-static void one_jury(const size_t *shape, const uint32_t *table, size_t gates, size_t marks, const uint64_t *ballots, size_t inputs,
-                     const uint64_t *tape, const uint64_t *board, int j) {
-    size_t said[JUGY_RUN_ANSWER];
-    uint8_t *bytes = lane(ballots, inputs, j), *bits = lane(tape, marks, j);
-    uint8_t *wires = lent(inputs + gates), *single = lent(marks + shape[0]), *seen = lane(board, marks + shape[0], j);
-    if (jugy_run(shape[0], shape[1], shape[2], table, 4 * gates, bytes, inputs, bits, marks, wires, inputs + gates, single, marks + shape[0], said, JUGY_RUN_ANSWER))
-        fail("a single run is refused");
-    if (memcmp(single, seen, marks + shape[0]))
-        fail("a jury differs from its single run");
-    free(bytes), free(bits), free(wires), free(single), free(seen);
+/* The first reason in checking order over all juries, and the first jury that has it. */
+static struct said first_fault(const struct call *c) {
+    struct said first = {0, 0, 0, 0, {0}};
+    for (int j = 0; j < JURIES; j++) {
+        uint8_t *ballots = lane(c, BALLOTS, j);
+        size_t reason = reference_count(c->k, c->d, c->n, ballots, c->lengths[BALLOTS]).reason;
+        if (reason && (!first.reason || reason < first.reason))
+            first.reason = reason, first.place = reason == 4 ? 0 : (size_t)j;
+        free(ballots);
+    }
+    return first;
 }
 
-static void one_call(int off) {
-    size_t shape[3] = {1 + below(3), 2 + below(3), 1 + below(3)}, answer[JUGY_RUN_ANSWER];
-    size_t k = shape[0], d = shape[1], inputs = shape[2] * k * d, gates = k + below(30), marks = 0;
-    uint32_t *table = lent(16 * gates);
-    for (size_t g = 0; g < gates; g++) {
-        uint32_t kind = below(8);
-        marks += kind_conditional[kind];
-        table[4 * g] = kind;
-        for (uint32_t i = 0; i < 3; i++)
-            table[4 * g + 1 + i] = i < kind_operands[kind] ? below((uint32_t)(inputs + g)) : 0;
+static struct said expected(const struct call *c) {
+    struct said s = reference_test(c->k, c->d, c->n, c->table, c->table_length);
+    if (s.reason)
+        return s;
+    struct said fault = first_fault(c);
+    size_t inputs = ballot_bytes(c->k, c->d, c->n);
+    if (fault.reason)
+        return fault;
+    size_t reason = c->lengths[TAPE] != s.conditional           ? JUGY_TAPE_LENGTH
+                    : c->lengths[WIRES] != inputs + s.gates     ? JUGY_WIRES_LENGTH
+                    : c->lengths[BOARD] != s.conditional + c->k ? JUGY_BOARD_LENGTH
+                                                                : JUGY_ACCEPTED;
+    return reason ? (struct said){reason, 0, 0, 0, {0}} : s;
+}
+
+/* Puts the reference's single runs in the place of wires and board. */
+static void run_juries(struct call *c) {
+    memset(c->tables[WIRES], 0, 8 * c->lengths[WIRES]);
+    memset(c->tables[BOARD], 0, 8 * c->lengths[BOARD]);
+    for (int j = 0; j < JURIES; j++) {
+        uint8_t *ballots = lane(c, BALLOTS, j), *tape = lane(c, TAPE, j);
+        uint8_t *wires = lent(c->lengths[WIRES]), *board = lent(c->lengths[BOARD]);
+        if (reference_run(c->k, c->d, c->n, c->table, c->table_length, ballots, c->lengths[BALLOTS], tape,
+                          c->lengths[TAPE], wires, c->lengths[WIRES], board, c->lengths[BOARD])
+                .reason)
+            fail("a single run is refused");
+        for (size_t i = 0; i < c->lengths[BOARD]; i++)
+            c->tables[BOARD][i] |= (uint64_t)board[i] << j;
+        free(ballots), free(tape), free(wires), free(board);
     }
-    uint64_t *ballots = filled(8 * (inputs + (off == 1)), 0);
-    for (int j = 0; j < 64; j++)
-        for (size_t row = 0; row < inputs; row += d)
-            ballots[row + below((uint32_t)d)] |= (uint64_t)1 << j;
-    size_t lengths[4] = {inputs + (off == 1), marks + (off == 2), inputs + gates + (off == 3), marks + k + (off == 4)};
-    uint64_t *tape = words(lengths[1]), *wires = words(lengths[2]), *board = words(lengths[3]);
-    uint64_t *old_wires = copy_of(wires, 8 * lengths[2]), *old_board = copy_of(board, 8 * lengths[3]);
-    size_t status = jugy_run_batch(k, d, shape[2], table, 4 * gates, ballots, lengths[0], tape, lengths[1], wires, lengths[2], board, lengths[3], answer, JUGY_RUN_ANSWER);
-    static const size_t expected[] = {JUGY_ACCEPTED, JUGY_BALLOTS_LENGTH, JUGY_TAPE_LENGTH, JUGY_WIRES_LENGTH, JUGY_BOARD_LENGTH};
-    if (status != expected[off] || answer[0] != status || answer[1] != 0)
-        fail("another answer");
-    if (off) {
-        if (memcmp(old_wires, wires, lengths[2] * 8) || memcmp(old_board, board, lengths[3] * 8))
-            fail("a refusal alters");
+}
+
+static void one_call(size_t faults) {
+    struct call c = good_call();
+    for (; faults; faults--)
+        damage(&c);
+    uint64_t *wires = copy_of(c.tables[WIRES], 8 * c.lengths[WIRES]),
+             *board = copy_of(c.tables[BOARD], 8 * c.lengths[BOARD]);
+    size_t size = c.answer_length * sizeof(size_t), *answer = filled(size, 9), *old = copy_of(answer, size);
+    size_t status = seen(jugy_run_batch(c.k, c.d, c.n, c.table, c.table_length, c.tables[BALLOTS], c.lengths[BALLOTS],
+                                        c.tables[TAPE], c.lengths[TAPE], wires, c.lengths[WIRES], board,
+                                        c.lengths[BOARD], answer, c.answer_length));
+    if (c.answer_length < JUGY_RUN_ANSWER) {
+        if (status != JUGY_SHORT_ANSWER || memcmp(answer, old, size))
+            fail("a short answer array");
     } else {
-        if (answer[2] != gates || answer[3] != marks)
-            fail("another G or C");
-        for (size_t i = 0; i < lengths[2]; i++)
-            if (wires[i])
-                fail("the wire table is not empty");
-        for (int j = 0; j < 64; j++)
-            one_jury(shape, table, gates, marks, ballots, inputs, tape, board, j);
+        struct said s = expected(&c);
+        size_t right[JUGY_RUN_ANSWER] = {s.reason, s.place, s.gates, s.conditional};
+        if (status != s.reason || memcmp(right, answer, size))
+            fail("another answer");
     }
-    free(table), free(ballots), free(tape), free(wires), free(board), free(old_wires), free(old_board);
+    if (!status)
+        run_juries(&c);
+    if (memcmp(wires, c.tables[WIRES], 8 * c.lengths[WIRES]) || memcmp(board, c.tables[BOARD], 8 * c.lengths[BOARD]))
+        fail(status ? "a refusal alters" : "a jury differs from its single run, or a wire is left");
+    for (int i = 0; i < TABLES; i++)
+        free(c.tables[i]);
+    free(c.table), free(wires), free(board), free(answer), free(old);
 }
 
 int main(int count, char **arguments) {
-    int rounds = count > 1 ? atoi(arguments[1]) : 20;
+    int rounds = count > 1 ? atoi(arguments[1]) : 400;
     for (int r = 0; r < rounds; r++)
-        for (int off = 0; off < 5; off++)
-            one_call(off);
-    printf("batch_test: ok\n");
+        one_call(r % 4 ? r % 3 : 0);
+    ALL_SEEN("batch_test", 0, 1, 2, 3, 4, 6, 7, 9, 10, 11, 12, JUGY_SHORT_ANSWER);
     return 0;
 }

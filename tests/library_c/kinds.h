@@ -1,5 +1,5 @@
-/* The table of the eight kinds of gates, once for all programs in C beside the core: how many operands a kind uses, and
- * whether its gates are conditional. tests/document01.py has it for Python. */
+/* The table of the eight kinds of gates, once for all programs in C beside the core: how many operands a kind uses,
+ * and whether its gates are conditional. The reference in Python has its own. */
 #ifndef KINDS_H
 #define KINDS_H
 

@@ -1,17 +1,15 @@
 /* The five exported functions against the reference, on exact-size heap buffers.
  *   library_test edges          each entry point, accepted and for each reason
  *   library_test shapes         each shape there is: measured, its list written, tested, and run on a jury
- *   library_test random N SEED  N random juries, each with calls of every kind, good and damaged, of right and wrong lengths
- * It prints how many calls it compared, and ends with 1 at the first that differs. */
+ *   library_test random N SEED  N random juries, each with calls of every kind, good and damaged, of right and wrong
+ *                               lengths
+ * It prints how many calls it compared, and ends with 1 at the first that differs or where a reason never came. */
 #include "../../c/jugyvaros.h"
 #include "kinds.h"
 #include "reference.h"
-#include <stdio.h>
-#include <stdlib.h>
+#include "seen.h"
 #include <string.h>
 
-enum { LAST_REASON = 12 };
-static size_t calls, accepted_calls, short_answers, reasons[LAST_REASON + 1];
 static const char *what = "";
 
 #define CHECK(test)                                                                                                  \
@@ -52,24 +50,21 @@ static int same(const void *a, const void *b, size_t bytes) { return bytes == 0 
 
 /* ---- one call each: the answer array, exact, too short or longer, and everything lent, against the reference */
 
-/* A status and an answer array against what should have been said in `needed` numbers, `rest` being those from 2 on. */
+/* A status and an answer array against what should have been said in `needed` numbers, `rest` being those from 2
+ * on. */
 static void compare(struct said s, const size_t *rest, size_t needed, size_t status, const size_t *answer,
                     const size_t *before, size_t length) {
-    calls++;
+    seen(status);
     if (length < needed) {
         CHECK(status == JUGY_SHORT_ANSWER);
         CHECK(same(answer, before, length * sizeof *answer));
-        short_answers++;
         return;
     }
-    CHECK(s.reason <= LAST_REASON);
     CHECK(status == s.reason);
     CHECK(answer[0] == s.reason && answer[1] == s.place);
     for (size_t i = 2; i < needed; i++)
         CHECK(answer[i] == (s.reason && needed < 10 ? 0 : rest[i - 2]));
     CHECK(same(answer + needed, before + needed, (length - needed) * sizeof *answer));
-    reasons[s.reason]++;
-    accepted_calls += s.reason == 0;
 }
 
 /* The length of an answer array: mostly what is needed, else shorter or longer. */
@@ -91,46 +86,46 @@ static struct said call_test(size_t k, size_t d, size_t n, const uint32_t *list,
     return s;
 }
 
-static struct said call_count(size_t k, size_t d, size_t n, const uint8_t *bytes, size_t length, size_t al) {
+static struct said call_count(size_t k, size_t d, size_t n, const uint8_t *ballots, size_t length, size_t al) {
     what = "count";
-    uint8_t *ballots = copy(bytes, length);
+    uint8_t *lent = copy(ballots, length);
     size_t *answer = take(al * sizeof *answer), *before = copy(answer, al * sizeof *answer);
-    size_t status = jugy_count(k, d, n, ballots, length, answer, al);
-    struct said s = reference_count(k, d, n, bytes, length);
+    size_t status = jugy_count(k, d, n, lent, length, answer, al);
+    struct said s = reference_count(k, d, n, ballots, length);
     size_t rest[8];
     for (int i = 0; i < 8; i++)
         rest[i] = s.closing[i];
     compare(s, rest, 10, status, answer, before, al);
-    CHECK(same(ballots, bytes, length));
-    free(ballots), free(answer), free(before);
+    CHECK(same(lent, ballots, length));
+    free(lent), free(answer), free(before);
     return s;
 }
 
-static struct said call_run(size_t k, size_t d, size_t n, const uint32_t *list, size_t length, const uint8_t *bytes,
-                            size_t bytes_length, const uint8_t *masks, size_t tape_length, size_t wires_length,
+static struct said call_run(size_t k, size_t d, size_t n, const uint32_t *list, size_t length, const uint8_t *ballots,
+                            size_t ballots_length, const uint8_t *masks, size_t tape_length, size_t wires_length,
                             size_t board_length, size_t al, uint8_t *closing) {
     what = "run";
     uint32_t *table = copy(list, length * 4);
-    uint8_t *ballots = copy(bytes, bytes_length), *tape = copy(masks, tape_length);
+    uint8_t *lent = copy(ballots, ballots_length), *tape = copy(masks, tape_length);
     uint8_t *wires = take(wires_length), *board = take(board_length);
     uint8_t *expected_wires = copy(wires, wires_length), *expected_board = copy(board, board_length);
     size_t *answer = take(al * sizeof *answer), *before = copy(answer, al * sizeof *answer);
-    size_t status = jugy_run(k, d, n, table, length, ballots, bytes_length, tape, tape_length, wires, wires_length, board,
+    size_t status = jugy_run(k, d, n, table, length, lent, ballots_length, tape, tape_length, wires, wires_length, board,
                              board_length, answer, al);
     struct said s;
     if (al < 4)
         s = (struct said){JUGY_SHORT_ANSWER, 0, 0, 0, {0}};
     else /* it leaves the expected wires and board as they were where it refuses */
-        s = reference_run(k, d, n, list, length, bytes, bytes_length, masks, tape_length, expected_wires, wires_length,
+        s = reference_run(k, d, n, list, length, ballots, ballots_length, masks, tape_length, expected_wires, wires_length,
                           expected_board, board_length);
     size_t rest[2] = {s.gates, s.conditional};
     compare(s, rest, 4, status, answer, before, al);
     CHECK(same(wires, expected_wires, wires_length));
     CHECK(same(board, expected_board, board_length));
-    CHECK(same(table, list, length * 4) && same(ballots, bytes, bytes_length) && same(tape, masks, tape_length));
+    CHECK(same(table, list, length * 4) && same(lent, ballots, ballots_length) && same(tape, masks, tape_length));
     if (closing && s.reason == 0)
         memcpy(closing, board + board_length - k, k);
-    free(table), free(ballots), free(tape), free(wires), free(board), free(expected_wires), free(expected_board);
+    free(table), free(lent), free(tape), free(wires), free(board), free(expected_wires), free(expected_board);
     free(answer), free(before);
     return s;
 }
@@ -152,7 +147,8 @@ static struct said call_measure(size_t k, size_t d, size_t n, size_t al) {
 }
 
 /* Writes the own list into a table of some length over noise. The list itself is left to the core: it is held to the
- * measure, to the bound, to the tester, and by the callers to the rule. Returns the table where the call is accepted. */
+ * measure, to the bound, to the tester, and by the callers to the rule. Returns the table where the call is
+ * accepted. */
 static uint32_t *call_write(size_t k, size_t d, size_t n, size_t length, struct said measured, size_t al) {
     what = "write";
     uint32_t *table = take(length * 4), *before_table = copy(table, length * 4);
@@ -211,8 +207,8 @@ static void fill_tape(uint8_t *t, size_t length) {
         t[i] = (uint8_t)draw(2);
 }
 
-/* A stranger's list of `gates` gates that the tester accepts. */
-static uint32_t *stranger(size_t inputs, size_t gates) {
+/* A random list of `gates` gates that the tester accepts. */
+static uint32_t *random_list(size_t inputs, size_t gates) {
     uint32_t *t = malloc(gates * 16);
     CHECK(t != NULL);
     for (size_t g = 0; g < gates; g++) {
@@ -240,7 +236,7 @@ static size_t near(size_t length) {
 /* One run of a list on ballots, with up to two things damaged. */
 static void damaged_run(size_t k, size_t d, size_t n, const uint32_t *list, size_t gates) {
     size_t inputs = ballot_bytes(k, d, n), conditional = count_marks(list, gates), length = 4 * gates;
-    size_t bytes_length = inputs, tape_length = conditional, wires_length = inputs + gates, board_length = conditional + k;
+    size_t ballots_length = inputs, tape_length = conditional, wires_length = inputs + gates, board_length = conditional + k;
     size_t al = answer_length(4);
     uint32_t *t = malloc((length + 16) * 4);
     uint8_t *b = malloc(inputs + 16), *m = malloc(conditional + 16);
@@ -259,7 +255,7 @@ static void damaged_run(size_t k, size_t d, size_t n, const uint32_t *list, size
         case 3: t[4 * g] = (uint32_t)draw(4), t[4 * g + 3] = 1; break;
         case 4: length = near(4 * gates) > 4 * gates + 16 ? 4 * gates : near(4 * gates); break;
         case 5: length = 4 * draw(k + 1) > 4 * gates ? 4 * gates : 4 * (k - 1 < gates ? k - 1 : gates); break;
-        case 6: bytes_length = near(inputs); break;
+        case 6: ballots_length = near(inputs); break;
         case 7: b[draw(inputs)] = (uint8_t)(2 + draw(254)); break;
         case 8: memset(b + draw(inputs), 0, 1 + draw(8)); break;
         case 9: b[draw(inputs)] ^= 1; break;
@@ -270,16 +266,16 @@ static void damaged_run(size_t k, size_t d, size_t n, const uint32_t *list, size
         }
         if (length > 4 * gates + 16)
             length = 4 * gates;
-        if (bytes_length > inputs + 16)
-            bytes_length = inputs;
+        if (ballots_length > inputs + 16)
+            ballots_length = inputs;
         if (tape_length > conditional + 16)
             tape_length = conditional;
     }
     /* now and then a shape that is not this list's */
     size_t k2 = draw(12) ? k : draw(10), d2 = draw(12) ? d : draw(9), n2 = draw(12) ? n : draw(258);
     call_test(k2, d2, n2, t, length, answer_length(4));
-    call_count(k2, d2, n2, b, bytes_length, answer_length(10));
-    call_run(k2, d2, n2, t, length, b, bytes_length, m, tape_length, wires_length, board_length, al, NULL);
+    call_count(k2, d2, n2, b, ballots_length, answer_length(10));
+    call_run(k2, d2, n2, t, length, b, ballots_length, m, tape_length, wires_length, board_length, al, NULL);
     free(t), free(b), free(m);
 }
 
@@ -458,7 +454,7 @@ static void random_juries(size_t juries) {
         free(list);
         for (int j = 0; j < 4; j++) {
             size_t gates = k + draw(draw(10) ? 60 : 2000);
-            uint32_t *other = stranger(ballot_bytes(k, d, n), gates);
+            uint32_t *other = random_list(ballot_bytes(k, d, n), gates);
             good_run(k, d, n, other, gates, 0);
             damaged_run(k, d, n, other, gates);
             damaged_run(k, d, n, other, gates);
@@ -481,9 +477,9 @@ int main(int argc, char **argv) {
         printf("library_test: edges, shapes, or random N SEED\n");
         return 2;
     }
-    printf("library_test %s: %zu calls agree, %zu accepted, refused for reasons 1 to %d:", argv[1], calls, accepted_calls, LAST_REASON);
-    for (int r = 1; r <= LAST_REASON; r++)
-        printf(" %zu", reasons[r]);
-    printf(", short answers: %zu\n", short_answers);
+    if (strcmp(argv[1], "shapes") == 0)
+        ALL_SEEN("library_test shapes", 0);
+    else
+        ALL_SEEN("library_test", 0, 1, 2, 3, 4, 5, 6, 7, 8, 9, 10, 11, 12, JUGY_SHORT_ANSWER);
     return 0;
 }

@@ -1,5 +1,5 @@
-/* The requirements in C, written apart from the core: what an entry point must answer, and what it must leave. Written for
- * plainness. `struct said` holds such an answer; closing bytes only for a count. */
+/* The requirements in C, written apart from the core: what an entry point must answer, and what it must leave.
+ * Written for plainness. `struct said` holds such an answer; closing bytes only for a count. */
 #ifndef REFERENCE_H
 #define REFERENCE_H
 

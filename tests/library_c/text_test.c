@@ -6,16 +6,13 @@
 #include "../../c/jugyvaros.h"
 #include "kinds.h"
 #include "reference.h"
+#include "seen.h"
 #include "text_reference.h"
-#include <stdio.h>
-#include <stdlib.h>
 #include <string.h>
 
 struct shape {
     size_t k, d, n;
 };
-
-static unsigned long calls;
 
 static void fail(const char *what, const uint8_t *text, size_t length) {
     fprintf(stderr, "text_test: %s differs at a text of %zu characters: ", what, length);
@@ -31,12 +28,11 @@ static struct text_said read_both(struct shape s, const uint8_t *text, size_t le
     memset(output, 0xa5, 4 * room);
     memset(expected, 0xa5, 4 * room);
     size_t answer[3] = {7, 7, 7};
-    size_t status = jugy_read_text(s.k, s.d, s.n, lent, length, output, room, answer, 3);
+    size_t status = seen(jugy_read_text(s.k, s.d, s.n, lent, length, output, room, answer, 3));
     struct text_said is = {answer[0], answer[1], answer[2]};
     struct text_said to_be = reference_read_text(s.k, s.d, s.n, text, length, expected, room);
     if (status != is.reason || memcmp(&is, &to_be, sizeof is) || memcmp(output, expected, 4 * room))
         fail("reading", text, length);
-    calls++;
     free(lent);
     free(output);
     free(expected);
@@ -51,14 +47,13 @@ static struct text_said write_both(struct shape s, const uint32_t *table, size_t
     memset(output, 0xa5, room);
     memset(expected, 0xa5, room);
     size_t answer[3] = {7, 7, 7};
-    size_t status = jugy_write_text(s.k, s.d, s.n, lent, length, output, room, answer, 3);
+    size_t status = seen(jugy_write_text(s.k, s.d, s.n, lent, length, output, room, answer, 3));
     struct text_said is = {answer[0], answer[1], answer[2]};
     struct text_said to_be = reference_write_text(s.k, s.d, s.n, table, length, expected, room);
     if (status != is.reason || memcmp(&is, &to_be, sizeof is) || memcmp(output, expected, room))
         fail("writing", output, room < 200 ? room : 200);
     if (!is.reason && text)
         memcpy(text, output, is.length);
-    calls++;
     free(lent);
     free(output);
     free(expected);
@@ -100,8 +95,8 @@ static void edits(size_t rounds, uint64_t seed) {
     static uint8_t text[4096];
     state = seed * 2654435761u + 88172645463325252u;
     for (size_t round = 0; round < rounds; round++) {
-        struct shape s = {1 + below(8), 2 + below(6), 1 + below(255)};
-        size_t gates = s.k + below(30), inputs = s.k * s.d * s.n;
+        struct shape s = {1 + below(8), below(4) ? 2 + below(6) : 0, 1 + below(255)};
+        size_t gates = s.k + below(30), inputs = ballot_bytes(s.k, s.d, s.n);
         for (size_t g = 0; g < gates; g++) {
             uint32_t *gate = table + 4 * g;
             gate[0] = (uint32_t)below(8);
@@ -136,16 +131,16 @@ static void edits(size_t rounds, uint64_t seed) {
     }
 }
 
-static void faults(void) {
-    /* a part that shows each reason, put together in all pairs: shape, lines, form, gate, room */
+/* A part that shows each reason, put together in all ways: shape, lines, form, gate, room; graded and ranked. */
+static void read_faults(size_t grades) {
     static const char *bad_forms[] = {"",    " 0",  "0 ",       "00",         "01",          "2  0",       "2 01",  "2",     "2 0 0",
                                       "0 0", "8",   "+0",       "-1",         "2\t0",        "0\r",        "2 0 ",  "x",     "4 0",
                                       "7 0 0", "2 4294967296", "2 99999999999999999999999999999999999999999999999999"};
     for (int mask = 0; mask < 16; mask++)
         for (size_t f = 0; f < sizeof bad_forms / sizeof *bad_forms; f++) {
-            struct shape s = {mask & 1 ? 9 : 2, 2, 1};
+            struct shape s = {mask & 1 ? 9 : 2, grades, 1};
             char text[256] = "";
-            strcat(text, mask & 8 ? "2 4\n" : "2 3\n"); /* wire 4 is the gate's own */
+            strcat(text, mask & 8 ? "2 4\n" : "2 3\n"); /* wire 4 is the gate's own, of grades as of ranks */
             if (!(mask & 2)) {
                 strcat(text, mask & 4 ? bad_forms[f] : "0");
                 strcat(text, "\n");
@@ -153,6 +148,34 @@ static void faults(void) {
             for (size_t room = 0; room <= 9; room++)
                 read_both(s, (const uint8_t *)text, strlen(text), room);
         }
+}
+
+/* The same of writing: shape, length of the table, gate, room. */
+static void write_faults(size_t grades) {
+    static const uint32_t second[][4] = {{3, 4, 0, 0}, {8, 0, 0, 0}, {2, 5, 0, 0}, {3, 4, 1, 0}, {7, 1, 2, 4}, {2, 4294967295u, 0, 0}};
+    for (size_t g = 0; g < sizeof second / sizeof *second; g++)
+        for (size_t k = 2; k <= 9; k += 7)
+            for (size_t length = 0; length <= 12; length++)
+                for (size_t room = 0; room <= 16; room++) {
+                    uint32_t table[12] = {2, 3, 0, 0};
+                    memcpy(table + 4, second[g], sizeof second[g]);
+                    write_both((struct shape){k, grades, 1}, table, length, room, NULL);
+                }
+}
+
+static void expect_read(const char *text, size_t reason) {
+    if (read_both((struct shape){1, 2, 1}, (const uint8_t *)text, strlen(text), 4).reason != reason)
+        fail("a reason", (const uint8_t *)text, strlen(text));
+}
+
+static void faults(void) {
+    for (size_t grades = 0; grades <= 2; grades += 2) {
+        read_faults(grades);
+        write_faults(grades);
+    }
+    expect_read("2 1\n", 0);
+    expect_read("2 4294967295\n", JUGY_GATE);
+    expect_read("2 4294967296\n", JUGY_LINE);
     static const char *open_lines[] = {"0", "x", "2 0", "0\n0", "2 0\n2", "0\n0\n0", "\n\n", "", "\n", "0\n\n"};
     for (size_t i = 0; i < sizeof open_lines / sizeof *open_lines; i++)
         for (size_t k = 1; k <= 3; k++) {
@@ -170,8 +193,9 @@ static void faults(void) {
     size_t answer[3] = {1, 2, 3};
     uint32_t numbers[4] = {5, 5, 5, 5};
     uint8_t characters[4] = {5, 5, 5, 5};
-    if (jugy_read_text(1, 2, 1, (const uint8_t *)"0\n", 2, numbers, 4, answer, 2) != JUGY_SHORT_ANSWER || numbers[0] != 5 ||
-        jugy_write_text(1, 2, 1, numbers, 4, characters, 4, answer, 2) != JUGY_SHORT_ANSWER || characters[0] != 5 || answer[0] != 1)
+    size_t read = seen(jugy_read_text(1, 2, 1, (const uint8_t *)"0\n", 2, numbers, 4, answer, 2));
+    size_t wrote = seen(jugy_write_text(1, 2, 1, numbers, 4, characters, 4, answer, 2));
+    if (read != JUGY_SHORT_ANSWER || wrote != read || numbers[0] != 5 || characters[0] != 5 || answer[0] != 1)
         fail("a short answer array", characters, 0);
 }
 
@@ -196,16 +220,22 @@ static void longest(void) {
 }
 
 int main(int argc, char **argv) {
-    if (argc == 3 && !strcmp(argv[1], "short"))
+    if (argc == 3 && !strcmp(argv[1], "short")) {
         short_texts((size_t)atoi(argv[2]));
-    else if (argc == 4 && !strcmp(argv[1], "edits"))
+        if (atoi(argv[2]) > 3)
+            ALL_SEEN("text_test short", 0, 2, 3, 23);
+        else
+            ALL_SEEN("text_test short", 0, 2, 23);
+    } else if (argc == 4 && !strcmp(argv[1], "edits")) {
         edits((size_t)atoi(argv[2]), (uint64_t)atoi(argv[3]));
-    else if (argc == 2 && !strcmp(argv[1], "faults"))
+        ALL_SEEN("text_test edits", 0, 2, 3, 23, 24);
+    } else if (argc == 2 && !strcmp(argv[1], "faults")) {
         faults();
-    else if (argc == 2 && !strcmp(argv[1], "long"))
+        ALL_SEEN("text_test faults", 0, 1, 2, 3, 23, 24, JUGY_SHORT_ANSWER);
+    } else if (argc == 2 && !strcmp(argv[1], "long")) {
         longest();
-    else
+        ALL_SEEN("text_test long", 0, 2);
+    } else
         return 2;
-    printf("text_test %s: %lu calls\n", argv[1], calls);
     return 0;
 }

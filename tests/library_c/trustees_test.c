@@ -1,64 +1,147 @@
-/* The trustees' tally on heap buffers of exactly the lent length, for valgrind: random dealings of own lists and damaged ones. The sums are
- * compared with the plain count, published bits with a reference that adds up all parts, and a refusal's tables with their copies. */
+/* The trustees' tally on heap buffers of exactly the lent length, for valgrind: own lists and random ones, graded and
+ * ranked, good and with up to two faults. Status, answer, wire parts and every published bit are compared with the
+ * reference, and the sums of own lists with the plain count. */
 #include "../../c/jugyvaros.h"
 #include "dealing.h"
-#include <stdio.h>
+#include "random_jury.h"
+#include "seen.h"
+#include "trustees_reference.h"
+
+enum { PARTS, DEALT, WIRES, PUBLISHED, TABLES };
 
 static void fail(const char *what) {
     printf("trustees_test: %s\n", what);
     exit(1);
 }
 
-static void one_call(size_t k, size_t d, size_t n, size_t t, int damage) {
-    size_t measured[JUGY_MEASURE_ANSWER], counted[JUGY_COUNT_ANSWER], said[JUGY_TRUSTEES_ANSWER];
-    jugy_measure(k, d, n, measured, JUGY_MEASURE_ANSWER);
-    size_t G = measured[2], C = measured[3], I = measured[4];
-    uint32_t *table = lent(16 * G);
-    jugy_write(k, d, n, table, 4 * G, said, JUGY_TRUSTEES_ANSWER);
-    uint8_t *ballots = filled(I, 0);
-    for (size_t row = 0; row < n * k; row++)
-        ballots[row * d + below((uint32_t)d)] = 1;
-    size_t lengths[4] = {t * I, t * 3 * C, t * (I + G), t * (2 * C + k)};
-    uint8_t *parts = lent(lengths[0]), *dealt = lent(lengths[1]);
-    deal(t, ballots, I, C, parts, dealt);
-    size_t expected = 0;
-    if (damage == 1 && (expected = JUGY_DEALING))
-        parts[below((uint32_t)lengths[0])] ^= (uint8_t)(1 + below(3));
-    if (damage == 2 && C > 0 && (expected = JUGY_DEALING))
-        dealt[3 * below((uint32_t)(lengths[1] / 3)) + 2] ^= (uint8_t)(1 + below(3));
-    if (damage == 3 && (expected = JUGY_PART_TABLES))
-        lengths[2 + below(2)] -= 1;
-    uint8_t *wires = filled(lengths[2], 7), *published = filled(lengths[3], 7);
-    size_t status = jugy_trustees(k, d, n, table, 4 * G, ballots, I, t, parts, lengths[0], dealt, lengths[1], wires, lengths[2], published,
-                                  lengths[3], said, JUGY_TRUSTEES_ANSWER);
-    if (status != expected || said[0] != expected)
-        fail("another status");
-    for (size_t x = 0; x < lengths[2]; x++)
-        if (wires[x] != (expected ? 7 : 0))
-            fail("wire parts are left, or a refusal alters them");
-    if (expected) {
-        for (size_t x = 0; x < lengths[3]; x++)
-            if (published[x] != 7)
-                fail("a refusal alters what is published");
-    } else {
-        jugy_count(k, d, n, ballots, I, counted, JUGY_COUNT_ANSWER);
-        if (said[2] != G || said[3] != C || memcmp(said + 4, counted + 2, 8 * sizeof(size_t)))
-            fail("the sums are not the closing bytes");
-        for (size_t j = 0; j < k; j++) {
-            uint8_t sum = 0;
-            for (size_t p = 0; p < t; p++)
-                sum ^= published[p * (2 * C + k) + 2 * C + j];
-            if (sum != counted[2 + j])
-                fail("the published closing bits do not add up");
-        }
+/* What is lent to one call; the lengths may be wrong, and every buffer is as long as its length says. */
+struct call {
+    size_t k, d, n, trustees, table_length, ballots_length, lengths[TABLES], answer_length;
+    uint32_t *table;
+    uint8_t *ballots, *tables[TABLES];
+    int is_own;
+};
+
+/* A good call. */
+static struct call good_call(void) {
+    struct call c = {.k = 1 + below(4), .d = below(3) ? 2 + below(4) : 0, .n = 1 + below(5), .trustees = 2 + below(4)};
+    size_t inputs = ballot_bytes(c.k, c.d, c.n), gates = c.k + below(40), measured[JUGY_MEASURE_ANSWER];
+    c.is_own = below(2);
+    if (c.is_own && !jugy_measure(c.k, c.d, c.n, measured, JUGY_MEASURE_ANSWER))
+        gates = measured[2];
+    c.table_length = 4 * gates, c.table = lent(16 * gates);
+    c.ballots_length = inputs, c.ballots = lent(inputs);
+    if (c.is_own)
+        jugy_write(c.k, c.d, c.n, c.table, c.table_length, measured, JUGY_MEASURE_ANSWER);
+    else
+        random_list(c.table, inputs, gates);
+    random_ballots(c.ballots, c.k, c.d, c.n);
+    size_t t = c.trustees, marks = marks_in(c.table, gates);
+    size_t each[TABLES] = {inputs, 3 * marks, inputs + gates, 2 * marks + c.k};
+    for (int i = 0; i < TABLES; i++)
+        c.lengths[i] = t * each[i], c.tables[i] = filled(c.lengths[i], 7);
+    deal(t, c.ballots, inputs, marks, c.tables[PARTS], c.tables[DEALT]);
+    c.answer_length = JUGY_TRUSTEES_ANSWER;
+    return c;
+}
+
+/* Makes a buffer longer or shorter by one item. */
+static void *another_length(void *buffer, size_t *length, size_t item) {
+    size_t other = *length && below(2) ? *length - 1 : *length + 1;
+    void *longer = filled(other * item, 0);
+    memcpy(longer, buffer, (other < *length ? other : *length) * item);
+    free(buffer);
+    *length = other;
+    return longer;
+}
+
+static void damage(struct call *c) {
+    size_t gates = c->table_length / 4, i = below(TABLES), byte = below((uint32_t)c->ballots_length);
+    switch (below(12)) {
+    case 0: c->k = below(2) ? 0 : 9; break;
+    case 1: c->table = another_length(c->table, &c->table_length, 4); break;
+    case 2: c->table[4 * below((uint32_t)gates)] = 8 + below(3); break;
+    case 3: c->ballots = another_length(c->ballots, &c->ballots_length, 1); break;
+    case 4: c->ballots[byte] = (uint8_t)(2 + below(254)); break;
+    case 5:
+        if (can_have_gap(c->k, c->d, c->ballots_length))
+            memset(c->ballots, 0, c->k * c->k), c->ballots[1] = 1;
+        else
+            c->ballots[byte] ^= 1;
+        break;
+    case 6: c->trustees = below(2) ? 1 - below(2) : 6 + below(200); break;
+    case 7: c->tables[i] = another_length(c->tables[i], &c->lengths[i], 1); break;
+    case 8:
+        if (c->lengths[PARTS])
+            c->tables[PARTS][below((uint32_t)c->lengths[PARTS])] ^= (uint8_t)(1 + below(3));
+        break;
+    case 9:
+    case 10:
+        if (c->lengths[DEALT])
+            c->tables[DEALT][below((uint32_t)c->lengths[DEALT])] ^= (uint8_t)(1 + below(3));
+        break;
+    default: c->answer_length = below(JUGY_TRUSTEES_ANSWER); break;
     }
-    free(table), free(ballots), free(parts), free(dealt), free(wires), free(published);
+}
+
+static size_t answered(const struct call *c, uint8_t *wires, uint8_t *published, size_t *answer) {
+    return seen(jugy_trustees(c->k, c->d, c->n, c->table, c->table_length, c->ballots, c->ballots_length, c->trustees,
+                              c->tables[PARTS], c->lengths[PARTS], c->tables[DEALT], c->lengths[DEALT], wires,
+                              c->lengths[WIRES], published, c->lengths[PUBLISHED], answer, c->answer_length));
+}
+
+static struct said expected(const struct call *c) {
+    return reference_trustees(c->k, c->d, c->n, c->table, c->table_length, c->ballots, c->ballots_length, c->trustees,
+                              c->tables[PARTS], c->lengths[PARTS], c->tables[DEALT], c->lengths[DEALT],
+                              c->tables[WIRES], c->lengths[WIRES], c->tables[PUBLISHED], c->lengths[PUBLISHED]);
+}
+
+/* The answer array of what the reference says. */
+static void compare_answer(const struct call *c, struct said s, const size_t *answer) {
+    size_t right[JUGY_TRUSTEES_ANSWER] = {s.reason, s.place, s.gates, s.conditional}, counted[JUGY_COUNT_ANSWER];
+    for (int i = 0; !s.reason && i < 8; i++)
+        right[4 + i] = s.closing[i];
+    if (memcmp(right, answer, sizeof right))
+        fail("another answer");
+    if (!s.reason && c->is_own) {
+        jugy_count(c->k, c->d, c->n, c->ballots, c->ballots_length, counted, JUGY_COUNT_ANSWER);
+        if (memcmp(counted + 2, answer + 4, 8 * sizeof *answer))
+            fail("the sums are not the closing bytes");
+    }
+}
+
+static void one_call(size_t faults) {
+    struct call c = good_call();
+    for (; faults; faults--)
+        damage(&c);
+    uint8_t *wires = copy_of(c.tables[WIRES], c.lengths[WIRES]),
+            *published = copy_of(c.tables[PUBLISHED], c.lengths[PUBLISHED]);
+    size_t *answer = filled(c.answer_length * sizeof *answer, 9),
+           *before = copy_of(answer, c.answer_length * sizeof *answer);
+    size_t status = answered(&c, wires, published, answer);
+    if (c.answer_length < JUGY_TRUSTEES_ANSWER) {
+        if (status != JUGY_SHORT_ANSWER || memcmp(answer, before, c.answer_length * sizeof *answer))
+            fail("a short answer array");
+    } else {
+        struct said s = expected(&c);
+        if (status != s.reason)
+            fail("another status");
+        compare_answer(&c, s, answer);
+    }
+    /* filled in by the reference where the call is accepted, and as they were where it is not */
+    if (memcmp(wires, c.tables[WIRES], c.lengths[WIRES]))
+        fail("other wire parts");
+    if (memcmp(published, c.tables[PUBLISHED], c.lengths[PUBLISHED]))
+        fail("other published bits");
+    for (int i = 0; i < TABLES; i++)
+        free(c.tables[i]);
+    free(c.table), free(c.ballots), free(wires), free(published), free(answer), free(before);
 }
 
 int main(int count, char **words) {
-    int rounds = count > 1 ? atoi(words[1]) : 20;
+    int rounds = count > 1 ? atoi(words[1]) : 1000;
     for (int r = 0; r < rounds; r++)
-        one_call(1 + below(4), 2 + below(4), 1 + below(6), 2 + below(4), r % 4);
-    printf("trustees_test: ok\n");
+        one_call(r % 4 ? r % 3 : 0);
+    ALL_SEEN("trustees_test", 0, 1, 2, 3, 4, 5, 6, 11, 12, 16, 17, 18, JUGY_SHORT_ANSWER);
     return 0;
 }

@@ -1,12 +1,10 @@
-/* Runs on an urn over heap buffers of exactly the lent length, for valgrind: urns that were filled, thinned out and now and then damaged,
- * with tables, tapes, wire tables and boards that fit or are one off. A run on a sound urn is compared with jugy_run on the ballots
- * of its chain, and a refused call's buffers and every urn with their copies. */
+/* Runs on an urn over heap buffers of exactly the lent length, for valgrind: urns that were filled, thinned out and
+ * now and then damaged, with tables, tapes, wire tables and boards that fit or are one off. A run on a sound urn is
+ * compared with jugy_run on the ballots of its chain, and a refused call's buffers and every urn with their
+ * copies. */
 #include "../../c/jugyvaros.h"
-#include "lent.h"
-#include <stdio.h>
-
-/* Mostly the length that fits, now and then one more or one less. */
-static size_t about(size_t length) { return below(12) ? length : below(2) || !length ? length + 1 : length - 1; }
+#include "random_jury.h"
+#include "seen.h"
 
 static void expect(int holds, const char *what) {
     if (!holds) {
@@ -19,9 +17,7 @@ static void fill(size_t k, size_t d, uint8_t *urn, size_t length, size_t times) 
     size_t said[JUGY_URN_ANSWER];
     uint8_t *ballot = lent(k * d);
     for (size_t i = 0; i < times; i++) {
-        memset(ballot, 0, k * d);
-        for (size_t c = 0; c < k; c++)
-            ballot[c * d + below((uint32_t)d)] = 1;
+        random_ballots(ballot, k, d, 1);
         jugy_admit(k, d, urn, length, 1 + below(255), ballot, k * d, said, JUGY_URN_ANSWER);
         if (!below(3))
             jugy_withdraw(k, d, urn, length, 1 + below(255), said, JUGY_URN_ANSWER);
@@ -31,11 +27,11 @@ static void fill(size_t k, size_t d, uint8_t *urn, size_t length, size_t times) 
 
 /* The ballots of a sound urn, slot after slot along the chain, and their number. */
 static uint8_t *chain_of(size_t k, size_t d, const uint8_t *urn, size_t *count) {
-    uint8_t *bytes = lent(255 * k * d);
+    uint8_t *ballots = lent(255 * k * d);
     *count = 0;
     for (size_t slot = urn[0]; slot; slot = urn[slot * (2 + k * d)])
-        memcpy(bytes + (*count)++ * k * d, urn + slot * (2 + k * d) + 2, k * d);
-    return bytes;
+        memcpy(ballots + (*count)++ * k * d, urn + slot * (2 + k * d) + 2, k * d);
+    return ballots;
 }
 
 static int is_sound(size_t k, size_t d, const uint8_t *urn, size_t length) {
@@ -57,10 +53,15 @@ static void one_call(size_t k, size_t d, size_t n, const uint8_t *urn, size_t le
     size_t tape_length = about(c), wires_length = about(n * k * d + gates), board_length = about(c + k);
     uint8_t *tape = filled(tape_length, (uint8_t)(below(30) ? below(2) : 2));
     uint8_t *wires = filled(wires_length, 7), *board = filled(board_length, 7), *before = copy_of(urn, length);
-    jugy_run_urn(k, d, n, table, numbers, urn, length, tape, tape_length, wires, wires_length, board, board_length, said,
-                 JUGY_RUN_ANSWER);
+    size_t room = below(20) ? JUGY_RUN_ANSWER : below(JUGY_RUN_ANSWER);
+    said[0] = seen(jugy_run_urn(k, d, n, table, numbers, urn, length, tape, tape_length, wires, wires_length, board,
+                                board_length, said, room));
     expect(!memcmp(before, urn, length), "the urn is altered");
-    if (is_sound(k, d, urn, length)) {
+    if (room < JUGY_RUN_ANSWER) {
+        expect(said[0] == JUGY_SHORT_ANSWER, "a short answer array is taken");
+    } else if (!shape_within(k, d, n) || d == 0) {
+        expect(said[0] == JUGY_SHAPE, "a shape outside the limits is taken");
+    } else if (is_sound(k, d, urn, length)) {
         uint8_t *chain = chain_of(k, d, urn, &count), *ballots = copy_of(chain, count * k * d);
         uint8_t *run_wires = filled(wires_length, 7), *run_board = filled(board_length, 7);
         jugy_run(k, d, n, table, numbers, ballots, count * k * d, tape, tape_length, run_wires, wires_length, run_board,
@@ -88,7 +89,8 @@ static void one_call(size_t k, size_t d, size_t n, const uint8_t *urn, size_t le
 int main(int count, char **words) {
     int rounds = count > 1 ? atoi(words[1]) : 100;
     for (int r = 0; r < rounds; r++) {
-        size_t k = 1 + below(8), d = 2 + below(6), size = 2 + k * d, slots = below(9) ? 2 + below(8) : 1 + below(256), many;
+        size_t k = 1 + below(8), d = 2 + below(6), size = 2 + k * d, slots = below(9) ? 2 + below(8) : 1 + below(256),
+               many;
         size_t length = slots * size + (below(8) ? 0 : below(3));
         uint8_t *urn = filled(length, 0), *chain;
         urn[1] = 1;
@@ -104,9 +106,9 @@ int main(int count, char **words) {
         }
         if (!below(8))
             many += 1;
-        one_call(k, d, many ? many : 1, urn, length);
+        one_call(below(30) ? k : 9 * below(2), below(30) ? d : below(2), many, urn, length);
         free(urn);
     }
-    printf("urn_run_test: ok\n");
+    ALL_SEEN("urn_run_test", 0, 1, 2, 3, 4, 7, 8, 9, 10, 13, JUGY_SHORT_ANSWER);
     return 0;
 }

@@ -1,29 +1,54 @@
-/* Empty urns, admission and withdrawal on heap buffers of exactly the lent length, for valgrind: random calls on sound and damaged urns of any
- * length. Answer and urn of each call are compared with the reference's on a copy, and the answer with the preview's. */
+/* Empty urns, admission and withdrawal on heap buffers of exactly the lent length, for valgrind: random calls on
+ * sound and damaged urns of any length. Answer and urn of each call are compared with the reference's on a copy, and
+ * the answer with the preview's. */
 #include "../../c/jugyvaros.h"
 #include "lent.h"
+#include "seen.h"
 #include "urn_reference.h"
-#include <stdio.h>
+
+static void fail(const char *what) {
+    printf("urn_test: %s\n", what);
+    exit(1);
+}
+
+/* Too short an answer array: nothing is altered, and no call answers. */
+static void short_answers(size_t k, size_t d, uint8_t *urn, size_t length, const uint8_t *ballot,
+                          size_t ballot_length) {
+    size_t room = below(JUGY_URN_ANSWER), *answer = filled(room * sizeof *answer, 9),
+           *old = copy_of(answer, room * sizeof *answer);
+    uint8_t *copy = copy_of(urn, length);
+    size_t statuses[] = {jugy_empty_urn(k, d, urn, length, answer, room),
+                         jugy_admit(k, d, urn, length, 1, ballot, ballot_length, answer, room),
+                         jugy_withdraw(k, d, urn, length, 1, answer, room),
+                         jugy_preview_admit(k, d, urn, length, 1, ballot, ballot_length, answer, room),
+                         jugy_preview_withdraw(k, d, urn, length, 1, answer, room)};
+    for (size_t i = 0; i < sizeof statuses / sizeof *statuses; i++)
+        if (seen(statuses[i]) != JUGY_SHORT_ANSWER)
+            fail("a short answer array is taken");
+    if (memcmp(answer, old, room * sizeof *answer) || memcmp(copy, urn, length))
+        fail("a short answer array alters something");
+    free(answer), free(old), free(copy);
+}
 
 static void one_call(size_t k, size_t d, uint8_t *urn, size_t length) {
-    size_t said[JUGY_URN_ANSWER], seen[JUGY_URN_ANSWER], right[JUGY_URN_ANSWER];
+    size_t said[JUGY_URN_ANSWER], previewed[JUGY_URN_ANSWER], right[JUGY_URN_ANSWER];
     size_t ballot_length = below(8) ? k * d : below(60), juror = below(12) ? 1 + below(6) : below(300);
     uint8_t *copy = copy_of(urn, length), *ballot = filled(ballot_length, 0);
     for (size_t i = 0; i < ballot_length; i += d ? d : 1)
-        ballot[i] = below(20) ? 1 : 2;
+        ballot[i] = (uint8_t)(below(20) ? 1 : 2 * below(2));
+    if (!below(10))
+        short_answers(k, d, urn, length, ballot, ballot_length);
     if (below(2)) {
-        jugy_preview_admit(k, d, urn, length, juror, ballot, ballot_length, seen, JUGY_URN_ANSWER);
-        jugy_admit(k, d, urn, length, juror, ballot, ballot_length, said, JUGY_URN_ANSWER);
+        jugy_preview_admit(k, d, urn, length, juror, ballot, ballot_length, previewed, JUGY_URN_ANSWER);
+        seen(jugy_admit(k, d, urn, length, juror, ballot, ballot_length, said, JUGY_URN_ANSWER));
         urn_admit(k, d, copy, length, juror, ballot, ballot_length, right, JUGY_URN_ANSWER);
     } else {
-        jugy_preview_withdraw(k, d, urn, length, juror, seen, JUGY_URN_ANSWER);
-        jugy_withdraw(k, d, urn, length, juror, said, JUGY_URN_ANSWER);
+        jugy_preview_withdraw(k, d, urn, length, juror, previewed, JUGY_URN_ANSWER);
+        seen(jugy_withdraw(k, d, urn, length, juror, said, JUGY_URN_ANSWER));
         urn_withdraw(k, d, copy, length, juror, right, JUGY_URN_ANSWER);
     }
-    if (memcmp(said, seen, sizeof said) || memcmp(said, right, sizeof said) || memcmp(copy, urn, length)) {
-        printf("urn_test: preview, call and reference differ\n");
-        exit(1);
-    }
+    if (memcmp(said, previewed, sizeof said) || memcmp(said, right, sizeof said) || memcmp(copy, urn, length))
+        fail("preview, call and reference differ");
     free(copy);
     free(ballot);
 }
@@ -38,12 +63,10 @@ int main(int count, char **words) {
             urn[i] = (uint8_t)below(256);
         size_t said[JUGY_URN_ANSWER], right[JUGY_URN_ANSWER];
         uint8_t *copy = copy_of(urn, length);
-        jugy_empty_urn(k, d, urn, length, said, JUGY_URN_ANSWER);
+        seen(jugy_empty_urn(k, d, urn, length, said, JUGY_URN_ANSWER));
         urn_empty(k, d, copy, length, right, JUGY_URN_ANSWER);
-        if (memcmp(said, right, sizeof said) || memcmp(copy, urn, length)) {
-            printf("urn_test: an empty urn and the reference's differ\n");
-            exit(1);
-        }
+        if (memcmp(said, right, sizeof said) || memcmp(copy, urn, length))
+            fail("an empty urn and the reference's differ");
         free(copy);
         for (int i = 0; i < 30; i++) {
             one_call(k, d, urn, length);
@@ -52,6 +75,6 @@ int main(int count, char **words) {
         }
         free(urn);
     }
-    printf("urn_test: ok\n");
+    ALL_SEEN("urn_test", 0, 1, 4, 5, 6, 13, 14, 15, JUGY_SHORT_ANSWER);
     return 0;
 }

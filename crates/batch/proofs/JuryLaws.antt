@@ -11,9 +11,10 @@ use Rattle.gates.specs.declared.place.Place.{Place}
 use Rattle.gates.specs.declared.place.Place.the-variants.{At, Nowhere}
 use Rattle.jury.specs.Rankings.{firstOver, orElse}
 use Rattle.jury.proofs.Searches.{first-here, first-none}
-use Rattle.lanes.specs.Lane.{laneCount, lane}
-use Rattle.lanes.proofs.LaneLaws.{lane-first, lane-next}
-use Rattle.batch.specs.Ballots.{foundBit, inJury, firstSet}
+use Rattle.batch_lanes.specs.Lane.{laneCount, lane}
+use Rattle.batch_lanes.proofs.LaneLaws.{lane-first, lane-next}
+use Rattle.batch.specs.Ballots.{inJury}
+use Rattle.batch.specs.inner.Found.{foundBit, firstSet}
 
 -- below its trailing zeros a word has no bit, and there it has one
 pub zeros-below : (m w j : ℕ) → j < trailingZeros m w → lane j w ≡ 0

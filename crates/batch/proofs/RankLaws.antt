@@ -11,11 +11,12 @@ use lib.Dec.{eqb}
 use lib.ListN.{getD}
 use Rattle.gates.specs.declared.place.Place.{Place}
 use Rattle.gates.specs.declared.place.Place.the-variants.{At, Nowhere}
-use Rattle.jury.specs.Rankings.{orElse, firstOver, someBelow}
-use Rattle.lanes.specs.Lane.{laneCount, lane, laneOf}
-use Rattle.lanes.proofs.LaneLaws.{lane-bit, lane-none, lane-all, lane-and, lane-or, lane-xor}
-use Rattle.lanes.proofs.ListLaws.{lanes-at}
-use Rattle.batch.specs.Ballots.{foundBit}
+use Rattle.jury.specs.Rankings.{orElse, firstOver}
+use Rattle.basics.specs.Below.{someBelow}
+use Rattle.batch_lanes.specs.Lane.{laneCount, lane, laneOf}
+use Rattle.batch_lanes.proofs.LaneLaws.{lane-bit, lane-none, lane-all, lane-and, lane-or, lane-xor}
+use Rattle.batch_lanes.proofs.ListLaws.{lanes-at}
+use Rattle.batch.specs.inner.Found.{foundBit}
 
 -- a test as a bit
 abbrev pub bit : Bool → ℕ

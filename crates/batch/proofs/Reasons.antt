@@ -11,7 +11,7 @@ use lib.ListN.{length}
 use borrow.Author.Tests.{eqb-true, eq-eqb}
 use Rattle.gates.specs.Gate.{gatesOf}
 use Rattle.gates.specs.Board.{conditionalCount}
-use Rattle.gates.specs.Step.{RunReady}
+use Rattle.gates.specs.inner.Step.{RunReady}
 use Rattle.gates.specs.Test.{firstBad}
 use Rattle.gates.specs.declared.place.Place.{Place}
 use Rattle.gates.specs.declared.place.Place.the-variants.{At, Nowhere}
@@ -20,16 +20,19 @@ use Rattle.jury.specs.declared.shape.Shape.{Shape}
 use Rattle.jury.specs.Shape.{isRanking, ballotBytes}
 use Rattle.jury.specs.Reason.{Reason, unless, foundAt, firstOf}
 use Rattle.jury.specs.Ballots.{rowsOf, firstBadRow, gradedReasons, rankedReasons}
-use Rattle.jury.specs.Rankings.{firstOver, firstClash, firstGap}
+use Rattle.jury.specs.Rankings.{firstOver, firstNotAsymmetric, firstNotWeakOrder}
 use Rattle.jury.proofs.BallotLaws.{kindReason}
 use Rattle.jury.proofs.Searches.{none-first, first-none}
-use Rattle.tally.specs.Answer.{refused, said, Size, sizeOf}
-use Rattle.tally.specs.Test.{testReasons, testSaid}
+use Rattle.tally.specs.Answer.{refused, outcome, Size, sizeOf}
+use Rattle.tally.specs.Run.{RunResult}
+use Rattle.tally.specs.Test.{testReasons, testOutcome}
 use Rattle.tally.proofs.TestReasons.{orElse, first-append, TestPassed, test-passed}
-use Rattle.tally.proofs.RunReasons.{firstOfThree, said-refused}
-use Rattle.lanes.specs.Lane.{laneCount, laneOf}
+use Rattle.tally.proofs.RunReasons.{firstOfThree, outcome-refused}
+use Rattle.batch_lanes.specs.Lane.{laneCount, laneOf}
+use Rattle.batch.specs.Call.{Call}
 use Rattle.batch.specs.Ballots.{inJury, firstJury, wordGradedReasons, wordRankedReasons, wordBallotReasons}
-use Rattle.batch.specs.Run.{wordLentReasons, batchReasons, batchAfter, batchRan}
+use Rattle.batch.specs.Run.{wordBufferReasons, batchReasons, batchResultAfter, batchResult}
+use Rattle.tally.proofs.RunReasons.{three-passed}
 
 -- the tests 7, 9 and 10, from their outcomes
 unfoldable pub lentFound : Bool → Bool → Bool → Option Reason
@@ -44,8 +47,8 @@ lent-outcome true true true e = (refl, refl, refl)
 
 module _ (i k : ℕ) (size : Size) (tape wires board : List ℕ) where
   pub lent-by : (t u v : Bool) → eqb (length tape) (size .conditional) ≡ t → eqb (length wires) (i + size .gates) ≡ u → eqb (length board) (size .conditional + k) ≡ v
-      → firstOf (wordLentReasons i k size tape wires board) ≡ lentFound t u v
-  unfolding wordLentReasons lentFound
+      → firstOf (wordBufferReasons i k size tape wires board) ≡ lentFound t u v
+  unfolding wordBufferReasons lentFound
   lent-by t u v e f g = rw (e, f, g)
 
   pub record LentPassed : Type 0 where
@@ -53,7 +56,7 @@ module _ (i k : ℕ) (size : Size) (tape wires board : List ℕ) where
     pub wiresLength : length wires ≡ i + size .gates
     pub boardLength : length board ≡ size .conditional + k
 
-  lent-passed : firstOf (wordLentReasons i k size tape wires board) ≡ none → LentPassed
+  lent-passed : firstOf (wordBufferReasons i k size tape wires board) ≡ none → LentPassed
   lent-passed e =
       let t = eqb (length tape) (size .conditional) in
       let u = eqb (length wires) (i + size .gates) in
@@ -65,7 +68,7 @@ module _ (i k : ℕ) (size : Size) (tape wires board : List ℕ) where
         boardLength = eqb-true (length board) (size .conditional + k) (q .2);
       }
 
-  lent-passed-back : LentPassed → firstOf (wordLentReasons i k size tape wires board) ≡ none
+  lent-passed-back : LentPassed → firstOf (wordBufferReasons i k size tape wires board) ≡ none
   unfolding lentFound unless firstOf
   lent-passed-back l =
       lent-by true true true (eq-eqb (length tape) (size .conditional) (l .tapeLength)) (eq-eqb (length wires) (i + size .gates) (l .wiresLength))
@@ -76,19 +79,19 @@ abbrev pub badRow : Shape → List ℕ → Place
 badRow s xs = firstBadRow 0 (rowsOf (s .grades) (s .ballots * s .candidates) xs)
 
 abbrev pub clash : Shape → List ℕ → Place
-clash s = firstClash (s .candidates) (s .ballots)
+clash s = firstNotAsymmetric (s .candidates) (s .ballots)
 
-abbrev pub gap : Shape → List ℕ → Place
-gap s = firstGap (s .candidates) (s .ballots)
+abbrev pub notWeakOrder : Shape → List ℕ → Place
+notWeakOrder s = firstNotWeakOrder (s .candidates) (s .ballots)
 
 -- the tests of the kind of the shape, from their outcomes
 unfoldable pub kindFound : Bool → Place → Place → Place → Option Reason
-kindFound ranking row clash gap = firstOf (cond ranking (foundAt 11 clash ∷ foundAt 12 gap ∷ []) (foundAt 6 row ∷ []))
+kindFound ranking row clash notWeakOrder = firstOf (cond ranking (foundAt 11 clash ∷ foundAt 12 notWeakOrder ∷ []) (foundAt 6 row ∷ []))
 
 -- those of them that are made find nothing
 unfoldable pub Clear : Bool → Place → Place → Place → Type 0
-Clear true row clash gap = (clash ≡ Nowhere) × (gap ≡ Nowhere)
-Clear false row clash gap = row ≡ Nowhere
+Clear true row clash notWeakOrder = (clash ≡ Nowhere) × (notWeakOrder ≡ Nowhere)
+Clear false row clash notWeakOrder = row ≡ Nowhere
 
 kind-clear : (t : Bool) (p c g : Place) → kindFound t p c g ≡ none → Clear t p c g
 unfolding kindFound Clear foundAt firstOf
@@ -162,7 +165,7 @@ first-last true (none ∷ os) = first-last true os
 first-last true (some r ∷ os) = refl
 
 -- what the tests of one jury answer
-pub alone-kind : (s : Shape) (xs : List ℕ) → kindReason s xs ≡ kindFound (isRanking s) (badRow s xs) (clash s xs) (gap s xs)
+pub alone-kind : (s : Shape) (xs : List ℕ) → kindReason s xs ≡ kindFound (isRanking s) (badRow s xs) (clash s xs) (notWeakOrder s xs)
 unfolding kindReason kindFound gradedReasons rankedReasons
 alone-kind s xs = refl
 
@@ -171,7 +174,7 @@ module _ (s : Shape) (words : List ℕ) where
   pub wordKind : Option Reason
   wordKind = firstOf (cond (isRanking s) (wordRankedReasons s words) (wordGradedReasons s words))
 
-  pub word-kind : wordKind ≡ kindFound (isRanking s) (over (λ j. badRow s (laneOf j words))) (over (λ j. clash s (laneOf j words))) (over (λ j. gap s (laneOf j words)))
+  pub word-kind : wordKind ≡ kindFound (isRanking s) (over (λ j. badRow s (laneOf j words))) (over (λ j. clash s (laneOf j words))) (over (λ j. notWeakOrder s (laneOf j words)))
   unfolding wordKind kindFound wordGradedReasons wordRankedReasons firstJury
   word-kind = refl
 
@@ -201,7 +204,7 @@ module _ (s : Shape) (words : List ℕ) where
         size = eqb-true (length words) (ballotBytes s) (q .0);
         kinds = λ j h.
             alone-kind s (laneOf j words)
-            ∙ none-in-juries (isRanking s) (λ j. badRow s (laneOf j words)) (λ j. clash s (laneOf j words)) (λ j. gap s (laneOf j words)) (sym word-kind ∙ q .1) j h;
+            ∙ none-in-juries (isRanking s) (λ j. badRow s (laneOf j words)) (λ j. clash s (laneOf j words)) (λ j. notWeakOrder s (laneOf j words)) (sym word-kind ∙ q .1) j h;
       }
 
   ballots-passed-back : BallotsPassed → firstOf (wordBallotReasons s words) ≡ none
@@ -210,91 +213,88 @@ module _ (s : Shape) (words : List ℕ) where
       ballots-by true (eq-eqb (length words) (ballotBytes s) (b .size))
       ∙ ap (ballotsFound true)
       (word-kind
-      ∙ juries-none (isRanking s) (λ j. badRow s (laneOf j words)) (λ j. clash s (laneOf j words)) (λ j. gap s (laneOf j words)) (λ j h. sym (alone-kind s (laneOf j words)) ∙ b .kinds j h))
+      ∙ juries-none (isRanking s) (λ j. badRow s (laneOf j words)) (λ j. clash s (laneOf j words)) (λ j. notWeakOrder s (laneOf j words)) (λ j h. sym (alone-kind s (laneOf j words)) ∙ b .kinds j h))
 
-three-passed : (a b c : Option Reason) → firstOfThree a b c ≡ none → (a ≡ none) × (b ≡ none) × (c ≡ none)
-unfolding firstOfThree orElse
-three-passed none none none e = (refl, refl, refl)
-three-passed none none (some r) e = let z : _≡_ {A = ℕ} 0 1 = cc in absurd (omega arith)
-three-passed none (some r) c e = let z : _≡_ {A = ℕ} 0 1 = cc in absurd (omega arith)
-three-passed (some r) b c e = let z : _≡_ {A = ℕ} 0 1 = cc in absurd (omega arith)
-
-module _ (s : Shape) (table ballots tape wires board : List ℕ) where
-  pub batch-first : firstOf (batchReasons s table ballots tape wires board)
-      ≡ firstOfThree (firstOf (testReasons s table)) (firstOf (wordBallotReasons s ballots)) (firstOf (wordLentReasons (ballotBytes s) (s .candidates) (sizeOf (gatesOf table)) tape wires board))
+module _ (c : Call) where
+  pub batch-first : firstOf (batchReasons c)
+      ≡ firstOfThree (firstOf (testReasons (c .shape) (c .table))) (firstOf (wordBallotReasons (c .shape) (c .ballots))) (firstOf (wordBufferReasons (ballotBytes (c .shape)) (c .shape .candidates) (sizeOf (gatesOf (c .table))) (c .tape) (c .wires) (c .board)))
   unfolding batchReasons firstOfThree
   batch-first =
-      let lent = wordLentReasons (ballotBytes s) (s .candidates) (sizeOf (gatesOf table)) tape wires board in
-      first-append (testReasons s table ++ wordBallotReasons s ballots) lent
-      ∙ ap (λ (r : Option Reason). orElse r (firstOf lent)) (first-append (testReasons s table) (wordBallotReasons s ballots))
+      let lent = wordBufferReasons (ballotBytes (c .shape)) (c .shape .candidates) (sizeOf (gatesOf (c .table))) (c .tape) (c .wires) (c .board) in
+      first-append (testReasons (c .shape) (c .table) ++ wordBallotReasons (c .shape) (c .ballots)) lent
+      ∙ ap (λ (r : Option Reason). orElse r (firstOf lent)) (first-append (testReasons (c .shape) (c .table)) (wordBallotReasons (c .shape) (c .ballots)))
 
   -- the answer by the first group in which a test applies
-  pub by-test : (r : Reason) → testSaid s table ≡ refused r → firstOf (batchReasons s table ballots tape wires board) ≡ some r
-  unfolding testSaid firstOfThree orElse
+  pub by-test : (r : Reason) → testOutcome (c .shape) (c .table) ≡ refused r → firstOf (batchReasons c) ≡ some r
+  unfolding testOutcome firstOfThree orElse
   by-test r e =
       batch-first
-      ∙ ap (λ (o : Option Reason). firstOfThree o (firstOf (wordBallotReasons s ballots)) (firstOf (wordLentReasons (ballotBytes s) (s .candidates) (sizeOf (gatesOf table)) tape wires board)))
-      (said-refused (firstOf (testReasons s table)) (sizeOf (gatesOf table)) r e)
+      ∙ ap (λ (o : Option Reason). firstOfThree o (firstOf (wordBallotReasons (c .shape) (c .ballots))) (firstOf (wordBufferReasons (ballotBytes (c .shape)) (c .shape .candidates) (sizeOf (gatesOf (c .table))) (c .tape) (c .wires) (c .board))))
+      (outcome-refused (firstOf (testReasons (c .shape) (c .table))) (sizeOf (gatesOf (c .table))) r e)
 
-  module _ (t : firstOf (testReasons s table) ≡ none) where
-    pub by-ballots : (r : Reason) → firstOf (wordBallotReasons s ballots) ≡ some r → firstOf (batchReasons s table ballots tape wires board) ≡ some r
+  module _ (t : firstOf (testReasons (c .shape) (c .table)) ≡ none) where
+    pub by-ballots : (r : Reason) → firstOf (wordBallotReasons (c .shape) (c .ballots)) ≡ some r → firstOf (batchReasons c) ≡ some r
     unfolding firstOfThree orElse
     by-ballots r e = batch-first ∙ rw (t, e)
 
-    pub by-lent : (size : Size) (o : Option Reason) → size ≡ sizeOf (gatesOf table) → firstOf (wordBallotReasons s ballots) ≡ none
-        → firstOf (wordLentReasons (ballotBytes s) (s .candidates) size tape wires board) ≡ o → firstOf (batchReasons s table ballots tape wires board) ≡ o
+    pub by-lent : (size : Size) (o : Option Reason) → size ≡ sizeOf (gatesOf (c .table)) → firstOf (wordBallotReasons (c .shape) (c .ballots)) ≡ none
+        → firstOf (wordBufferReasons (ballotBytes (c .shape)) (c .shape .candidates) size (c .tape) (c .wires) (c .board)) ≡ o → firstOf (batchReasons c) ≡ o
     unfolding firstOfThree orElse
     by-lent size o f b e =
-        batch-first ∙ rw (t, b) (ap (λ (z : Size). firstOf (wordLentReasons (ballotBytes s) (s .candidates) z tape wires board)) (sym f) ∙ e)
+        batch-first ∙ rw (t, b) (ap (λ (z : Size). firstOf (wordBufferReasons (ballotBytes (c .shape)) (c .shape .candidates) z (c .tape) (c .wires) (c .board))) (sym f) ∙ e)
 
   -- an accepted call, as facts
   pub record BatchPassed : Type 0 where
-    pub test : TestPassed s table (sizeOf (gatesOf table))
-    pub ballotsPassed : BallotsPassed s ballots
-    pub tapeLength : length tape ≡ conditionalCount (gatesOf table)
-    pub wiresLength : length wires ≡ ballotBytes s + length (gatesOf table)
-    pub boardLength : length board ≡ conditionalCount (gatesOf table) + s .candidates
+    pub test : TestPassed (c .shape) (c .table) (sizeOf (gatesOf (c .table)))
+    pub ballotsPassed : BallotsPassed (c .shape) (c .ballots)
+    pub tapeLength : length (c .tape) ≡ conditionalCount (gatesOf (c .table))
+    pub wiresLength : length (c .wires) ≡ ballotBytes (c .shape) + length (gatesOf (c .table))
+    pub boardLength : length (c .board) ≡ conditionalCount (gatesOf (c .table)) + c .shape .candidates
 
-  pub batch-passed : firstOf (batchReasons s table ballots tape wires board) ≡ none → BatchPassed
-  unfolding testSaid said sizeOf
+  pub batch-passed : firstOf (batchReasons c) ≡ none → BatchPassed
+  unfolding testOutcome outcome sizeOf
   batch-passed e =
-      let size = sizeOf (gatesOf table) in
-      let q = three-passed (firstOf (testReasons s table)) (firstOf (wordBallotReasons s ballots)) (firstOf (wordLentReasons (ballotBytes s) (s .candidates) size tape wires board)) (sym batch-first ∙ e) in
-      let l = lent-passed (ballotBytes s) (s .candidates) size tape wires board (q .2) in
+      let size = sizeOf (gatesOf (c .table)) in
+      let q = three-passed (firstOf (testReasons (c .shape) (c .table))) (firstOf (wordBallotReasons (c .shape) (c .ballots))) (firstOf (wordBufferReasons (ballotBytes (c .shape)) (c .shape .candidates) size (c .tape) (c .wires) (c .board))) (sym batch-first ∙ e) in
+      let l = lent-passed (ballotBytes (c .shape)) (c .shape .candidates) size (c .tape) (c .wires) (c .board) (q .2) in
       record {
-        test = test-passed s table size (ap (λ (r : Option Reason). said r size) (q .0));
-        ballotsPassed = ballots-passed s ballots (q .1);
+        test = test-passed (c .shape) (c .table) size (ap (λ (r : Option Reason). outcome r size) (q .0));
+        ballotsPassed = ballots-passed (c .shape) (c .ballots) (q .1);
         tapeLength = l .tapeLength;
         wiresLength = l .wiresLength;
         boardLength = l .boardLength;
       }
 
-  pub batch-passed-back : BatchPassed → firstOf (batchReasons s table ballots tape wires board) ≡ none
+  pub batch-passed-back : BatchPassed → firstOf (batchReasons c) ≡ none
   unfolding firstOfThree orElse sizeOf
   batch-passed-back r =
       batch-first
       ∙ rw (
         r .test .reasons,
-        ballots-passed-back s ballots (r .ballotsPassed),
-        lent-passed-back (ballotBytes s) (s .candidates) (sizeOf (gatesOf table)) tape wires board
+        ballots-passed-back (c .shape) (c .ballots) (r .ballotsPassed),
+        lent-passed-back (ballotBytes (c .shape)) (c .shape .candidates) (sizeOf (gatesOf (c .table))) (c .tape) (c .wires) (c .board)
             (record { tapeLength = r .tapeLength; wiresLength = r .wiresLength; boardLength = r .boardLength }),
       )
 
   -- what the tests establish is what the evaluation asks
-  pub batch-ready : BatchPassed → RunReady ballots table (s .candidates) tape wires board
+  pub batch-ready : BatchPassed → RunReady (c .ballots) (c .table) (c .shape .candidates) (c .tape) (c .wires) (c .board)
   batch-ready r =
-      let size = sizeOf (gatesOf table) in
-      let f = accepted-list (ballotBytes s) (s .candidates) table (size .gates) (size .conditional) (r .test .tests) in
+      let size = sizeOf (gatesOf (c .table)) in
+      let f = accepted-list (ballotBytes (c .shape)) (c .shape .candidates) (c .table) (size .gates) (size .conditional) (r .test .tests) in
       let n = r .ballotsPassed .size in
       record {
         enough = f .enough;
-        good = ap (λ (i : ℕ). firstBad i 0 (gatesOf table)) n ∙ f .good;
+        good = ap (λ (i : ℕ). firstBad i 0 (gatesOf (c .table))) n ∙ f .good;
         tapeLength = r .tapeLength;
         wiresLength = omega (arith, n, r .wiresLength);
         boardLength = r .boardLength;
       }
 
   -- the whole of a call by its first reason
-  pub batch-by : (o : Option Reason) → firstOf (batchReasons s table ballots tape wires board) ≡ o → batchRan s table ballots tape wires board ≡ batchAfter o s (gatesOf table) ballots tape wires board
-  unfolding batchRan
-  batch-by o e = ap (λ (r : Option Reason). batchAfter r s (gatesOf table) ballots tape wires board) e
+  pub result-by : (o : Option Reason) → firstOf (batchReasons c) ≡ o → batchResult c ≡ batchResultAfter o c
+  unfolding batchResult
+  result-by o e = ap (λ (r : Option Reason). batchResultAfter r c) e
+
+-- a result is told by what it consists of
+pub same-result : (x y : RunResult) → x .answer ≡ y .answer → x .wires ≡ y .wires → x .board ≡ y .board → x ≡ y
+same-result x y a b c = rw (a, b, c) refl

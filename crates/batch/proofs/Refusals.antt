@@ -20,18 +20,19 @@ use Rattle.jury.specs.Reason.{Reason, reasonAt, unless, foundAt, firstOf}
 use Rattle.jury.specs.Rankings.{firstOver, orElse}
 use Rattle.jury.proofs.BallotLaws.{judged, kindReason, judged-by}
 use Rattle.jury.proofs.Searches.{none-first}
-use Rattle.tally.specs.Answer.{refused, said, hasNumberIn, sizeOf}
-use Rattle.tally.specs.Test.{testReasons, testSaid}
-use Rattle.tally.specs.Run.{Ran, lentReasons, runReasons, ranAfter}
+use Rattle.tally.specs.Answer.{refused, outcome, hasNumberIn, sizeOf}
+use Rattle.tally.specs.Test.{testReasons, testOutcome}
+use Rattle.tally.specs.Run.{RunResult, bufferReasons, runReasons, runResultAfter}
 use Rattle.tally.proofs.TestReasons as test
 use Rattle.tally.proofs.RunReasons as single
 use Rattle.tally.proofs.Numbering as numbering
-use Rattle.lanes.specs.Lane.{laneCount, laneOf}
-use Rattle.lanes.proofs.ListLaws.{lanes-length, lanes-bits}
+use Rattle.batch_lanes.specs.Lane.{laneCount, laneOf}
+use Rattle.batch_lanes.proofs.ListLaws.{lanes-length, lanes-bits}
+use Rattle.batch.specs.Call.{Call}
 use Rattle.batch.specs.Ballots.{inJury}
-use Rattle.batch.specs.Run.{wordLentReasons, batchReasons, batchAfter, batchRan}
-use Rattle.batch.specs.Theorems.{ranAlone, isOfBallots, RefusedAsAlone, FaultAsAlone}
-use Rattle.batch.proofs.Reasons.{in-no-jury, none-over, over, lentFound, lent-by, badRow, clash, gap, kindFound, none-in-juries, ballotsFound, alone-kind, wordKind, word-kind, ballots-by, batch-first, batch-by}
+use Rattle.batch.specs.Run.{wordBufferReasons, batchReasons, batchResultAfter, batchResult}
+use Rattle.batch.specs.Theorems.{runAlone, isOfBallots, RefusedAsAlone, FaultAsAlone}
+use Rattle.batch.proofs.Reasons.{in-no-jury, none-over, over, lentFound, lent-by, badRow, clash, notWeakOrder, kindFound, none-in-juries, ballotsFound, alone-kind, wordKind, word-kind, ballots-by, batch-first, result-by}
 
 -- the tests of what is lent, where no tape byte is above 1
 lent-bits : (t u v : Bool) → single.lentFound t Nowhere u v ≡ lentFound t u v
@@ -70,10 +71,10 @@ small-other m false false true e f g h = absurd (subst (λ (m : ℕ). OneToThree
 small-other m false false false e f g h = refl
 
 test-other : (s : Shape) (table : List ℕ) (r : Reason) → firstOf (testReasons s table) ≡ some r → isOfBallots r ≡ false
-unfolding testSaid said isOfBallots hasNumberIn
+unfolding testOutcome outcome isOfBallots hasNumberIn
 test-other s table r e =
     small-other (r .number) (eqb (r .number) 6) (eqb (r .number) 11) (eqb (r .number) 12) refl refl refl
-    (numbering.test-number s table r (ap (λ (o : Option Reason). said o (sizeOf (gatesOf table))) e))
+    (numbering.test-number s table r (ap (λ (o : Option Reason). outcome o (sizeOf (gatesOf table))) e))
 
 -- what the first jury in which something is found tells
 abbrev Found : ℕ → ℕ → (ℕ → Place) → Type 0
@@ -200,88 +201,88 @@ unfolding judged ballotsFound unless foundAt firstOf
 judged-bits true k = refl
 judged-bits false k = refl
 
-module _ (s : Shape) (table ballots tape wires board : List ℕ) where
+module _ (c : Call) where
   abbrev sizeRight : Bool
-  sizeRight = eqb (length ballots) (ballotBytes s)
+  sizeRight = eqb (length (c .ballots)) (ballotBytes (c .shape))
 
   abbrev tapeRight : Bool
-  tapeRight = eqb (length tape) (sizeOf (gatesOf table) .conditional)
+  tapeRight = eqb (length (c .tape)) (sizeOf (gatesOf (c .table)) .conditional)
 
   abbrev wiresRight : Bool
-  wiresRight = eqb (length wires) (ballotBytes s + sizeOf (gatesOf table) .gates)
+  wiresRight = eqb (length (c .wires)) (ballotBytes (c .shape) + sizeOf (gatesOf (c .table)) .gates)
 
   abbrev boardRight : Bool
-  boardRight = eqb (length board) (sizeOf (gatesOf table) .conditional + s .candidates)
+  boardRight = eqb (length (c .board)) (sizeOf (gatesOf (c .table)) .conditional + c .shape .candidates)
 
-  batch-reason : firstOf (batchReasons s table ballots tape wires board)
-      ≡ single.firstOfThree (firstOf (testReasons s table)) (ballotsFound sizeRight (wordKind s ballots)) (lentFound tapeRight wiresRight boardRight)
+  batch-reason : firstOf (batchReasons c)
+      ≡ single.firstOfThree (firstOf (testReasons (c .shape) (c .table))) (ballotsFound sizeRight (wordKind (c .shape) (c .ballots))) (lentFound tapeRight wiresRight boardRight)
   batch-reason =
-      batch-first s table ballots tape wires board
-      ∙ ap (λ (o : Option Reason). single.firstOfThree (firstOf (testReasons s table)) o (firstOf (wordLentReasons (ballotBytes s) (s .candidates) (sizeOf (gatesOf table)) tape wires board)))
-      (ballots-by s ballots sizeRight refl)
-      ∙ ap (single.firstOfThree (firstOf (testReasons s table)) (ballotsFound sizeRight (wordKind s ballots)))
-      (lent-by (ballotBytes s) (s .candidates) (sizeOf (gatesOf table)) tape wires board tapeRight wiresRight boardRight refl refl refl)
+      batch-first c
+      ∙ ap (λ (o : Option Reason). single.firstOfThree (firstOf (testReasons (c .shape) (c .table))) o (firstOf (wordBufferReasons (ballotBytes (c .shape)) (c .shape .candidates) (sizeOf (gatesOf (c .table))) (c .tape) (c .wires) (c .board))))
+      (ballots-by (c .shape) (c .ballots) sizeRight refl)
+      ∙ ap (single.firstOfThree (firstOf (testReasons (c .shape) (c .table))) (ballotsFound sizeRight (wordKind (c .shape) (c .ballots))))
+      (lent-by (ballotBytes (c .shape)) (c .shape .candidates) (sizeOf (gatesOf (c .table))) (c .tape) (c .wires) (c .board) tapeRight wiresRight boardRight refl refl refl)
 
-  alone-reason : (j : ℕ) → firstOf (runReasons s table (laneOf j ballots) (laneOf j tape) (laneOf j wires) (laneOf j board))
-      ≡ single.firstOfThree (firstOf (testReasons s table)) (ballotsFound sizeRight (kindReason s (laneOf j ballots))) (lentFound tapeRight wiresRight boardRight)
+  alone-reason : (j : ℕ) → firstOf (runReasons (c .shape) (c .table) (laneOf j (c .ballots)) (laneOf j (c .tape)) (laneOf j (c .wires)) (laneOf j (c .board)))
+      ≡ single.firstOfThree (firstOf (testReasons (c .shape) (c .table))) (ballotsFound sizeRight (kindReason (c .shape) (laneOf j (c .ballots)))) (lentFound tapeRight wiresRight boardRight)
   alone-reason j =
-      single.run-first s table (laneOf j ballots) (laneOf j tape) (laneOf j wires) (laneOf j board)
-      ∙ ap (λ (o : Option Reason). single.firstOfThree (firstOf (testReasons s table)) o (firstOf (lentReasons (ballotBytes s) (s .candidates) (sizeOf (gatesOf table)) (laneOf j tape) (laneOf j wires) (laneOf j board))))
-      (judged-by s (laneOf j ballots) sizeRight Nowhere (kindReason s (laneOf j ballots)) (ap (λ (n : ℕ). eqb n (ballotBytes s)) (lanes-length j ballots)) (none-above 0 (laneOf j ballots) (lanes-bits j ballots)) refl
-      ∙ judged-bits sizeRight (kindReason s (laneOf j ballots)))
-      ∙ ap (single.firstOfThree (firstOf (testReasons s table)) (ballotsFound sizeRight (kindReason s (laneOf j ballots))))
-      (single.lent-by (ballotBytes s) (s .candidates) (sizeOf (gatesOf table)) (laneOf j tape) (laneOf j wires) (laneOf j board) tapeRight Nowhere wiresRight boardRight
-      (ap (λ (n : ℕ). eqb n (sizeOf (gatesOf table) .conditional)) (lanes-length j tape)) (none-above 0 (laneOf j tape) (lanes-bits j tape))
-      (ap (λ (n : ℕ). eqb n (ballotBytes s + sizeOf (gatesOf table) .gates)) (lanes-length j wires))
-      (ap (λ (n : ℕ). eqb n (sizeOf (gatesOf table) .conditional + s .candidates)) (lanes-length j board))
+      single.run-first (c .shape) (c .table) (laneOf j (c .ballots)) (laneOf j (c .tape)) (laneOf j (c .wires)) (laneOf j (c .board))
+      ∙ ap (λ (o : Option Reason). single.firstOfThree (firstOf (testReasons (c .shape) (c .table))) o (firstOf (bufferReasons (ballotBytes (c .shape)) (c .shape .candidates) (sizeOf (gatesOf (c .table))) (laneOf j (c .tape)) (laneOf j (c .wires)) (laneOf j (c .board)))))
+      (judged-by (c .shape) (laneOf j (c .ballots)) sizeRight Nowhere (kindReason (c .shape) (laneOf j (c .ballots))) (ap (λ (n : ℕ). eqb n (ballotBytes (c .shape))) (lanes-length j (c .ballots))) (none-above 0 (laneOf j (c .ballots)) (lanes-bits j (c .ballots))) refl
+      ∙ judged-bits sizeRight (kindReason (c .shape) (laneOf j (c .ballots))))
+      ∙ ap (single.firstOfThree (firstOf (testReasons (c .shape) (c .table))) (ballotsFound sizeRight (kindReason (c .shape) (laneOf j (c .ballots)))))
+      (single.lent-by (ballotBytes (c .shape)) (c .shape .candidates) (sizeOf (gatesOf (c .table))) (laneOf j (c .tape)) (laneOf j (c .wires)) (laneOf j (c .board)) tapeRight Nowhere wiresRight boardRight
+      (ap (λ (n : ℕ). eqb n (sizeOf (gatesOf (c .table)) .conditional)) (lanes-length j (c .tape))) (none-above 0 (laneOf j (c .tape)) (lanes-bits j (c .tape)))
+      (ap (λ (n : ℕ). eqb n (ballotBytes (c .shape) + sizeOf (gatesOf (c .table)) .gates)) (lanes-length j (c .wires)))
+      (ap (λ (n : ℕ). eqb n (sizeOf (gatesOf (c .table)) .conditional + c .shape .candidates)) (lanes-length j (c .board)))
       ∙ lent-bits tapeRight wiresRight boardRight)
 
   -- the reason of a refused call, and of a refused single run
-  batch-after : (o : Option Reason) (r : Reason) → batchAfter o s (gatesOf table) ballots tape wires board .answer ≡ refused r → o ≡ some r
-  unfolding batchAfter
-  batch-after none r e = test.never (sizeOf (gatesOf table)) r (sym e)
+  batch-after : (o : Option Reason) (r : Reason) → batchResultAfter o c .answer ≡ refused r → o ≡ some r
+  unfolding batchResultAfter
+  batch-after none r e = test.never (sizeOf (gatesOf (c .table))) r (sym e)
   batch-after (some q) r e = let same : q ≡ r = cc in ap some same
 
-  batch-refused : (r : Reason) → batchRan s table ballots tape wires board .answer ≡ refused r → firstOf (batchReasons s table ballots tape wires board) ≡ some r
+  batch-refused : (r : Reason) → batchResult c .answer ≡ refused r → firstOf (batchReasons c) ≡ some r
   batch-refused r e =
-      let o = firstOf (batchReasons s table ballots tape wires board) in
-      batch-after o r (sym (ap (λ (z : Ran). z .answer) (batch-by s table ballots tape wires board o refl)) ∙ e)
+      let o = firstOf (batchReasons c) in
+      batch-after o r (sym (ap (λ (z : RunResult). z .answer) (result-by c o refl)) ∙ e)
 
   module _ (j : ℕ) where
-    alone-after : (o : Option Reason) (r : Reason) → ranAfter o s (gatesOf table) (laneOf j ballots) (laneOf j tape) (laneOf j wires) (laneOf j board) .answer ≡ refused r → o ≡ some r
-    unfolding ranAfter
-    alone-after none r e = test.never (sizeOf (gatesOf table)) r (sym e)
+    alone-after : (o : Option Reason) (r : Reason) → runResultAfter o (c .shape) (gatesOf (c .table)) (laneOf j (c .ballots)) (laneOf j (c .tape)) (laneOf j (c .wires)) (laneOf j (c .board)) .answer ≡ refused r → o ≡ some r
+    unfolding runResultAfter
+    alone-after none r e = test.never (sizeOf (gatesOf (c .table))) r (sym e)
     alone-after (some q) r e = let same : q ≡ r = cc in ap some same
 
-    alone-refused : (r : Reason) → ranAlone j s table ballots tape wires board .answer ≡ refused r
-        → firstOf (runReasons s table (laneOf j ballots) (laneOf j tape) (laneOf j wires) (laneOf j board)) ≡ some r
+    alone-refused : (r : Reason) → runAlone j c .answer ≡ refused r
+        → firstOf (runReasons (c .shape) (c .table) (laneOf j (c .ballots)) (laneOf j (c .tape)) (laneOf j (c .wires)) (laneOf j (c .board))) ≡ some r
     alone-refused r e =
-        let o = firstOf (runReasons s table (laneOf j ballots) (laneOf j tape) (laneOf j wires) (laneOf j board)) in
-        alone-after o r (sym (ap (λ (z : Ran). z .answer) (single.ran-by s table (laneOf j ballots) (laneOf j tape) (laneOf j wires) (laneOf j board) o refl)) ∙ e)
+        let o = firstOf (runReasons (c .shape) (c .table) (laneOf j (c .ballots)) (laneOf j (c .tape)) (laneOf j (c .wires)) (laneOf j (c .board))) in
+        alone-after o r (sym (ap (λ (z : RunResult). z .answer) (single.ran-by (c .shape) (c .table) (laneOf j (c .ballots)) (laneOf j (c .tape)) (laneOf j (c .wires)) (laneOf j (c .board)) o refl)) ∙ e)
 
-    refused-alone : (r : Reason) → firstOf (runReasons s table (laneOf j ballots) (laneOf j tape) (laneOf j wires) (laneOf j board)) ≡ some r
-        → ranAlone j s table ballots tape wires board .answer ≡ refused r
-    unfolding ranAfter
-    refused-alone r e = ap (λ (z : Ran). z .answer) (single.ran-by s table (laneOf j ballots) (laneOf j tape) (laneOf j wires) (laneOf j board) (some r) e)
+    refused-alone : (r : Reason) → firstOf (runReasons (c .shape) (c .table) (laneOf j (c .ballots)) (laneOf j (c .tape)) (laneOf j (c .wires)) (laneOf j (c .board))) ≡ some r
+        → runAlone j c .answer ≡ refused r
+    unfolding runResultAfter
+    refused-alone r e = ap (λ (z : RunResult). z .answer) (single.ran-by (c .shape) (c .table) (laneOf j (c .ballots)) (laneOf j (c .tape)) (laneOf j (c .wires)) (laneOf j (c .board)) (some r) e)
 
 -- the three searches of a shape, by juries
 abbrev rows : Shape → List ℕ → ℕ → Place
 rows s ballots j = badRow s (laneOf j ballots)
 
-abbrev clashes : Shape → List ℕ → ℕ → Place
-clashes s ballots j = clash s (laneOf j ballots)
+abbrev not_asymmetric : Shape → List ℕ → ℕ → Place
+not_asymmetric s ballots j = clash s (laneOf j ballots)
 
-abbrev gaps : Shape → List ℕ → ℕ → Place
-gaps s ballots j = gap s (laneOf j ballots)
+abbrev not_weak_order : Shape → List ℕ → ℕ → Place
+not_weak_order s ballots j = notWeakOrder s (laneOf j ballots)
 
 pub refused-as-alone : RefusedAsAlone
-refused-as-alone s table ballots tape wires board r e n j h =
-    refused-alone s table ballots tape wires board j r
-    (alone-reason s table ballots tape wires board j
-    ∙ same-otherwise (firstOf (testReasons s table)) _ (wordKind s ballots) (kindReason s (laneOf j ballots)) _ r
-    (λ none. alone-kind s (laneOf j ballots) ∙ none-in-juries (isRanking s) (rows s ballots) (clashes s ballots) (gaps s ballots) (sym (word-kind s ballots) ∙ none) j h)
-    (λ k. true≢false (sym (kind-number (isRanking s) (over (rows s ballots)) (over (clashes s ballots)) (over (gaps s ballots)) r (sym (word-kind s ballots) ∙ k)) ∙ n))
-    (sym (batch-reason s table ballots tape wires board) ∙ batch-refused s table ballots tape wires board r e))
+refused-as-alone c r e n j h =
+    refused-alone c j r
+    (alone-reason c j
+    ∙ same-otherwise (firstOf (testReasons (c .shape) (c .table))) _ (wordKind (c .shape) (c .ballots)) (kindReason (c .shape) (laneOf j (c .ballots))) _ r
+    (λ none. alone-kind (c .shape) (laneOf j (c .ballots)) ∙ none-in-juries (isRanking (c .shape)) (rows (c .shape) (c .ballots)) (not_asymmetric (c .shape) (c .ballots)) (not_weak_order (c .shape) (c .ballots)) (sym (word-kind (c .shape) (c .ballots)) ∙ none) j h)
+    (λ k. true≢false (sym (kind-number (isRanking (c .shape)) (over (rows (c .shape) (c .ballots))) (over (not_asymmetric (c .shape) (c .ballots))) (over (not_weak_order (c .shape) (c .ballots))) r (sym (word-kind (c .shape) (c .ballots)) ∙ k)) ∙ n))
+    (sym (batch-reason c) ∙ batch-refused c r e))
 
 no-reason : (q : Reason) → none ≡ some q → ⊥
 no-reason q z = let o : _≡_ {A = ℕ} 0 1 = cc in omega arith
@@ -299,30 +300,30 @@ unfolding isOfBallots hasNumberIn reasonAt
 clash-of-ballots place = refl
 
 pub fault-as-alone : FaultAsAlone
-fault-as-alone s table ballots tape wires board r e n =
-    let l = lentFound (tapeRight s table ballots tape wires board) (wiresRight s table ballots tape wires board) (boardRight s table ballots tape wires board) in
-    let o = is-of-kind (firstOf (testReasons s table)) (sizeRight s table ballots tape wires board) (wordKind s ballots) l r (λ t. true≢false (sym n ∙ test-other s table r t))
-    (λ t. true≢false (sym n ∙ lent-other _ _ _ r t)) (not-4 r n) (sym (batch-reason s table ballots tape wires board) ∙ batch-refused s table ballots tape wires board r e) in
-    let f = faulty (isRanking s) (rows s ballots) (clashes s ballots) (gaps s ballots) (over (rows s ballots)) (over (clashes s ballots)) (over (gaps s ballots)) r refl refl refl (sym (word-kind s ballots) ∙ o .2) in (
+fault-as-alone c r e n =
+    let l = lentFound (tapeRight c) (wiresRight c) (boardRight c) in
+    let o = is-of-kind (firstOf (testReasons (c .shape) (c .table))) (sizeRight c) (wordKind (c .shape) (c .ballots)) l r (λ t. true≢false (sym n ∙ test-other (c .shape) (c .table) r t))
+    (λ t. true≢false (sym n ∙ lent-other _ _ _ r t)) (not-4 r n) (sym (batch-reason c) ∙ batch-refused c r e) in
+    let f = faulty (isRanking (c .shape)) (rows (c .shape) (c .ballots)) (not_asymmetric (c .shape) (c .ballots)) (not_weak_order (c .shape) (c .ballots)) (over (rows (c .shape) (c .ballots))) (over (not_asymmetric (c .shape) (c .ballots))) (over (not_weak_order (c .shape) (c .ballots))) r refl refl refl (sym (word-kind (c .shape) (c .ballots)) ∙ o .2) in (
       f .0,
       (
         f .1 .0,
-        refused-alone s table ballots tape wires board (r .place) (reasonAt (r .number) (f .1 .0))
-            (passed (o .0) (o .1) (r .place) ∙ kind-alone (kindReason s (laneOf (r .place) ballots)) l (reasonAt (r .number) (f .1 .0)) (alone-kind s (laneOf (r .place) ballots) ∙ f .1 .1)),
+        refused-alone c (r .place) (reasonAt (r .number) (f .1 .0))
+            (passed (o .0) (o .1) (r .place) ∙ kind-alone (kindReason (c .shape) (laneOf (r .place) (c .ballots))) l (reasonAt (r .number) (f .1 .0)) (alone-kind (c .shape) (laneOf (r .place) (c .ballots)) ∙ f .1 .1)),
       ),
       λ j place h x. f .2 j place h (its-kind (o .0) (o .1) j (reasonAt (r .number) place) (same-number r place n) x),
       λ m j place h x. f .3 m j place h (its-kind (o .0) (o .1) j (reasonAt 11 place) (clash-of-ballots place) x),
     )
   where
-    passed : firstOf (testReasons s table) ≡ none → sizeRight s table ballots tape wires board ≡ true → (j : ℕ)
-        → firstOf (runReasons s table (laneOf j ballots) (laneOf j tape) (laneOf j wires) (laneOf j board))
-        ≡ single.firstOfThree none (ballotsFound true (kindReason s (laneOf j ballots))) (lentFound (tapeRight s table ballots tape wires board) (wiresRight s table ballots tape wires board) (boardRight s table ballots tape wires board))
-    passed a b j = alone-reason s table ballots tape wires board j ∙ rw (a, b)
+    passed : firstOf (testReasons (c .shape) (c .table)) ≡ none → sizeRight c ≡ true → (j : ℕ)
+        → firstOf (runReasons (c .shape) (c .table) (laneOf j (c .ballots)) (laneOf j (c .tape)) (laneOf j (c .wires)) (laneOf j (c .board)))
+        ≡ single.firstOfThree none (ballotsFound true (kindReason (c .shape) (laneOf j (c .ballots)))) (lentFound (tapeRight c) (wiresRight c) (boardRight c))
+    passed a b j = alone-reason c j ∙ rw (a, b)
 
     -- a single run that is refused for what its ballots say
-    its-kind : firstOf (testReasons s table) ≡ none → sizeRight s table ballots tape wires board ≡ true → (j : ℕ) (q : Reason) → isOfBallots q ≡ true
-        → ranAlone j s table ballots tape wires board .answer ≡ refused q → kindFound (isRanking s) (rows s ballots j) (clashes s ballots j) (gaps s ballots j) ≡ some q
+    its-kind : firstOf (testReasons (c .shape) (c .table)) ≡ none → sizeRight c ≡ true → (j : ℕ) (q : Reason) → isOfBallots q ≡ true
+        → runAlone j c .answer ≡ refused q → kindFound (isRanking (c .shape)) (rows (c .shape) (c .ballots) j) (not_asymmetric (c .shape) (c .ballots) j) (not_weak_order (c .shape) (c .ballots) j) ≡ some q
     its-kind a b j q m x =
-        sym (alone-kind s (laneOf j ballots))
-        ∙ is-of-kind none true (kindReason s (laneOf j ballots)) (lentFound (tapeRight s table ballots tape wires board) (wiresRight s table ballots tape wires board) (boardRight s table ballots tape wires board)) q
-        (λ z. no-reason q z) (λ t. true≢false (sym m ∙ lent-other _ _ _ q t)) (not-4 q m) (sym (passed a b j) ∙ alone-refused s table ballots tape wires board j q x) .2
+        sym (alone-kind (c .shape) (laneOf j (c .ballots)))
+        ∙ is-of-kind none true (kindReason (c .shape) (laneOf j (c .ballots))) (lentFound (tapeRight c) (wiresRight c) (boardRight c)) q
+        (λ z. no-reason q z) (λ t. true≢false (sym m ∙ lent-other _ _ _ q t)) (not-4 q m) (sym (passed a b j) ∙ alone-refused c j q x) .2

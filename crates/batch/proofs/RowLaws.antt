@@ -2,7 +2,7 @@
 -- Assumes nothing.
 use mathlib.Core.Path.{_≡_, _∙_, refl, sym, ap, ap₂}
 use mathlib.Core.Bool.{Bool, true, false, cond}
-use mathlib.Core.Logic.{_⊎_, inl, inr, ⊎-elim}
+use mathlib.Core.Logic.{_⊎_, ⊎-elim}
 use mathlib.Core.List.{List}
 use Prim.Native.Nat.{ℕ, zero, suc, _+_, _-_, _%_, _≤_, _<_, min, max}
 use native.Mathlib.Omega.{arith}
@@ -14,10 +14,11 @@ use Rattle.gates.specs.declared.place.Place.{Place}
 use Rattle.gates.specs.declared.place.Place.the-variants.{At, Nowhere}
 use Rattle.jury.specs.Ballots.{ones, rowsOf, firstBadRow}
 use Rattle.jury.proofs.BallotLaws.{ones-here, ones-later, bad-here, bad-later}
-use Rattle.lanes.specs.Lane.{laneCount, lane, laneOf}
-use Rattle.lanes.proofs.LaneLaws.{lane-bit, lane-none, lane-all, lane-and, lane-or, lane-xor}
-use Rattle.lanes.proofs.ListLaws.{lanes-length, lanes-at}
-use Rattle.batch.specs.Ballots.{foundBit}
+use Rattle.batch_lanes.specs.Lane.{laneCount, lane, laneOf}
+use Rattle.batch_lanes.proofs.LaneLaws.{lane-bit, lane-none, lane-all, lane-and, lane-or, lane-xor}
+use Rattle.batch_lanes.proofs.ListLaws.{lanes-length, lanes-at}
+use Rattle.batch.specs.inner.Found.{foundBit}
+use Rattle.basics.proofs.Arithmetic.{bit-cases}
 
 -- after some words of a row, m of which are 1 in lane j: whether there was one, and whether there was a second
 pub record Seen (j : ℕ) (once twice m : ℕ) : Type 0 where
@@ -60,11 +61,6 @@ seen-one j once twice m w s e =
       one = lane-or j once w ∙ ap₂ max (s .one) e ∙ first-of m;
       two = lane-or j twice (bitAnd once w) ∙ ap₂ max (s .two) (lane-and j once w ∙ ap₂ min (s .one) e) ∙ second-of m;
     }
-
-bit-cases : (x : ℕ) → x ≤ 1 → (x ≡ 0) ⊎ (x ≡ 1)
-bit-cases zero h = inl refl
-bit-cases (suc zero) h = inr refl
-bit-cases (suc (suc x)) h = absurd (omega arith)
 
 pub row-turn : (j : ℕ) (words : List ℕ) (once twice i : ℕ) → i < length words → RowLane j words once twice i
     → RowLane j words (bitOr once (getD words i 0)) (bitOr twice (bitAnd once (getD words i 0))) (suc i)

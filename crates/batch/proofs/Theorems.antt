@@ -27,10 +27,12 @@ use Rattle.jury.specs.Ballots.{ballotReasons}
 use Rattle.jury.proofs.BallotLaws.{kindReason, judged-by, judged-kind}
 use Rattle.jury.proofs.AcceptedLaws.{accepted-back}
 use Rattle.jury.proofs.AcceptedLaws as ballots-laws
-use Rattle.jury.proofs.Cases.{below-or-not}
+use Rattle.basics.proofs.Cases.{below-or-not}
 use Rattle.tally.specs.Answer.{refused, accepted, hasNumberIn, Size, sizeOf}
 use Rattle.tally.specs.Test.{testReasons}
-use Rattle.tally.specs.Run.{Ran}
+use Rattle.tally.specs.SaysWhoWins.{SaysWhoWins}
+use Rattle.tally.specs.Memory.{Each}
+use Rattle.tally.specs.Run.{RunResult, runResult}
 use Rattle.tally.specs.Hiding.{closingBytes}
 use Rattle.tally.specs.Demands.{listIn}
 use Rattle.tally.proofs.TestReasons.{never}
@@ -38,12 +40,13 @@ use Rattle.tally.proofs.RunReasons.{RunPassed, run-passed}
 use Rattle.tally.proofs.Hiding.{ran-accepted, run-answer, run-wires, run-board, board-tells-no-more}
 use Rattle.tally.proofs.Demands.{three-demands}
 use Rattle.tally.proofs.Numbering.{Fine, All, FineSaid, first-fine, both, unless-fine, found-fine, list-fine, refused-fine}
-use Rattle.lanes.specs.Lane.{laneCount, laneOf, wordsOf}
-use Rattle.lanes.proofs.ListLaws.{lanes-length, lanes-bits, lanes-zeros, lanes-of-words, length-words}
+use Rattle.batch_lanes.specs.Lane.{laneCount, laneOf, wordsOf}
+use Rattle.batch_lanes.proofs.ListLaws.{lanes-length, lanes-bits, lanes-zeros, lanes-of-words, length-words}
 use Rattle.batch.specs.Ballots.{wordGradedReasons, wordRankedReasons, wordBallotReasons}
-use Rattle.batch.specs.Run.{wordLentReasons, batchReasons, batchAfter, batchRan}
-use Rattle.batch.specs.Theorems.{ranAlone, EachAsAlone, AcceptedAsAll, BatchMemory, BatchAccuracy, BatchHiding}
-use Rattle.batch.proofs.Reasons.{BatchPassed, batch-passed, batch-passed-back, batch-by}
+use Rattle.batch.specs.Call.{Call}
+use Rattle.batch.specs.Run.{wordBufferReasons, batchReasons, boardAlone, batchResultAfter, batchResult}
+use Rattle.batch.specs.Theorems.{runAlone, EachAsAlone, AcceptedAsAll, BatchMemory, BatchAccuracy, BatchHiding}
+use Rattle.batch.proofs.Reasons.{BatchPassed, batch-passed, batch-passed-back, result-by}
 
 -- every byte of a finished board of good gates on bits is a bit
 board-bits : (ws : List ℕ) (gs : List Gate) (k : ℕ) (tape : List ℕ) → AllGood (length ws) gs → Bits ws → k ≤ length gs → length tape ≡ conditionalCount gs
@@ -78,111 +81,111 @@ by-kind : (s : Shape) (xs : List ℕ) → length xs ≡ ballotBytes s → ((i : 
 by-kind s xs size bits =
     judged-by s xs true Nowhere (kindReason s xs) (eq-eqb (length xs) (ballotBytes s) size) (none-above 0 xs bits) refl ∙ judged-kind (kindReason s xs)
 
-module _ (s : Shape) (table ballots tape wires board : List ℕ) where
+module _ (c : Call) where
   -- a call that answers G and C is one to which no reason applies, and both numbers are those of the list
-  answered : (size : Size) (o : Option Reason) → firstOf (batchReasons s table ballots tape wires board) ≡ o
-      → batchAfter o s (gatesOf table) ballots tape wires board .answer ≡ accepted size → (firstOf (batchReasons s table ballots tape wires board) ≡ none) × (size ≡ sizeOf (gatesOf table))
-  unfolding batchAfter
+  answered : (size : Size) (o : Option Reason) → firstOf (batchReasons c) ≡ o
+      → batchResultAfter o c .answer ≡ accepted size → (firstOf (batchReasons c) ≡ none) × (size ≡ sizeOf (gatesOf (c .table)))
+  unfolding batchResultAfter
   answered size none e f = (e, cc)
   answered size (some r) e f = never size r f
 
-  whole : batchRan s table ballots tape wires board ≡ batchAfter (firstOf (batchReasons s table ballots tape wires board)) s (gatesOf table) ballots tape wires board
-  whole = batch-by s table ballots tape wires board (firstOf (batchReasons s table ballots tape wires board)) refl
+  whole : batchResult c ≡ batchResultAfter (firstOf (batchReasons c)) c
+  whole = result-by c (firstOf (batchReasons c)) refl
 
-  batch-accepted : (size : Size) → batchRan s table ballots tape wires board .answer ≡ accepted size
-      → (firstOf (batchReasons s table ballots tape wires board) ≡ none) × (size ≡ sizeOf (gatesOf table))
-  batch-accepted size e = answered size (firstOf (batchReasons s table ballots tape wires board)) refl (sym (ap (λ (r : Ran). r .answer) whole) ∙ e)
+  batch-accepted : (size : Size) → batchResult c .answer ≡ accepted size
+      → (firstOf (batchReasons c) ≡ none) × (size ≡ sizeOf (gatesOf (c .table)))
+  batch-accepted size e = answered size (firstOf (batchReasons c)) refl (sym (ap (λ (r : RunResult). r .answer) whole) ∙ e)
 
   -- the facts of an accepted call are those of every single run
-  module _ (p : BatchPassed s table ballots tape wires board) where
-    alone-passed : (j : ℕ) → j < laneCount → RunPassed s table (laneOf j ballots) (laneOf j tape) (laneOf j wires) (laneOf j board)
+  module _ (p : BatchPassed c) where
+    alone-passed : (j : ℕ) → j < laneCount → RunPassed (c .shape) (c .table) (laneOf j (c .ballots)) (laneOf j (c .tape)) (laneOf j (c .wires)) (laneOf j (c .board))
     alone-passed j h =
         record {
           test = p .test;
-          ballotsPassed = ballots-laws.accepted s (laneOf j ballots) (p .test .within)
-              (by-kind s (laneOf j ballots) (lanes-length j ballots ∙ p .ballotsPassed .size) (lanes-bits j ballots) ∙ p .ballotsPassed .kinds j h);
-          mask = record { size = lanes-length j tape ∙ p .tapeLength; bits = lanes-bits j tape };
-          wiresLength = lanes-length j wires ∙ p .wiresLength;
-          boardLength = lanes-length j board ∙ p .boardLength;
+          ballotsPassed = ballots-laws.accepted (c .shape) (laneOf j (c .ballots)) (p .test .within)
+              (by-kind (c .shape) (laneOf j (c .ballots)) (lanes-length j (c .ballots) ∙ p .ballotsPassed .size) (lanes-bits j (c .ballots)) ∙ p .ballotsPassed .kinds j h);
+          mask = record { size = lanes-length j (c .tape) ∙ p .tapeLength; bits = lanes-bits j (c .tape) };
+          wiresLength = lanes-length j (c .wires) ∙ p .wiresLength;
+          boardLength = lanes-length j (c .board) ∙ p .boardLength;
         }
 
     lists : ℕ → List ℕ
-    lists j = boardOf (wiresOf (laneOf j ballots) (gatesOf table)) (gatesOf table) (s .candidates) (laneOf j tape)
+    lists j = boardAlone c j
 
-    enough : s .candidates ≤ length (gatesOf table)
-    enough = let size = sizeOf (gatesOf table) in accepted-list (ballotBytes s) (s .candidates) table (size .gates) (size .conditional) (p .test .tests) .enough
+    enough : c .shape .candidates ≤ length (gatesOf (c .table))
+    enough = let size = sizeOf (gatesOf (c .table)) in accepted-list (ballotBytes (c .shape)) (c .shape .candidates) (c .table) (size .gates) (size .conditional) (p .test .tests) .enough
 
-    good : (j : ℕ) → AllGood (length (laneOf j ballots)) (gatesOf table)
+    good : (j : ℕ) → AllGood (length (laneOf j (c .ballots))) (gatesOf (c .table))
     good j =
-        let size = sizeOf (gatesOf table) in
-        let f = accepted-list (ballotBytes s) (s .candidates) table (size .gates) (size .conditional) (p .test .tests) in
-        subst (λ (n : ℕ). AllGood n (gatesOf table)) (add-zero (ballotBytes s) ∙ sym (lanes-length j ballots ∙ p .ballotsPassed .size)) (all-good (ballotBytes s) 0 (gatesOf table) (f .good))
+        let size = sizeOf (gatesOf (c .table)) in
+        let f = accepted-list (ballotBytes (c .shape)) (c .shape .candidates) (c .table) (size .gates) (size .conditional) (p .test .tests) in
+        subst (λ (n : ℕ). AllGood n (gatesOf (c .table))) (add-zero (ballotBytes (c .shape)) ∙ sym (lanes-length j (c .ballots) ∙ p .ballotsPassed .size)) (all-good (ballotBytes (c .shape)) 0 (gatesOf (c .table)) (f .good))
 
-    lane-board : (j : ℕ) → j < laneCount → laneOf j (wordsOf (conditionalCount (gatesOf table) + s .candidates) lists) ≡ lists j
+    lane-board : (j : ℕ) → j < laneCount → laneOf j (wordsOf (conditionalCount (gatesOf (c .table)) + c .shape .candidates) lists) ≡ lists j
     unfolding lists
     lane-board j h =
-        lanes-of-words (conditionalCount (gatesOf table) + s .candidates) lists j h
-        (λ i. board-finished (wiresOf (laneOf i ballots) (gatesOf table)) (gatesOf table) (s .candidates) (laneOf i tape) (omega (arith, enough, length-wires (laneOf i ballots) (gatesOf table))) (lanes-length i tape ∙ p .tapeLength) .size)
-        (λ i x. board-bits (laneOf i ballots) (gatesOf table) (s .candidates) (laneOf i tape) (good i) (lanes-bits i ballots) enough (lanes-length i tape ∙ p .tapeLength) x)
+        lanes-of-words (conditionalCount (gatesOf (c .table)) + c .shape .candidates) lists j h
+        (λ i. board-finished (wiresOf (laneOf i (c .ballots)) (gatesOf (c .table))) (gatesOf (c .table)) (c .shape .candidates) (laneOf i (c .tape)) (omega (arith, enough, length-wires (laneOf i (c .ballots)) (gatesOf (c .table)))) (lanes-length i (c .tape) ∙ p .tapeLength) .size)
+        (λ i x. board-bits (laneOf i (c .ballots)) (gatesOf (c .table)) (c .shape .candidates) (laneOf i (c .tape)) (good i) (lanes-bits i (c .ballots)) enough (lanes-length i (c .tape) ∙ p .tapeLength) x)
 
-    outcome : batchRan s table ballots tape wires board ≡ batchAfter none s (gatesOf table) ballots tape wires board
-    outcome = batch-by s table ballots tape wires board none (batch-passed-back s table ballots tape wires board p)
+    outcome : batchResult c ≡ batchResultAfter none c
+    outcome = result-by c none (batch-passed-back c p)
 
-    alone-answer : (j : ℕ) → j < laneCount → ranAlone j s table ballots tape wires board .answer ≡ accepted (sizeOf (gatesOf table))
+    alone-answer : (j : ℕ) → j < laneCount → runAlone j c .answer ≡ accepted (sizeOf (gatesOf (c .table)))
     alone-answer j h =
         let q = alone-passed j h in
-        run-answer s table (laneOf j ballots) (laneOf j wires) (laneOf j board) (laneOf j tape) q (laneOf j tape) (q .mask)
+        run-answer (c .shape) (c .table) (laneOf j (c .ballots)) (laneOf j (c .wires)) (laneOf j (c .board)) (laneOf j (c .tape)) q (laneOf j (c .tape)) (q .mask)
 
-    alone-wires : (j : ℕ) → j < laneCount → laneOf j (batchRan s table ballots tape wires board .wires) ≡ ranAlone j s table ballots tape wires board .wires
-    unfolding batchAfter
+    alone-wires : (j : ℕ) → j < laneCount → laneOf j (batchResult c .wires) ≡ runAlone j c .wires
+    unfolding batchResultAfter
     alone-wires j h =
         let q = alone-passed j h in
-        ap (λ (r : Ran). laneOf j (r .wires)) outcome ∙ lanes-zeros j (length wires) ∙ ap (λ (n : ℕ). replicate n 0) (sym (lanes-length j wires))
-        ∙ sym (run-wires s table (laneOf j ballots) (laneOf j wires) (laneOf j board) (laneOf j tape) q (laneOf j tape) (q .mask))
+        ap (λ (r : RunResult). laneOf j (r .wires)) outcome ∙ lanes-zeros j (length (c .wires)) ∙ ap (λ (n : ℕ). replicate n 0) (sym (lanes-length j (c .wires)))
+        ∙ sym (run-wires (c .shape) (c .table) (laneOf j (c .ballots)) (laneOf j (c .wires)) (laneOf j (c .board)) (laneOf j (c .tape)) q (laneOf j (c .tape)) (q .mask))
 
-    alone-board : (j : ℕ) → j < laneCount → laneOf j (batchRan s table ballots tape wires board .board) ≡ ranAlone j s table ballots tape wires board .board
-    unfolding batchAfter lists
+    alone-board : (j : ℕ) → j < laneCount → laneOf j (batchResult c .board) ≡ runAlone j c .board
+    unfolding batchResultAfter lists
     alone-board j h =
         let q = alone-passed j h in
-        ap (λ (r : Ran). laneOf j (r .board)) outcome ∙ lane-board j h
-        ∙ sym (run-board s table (laneOf j ballots) (laneOf j wires) (laneOf j board) (laneOf j tape) q (laneOf j tape) (q .mask))
+        ap (λ (r : RunResult). laneOf j (r .board)) outcome ∙ lane-board j h
+        ∙ sym (run-board (c .shape) (c .table) (laneOf j (c .ballots)) (laneOf j (c .wires)) (laneOf j (c .board)) (laneOf j (c .tape)) q (laneOf j (c .tape)) (q .mask))
 
 -- Each jury has its single run.
 pub each-as-alone : EachAsAlone
-each-as-alone s table ballots tape wires board size e j h =
-    let a = batch-accepted s table ballots tape wires board size e in
-    let p = batch-passed s table ballots tape wires board (a .0) in (
-      alone-answer s table ballots tape wires board p j h ∙ ap accepted (sym (a .1)),
-      alone-wires s table ballots tape wires board p j h,
-      alone-board s table ballots tape wires board p j h,
+each-as-alone c size e j h =
+    let a = batch-accepted c size e in
+    let p = batch-passed c (a .0) in (
+      alone-answer c p j h ∙ ap accepted (sym (a .1)),
+      alone-wires c p j h,
+      alone-board c p j h,
     )
 
 -- And 64 accepted single runs make an accepted call.
 pub accepted-as-all : AcceptedAsAll
-unfolding batchAfter
-accepted-as-all s table ballots tape wires board size e =
-    ap (λ (r : Ran). r .answer) (batch-by s table ballots tape wires board none (batch-passed-back s table ballots tape wires board passed))
-    ∙ ap accepted (sym (ran-accepted s table (laneOf 0 ballots) (laneOf 0 wires) (laneOf 0 board) (laneOf 0 tape) size (e 0 (omega arith)) .1))
+unfolding batchResultAfter
+accepted-as-all c size e =
+    ap (λ (r : RunResult). r .answer) (result-by c none (batch-passed-back c passed))
+    ∙ ap accepted (sym (ran-accepted (c .shape) (c .table) (laneOf 0 (c .ballots)) (laneOf 0 (c .wires)) (laneOf 0 (c .board)) (laneOf 0 (c .tape)) size (e 0 (omega arith)) .1))
   where
-    alone : (j : ℕ) → j < laneCount → RunPassed s table (laneOf j ballots) (laneOf j tape) (laneOf j wires) (laneOf j board)
+    alone : (j : ℕ) → j < laneCount → RunPassed (c .shape) (c .table) (laneOf j (c .ballots)) (laneOf j (c .tape)) (laneOf j (c .wires)) (laneOf j (c .board))
     alone j h =
-        run-passed s table (laneOf j ballots) (laneOf j tape) (laneOf j wires) (laneOf j board)
-        (ran-accepted s table (laneOf j ballots) (laneOf j wires) (laneOf j board) (laneOf j tape) size (e j h) .0)
+        run-passed (c .shape) (c .table) (laneOf j (c .ballots)) (laneOf j (c .tape)) (laneOf j (c .wires)) (laneOf j (c .board))
+        (ran-accepted (c .shape) (c .table) (laneOf j (c .ballots)) (laneOf j (c .wires)) (laneOf j (c .board)) (laneOf j (c .tape)) size (e j h) .0)
 
-    passed : BatchPassed s table ballots tape wires board
+    passed : BatchPassed c
     passed =
         let q = alone 0 (omega arith) in
         record {
           test = q .test;
           ballotsPassed = record {
-            size = sym (lanes-length 0 ballots) ∙ q .ballotsPassed .size;
+            size = sym (lanes-length 0 (c .ballots)) ∙ q .ballotsPassed .size;
             kinds = λ j h.
                 let b = alone j h .ballotsPassed in
-                sym (by-kind s (laneOf j ballots) (b .size) (b .bits)) ∙ accepted-back s (laneOf j ballots) b;
+                sym (by-kind (c .shape) (laneOf j (c .ballots)) (b .size) (b .bits)) ∙ accepted-back (c .shape) (laneOf j (c .ballots)) b;
           };
-          tapeLength = sym (lanes-length 0 tape) ∙ q .mask .size;
-          wiresLength = sym (lanes-length 0 wires) ∙ q .wiresLength;
-          boardLength = sym (lanes-length 0 board) ∙ q .boardLength;
+          tapeLength = sym (lanes-length 0 (c .tape)) ∙ q .mask .size;
+          wiresLength = sym (lanes-length 0 (c .wires)) ∙ q .wiresLength;
+          boardLength = sym (lanes-length 0 (c .board)) ∙ q .boardLength;
         }
 
 -- the numbers of the reasons that concern the call
@@ -194,68 +197,72 @@ unfolding All wordRankedReasons wordGradedReasons hasNumberIn reasonAt concerned
 kinds-concern s words true = (found-fine concerned 11 _ (λ i. tt), (found-fine concerned 12 _ (λ i. tt), tt))
 kinds-concern s words false = (found-fine concerned 6 _ (λ i. tt), tt)
 
-all-concern : (s : Shape) (table ballots tape wires board : List ℕ) → All concerned (batchReasons s table ballots tape wires board)
-unfolding batchReasons All testReasons wordBallotReasons wordLentReasons hasNumberIn reasonAt concerned
-all-concern s table ballots tape wires board =
-    both concerned (testReasons s table ++ wordBallotReasons s ballots) (wordLentReasons (ballotBytes s) (s .candidates) (sizeOf (gatesOf table)) tape wires board)
-    (both concerned (testReasons s table) (wordBallotReasons s ballots)
+all-concern : (c : Call) → All concerned (batchReasons c)
+unfolding batchReasons All testReasons wordBallotReasons wordBufferReasons hasNumberIn reasonAt concerned
+all-concern c =
+    both concerned (testReasons (c .shape) (c .table) ++ wordBallotReasons (c .shape) (c .ballots)) (wordBufferReasons (ballotBytes (c .shape)) (c .shape .candidates) (sizeOf (gatesOf (c .table))) (c .tape) (c .wires) (c .board))
+    (both concerned (testReasons (c .shape) (c .table)) (wordBallotReasons (c .shape) (c .ballots))
     (unless-fine concerned _ 1 tt, (list-fine concerned _ tt (λ g. tt), tt))
-    (unless-fine concerned _ 4 tt, kinds-concern s ballots (isRanking s)))
+    (unless-fine concerned _ 4 tt, kinds-concern (c .shape) (c .ballots) (isRanking (c .shape))))
     (unless-fine concerned _ 7 tt, (unless-fine concerned _ 9 tt, (unless-fine concerned _ 10 tt, tt)))
 
-after-fine : (o : Option Reason) (s : Shape) (gs : List Gate) (ballots tape wires board : List ℕ) → Fine concerned o → FineSaid concerned (batchAfter o s gs ballots tape wires board .answer)
-unfolding Fine FineSaid batchAfter
-after-fine none s gs ballots tape wires board f = tt
-after-fine (some r) s gs ballots tape wires board f = f
+after-fine : (o : Option Reason) (c : Call) → Fine concerned o → FineSaid concerned (batchResultAfter o c .answer)
+unfolding Fine FineSaid batchResultAfter
+after-fine none c f = tt
+after-fine (some r) c f = f
 
-module _ (s : Shape) (table ballots tape wires board : List ℕ) where
-  after-refusal : (o : Option Reason) (r : Reason) → batchAfter o s (gatesOf table) ballots tape wires board .answer ≡ refused r
-      → (batchAfter o s (gatesOf table) ballots tape wires board .wires ≡ wires) × (batchAfter o s (gatesOf table) ballots tape wires board .board ≡ board)
-  unfolding batchAfter
-  after-refusal none r e = never (sizeOf (gatesOf table)) r (sym e)
+module _ (c : Call) where
+  after-refusal : (o : Option Reason) (r : Reason) → batchResultAfter o c .answer ≡ refused r
+      → (batchResultAfter o c .wires ≡ (c .wires)) × (batchResultAfter o c .board ≡ (c .board))
+  unfolding batchResultAfter
+  after-refusal none r e = never (sizeOf (gatesOf (c .table))) r (sym e)
   after-refusal (some q) r e = (refl, refl)
 
-  after-lengths : (o : Option Reason) → firstOf (batchReasons s table ballots tape wires board) ≡ o
-      → (length (batchAfter o s (gatesOf table) ballots tape wires board .wires) ≡ length wires) × (length (batchAfter o s (gatesOf table) ballots tape wires board .board) ≡ length board)
-  unfolding batchAfter
+  after-lengths : (o : Option Reason) → firstOf (batchReasons c) ≡ o
+      → (length (batchResultAfter o c .wires) ≡ length (c .wires)) × (length (batchResultAfter o c .board) ≡ length (c .board))
+  unfolding batchResultAfter
   after-lengths none e =
-      let p = batch-passed s table ballots tape wires board e in
-      (length-replicate (length wires) 0, length-words (conditionalCount (gatesOf table) + s .candidates) _ ∙ sym (p .boardLength))
+      let p = batch-passed c e in
+      (length-replicate (length (c .wires)) 0, length-words (conditionalCount (gatesOf (c .table)) + c .shape .candidates) _ ∙ sym (p .boardLength))
   after-lengths (some r) e = (refl, refl)
 
 pub batch-memory : BatchMemory
-unfolding batchRan concerned batchAfter
-batch-memory =
+unfolding batchResult concerned batchResultAfter Each
+batch-memory c =
+    let long = after-lengths c (firstOf (batchReasons c)) refl in
     record {
-      number = λ s table ballots tape wires board r e.
-          refused-fine concerned (batchRan s table ballots tape wires board .answer) r
-          (after-fine (firstOf (batchReasons s table ballots tape wires board)) s (gatesOf table) ballots tape wires board
-          (first-fine concerned (batchReasons s table ballots tape wires board) (all-concern s table ballots tape wires board))) e;
-      refusal = λ s table ballots tape wires board r e. after-refusal s table ballots tape wires board (firstOf (batchReasons s table ballots tape wires board)) r e;
-      empties = λ s table ballots tape wires board size e.
-          let a = batch-accepted s table ballots tape wires board size e in
-          ap (λ (r : Ran). r .wires) (batch-by s table ballots tape wires board none (a .0));
-      lengths = λ s table ballots tape wires board. after-lengths s table ballots tape wires board (firstOf (batchReasons s table ballots tape wires board)) refl;
+      number = λ r e.
+          refused-fine concerned (batchResult c .answer) r
+          (after-fine (firstOf (batchReasons c)) c (first-fine concerned (batchReasons c) (all-concern c))) e;
+      refusal = λ r e. let q = after-refusal c (firstOf (batchReasons c)) r e in (q .0, (q .1, tt));
+      empties = λ size e. (ap (λ (r : RunResult). r .wires) (result-by c none (batch-accepted c size e .0)), tt);
+      lengths = (long .0, (long .1, tt));
     }
 
 pub batch-accuracy : BatchAccuracy
-batch-accuracy s table size w ballots tape wires board answer e j h =
-    let list = listIn s size table in
-    let a = each-as-alone s list ballots tape wires board answer e j h in
-    let q = three-demands .accuracy s table size w in
-    let same = sym (a .2) in (
-      ap (closingBytes s) (a .2) ∙ q .plain (laneOf j ballots) (laneOf j tape) (laneOf j wires) (laneOf j board) answer (a .0),
-      λ i l.
-          let r = q .winners (laneOf j ballots) (laneOf j tape) (laneOf j wires) (laneOf j board) answer (a .0) i l in
-          (λ x. r .0 (ap (λ (b : List ℕ). getD (closingBytes s b) i 0) same ∙ x), λ x. ap (λ (b : List ℕ). getD (closingBytes s b) i 0) (a .2) ∙ r .1 x),
-      λ i l.
-          let r = q .losers (laneOf j ballots) (laneOf j tape) (laneOf j wires) (laneOf j board) answer (a .0) i l in
-          (λ x. r .0 (ap (λ (b : List ℕ). getD (closingBytes s b) i 0) same ∙ x), λ x. ap (λ (b : List ℕ). getD (closingBytes s b) i 0) (a .2) ∙ r .1 x),
+batch-accuracy c table size answer w own e j h =
+    let a = each-as-alone c answer e j h in
+    let s = c .shape in
+    let run : List ℕ → RunResult = λ (l : List ℕ). runResult s l (laneOf j (c .ballots)) (laneOf j (c .tape)) (laneOf j (c .wires)) (laneOf j (c .board)) in
+    let f : run (listIn s size table) .answer ≡ accepted answer = subst (λ (l : List ℕ). run l .answer ≡ accepted answer) own (a .0) in
+    let b : laneOf j (batchResult c .board) ≡ run (listIn s size table) .board = a .2 ∙ ap (λ (l : List ℕ). run l .board) own in
+    let q = three-demands .accuracy s table size w in (
+      ap (closingBytes s) b ∙ q .plain (laneOf j (c .ballots)) (laneOf j (c .tape)) (laneOf j (c .wires)) (laneOf j (c .board)) answer f,
+      subst (λ (x : List ℕ). SaysWhoWins s (laneOf j (c .ballots)) (closingBytes s x)) (sym b)
+          (q .says-who-wins (laneOf j (c .ballots)) (laneOf j (c .tape)) (laneOf j (c .wires)) (laneOf j (c .board)) answer f),
     )
 
+-- the second of two calls that agree in shape and list
+abbrev alike : Call → Call → Call
+alike c d =
+    record { shape = c .shape; table = c .table; ballots = d .ballots; tape = d .tape; wires = d .wires; board = d .board }
+
 pub batch-hiding : BatchHiding
-batch-hiding s table xs ys t u vs ws bs ds first second e f i j hi hj closing =
-    let a = each-as-alone s table xs t vs bs first e i hi in
-    let b = each-as-alone s table ys u ws ds second f j hj in
-    board-tells-no-more s table (laneOf i xs) (laneOf j ys) (laneOf i t) (laneOf j u) (laneOf i vs) (laneOf j ws) (laneOf i bs) (laneOf j ds) first second (a .0) (b .0)
-    (sym (ap (closingBytes s) (a .2)) ∙ closing ∙ ap (closingBytes s) (b .2)) .2
+batch-hiding c c′ first second shape table e f i j hi hj closing =
+    let same : alike c c′ ≡ c′ = rw (shape, table) refl in
+    let a = each-as-alone c first e i hi in
+    let b = each-as-alone (alike c c′) second (ap (λ (d : Call). batchResult d .answer) same ∙ f) j hj in
+    board-tells-no-more (c .shape) (c .table) (laneOf i (c .ballots)) (laneOf j (c′ .ballots)) (laneOf i (c .tape)) (laneOf j (c′ .tape))
+    (laneOf i (c .wires)) (laneOf j (c′ .wires)) (laneOf i (c .board)) (laneOf j (c′ .board)) first second (a .0) (b .0)
+    (sym (ap (closingBytes (c .shape)) (a .2)) ∙ closing
+    ∙ sym (ap (λ (d : Call). closingBytes (c .shape) (laneOf j (batchResult d .board))) same) ∙ ap (closingBytes (c .shape)) (b .2)) .2

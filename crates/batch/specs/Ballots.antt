@@ -11,8 +11,8 @@ use Rattle.jury.specs.declared.shape.Shape.{Shape}
 use Rattle.jury.specs.Shape.{isRanking, ballotBytes}
 use Rattle.jury.specs.Reason.{Reason, unless, foundAt}
 use Rattle.jury.specs.Ballots.{rowsOf, firstBadRow}
-use Rattle.jury.specs.Rankings.{firstOver, firstClash, firstGap}
-use Rattle.lanes.specs.Lane.{laneCount, lane, laneOf}
+use Rattle.jury.specs.Rankings.{firstOver, firstNotAsymmetric, firstNotWeakOrder}
+use Rattle.batch_lanes.specs.Lane.{laneCount, laneOf}
 
 -- The jury in place of what was found in it.
 unfoldable pub inJury : ℕ → Place → Place
@@ -25,22 +25,17 @@ firstJury search words = firstOver laneCount (λ j. inJury j (search (laneOf j w
 
 -- What graded ballots must say, over all juries: 6.
 unfoldable pub wordGradedReasons : Shape → List ℕ → List (Option Reason)
-wordGradedReasons s words = foundAt 6 (firstJury (λ xs. firstBadRow 0 (rowsOf (s .grades) (s .ballots * s .candidates) xs)) words) ∷ []
+wordGradedReasons s words = foundAt 6 (firstJury
+    (λ xs. firstBadRow 0 (rowsOf (s .grades) (s .ballots * s .candidates) xs)) words) ∷ []
 
 -- What rankings must say, over all juries: first 11, then 12.
 unfoldable pub wordRankedReasons : Shape → List ℕ → List (Option Reason)
-wordRankedReasons s words = foundAt 11 (firstJury (firstClash (s .candidates) (s .ballots)) words) ∷ foundAt 12 (firstJury (firstGap (s .candidates) (s .ballots)) words) ∷ []
+wordRankedReasons s words = foundAt 11 (firstJury (firstNotAsymmetric (s .candidates) (s .ballots)) words)
+    ∷ foundAt 12 (firstJury (firstNotWeakOrder (s .candidates) (s .ballots)) words) ∷ []
 
--- The tests of the ballots in checking order: 4, which counts words, and then those of the kind of the shape. A bit is never above 1, so 5 does not concern words (request 2.11).
+-- The tests of the ballots in checking order: 4, which counts words, and then those of the kind of the shape. A bit is
+-- never above 1, so 5 does not concern words (request 2.11).
 unfoldable pub wordBallotReasons : Shape → List ℕ → List (Option Reason)
 wordBallotReasons s words =
     unless (eqb (length words) (ballotBytes s)) 4
     ∷ cond (isRanking s) (wordRankedReasons s words) (wordGradedReasons s words)
-
--- For the inner functions: whether something was found, as a bit, and the first lane of a word that is 1.
-unfoldable pub foundBit : Place → ℕ
-foundBit (At place) = 1
-foundBit Nowhere = 0
-
-unfoldable pub firstSet : ℕ → Place
-firstSet w = firstOver laneCount (λ j. cond (eqb (lane j w) 1) (At j) Nowhere)

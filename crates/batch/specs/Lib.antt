@@ -1,3 +1,5 @@
+pub mod Call
 pub mod Ballots
 pub mod Run
+pub mod inner
 pub mod Theorems

@@ -1,40 +1,43 @@
 -- What holds of a run for 64 juries: each jury has its single run, so the three demands hold jury by jury.
 use mathlib.Core.Path.{_≡_}
 use mathlib.Core.Bool.{Bool, true, false}
-use mathlib.Core.Logic.{_↔_}
 use mathlib.Core.List.{List, [], _∷_}
 use Prim.Native.Nat.{ℕ, _<_}
-use lib.Dec.{T}
-use lib.ListN.{length, getD, take, replicate}
-use Rattle.jury.specs.declared.shape.Shape.{Shape}
+use lib.ListN.{take}
 use Rattle.jury.specs.Reason.{Reason, reasonAt}
 use Rattle.tally.specs.Answer.{refused, accepted, hasNumberIn, Size}
-use Rattle.tally.specs.Rule.{Wins}
+use Rattle.tally.specs.SaysWhoWins.{SaysWhoWins}
+use Rattle.tally.specs.Memory.{BoardKeepsMemory}
 use Rattle.tally.specs.Count.{plainClosing}
-use Rattle.tally.specs.Write.{writeSaid}
-use Rattle.tally.specs.Run.{Ran, ran}
+use Rattle.tally.specs.Write.{writeOutcome}
+use Rattle.tally.specs.Run.{RunResult, runResult}
 use Rattle.tally.specs.Hiding.{closingBytes, Hidden}
 use Rattle.tally.specs.Demands.{listIn}
-use Rattle.lanes.specs.Lane.{laneCount, laneOf}
-use Rattle.batch.specs.Run.{batchRan}
+use Rattle.batch_lanes.specs.Lane.{laneCount, laneOf}
+use Rattle.batch.specs.Call.{Call}
+use Rattle.batch.specs.Run.{batchResult}
 
 -- The single run of jury j: on its bits of the ballots, the tape, the wire table and the board.
-abbrev pub ranAlone : ℕ → Shape → List ℕ → List ℕ → List ℕ → List ℕ → List ℕ → Ran
-ranAlone j s table ballots tape wires board = ran s table (laneOf j ballots) (laneOf j tape) (laneOf j wires) (laneOf j board)
+abbrev pub runAlone : ℕ → Call → RunResult
+runAlone j c =
+    runResult (c .shape) (c .table) (laneOf j (c .ballots)) (laneOf j (c .tape)) (laneOf j (c .wires))
+    (laneOf j (c .board))
 
--- Each jury of an accepted call has what its single run gives: the answer, its bits of the wire table and its bits of the board.
+-- Each jury of an accepted call has what its single run gives: the answer, its bits of the wire table and its bits of
+-- the board. Both wire tables are zeros by then; that each jury's wires were those of its single run before they were
+-- emptied is what the contract of `batch_lanes::step::run` says.
 abbrev pub EachAsAlone : Type 0
 EachAsAlone =
-    (s : Shape) (table ballots tape wires board : List ℕ) (size : Size) → batchRan s table ballots tape wires board .answer ≡ accepted size → (j : ℕ) → j < laneCount
-    → (ranAlone j s table ballots tape wires board .answer ≡ accepted size)
-    × (laneOf j (batchRan s table ballots tape wires board .wires) ≡ ranAlone j s table ballots tape wires board .wires)
-    × (laneOf j (batchRan s table ballots tape wires board .board) ≡ ranAlone j s table ballots tape wires board .board)
+    (c : Call) (size : Size) → batchResult c .answer ≡ accepted size → (j : ℕ) → j < laneCount
+    → (runAlone j c .answer ≡ accepted size)
+    × (laneOf j (batchResult c .wires) ≡ runAlone j c .wires)
+    × (laneOf j (batchResult c .board) ≡ runAlone j c .board)
 
 -- And a call is accepted where all 64 single runs are.
 abbrev pub AcceptedAsAll : Type 0
 AcceptedAsAll =
-    (s : Shape) (table ballots tape wires board : List ℕ) (size : Size) → ((j : ℕ) → j < laneCount → ranAlone j s table ballots tape wires board .answer ≡ accepted size)
-    → batchRan s table ballots tape wires board .answer ≡ accepted size
+    (c : Call) (size : Size) → ((j : ℕ) → j < laneCount → runAlone j c .answer ≡ accepted size)
+    → batchResult c .answer ≡ accepted size
 
 -- The reasons that look at what the ballots say: their place is a jury.
 unfoldable pub isOfBallots : Reason → Bool
@@ -43,44 +46,43 @@ isOfBallots = hasNumberIn (6 ∷ 11 ∷ 12 ∷ [])
 -- A call that is refused for another reason than these is refused as every single run is.
 abbrev pub RefusedAsAlone : Type 0
 RefusedAsAlone =
-    (s : Shape) (table ballots tape wires board : List ℕ) (r : Reason) → batchRan s table ballots tape wires board .answer ≡ refused r → isOfBallots r ≡ false → (j : ℕ) → j < laneCount
-    → ranAlone j s table ballots tape wires board .answer ≡ refused r
+    (c : Call) (r : Reason) → batchResult c .answer ≡ refused r → isOfBallots r ≡ false
+    → (j : ℕ) → j < laneCount → runAlone j c .answer ≡ refused r
 
--- One that is refused for one of them has as its place a jury whose single run is refused for the same reason, and no jury before it is. 11 comes before 12 over all juries: where a call is refused for 12, no single run is refused for 11.
+-- One that is refused for one of them has as its place a jury whose single run is refused for the same reason, and no
+-- jury before it is. 11 comes before 12 over all juries: where a call is refused for 12, no single run is refused for
+-- 11.
 abbrev pub FaultAsAlone : Type 0
 FaultAsAlone =
-    (s : Shape) (table ballots tape wires board : List ℕ) (r : Reason) → batchRan s table ballots tape wires board .answer ≡ refused r → isOfBallots r ≡ true
+    (c : Call) (r : Reason) → batchResult c .answer ≡ refused r → isOfBallots r ≡ true
     → (r .place < laneCount)
-    × ((place : ℕ) × (ranAlone (r .place) s table ballots tape wires board .answer ≡ refused (reasonAt (r .number) place)))
-    × ((j place : ℕ) → j < r .place → ranAlone j s table ballots tape wires board .answer ≡ refused (reasonAt (r .number) place) → ⊥)
-    × (r .number ≡ 12 → (j place : ℕ) → j < laneCount → ranAlone j s table ballots tape wires board .answer ≡ refused (reasonAt 11 place) → ⊥)
+    × ((place : ℕ) × (runAlone (r .place) c .answer ≡ refused (reasonAt (r .number) place)))
+    × ((j place : ℕ) → j < r .place → runAlone j c .answer ≡ refused (reasonAt (r .number) place) → ⊥)
+    × (r .number ≡ 12 → (j place : ℕ) → j < laneCount → runAlone j c .answer ≡ refused (reasonAt 11 place) → ⊥)
 
--- Demand 1: a refusal has the number of a reason that concerns the call and alters no lent word, an accepted call leaves a wire table of zeros, and no call changes a length.
-pub record BatchMemory : Type 0 where
-  pub number : (s : Shape) (table ballots tape wires board : List ℕ) (r : Reason) → batchRan s table ballots tape wires board .answer ≡ refused r
-      → T (hasNumberIn (1 ∷ 2 ∷ 3 ∷ 4 ∷ 6 ∷ 11 ∷ 12 ∷ 7 ∷ 9 ∷ 10 ∷ []) r)
-  pub refusal : (s : Shape) (table ballots tape wires board : List ℕ) (r : Reason) → batchRan s table ballots tape wires board .answer ≡ refused r
-      → (batchRan s table ballots tape wires board .wires ≡ wires) × (batchRan s table ballots tape wires board .board ≡ board)
-  pub empties : (s : Shape) (table ballots tape wires board : List ℕ) (size : Size) → batchRan s table ballots tape wires board .answer ≡ accepted size
-      → batchRan s table ballots tape wires board .wires ≡ replicate (length wires) 0
-  pub lengths : (s : Shape) (table ballots tape wires board : List ℕ)
-      → (length (batchRan s table ballots tape wires board .wires) ≡ length wires) × (length (batchRan s table ballots tape wires board .board) ≡ length board)
+-- Demand 1, as of every call that leaves a board; 5 and 8 do not concern words.
+abbrev pub BatchMemory : Type 0
+BatchMemory =
+    (c : Call) → BoardKeepsMemory (1 ∷ 2 ∷ 3 ∷ 4 ∷ 6 ∷ 11 ∷ 12 ∷ 7 ∷ 9 ∷ 10 ∷ []) (c .wires) (c .board) (batchResult c)
 
--- Demand 2: with the list that the core writes for a shape, a jury's closing bytes are those of its plain count: 1 for each candidate that wins in that jury by the rule of the shape's kind, 0 for each that does not.
+-- Demand 2: with the list that the core writes for a shape, a jury's closing bytes are those of its plain count, and
+-- say who wins in that jury.
 abbrev pub BatchAccuracy : Type 0
 BatchAccuracy =
-    (s : Shape) (table : List ℕ) (size : Size) → writeSaid s table ≡ accepted size
-    → (ballots tape wires board : List ℕ) (answer : Size) → batchRan s (listIn s size table) ballots tape wires board .answer ≡ accepted answer → (j : ℕ) → j < laneCount
-    → (closingBytes s (laneOf j (batchRan s (listIn s size table) ballots tape wires board .board)) ≡ take (s .candidates) (plainClosing s (laneOf j ballots)))
-    × ((i : ℕ) → i < s .candidates → (getD (closingBytes s (laneOf j (batchRan s (listIn s size table) ballots tape wires board .board))) i 0 ≡ 1) ↔ Wins s (laneOf j ballots) i)
-    × ((i : ℕ) → i < s .candidates → (getD (closingBytes s (laneOf j (batchRan s (listIn s size table) ballots tape wires board .board))) i 0 ≡ 0) ↔ (¬ Wins s (laneOf j ballots) i))
+    (c : Call) (table : List ℕ) (size answer : Size) → writeOutcome (c .shape) table ≡ accepted size
+    → c .table ≡ listIn (c .shape) size table → batchResult c .answer ≡ accepted answer → (j : ℕ) → j < laneCount
+    → let bytes = closingBytes (c .shape) (laneOf j (batchResult c .board)) in
+    (bytes ≡ take (c .shape .candidates) (plainClosing (c .shape) (laneOf j (c .ballots))))
+    × SaysWhoWins (c .shape) (laneOf j (c .ballots)) bytes
 
--- Demand 3: any jury i of one accepted call and any jury j of another, of one shape and one list, that end with the same closing bytes: their boards tell no more of their ballots than these bytes. The calls may be the same.
+-- Demand 3: any jury i of one accepted call and any jury j of another, of one shape and one list, that end with the
+-- same closing bytes: their boards tell no more of their ballots than these bytes. The calls may be the same.
 abbrev pub BatchHiding : Type 0
 BatchHiding =
-    (s : Shape) (table xs ys t u vs ws bs ds : List ℕ) (first second : Size)
-    → batchRan s table xs t vs bs .answer ≡ accepted first
-    → batchRan s table ys u ws ds .answer ≡ accepted second
+    (c c′ : Call) (first second : Size) → c .shape ≡ c′ .shape → c .table ≡ c′ .table
+    → batchResult c .answer ≡ accepted first → batchResult c′ .answer ≡ accepted second
     → (i j : ℕ) → i < laneCount → j < laneCount
-    → closingBytes s (laneOf i (batchRan s table xs t vs bs .board)) ≡ closingBytes s (laneOf j (batchRan s table ys u ws ds .board))
-    → Hidden s table (laneOf i xs) (laneOf j ys) (laneOf i vs) (laneOf j ws) (laneOf i bs) (laneOf j ds)
+    → closingBytes (c .shape) (laneOf i (batchResult c .board))
+    ≡ closingBytes (c .shape) (laneOf j (batchResult c′ .board))
+    → Hidden (c .shape) (c .table) (laneOf i (c .ballots)) (laneOf j (c′ .ballots)) (laneOf i (c .wires))
+    (laneOf j (c′ .wires)) (laneOf i (c .board)) (laneOf j (c′ .board))

@@ -1,9 +1,9 @@
 // The tests of the ballots of 64 juries, all of them at once: bit j of a word says whether jury j has the fault.
+use batch_lanes::word;
 use gates::place::Place;
 use jury::reason::Refusal;
 use jury::reason::Verdict;
 use jury::shape::Shape;
-use lanes::word;
 ghost use mathlib.Core.Path.{_≡_};
 ghost use mathlib.Core.Bool.{cond};
 ghost use Prim.Native.Nat.{ℕ, _*_, _<_};
@@ -12,8 +12,9 @@ ghost use lib.ListN.{length};
 ghost use Rattle.jury.specs.Shape.{gradedLimits, withinLimits};
 ghost use Rattle.jury.specs.Reason.{refusedFor, firstOf};
 ghost use Rattle.jury.specs.Ballots.{ones, rowsOf, firstBadRow};
-ghost use Rattle.lanes.specs.Lane.{laneCount, lane, laneOf};
-ghost use Rattle.batch.specs.Ballots.{foundBit, firstSet, wordGradedReasons, wordRankedReasons, wordBallotReasons};
+ghost use Rattle.batch_lanes.specs.Lane.{laneCount, lane, laneOf};
+ghost use Rattle.batch.specs.Ballots.{wordGradedReasons, wordRankedReasons, wordBallotReasons};
+ghost use Rattle.batch.specs.inner.Found.{foundBit, firstSet};
 
 // How many juries a word serves.
 const JURIES: u32 = 64;
@@ -35,7 +36,8 @@ pub fn test(shape: Shape, ballots: &[u64]) -> Verdict
 
 // Reason 6.
 fn test_grades(shape: Shape, ballots: &[u64]) -> Verdict
-    requires { ⌜ T (gradedLimits shape) × (length (now ballots) ≡ shape .ballots * shape .candidates * shape .grades) ⌝ }
+    requires { ⌜ T (gradedLimits shape) × (length (now ballots)
+        ≡ shape .ballots * shape .candidates * shape .grades) ⌝ }
     ensures { λ r. ⌜ refusedFor r ≡ firstOf (wordGradedReasons shape (now (ballots .entry))) ⌝ }
 {
     let faults = bad_rows(ballots, shape.grades, shape.ballots * shape.candidates);
@@ -50,13 +52,13 @@ fn test_rankings(shape: Shape, ballots: &[u64]) -> Verdict
     requires { ⌜ length (now ballots) ≡ shape .ballots * shape .candidates * shape .candidates ⌝ }
     ensures { λ r. ⌜ refusedFor r ≡ firstOf (wordRankedReasons shape (now (ballots .entry))) ⌝ }
 {
-    let clashes = crate::rankings::clashes(ballots, shape.candidates, shape.ballots);
-    if let Place::At(j) = first_jury(clashes) {
-        return Verdict::Refused(Refusal::BallotClash(j));
+    let not_asymmetric = crate::rankings::not_asymmetric(ballots, shape.candidates, shape.ballots);
+    if let Place::At(j) = first_jury(not_asymmetric) {
+        return Verdict::Refused(Refusal::NotAsymmetric(j));
     }
-    let gaps = crate::rankings::gaps(ballots, shape.candidates, shape.ballots);
-    match first_jury(gaps) {
-        Place::At(j) => Verdict::Refused(Refusal::BallotGap(j)),
+    let not_weak_order = crate::rankings::not_weak_order(ballots, shape.candidates, shape.ballots);
+    match first_jury(not_weak_order) {
+        Place::At(j) => Verdict::Refused(Refusal::NotWeakOrder(j)),
         Place::Nowhere => Verdict::Accepted,
     }
 }
@@ -64,7 +66,9 @@ fn test_rankings(shape: Shape, ballots: &[u64]) -> Verdict
 // The juries that have, among so many rows of d words, a row without a 1 or with several.
 fn bad_rows(words: &[u64], d: usize, rows: usize) -> u64
     requires { ⌜ length (now words) ≡ rows * d ⌝ }
-    ensures { λ r. ⌜ ((j : ℕ) → j < laneCount → lane j r ≡ foundBit (firstBadRow 0 (rowsOf d rows (laneOf j (now (words .entry)))))) ⌝ }
+    ensures { λ r.
+        ⌜ ((j : ℕ) → j < laneCount → lane j r ≡ foundBit (firstBadRow 0
+        (rowsOf d rows (laneOf j (now (words .entry)))))) ⌝ }
 {
     let mut faults: u64 = 0;
     let mut row = 0;

@@ -1,46 +1,52 @@
-// The tests of ranked ballots for 64 juries at once, each over all ballots: bit j of a word says whether jury j has the fault.
-// What a ballot may not say is told in `jury::rankings`.
-use lanes::word;
+// The tests of ranked ballots for 64 juries at once, each over all ballots: bit j of a word says whether jury j has
+// the fault. What a ballot may not say is told in `jury::rankings`.
+use batch_lanes::word;
 ghost use mathlib.Core.Path.{_≡_};
 ghost use mathlib.Core.Bool.{cond};
 ghost use Prim.Native.Nat.{ℕ, _+_, _*_, _≤_, _<_};
 ghost use lib.ListN.{length};
 ghost use Rattle.jury.specs.Rankings as spec;
-ghost use Rattle.lanes.specs.Lane.{laneCount, lane, laneOf};
-ghost use Rattle.batch.specs.Ballots.{foundBit};
+ghost use Rattle.batch_lanes.specs.Lane.{laneCount, lane, laneOf};
+ghost use Rattle.batch.specs.inner.Found.{foundBit};
 
 // The juries in which some byte is 1 while its opposite is 1 too.
-pub fn clashes(words: &[u64], k: usize, n: usize) -> u64
+pub fn not_asymmetric(words: &[u64], k: usize, n: usize) -> u64
     requires { ⌜ length (now words) ≡ n * k * k ⌝ }
-    ensures { λ r. ⌜ ((u : ℕ) → u < laneCount → lane u r ≡ foundBit (spec.firstClash k n (laneOf u (now (words .entry))))) ⌝ }
+    ensures { λ r.
+        ⌜ ((u : ℕ) → u < laneCount → lane u r ≡ foundBit (spec.firstNotAsymmetric k n
+        (laneOf u (now (words .entry))))) ⌝ }
 {
     let mut faults: u64 = 0;
     let mut b = 0;
     while b < n {
-        faults = faults | clashes_in_ballot(words, k, b);
+        faults = faults | not_asymmetric_in_ballot(words, k, b);
         b += 1;
     }
     faults
 }
 
 // Those of ballot b.
-fn clashes_in_ballot(words: &[u64], k: usize, b: usize) -> u64
+fn not_asymmetric_in_ballot(words: &[u64], k: usize, b: usize) -> u64
     requires { ⌜ (b + 1) * k * k ≤ length (now words) ⌝ }
-    ensures { λ r. ⌜ ((u : ℕ) → u < laneCount → lane u r ≡ foundBit (spec.clashInBallot k (laneOf u (now (words .entry))) b)) ⌝ }
+    ensures { λ r.
+        ⌜ ((u : ℕ) → u < laneCount → lane u r ≡ foundBit (spec.notAsymmetricInBallot k (laneOf u (now (words .entry)))
+        b)) ⌝ }
 {
     let mut faults: u64 = 0;
     let mut i = 0;
     while i < k {
-        faults = faults | clashes_in_row(words, k, b, i);
+        faults = faults | not_asymmetric_in_row(words, k, b, i);
         i += 1;
     }
     faults
 }
 
 // Those of row i of ballot b.
-fn clashes_in_row(words: &[u64], k: usize, b: usize, i: usize) -> u64
+fn not_asymmetric_in_row(words: &[u64], k: usize, b: usize, i: usize) -> u64
     requires { ⌜ ((b + 1) * k * k ≤ length (now words)) × (i < k) ⌝ }
-    ensures { λ r. ⌜ ((u : ℕ) → u < laneCount → lane u r ≡ foundBit (spec.clashInRow k (laneOf u (now (words .entry))) b i)) ⌝ }
+    ensures { λ r.
+        ⌜ ((u : ℕ) → u < laneCount → lane u r ≡ foundBit (spec.notAsymmetricInRow k (laneOf u (now (words .entry))) b
+        i)) ⌝ }
 {
     let mut faults: u64 = 0;
     let mut j = 0;
@@ -55,43 +61,48 @@ fn clashes_in_row(words: &[u64], k: usize, b: usize, i: usize) -> u64
 
 // The juries in which some ballot puts a candidate before another while a third is neither after the one nor before the
 // other.
-pub fn gaps(words: &[u64], k: usize, n: usize) -> u64
+pub fn not_weak_order(words: &[u64], k: usize, n: usize) -> u64
     requires { ⌜ length (now words) ≡ n * k * k ⌝ }
-    ensures { λ r. ⌜ ((u : ℕ) → u < laneCount → lane u r ≡ foundBit (spec.firstGap k n (laneOf u (now (words .entry))))) ⌝ }
+    ensures { λ r.
+        ⌜ ((u : ℕ) → u < laneCount → lane u r ≡ foundBit (spec.firstNotWeakOrder k n
+        (laneOf u (now (words .entry))))) ⌝ }
 {
     let mut faults: u64 = 0;
     let mut b = 0;
     while b < n {
-        faults = faults | gaps_in_ballot(words, k, b);
+        faults = faults | not_weak_order_in_ballot(words, k, b);
         b += 1;
     }
     faults
 }
 
 // Those of ballot b.
-fn gaps_in_ballot(words: &[u64], k: usize, b: usize) -> u64
+fn not_weak_order_in_ballot(words: &[u64], k: usize, b: usize) -> u64
     requires { ⌜ (b + 1) * k * k ≤ length (now words) ⌝ }
-    ensures { λ r. ⌜ ((u : ℕ) → u < laneCount → lane u r ≡ cond (spec.gap k (laneOf u (now (words .entry))) b) 1 0) ⌝ }
+    ensures { λ r.
+        ⌜ ((u : ℕ) → u < laneCount → lane u r ≡ cond (spec.notWeakOrder k (laneOf u (now (words .entry))) b) 1 0) ⌝ }
 {
     let mut faults: u64 = 0;
     let mut i = 0;
     while i < k {
-        faults = faults | gaps_after(words, k, b, i);
+        faults = faults | not_weak_order_after(words, k, b, i);
         i += 1;
     }
     faults
 }
 
 // Those in which i is the one put before.
-fn gaps_after(words: &[u64], k: usize, b: usize, i: usize) -> u64
+fn not_weak_order_after(words: &[u64], k: usize, b: usize, i: usize) -> u64
     requires { ⌜ ((b + 1) * k * k ≤ length (now words)) × (i < k) ⌝ }
-    ensures { λ r. ⌜ ((u : ℕ) → u < laneCount → lane u r ≡ cond (spec.gapAfter k (laneOf u (now (words .entry))) b i) 1 0) ⌝ }
+    ensures { λ r.
+        ⌜ ((u : ℕ) → u < laneCount → lane u r ≡ cond (spec.notWeakOrderAfter k (laneOf u (now (words .entry))) b i) 1
+        0) ⌝ }
 {
     let mut faults: u64 = 0;
     let mut j = 0;
     while j < k {
         let forth = puts_before(words, k, b, i, j);
-        let third = apart(words, k, b, i, j);
+        let third = neither_after_nor_before(words, k, b, i, j);
         faults = faults | (forth & third);
         j += 1;
     }
@@ -99,9 +110,11 @@ fn gaps_after(words: &[u64], k: usize, b: usize, i: usize) -> u64
 }
 
 // The juries in which i is not put before some candidate that is not put before j either.
-fn apart(words: &[u64], k: usize, b: usize, i: usize, j: usize) -> u64
+fn neither_after_nor_before(words: &[u64], k: usize, b: usize, i: usize, j: usize) -> u64
     requires { ⌜ ((b + 1) * k * k ≤ length (now words)) × (i < k) × (j < k) ⌝ }
-    ensures { λ r. ⌜ ((u : ℕ) → u < laneCount → lane u r ≡ cond (spec.apart k (laneOf u (now (words .entry))) b i j) 1 0) ⌝ }
+    ensures { λ r.
+        ⌜ ((u : ℕ) → u < laneCount → lane u r ≡ cond (spec.neitherAfterNorBefore k (laneOf u (now (words .entry))) b i
+        j) 1 0) ⌝ }
 {
     let mut found: u64 = 0;
     let mut l = 0;
@@ -117,7 +130,8 @@ fn apart(words: &[u64], k: usize, b: usize, i: usize, j: usize) -> u64
 // The juries in which ballot b puts i strictly before j.
 fn puts_before(words: &[u64], k: usize, b: usize, i: usize, j: usize) -> u64
     requires { ⌜ ((b + 1) * k * k ≤ length (now words)) × (i < k) × (j < k) ⌝ }
-    ensures { λ r. ⌜ ((u : ℕ) → u < laneCount → lane u r ≡ cond (spec.before k (laneOf u (now (words .entry))) b i j) 1 0) ⌝ }
+    ensures { λ r.
+        ⌜ ((u : ℕ) → u < laneCount → lane u r ≡ cond (spec.before k (laneOf u (now (words .entry))) b i j) 1 0) ⌝ }
 {
     let at = (b * k + i) * k + j;
     words[at]

@@ -3,19 +3,18 @@
 use mathlib.Core.Path.{_≡_, _∙_, refl, sym, ap, subst}
 use mathlib.Core.Bool.{true, false}
 use mathlib.Core.List.{List}
-use Prim.Native.Nat.{ℕ, zero, suc, _+_, _*_, _/_, _%_, _≤_, _<_}
+use Prim.Native.Nat.{ℕ, zero, suc, _/_, _%_, _≤_, _<_}
 use native.Mathlib.Nat.{add-zero}
 use native.Mathlib.Omega.{arith}
-use lib.Dec.{eqb, ltb}
+use lib.Dec.{eqb}
 use lib.ListN.{length, replicate, length-replicate}
 use borrow.Author.Tests.{eq-eqb, eqb-true, le-ltb, lt-ltb}
 use Rattle.gates.specs.Open.Kind.{operandsOf, conditionalOf}
 use Rattle.gates.specs.Open.Gate.{Gate, gatesOf, numbersOf}
 use Rattle.gates.specs.Open.Board.{conditionals, conditionalCount}
 use Rattle.gates.specs.Open.Test.{firstBad, judged, tested}
-use Rattle.gates.specs.declared.place.Place.{Place}
 use Rattle.gates.specs.declared.place.Place.the-variants.{Nowhere}
-use Rattle.gates.specs.declared.list.Tested.the-variants.{Accepted, PartOfAGate, TooManyGates}
+use Rattle.gates.specs.declared.list.ListCheck.the-variants.{Accepted, PartOfAGate, TooManyGates}
 use Rattle.gates.proofs.Laws.{AllGood, good-none, none-bad, length-numbers, read-whole}
 
 pub good-list-accepted : (inputs k : ℕ) (gs : List Gate) → AllGood inputs gs → k ≤ length gs → length gs ≤ 1048576

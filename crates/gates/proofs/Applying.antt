@@ -6,7 +6,7 @@ use Prim.Native.Nat.{ℕ}
 use native.Mathlib.Omega.{arith}
 use lib.Dec.{ltb}
 use Rattle.gates.specs.Open.Kind.{applied, valueOf}
-use Rattle.gates.specs.declared.kind.Applied.the-variants.{Value, NoSuchKind}
+use Rattle.gates.specs.declared.kind.GateValue.the-variants.{Value, NoSuchKind}
 
 pub has-value : (k a b c v : ℕ) → applied k a b c ≡ Value v → ltb k 8 ≡ true
 unfolding applied

@@ -11,6 +11,7 @@ use lib.ListN.{length}
 use Rattle.gates.specs.Open.Kind.{conditionalOf}
 use Rattle.gates.specs.Open.Gate.{Gate}
 use Rattle.gates.specs.Open.Board.{conditionals, conditionalCount}
+use Rattle.basics.proofs.Flags.{bit-most}
 
 -- a gate counts once where its kind has the mark
 pub count-cons : (g : Gate) (gs : List Gate) → conditionalCount (g ∷ gs) ≡ cond (conditionalOf (g .kind)) 1 0 + conditionalCount gs
@@ -33,12 +34,8 @@ count-append (g ∷ gs) hs = omega (arith, count-cons g (gs ++ hs), count-cons g
 pub count-one : (g : Gate) → conditionalCount (g ∷ []) ≡ cond (conditionalOf (g .kind)) 1 0
 count-one g = omega (arith, count-cons g [], count-nil)
 
-mark-most : (t : Bool) → cond {A = ℕ} t 1 0 ≤ 1
-mark-most true = omega arith
-mark-most false = omega arith
-
 pub mark-at-most-one : (kind : ℕ) → cond {A = ℕ} (conditionalOf kind) 1 0 ≤ 1
-mark-at-most-one kind = mark-most (conditionalOf kind)
+mark-at-most-one kind = bit-most (conditionalOf kind)
 
 -- no list has more conditional gates than gates
 pub count-most : (gs : List Gate) → conditionalCount gs ≤ length gs

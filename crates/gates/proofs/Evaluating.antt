@@ -13,8 +13,8 @@ use Rattle.gates.specs.Open.Board.{conditionalCount}
 use Rattle.gates.specs.Open.Test.{firstBad, judged, tested}
 use Rattle.gates.specs.declared.place.Place.{Place}
 use Rattle.gates.specs.declared.place.Place.the-variants.{At, Nowhere}
-use Rattle.gates.specs.declared.list.Tested.{Tested}
-use Rattle.gates.specs.declared.list.Tested.the-variants as list
+use Rattle.gates.specs.declared.list.ListCheck.{ListCheck}
+use Rattle.gates.specs.declared.list.ListCheck.the-variants as list
 use Rattle.gates.proofs.Table.{length-gates}
 
 -- what is known of an accepted list
@@ -37,7 +37,7 @@ module _ (inputs k : ℕ) (table : List ℕ) (gates conditional : ℕ) where
   unfolding tested
   accepted-list e = whole (eqb (length table % 4) 0) refl e
     where
-      answer : Tested
+      answer : ListCheck
       answer = judged (firstBad inputs 0 (gatesOf table)) (length (gatesOf table)) (conditionalCount (gatesOf table))
 
       few : length table % 4 ≡ 0 → k ≤ length table / 4 → (t : Bool) → ltb 1048576 (length table / 4) ≡ t → cond t list.TooManyGates answer ≡ list.Accepted gates conditional → AcceptedList inputs k table gates conditional

@@ -6,7 +6,7 @@ use mathlib.Core.List.{List, [], _∷_, _++_, zipWith}
 use Prim.Native.Nat.{ℕ, zero, suc, _+_, _%_, _≤_, _<_}
 use native.Mathlib.Omega.{arith}
 use lib.Dec.{ltb}
-use lib.ListN.{length, getD, take, drop, length-append, List·getD-append}
+use lib.ListN.{length, getD, take, length-append, List·getD-append}
 use lib.Seq.{take-at, drop-at}
 use borrow.Author.Tests.{ltb-false, le-ltb}
 use Rattle.gates.specs.Open.Gate.{Gate}
@@ -14,7 +14,6 @@ use Rattle.gates.specs.Open.Wires.{wire, wiresOf, outputsOf}
 use Rattle.gates.specs.Open.Board.{conditionals, conditionalCount, shownBit, shownBits, boardOf, Bits, MaskTape}
 use Rattle.gates.specs.Test.{firstAboveOne}
 use Rattle.gates.specs.Hiding.{ExactlyOne, Finished, BoardHidesInputs}
-use Rattle.gates.specs.declared.place.Place.{Place}
 use Rattle.gates.specs.declared.place.Place.the-variants.{At, Nowhere}
 use Rattle.gates.proofs.Finishing.{length-shown}
 use Rattle.gates.proofs.WireLaws.{length-wires}

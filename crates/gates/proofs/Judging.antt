@@ -13,13 +13,13 @@ use Rattle.gates.specs.Open.Test.{goodGate, firstBad, judged}
 use Rattle.gates.specs.Open.Step.{gateAt}
 use Rattle.gates.specs.declared.place.Place.{Place}
 use Rattle.gates.specs.declared.place.Place.the-variants.{At}
-use Rattle.gates.specs.declared.list.Tested.{Tested}
-use Rattle.gates.specs.declared.list.Tested.the-variants.{Accepted, BadGate}
+use Rattle.gates.specs.declared.list.ListCheck.{ListCheck}
+use Rattle.gates.specs.declared.list.ListCheck.the-variants.{Accepted, BadGate}
 use Rattle.gates.proofs.Table.{gates-from}
 use Rattle.gates.proofs.Counting.{count-cons, count-nil}
 
 -- judging the gates from g on, with so many conditional gates before them, is the answer for the whole table
-abbrev pub Judges : ℕ → List ℕ → ℕ → ℕ → Tested → Type 0
+abbrev pub Judges : ℕ → List ℕ → ℕ → ℕ → ListCheck → Type 0
 Judges inputs t g conditional r =
     judged (firstBad inputs g (drop g (gatesOf t))) (length (gatesOf t)) (conditional + conditionalCount (drop g (gatesOf t))) ≡ r
 
@@ -29,14 +29,14 @@ unfolding firstBad
 bad-step inputs t g ok h e = rw (gates-from t g, e)
 
 -- a bad gate is the answer
-pub judges-bad : (inputs : ℕ) (t : List ℕ) (g conditional : ℕ) (r : Tested) → g < length (gatesOf t) → false ≡ goodGate (inputs + g) (gateAt t g)
+pub judges-bad : (inputs : ℕ) (t : List ℕ) (g conditional : ℕ) (r : ListCheck) → g < length (gatesOf t) → false ≡ goodGate (inputs + g) (gateAt t g)
     → Judges inputs t g conditional r → BadGate g ≡ r
 unfolding judged
 judges-bad inputs t g conditional r h e j =
     sym (ap (λ (p : Place). judged p (length (gatesOf t)) (conditional + conditionalCount (drop g (gatesOf t)))) (bad-step inputs t g false h e)) ∙ j
 
 -- a good gate leaves the answer to those behind it
-pub judges-good : (inputs : ℕ) (t : List ℕ) (g conditional mark : ℕ) (r : Tested) → g < length (gatesOf t) → true ≡ goodGate (inputs + g) (gateAt t g)
+pub judges-good : (inputs : ℕ) (t : List ℕ) (g conditional mark : ℕ) (r : ListCheck) → g < length (gatesOf t) → true ≡ goodGate (inputs + g) (gateAt t g)
     → mark ≡ cond (conditionalOf (gateAt t g .kind)) 1 0 → Judges inputs t g conditional r → Judges inputs t (suc g) (conditional + mark) r
 judges-good inputs t g conditional mark r h e m j =
     let n : conditionalCount (drop g (gatesOf t)) ≡ cond (conditionalOf (gateAt t g .kind)) 1 0 + conditionalCount (drop (suc g) (gatesOf t)) =
@@ -46,7 +46,7 @@ judges-good inputs t g conditional mark r h e m j =
     ∙ sym (ap (λ (p : Place). judged p (length (gatesOf t)) (conditional + conditionalCount (drop g (gatesOf t)))) (bad-step inputs t g true h e)) ∙ j
 
 -- past the last gate the list is accepted
-pub judges-all : (inputs : ℕ) (t : List ℕ) (g conditional gates : ℕ) (r : Tested) → gates ≡ length (gatesOf t) → gates ≤ g → Judges inputs t g conditional r → Accepted gates conditional ≡ r
+pub judges-all : (inputs : ℕ) (t : List ℕ) (g conditional gates : ℕ) (r : ListCheck) → gates ≡ length (gatesOf t) → gates ≤ g → Judges inputs t g conditional r → Accepted gates conditional ≡ r
 unfolding judged firstBad
 judges-all inputs t g conditional gates r e h j =
     let d : drop g (gatesOf t) ≡ [] = drop-of-length-le (gatesOf t) {i = g} (omega arith) in

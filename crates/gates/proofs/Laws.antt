@@ -19,6 +19,7 @@ use Rattle.gates.proofs.KindLaws.{each-kind}
 use Rattle.gates.proofs.Goodness.{good-gate}
 use Rattle.gates.proofs.Stepping.{first-good}
 use Rattle.gates.proofs.WireLaws.{wires-keep, same-value}
+use Rattle.basics.proofs.Flags.{T-true}
 
 -- The values of the kinds.
 pub zero-value : (a b c : ℕ) → valueOf 0 a b c ≡ 0
@@ -119,11 +120,7 @@ good-append n (g ∷ gs) hs p q = (p .0, good-append (suc n) gs hs (p .1) (subst
 pub none-bad : (inputs g : ℕ) (gs : List Gate) → AllGood (inputs + g) gs → firstBad inputs g gs ≡ Nowhere
 unfolding firstBad
 none-bad inputs g [] p = refl
-none-bad inputs g (x ∷ xs) p = rw (is-true (goodGate (inputs + g) x) (p .0)) (none-bad inputs (suc g) xs (subst (λ (m : ℕ). AllGood m xs) (sym (add-suc inputs g)) (p .1)))
-  where
-    is-true : (t : Bool) → T t → t ≡ true
-    is-true true h = refl
-    is-true false h = absurd h
+none-bad inputs g (x ∷ xs) p = rw (T-true (goodGate (inputs + g) x) (p .0)) (none-bad inputs (suc g) xs (subst (λ (m : ℕ). AllGood m xs) (sym (add-suc inputs g)) (p .1)))
 
 pub all-good : (inputs g : ℕ) (gs : List Gate) → firstBad inputs g gs ≡ Nowhere → AllGood (inputs + g) gs
 all-good inputs g [] e = tt

@@ -2,22 +2,21 @@
 -- Assumes nothing.
 use mathlib.Core.Path.{_≡_, _∙_, refl, sym, ap, subst}
 use mathlib.Core.Bool.{Bool, true, false, cond}
-use mathlib.Core.List.{List, [], _∷_, _++_, zipWith, append-assoc, append-nil}
-use Prim.Native.Nat.{ℕ, zero, suc, _+_, _-_, _≤_, _<_, min}
-use native.Mathlib.Nat.{add-zero, add-suc}
+use mathlib.Core.List.{List, [], _∷_, _++_, zipWith, append-nil}
+use Prim.Native.Nat.{ℕ, zero, suc, _+_, _-_, _≤_, _<_}
+use native.Mathlib.Nat.{add-zero}
 use native.Mathlib.Omega.{arith}
-use lib.Dec.{T}
-use lib.ListN.{length, getD, take, drop, length-append, length-take, length-drop, take-append-drop, List·getD-append, drop-of-length-le}
-use lib.Seq.{length-take-le, take-length, take-all, take-at, drop-at, take-add, drop-drop, drop-append-add, sets, sets-eq}
+use lib.ListN.{length, getD, take, drop, length-append, length-drop, take-append-drop, List·getD-append, drop-of-length-le}
+use lib.Seq.{length-take-le, take-length, take-at, take-add, drop-drop, drop-append-add, sets, sets-eq}
 use Rattle.gates.specs.Open.Kind.{conditionalOf}
 use Rattle.gates.specs.Open.Gate.{Gate, gatesOf}
 use Rattle.gates.specs.Open.Wires.{wire, wiresOf, outputsOf}
 use Rattle.gates.specs.Open.Board.{conditionals, conditionalCount, shownBit, shownBits, boardOf}
-use Rattle.gates.specs.Open.Test.{goodGate, firstBad}
+use Rattle.gates.specs.Open.Test.{firstBad}
 use Rattle.gates.specs.Open.Step.{rangeOf, stepWires, stepBoard, StepReady, RunReady}
 use Rattle.gates.specs.declared.place.Place.the-variants.{Nowhere}
 use Rattle.gates.proofs.Goodness.{good-gate}
-use Rattle.gates.proofs.Counting.{count-append, count-nil}
+use Rattle.gates.proofs.Counting.{count-append}
 use Rattle.gates.proofs.WireLaws.{length-wires, wires-append, wires-keep}
 use Rattle.gates.proofs.Stepping.{uses-a}
 use Rattle.gates.proofs.Finishing.{length-zip}

@@ -20,10 +20,6 @@ pub gate-numbers : (t : List ℕ) (g : ℕ) → gateAt t g ≡ record { kind = g
 unfolding gateAt
 gate-numbers t g = refl
 
-pub gates-nil : gatesOf [] ≡ []
-unfolding gatesOf
-gates-nil = refl
-
 pub numbers-cons : (g : Gate) (gs : List Gate) → numbersOf (g ∷ gs) ≡ g .kind ∷ g .a ∷ g .b ∷ g .c ∷ numbersOf gs
 unfolding numbersOf
 numbers-cons g gs = refl

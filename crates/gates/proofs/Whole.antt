@@ -1,6 +1,6 @@
 -- What a second evaluator of lists, above this layer, uses: the values and the shown bits by the numbers that stand in a wire table, and a step over all gates as the whole list's wires and board.
 -- Assumes nothing.
-use mathlib.Core.Path.{_≡_, _∙_, refl, sym, ap}
+use mathlib.Core.Path.{_≡_, _∙_, refl, ap}
 use mathlib.Core.List.{List, [], _++_, append-nil}
 use Prim.Native.Nat.{ℕ, _+_, _-_, _%_}
 use native.Mathlib.Nat.{add-zero}

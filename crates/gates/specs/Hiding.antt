@@ -15,13 +15,16 @@ ExactlyOne {A} P = (x : A) × P x × ((y : A) → P y → y ≡ x)
 abbrev pub conditionalGate : List Gate → ℕ → Gate
 conditionalGate gs i = getD (conditionals gs) i (record { kind = 0; a = 0; b = 0; c = 0 })
 
--- A finished board of C + k bytes: shown bit i is the sum modulo 2 of tape byte i and of wire a of conditional gate number i, and the k outputs stand behind them.
+-- A finished board of C + k bytes: shown bit i is the sum modulo 2 of tape byte i and of wire a of conditional gate
+-- number i, and the k outputs stand behind them.
 pub record Finished (ws : List ℕ) (gs : List Gate) (k : ℕ) (tape board : List ℕ) : Type 0 where
   pub size : length board ≡ conditionalCount gs + k
-  pub shown : (i : ℕ) → i < conditionalCount gs → getD board i 0 ≡ (wire ws (conditionalGate gs i .a) + getD tape i 0) % 2
+  pub shown : (i : ℕ) → i < conditionalCount gs
+      → getD board i 0 ≡ (wire ws (conditionalGate gs i .a) + getD tape i 0) % 2
   pub closing : drop (conditionalCount gs) board ≡ outputsOf k ws
 
--- What two boards of one list show of its inputs xs and ys. Shown bits and outputs follow from the wires, and the wires from the inputs and the list, never from a tape.
+-- What two boards of one list show of its inputs xs and ys. Shown bits and outputs follow from the wires, and the
+-- wires from the inputs and the list, never from a tape.
 pub record Hidden (gs : List Gate) (k : ℕ) (xs ys : List ℕ) : Type 0 where
   -- under every mask tape both boards are finished
   pub first-board : (s : List ℕ) → MaskTape gs s → Finished (wiresOf xs gs) gs k s (boardOf (wiresOf xs gs) gs k s)
@@ -33,4 +36,5 @@ pub record Hidden (gs : List Gate) (k : ℕ) (xs ys : List ℕ) : Type 0 where
 -- For any list of at least k gates, and any two inputs of it whose k outputs are equal.
 abbrev pub BoardHidesInputs : Type 0
 BoardHidesInputs =
-    (gs : List Gate) (k : ℕ) (xs ys : List ℕ) → k ≤ length gs → outputsOf k (wiresOf xs gs) ≡ outputsOf k (wiresOf ys gs) → Hidden gs k xs ys
+    (gs : List Gate) (k : ℕ) (xs ys : List ℕ) → k ≤ length gs
+    → outputsOf k (wiresOf xs gs) ≡ outputsOf k (wiresOf ys gs) → Hidden gs k xs ys

@@ -5,6 +5,6 @@ pub mod Gate
 pub mod Wires
 pub mod Board
 pub mod Test
-pub mod Step
 pub mod Hiding
 pub mod HidingExample
+pub mod inner

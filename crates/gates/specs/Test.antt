@@ -7,7 +7,8 @@ use Rattle.gates.specs.declared.place.Place.{Place}
 use Rattle.gates.specs.declared.place.Place.the-variants.{At, Nowhere}
 pub use Rattle.gates.specs.Open.Test.{goodOperand, goodGate, firstBad, judged, tested}
 
--- The place of the first byte above 1, the first byte here standing at place i. This is a test of bytes, which every layer may open.
+-- The place of the first byte above 1, the first byte here standing at place i. This is a test of bytes, which
+-- every layer may open.
 unfoldable pub firstAboveOne : ℕ → List ℕ → Place
 firstAboveOne i [] = Nowhere
 firstAboveOne i (x ∷ xs) = cond (ltb 1 x) (At i) (firstAboveOne (suc i) xs)

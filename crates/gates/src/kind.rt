@@ -29,7 +29,7 @@ pub const OPERANDS: [u32; 8] = [0, 0, 1, 1, 2, 2, 2, 3];
 pub const CONDITIONAL: [bool; 8] = [false, false, false, false, true, true, false, true];
 
 // What a gate comes to: its value, or a refusal, as no kind above 7 has a value.
-pub enum Applied {
+pub enum GateValue {
     Value(u8),
     NoSuchKind,
 }
@@ -67,19 +67,19 @@ pub fn mark(marks: &[bool; 8], kind: u32) -> usize
 }
 
 // The value of a gate from the values of its operands. The only match on a kind.
-pub fn apply(kind: u32, a: u8, b: u8, c: u8) -> Applied
+pub fn apply(kind: u32, a: u8, b: u8, c: u8) -> GateValue
     ensures { λ r. ⌜ r ≡ applied kind a b c ⌝ }
 {
     match kind {
-        0 => Applied::Value(0),
-        1 => Applied::Value(1),
-        2 => Applied::Value(a),
-        3 => Applied::Value(if a == 0 { 1 } else { 0 }),
-        4 => Applied::Value(if a < b { a } else { b }),
-        5 => Applied::Value(if a < b { b } else { a }),
-        6 => Applied::Value(if a == b { 0 } else { 1 }),
-        7 => Applied::Value(if a == 0 { c } else { b }),
-        8..=4294967295 => Applied::NoSuchKind,
+        0 => GateValue::Value(0),
+        1 => GateValue::Value(1),
+        2 => GateValue::Value(a),
+        3 => GateValue::Value(if a == 0 { 1 } else { 0 }),
+        4 => GateValue::Value(if a < b { a } else { b }),
+        5 => GateValue::Value(if a < b { b } else { a }),
+        6 => GateValue::Value(if a == b { 0 } else { 1 }),
+        7 => GateValue::Value(if a == 0 { c } else { b }),
+        8..=4294967295 => GateValue::NoSuchKind,
     }
 }
 
@@ -88,7 +88,7 @@ pub(crate) fn value(kind: u32, a: u8, b: u8, c: u8) -> u8
     ensures { λ r. ⌜ r ≡ valueOf kind a b c ⌝ }
 {
     match apply(kind, a, b, c) {
-        Applied::Value(v) => v,
-        Applied::NoSuchKind => 0,
+        GateValue::Value(v) => v,
+        GateValue::NoSuchKind => 0,
     }
 }

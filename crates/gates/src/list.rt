@@ -1,12 +1,12 @@
 // The test of a list of gates, whoever wrote it.
 use crate::kind;
-use crate::kind::Applied;
+use crate::kind::GateValue;
 ghost use mathlib.Core.Path.{_≡_};
 ghost use mathlib.Core.Bool.{_&&_};
 ghost use Prim.Native.Nat.{ℕ, _+_, _<_};
 ghost use lib.Dec.{ltb, eqb};
 ghost use Rattle.gates.specs.Kind.{operandCounts};
-ghost use Rattle.gates.specs.Gate.{Gate, gatesOf};
+ghost use Rattle.gates.specs.Gate.{gatesOf};
 ghost use lib.ListN.{length};
 ghost use Rattle.gates.specs.Board.{conditionalCount};
 ghost use Rattle.gates.specs.Limits.{operandLimit, tableGateLimit};
@@ -19,7 +19,7 @@ pub const MOST_GATES: usize = 1048576;
 const OPERAND_LIMIT: usize = 4294967296;
 
 // The answer of a test: the list's own G and C, or the test that it fails.
-pub enum Tested {
+pub enum ListCheck {
     Accepted { gates: usize, conditional: usize },
     PartOfAGate,
     TooFewGates,
@@ -66,7 +66,7 @@ fn gate_is_good(
     requires { ⌜ now counts ≡ operandCounts ⌝ }
     ensures { λ r. ⌜ r ≡ goodGate (inputs + g) (record { kind = kind; a = a; b = b; c = c }) ⌝ }
 {
-    let Applied::Value(_) = kind::apply(kind, 0, 0, 0) else {
+    let GateValue::Value(_) = kind::apply(kind, 0, 0, 0) else {
         return false;
     };
     let count = kind::operands(counts, kind);
@@ -90,8 +90,11 @@ fn gate_is_good(
 }
 
 // Tests the gates of a table one after the other, and counts the conditional ones.
-fn test_gates(inputs: usize, table: &[u32]) -> Tested
-    ensures { λ r. ⌜ r ≡ judged (firstBad inputs 0 (gatesOf (now (table .entry)))) (length (gatesOf (now (table .entry)))) (conditionalCount (gatesOf (now (table .entry)))) ⌝ }
+fn test_gates(inputs: usize, table: &[u32]) -> ListCheck
+    ensures { λ r. ⌜
+        r ≡ judged (firstBad inputs 0 (gatesOf (now (table .entry)))) (length (gatesOf (now (table .entry))))
+        (conditionalCount (gatesOf (now (table .entry))))
+        ⌝ }
 {
     let gates = table.len() / 4;
     let counts = kind::OPERANDS;
@@ -110,27 +113,27 @@ fn test_gates(inputs: usize, table: &[u32]) -> Tested
             table[at + 2],
             table[at + 3],
         ) {
-            return Tested::BadGate(g);
+            return ListCheck::BadGate(g);
         }
         conditional += kind::mark(&marks, kind);
         g += 1;
     }
-    Tested::Accepted { gates, conditional }
+    ListCheck::Accepted { gates, conditional }
 }
 
 // Tests a list for a number of inputs and of outputs.
-pub fn test(inputs: usize, outputs: usize, table: &[u32]) -> Tested
+pub fn test(inputs: usize, outputs: usize, table: &[u32]) -> ListCheck
     ensures { λ r. ⌜ r ≡ tested inputs outputs (now (table .entry)) ⌝ }
 {
     if table.len() % 4 != 0 {
-        return Tested::PartOfAGate;
+        return ListCheck::PartOfAGate;
     }
     let gates = table.len() / 4;
     if gates < outputs {
-        return Tested::TooFewGates;
+        return ListCheck::TooFewGates;
     }
     if MOST_GATES < gates {
-        return Tested::TooManyGates;
+        return ListCheck::TooManyGates;
     }
     test_gates(inputs, table)
 }

@@ -9,7 +9,7 @@ ghost use Rattle.gates.specs.Kind.{conditionalMarks, conditionalOf};
 ghost use Rattle.gates.specs.Gate.{gatesOf};
 ghost use Rattle.gates.specs.Wires.{value, wiresOf, outputsOf};
 ghost use Rattle.gates.specs.Board.{conditionalCount, shownBit, boardOf};
-ghost use Rattle.gates.specs.Step.{StepReady, GateReady, FinishReady, RunReady, rangeOf, stepWires, stepBoard, gateAt};
+ghost use Rattle.gates.specs.inner.Step.{StepReady, GateReady, FinishReady, RunReady, rangeOf, stepWires, stepBoard, gateAt};
 
 // A bit under its mask: their sum modulo 2, which cannot wrap.
 fn masked(a: u8, m: u8) -> u8
@@ -33,8 +33,16 @@ fn run_gate(
     requires { ⌜ now marks ≡ conditionalMarks ⌝ }
     requires { ⌜ GateReady (now table) g own (now tape) shown (now wires) (now board) ⌝ }
     ensures { λ r. ⌜ r ≡ shown + conditionalCount (gateAt (now (table .entry)) g ∷ []) ⌝ }
-    ensures { λ _. ⌜ now (wires .exit) ≡ set (now (wires .entry)) own (value (now (wires .entry)) (gateAt (now (table .entry)) g)) ⌝ }
-    ensures { λ _. ⌜ now (board .exit) ≡ cond (conditionalOf (gateAt (now (table .entry)) g .kind)) (set (now (board .entry)) shown (shownBit (now (wires .entry)) (gateAt (now (table .entry)) g) (getD (now (tape .entry)) shown 0))) (now (board .entry)) ⌝ }
+    ensures { λ _. ⌜
+        now (wires .exit) ≡ set (now (wires .entry)) own (value (now (wires .entry)) (gateAt (now (table .entry)) g))
+        ⌝ }
+    ensures { λ _. ⌜
+        now (board .exit)
+        ≡ cond (conditionalOf (gateAt (now (table .entry)) g .kind))
+        (set (now (board .entry)) shown
+        (shownBit (now (wires .entry)) (gateAt (now (table .entry)) g) (getD (now (tape .entry)) shown 0)))
+        (now (board .entry))
+        ⌝ }
 {
     let at = 4 * g;
     let kind = table[at];
@@ -67,7 +75,11 @@ pub fn step(
     requires { ⌜ StepReady inputs (now table) from to (now tape) shown (now wires) (now board) ⌝ }
     ensures { λ r. ⌜ r ≡ shown + conditionalCount (rangeOf (now (table .entry)) from to) ⌝ }
     ensures { λ _. ⌜ now (wires .exit) ≡ stepWires inputs (now (table .entry)) from to (now (wires .entry)) ⌝ }
-    ensures { λ _. ⌜ now (board .exit) ≡ stepBoard inputs (now (table .entry)) from to (now (tape .entry)) shown (now (wires .entry)) (now (board .entry)) ⌝ }
+    ensures { λ _. ⌜
+        now (board .exit)
+        ≡ stepBoard inputs (now (table .entry)) from to (now (tape .entry)) shown (now (wires .entry))
+        (now (board .entry))
+        ⌝ }
 {
     let marks = kind::CONDITIONAL;
     let mut next = shown;
@@ -101,7 +113,11 @@ pub fn finish(
 )
     requires { ⌜ FinishReady inputs (now table) outputs (now tape) (now wires) (now board) ⌝ }
     ensures { λ _. ⌜ now (wires .exit) ≡ wiresOf (take inputs (now (wires .entry))) (gatesOf (now (table .entry))) ⌝ }
-    ensures { λ _. ⌜ now (board .exit) ≡ boardOf (wiresOf (take inputs (now (wires .entry))) (gatesOf (now (table .entry)))) (gatesOf (now (table .entry))) outputs (now (tape .entry)) ⌝ }
+    ensures { λ _. ⌜
+        now (board .exit)
+        ≡ boardOf (wiresOf (take inputs (now (wires .entry))) (gatesOf (now (table .entry))))
+        (gatesOf (now (table .entry))) outputs (now (tape .entry))
+        ⌝ }
 {
     let shown = step(inputs, table, 0, table.len() / 4, tape, 0, wires, board);
     close(outputs, wires, shown, board);
@@ -118,7 +134,11 @@ pub fn run(
 )
     requires { ⌜ RunReady (now inputs) (now table) outputs (now tape) (now wires) (now board) ⌝ }
     ensures { λ _. ⌜ now (wires .exit) ≡ wiresOf (now (inputs .entry)) (gatesOf (now (table .entry))) ⌝ }
-    ensures { λ _. ⌜ now (board .exit) ≡ boardOf (wiresOf (now (inputs .entry)) (gatesOf (now (table .entry)))) (gatesOf (now (table .entry))) outputs (now (tape .entry)) ⌝ }
+    ensures { λ _. ⌜
+        now (board .exit)
+        ≡ boardOf (wiresOf (now (inputs .entry)) (gatesOf (now (table .entry)))) (gatesOf (now (table .entry)))
+        outputs (now (tape .entry))
+        ⌝ }
 {
     bytes::copy(inputs, wires);
     finish(inputs.len(), table, outputs, tape, wires, board);

@@ -19,7 +19,7 @@ use Rattle.jury.specs.declared.shape.Shape.{Shape}
 use Rattle.jury.specs.Shape.{isRanking, gradedLimits, withinLimits, ballotBytes}
 use Rattle.jury.specs.Reason.{Reason, unless, foundAt, firstOf}
 use Rattle.jury.specs.Ballots.{ones, rowsOf, firstBadRow, gradedReasons, rankedReasons, ballotReasons}
-use Rattle.jury.specs.Rankings.{before, firstClash, firstGap}
+use Rattle.jury.specs.Rankings.{before, firstNotAsymmetric, firstNotWeakOrder}
 use Rattle.jury.specs.WeakOrder.{StrictWeakOrder}
 use Rattle.jury.specs.Accepted.{AcceptedBallots, GradedBallots}
 use Rattle.jury.proofs.Limits.{within, graded-is}
@@ -47,9 +47,9 @@ unfolding foundAt firstOf
 row-passed (At r) e = let z : _≡_ {A = ℕ} 0 1 = cc in absurd (omega arith)
 row-passed Nowhere e = refl
 
-ranks-passed : (clash gap : Place) → firstOf (foundAt 11 clash ∷ foundAt 12 gap ∷ []) ≡ none → (clash ≡ Nowhere) × (gap ≡ Nowhere)
+ranks-passed : (clash notWeakOrder : Place) → firstOf (foundAt 11 clash ∷ foundAt 12 notWeakOrder ∷ []) ≡ none → (clash ≡ Nowhere) × (notWeakOrder ≡ Nowhere)
 unfolding foundAt firstOf
-ranks-passed (At i) gap e = let z : _≡_ {A = ℕ} 0 1 = cc in absurd (omega arith)
+ranks-passed (At i) notWeakOrder e = let z : _≡_ {A = ℕ} 0 1 = cc in absurd (omega arith)
 ranks-passed Nowhere (At b) e = let z : _≡_ {A = ℕ} 0 1 = cc in absurd (omega arith)
 ranks-passed Nowhere Nowhere e = (refl, refl)
 
@@ -119,7 +119,7 @@ module _ (s : Shape) (xs : List ℕ) where
   unfolding rankedReasons
   orders-of e f =
       passes-orders (s .candidates) (s .ballots) xs .0
-      (ranks-passed (firstClash (s .candidates) (s .ballots) xs) (firstGap (s .candidates) (s .ballots) xs) (sym (ranked-reason s xs f) ∙ kind-of e))
+      (ranks-passed (firstNotAsymmetric (s .candidates) (s .ballots) xs) (firstNotWeakOrder (s .candidates) (s .ballots) xs) (sym (ranked-reason s xs f) ∙ kind-of e))
 
   -- what the tests of a shape and its ballots establish
   pub accepted : withinLimits s ≡ true → firstOf (ballotReasons s xs) ≡ none → AcceptedBallots s xs
@@ -139,7 +139,7 @@ module _ (s : Shape) (xs : List ℕ) where
   no-kind-reason a true e =
       let p = passes-orders (s .candidates) (s .ballots) xs .1 (a .orders e) in
       ranked-reason s xs e
-      ∙ ap (λ (q : Place). firstOf (foundAt 11 q ∷ foundAt 12 (firstGap (s .candidates) (s .ballots) xs) ∷ [])) (p .0)
+      ∙ ap (λ (q : Place). firstOf (foundAt 11 q ∷ foundAt 12 (firstNotWeakOrder (s .candidates) (s .ballots) xs) ∷ [])) (p .0)
       ∙ ap (λ (q : Place). firstOf (foundAt 11 Nowhere ∷ foundAt 12 q ∷ [])) (p .1)
 
   -- and back

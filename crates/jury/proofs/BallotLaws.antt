@@ -5,8 +5,7 @@ use mathlib.Core.Bool.{Bool, true, false, cond}
 use mathlib.Core.Logic.{⊎-elim}
 use mathlib.Core.Option.{Option, none, some}
 use mathlib.Core.List.{List, [], _∷_}
-use Prim.Native.Nat.{ℕ, suc, _+_, _*_, _-_, _≤_, _<_}
-use native.Mathlib.Nat.{suc-mul, mul-le-mul-right}
+use Prim.Native.Nat.{ℕ, suc, _+_, _-_, _≤_, _<_}
 use native.Mathlib.Omega.{arith}
 use lib.Dec.{eqb}
 use lib.ListN.{length, getD, take, drop, length-take}
@@ -19,7 +18,7 @@ use Rattle.jury.specs.declared.shape.Shape.{Shape}
 use Rattle.jury.specs.Shape.{isRanking, ballotBytes}
 use Rattle.jury.specs.Reason.{Reason, unless, foundAt, firstOf}
 use Rattle.jury.specs.Ballots.{ones, rowsOf, firstBadRow, gradedReasons, rankedReasons, ballotReasons}
-use Rattle.jury.proofs.Cases.{below-or-not}
+use Rattle.basics.proofs.Cases.{below-or-not}
 
 -- the ones from place i on: byte i first
 ones-step : (xs : List ℕ) (i : ℕ) → i < length xs → ones (drop i xs) ≡ cond (eqb (getD xs i 0) 1) (suc (ones (drop (suc i) xs))) (ones (drop (suc i) xs))
@@ -44,10 +43,6 @@ pub part-bits : (xs : List ℕ) (from n i : ℕ) → ((j : ℕ) → getD xs j 0 
 part-bits xs from n i b l =
     let short : i < n = omega (arith, length-take n (drop from xs)) in
     omega (arith, getD-take n (drop from xs) i 0 short, getD-drop from xs i 0, b (from + i))
-
--- a row lies within the rows
-pub row-within : (row rows d : ℕ) → row < rows → row * d + d ≤ rows * d
-row-within row rows d h = let l = mul-le-mul-right d h in omega (arith, suc-mul row d)
 
 -- the rows from place `row` on: that row first
 rows-step : (d row rows : ℕ) (xs : List ℕ) → row < rows → rowsOf d (rows - row) xs ≡ take d xs ∷ rowsOf d (rows - suc row) (drop d xs)

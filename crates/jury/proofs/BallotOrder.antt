@@ -9,9 +9,10 @@ use native.Mathlib.Omega.{arith}
 use lib.ListN.{getD, take, drop}
 use Rattle.jury.specs.declared.shape.Shape.{Shape}
 use Rattle.jury.specs.Ballots.{rowsOf}
-use Rattle.jury.specs.Counts.{sum, byteOf, countOf, tabulate, countsOf}
+use Rattle.basics.specs.Lists.{sum, tabulate}
+use Rattle.jury.specs.Counts.{byteOf, countOf, countsOf}
 use Rattle.jury.proofs.AcceptedLaws.{row-first, row-next}
-use Rattle.jury.proofs.Tabulate.{tabulate-cong, map-tabulate}
+use Rattle.basics.proofs.Tabulate.{tabulate-cong, map-tabulate}
 use Rattle.jury.proofs.Sums.{addend}
 use Rattle.jury.proofs.CountLaws.{ballot-byte}
 use Rattle.jury.proofs.CountFacts.{column-addends}

@@ -5,11 +5,11 @@ use mathlib.Core.Bool.{Bool, true, false, cond}
 use Prim.Native.Nat.{ℕ}
 use native.Mathlib.Omega.{arith}
 use Rattle.jury.specs.declared.shape.Shape.{Shape}
-use Rattle.jury.specs.declared.shape.Shaped.{Shaped}
-use Rattle.jury.specs.declared.shape.Shaped.the-variants.{Within, Outside}
+use Rattle.jury.specs.declared.shape.ShapeResult.{ShapeResult}
+use Rattle.jury.specs.declared.shape.ShapeResult.the-variants.{Within, Outside}
 
 -- the shape in an answer, any other where there is none
-held : Shape → Shaped → Shape
+held : Shape → ShapeResult → Shape
 held s (Within x) = x
 held s Outside = s
 
@@ -18,11 +18,6 @@ pub shape-is : (b : Bool) (s x : Shape) → cond b (Within s) Outside ≡ Within
 unfolding held
 shape-is true s x e = sym (ap (held s) e)
 shape-is false s x e = let z : _≡_ {A = ℕ} 0 1 = cc in absurd (omega arith)
-
--- an accepted shape is within the limits, a refused one is not
-pub within-is : (b : Bool) (s x : Shape) → cond b (Within s) Outside ≡ Within x → b ≡ true
-within-is true s x e = refl
-within-is false s x e = let z : _≡_ {A = ℕ} 0 1 = cc in absurd (omega arith)
 
 pub outside-is : (b : Bool) (s : Shape) → cond b (Within s) Outside ≡ Outside → b ≡ false
 outside-is true s e = let z : _≡_ {A = ℕ} 0 1 = cc in absurd (omega arith)

@@ -9,16 +9,17 @@ use lib.Seq.{getD-take, getD-drop}
 use borrow.Author.Tests.{ne-eqb}
 use Rattle.jury.specs.declared.shape.Shape.{Shape}
 use Rattle.jury.specs.Shape.{isRanking, ballotBytes}
-use Rattle.jury.specs.Ballots.{ones}
-use Rattle.jury.specs.Counts.{sum, byteOf, countUpTo, countOf, tabulate, countsOf, countArray}
-use Rattle.jury.specs.Inner.{rowsIn}
+use Rattle.basics.specs.Lists.{sum, tabulate}
+use Rattle.jury.specs.Counts.{byteOf, countUpTo, countOf, countsOf, countArray}
+use Rattle.jury.specs.inner.Counts.{rowsIn}
 use Rattle.jury.specs.Accepted.{GradedBallots}
 use Rattle.jury.proofs.Limits.{within, grades-columns}
 use Rattle.jury.proofs.Matrix.{array-rows}
-use Rattle.jury.proofs.BallotLaws.{row-within}
-use Rattle.jury.proofs.Tabulate.{length-tabulate, getD-tabulate, tabulate-cong}
-use Rattle.jury.proofs.Sums.{addend, sum-last, sum-add, sum-zero, sum-ones}
+use Rattle.basics.proofs.Tabulate.{length-tabulate, getD-tabulate, tabulate-cong}
+use Rattle.jury.proofs.Sums.{addend, sum-ones}
+use Rattle.basics.proofs.Sums.{sum-last, sum-add, sum-zero}
 use Rattle.jury.proofs.CountLaws.{bit-added}
+use Rattle.basics.proofs.Arithmetic.{row-within}
 
 -- the matrix has k rows of d counts, and each is the count of its candidate and grade
 pub counts-length : (s : Shape) (xs : List ℕ) → length (countsOf s xs) ≡ s .candidates

@@ -12,11 +12,13 @@ use lib.ListN.{getD, take, drop, length-take, List·getD-eq-default}
 use lib.Seq.{getD-take, getD-drop}
 use borrow.Author.Tests.{lt-ltb, le-ltb, eqb-true, eqb-false}
 use Rattle.jury.specs.declared.shape.Shape.{Shape}
-use Rattle.jury.specs.Counts.{byteOf, countUpTo, countOf, tabulate, countArray}
-use Rattle.jury.specs.Inner.{EightBySeven, plusRow, plusBallot}
-use Rattle.jury.proofs.Cases.{below-or-not}
-use Rattle.jury.proofs.BallotLaws.{row-within}
-use Rattle.jury.proofs.Tabulate.{length-tabulate, getD-tabulate, tabulate-cong}
+use Rattle.jury.specs.Counts.{byteOf, countUpTo, countOf, countArray}
+use Rattle.basics.specs.Lists.{tabulate}
+use Rattle.jury.specs.inner.Counts.{EightBySeven, plusRow, plusBallot}
+use Rattle.basics.proofs.Cases.{below-or-not}
+use Rattle.basics.proofs.Tabulate.{length-tabulate, getD-tabulate, tabulate-cong}
+use Rattle.basics.proofs.Arithmetic.{row-within}
+use Rattle.basics.proofs.Flags.{bit-most}
 
 -- a byte that is at most 1 is the 0 or 1 that it adds to a count
 pub bit-added : (x : ℕ) → x ≤ 1 → cond {A = ℕ} (eqb x 1) 1 0 ≡ x
@@ -33,10 +35,6 @@ pub count-most : (s : Shape) (xs : List ℕ) (b c g : ℕ) → countUpTo s xs b 
 unfolding countUpTo
 count-most s xs zero c g = omega arith
 count-most s xs (suc b) c g = omega (arith, count-most s xs b c g, bit-most (eqb (byteOf s xs b c g) 1))
-  where
-    bit-most : (t : Bool) → cond {A = ℕ} t 1 0 ≤ 1
-    bit-most true = omega arith
-    bit-most false = omega arith
 
 -- an entry of the array after the first b ballots
 unfoldable pub entryAfter : Shape → List ℕ → ℕ → ℕ → ℕ → ℕ

@@ -1,7 +1,4 @@
 -- Laws that the proofs of functions rest on.
-pub mod Flags
-pub mod Cases
-pub mod Tabulate
 pub mod Sums
 pub mod Limits
 pub mod Constructed
@@ -15,8 +12,4 @@ pub mod Rows
 -- Facts for readers and for the layers above.
 pub mod CountFacts
 pub mod BallotOrder
-pub mod MedianFacts
-pub mod RunningSums
-pub mod Conditions
-pub mod Closing
 pub mod RankingLaws

@@ -2,15 +2,15 @@
 -- Assumes nothing.
 use mathlib.Core.Path.{_≡_, _∙_, sym, ap, subst}
 use mathlib.Core.Bool.{Bool, true, false, cond, _&&_, true≢false}
-use mathlib.Core.Logic.{_⊎_, inl, inr, ⊎-elim}
+use mathlib.Core.Logic.{_⊎_, ⊎-elim}
 use Prim.Native.Nat.{ℕ, _≤_, _<_, _*_, _^_}
 use native.Mathlib.Nat.{mul-le-mul}
 use native.Mathlib.Omega.{arith}
-use lib.Dec.{T, leb, eqb}
-use borrow.Author.Tests.{leb-true, le-leb, eqb-true, eq-eqb, ne-eqb}
+use lib.Dec.{T, leb}
+use borrow.Author.Tests.{leb-true, le-leb, ne-eqb}
 use Rattle.jury.specs.declared.shape.Shape.{Shape}
 use Rattle.jury.specs.Shape.{isRanking, gradedLimits, rankedLimits, withinLimits, columns, ballotBytes}
-use Rattle.jury.proofs.Flags.{and-first, and-second, or-either, or-first, or-second, T-true, true-T}
+use Rattle.basics.proofs.Flags.{and-first, and-second, or-either, or-first, T-true, true-T}
 
 -- a tasting with grades
 pub record Within (s : Shape) : Type 0 where
@@ -106,10 +106,6 @@ ranked-kind s e f = ⊎-elim (λ g. absurd (true≢false (sym f ∙ graded-is s 
 pub graded-within : (s : Shape) → gradedLimits s ≡ true → withinLimits s ≡ true
 unfolding withinLimits
 graded-within s e = or-first (gradedLimits s) (rankedLimits s) e
-
-pub ranked-within : (s : Shape) → rankedLimits s ≡ true → withinLimits s ≡ true
-unfolding withinLimits
-ranked-within s e = or-second (gradedLimits s) (rankedLimits s) e
 
 pub graded-T : (s : Shape) → T (gradedLimits s) → T (withinLimits s)
 graded-T s h = true-T (withinLimits s) (graded-within s (T-true (gradedLimits s) h))

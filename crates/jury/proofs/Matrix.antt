@@ -7,10 +7,11 @@ use Prim.Native.Nat.{ℕ, _<_}
 use lib.Dec.{ltb}
 use lib.ListN.{length, getD, take}
 use Rattle.jury.specs.declared.shape.Shape.{Shape}
-use Rattle.jury.specs.Counts.{countOf, tabulate, countsOf, countArray}
-use Rattle.jury.specs.Inner.{rowsIn}
+use Rattle.jury.specs.Counts.{countOf, countsOf, countArray}
+use Rattle.basics.specs.Lists.{tabulate}
+use Rattle.jury.specs.inner.Counts.{rowsIn}
 use Rattle.jury.proofs.Limits.{Within}
-use Rattle.jury.proofs.Tabulate.{tabulate-cong, take-tabulate, map-tabulate, length-tabulate, getD-tabulate}
+use Rattle.basics.proofs.Tabulate.{tabulate-cong, take-tabulate, map-tabulate, length-tabulate, getD-tabulate}
 use Rattle.jury.proofs.CountLaws.{entryAfter, rowAfter, arrayAfter, entry-inside, array-end}
 
 -- the first k rows of the array, d counts of each, are the matrix

@@ -8,69 +8,60 @@ use Prim.Native.Nat.{ℕ, _<_}
 use native.Mathlib.Omega.{arith}
 use Rattle.gates.specs.declared.place.Place.{Place}
 use Rattle.gates.specs.declared.place.Place.the-variants.{At, Nowhere}
-use Rattle.jury.specs.Rankings.{before, clashAt, clashInRow, clashInBallot, firstClash, apart, gapAfter, gap, firstGap}
+use Rattle.jury.specs.Rankings.{before, notAsymmetricAt, notAsymmetricInRow, notAsymmetricInBallot, firstNotAsymmetric, neitherAfterNorBefore, notWeakOrderAfter, notWeakOrder, firstNotWeakOrder}
 use Rattle.jury.specs.WeakOrder.{StrictWeakOrder}
-use Rattle.jury.proofs.Flags.{and-both, and-first-fails, and-second-fails}
+use Rattle.basics.proofs.Flags.{and-both, and-first-fails, and-second-fails}
 use Rattle.jury.proofs.Searches.{first-none, none-first, some-here, some-none, none-some, clash-here, clash-not-forth, clash-not-back}
-
--- a test holds or fails
-either : (t : Bool) {A : Type 0} → (t ≡ true → A) → (t ≡ false → A) → A
-either true yes′ no′ = yes′ refl
-either false yes′ no′ = no′ refl
-
--- who is before another is before those who are after that one
-pub transitive : (k : ℕ) (r : ℕ → ℕ → Bool) → StrictWeakOrder k r → (i j l : ℕ) → i < k → j < k → l < k → r i j ≡ true → r j l ≡ true → r i l ≡ true
-transitive k r w i j l hi hj hl f g =
-    either (r i l) (λ e. e) (λ e. absurd (true≢false (sym f ∙ w .negativelyTransitive i l j hi hl hj e (w .asymmetric j l hj hl g))))
+use Rattle.basics.proofs.Flags.{either}
 
 module _ (k : ℕ) (xs : List ℕ) (b : ℕ) where
   -- one ballot: no byte clashes
   abbrev NoClash : Type 0
   NoClash = (i j : ℕ) → i < k → j < k → before k xs b i j ≡ true → before k xs b j i ≡ false
 
-  clash-free : clashInBallot k xs b ≡ Nowhere → NoClash
-  unfolding clashInBallot clashInRow
+  clash-free : notAsymmetricInBallot k xs b ≡ Nowhere → NoClash
+  unfolding notAsymmetricInBallot notAsymmetricInRow
   clash-free e i j hi hj f =
       either (before k xs b j i)
       (λ g.
-      let here : clashAt k xs b i j ≡ Nowhere = none-first (clashAt k xs b i) k (none-first (clashInRow k xs b) k e i hi) j hj in
+      let here : notAsymmetricAt k xs b i j ≡ Nowhere = none-first (notAsymmetricAt k xs b i) k (none-first (notAsymmetricInRow k xs b) k e i hi) j hj in
       let found = clash-here k xs b i j f g in
       let z : _≡_ {A = ℕ} 0 1 = cc in absurd (omega arith))
       (λ g. g)
 
-  free-clash : NoClash → clashInBallot k xs b ≡ Nowhere
-  unfolding clashInBallot clashInRow
+  free-clash : NoClash → notAsymmetricInBallot k xs b ≡ Nowhere
+  unfolding notAsymmetricInBallot notAsymmetricInRow
   free-clash h =
-      first-none (clashInRow k xs b) k
+      first-none (notAsymmetricInRow k xs b) k
       (λ i hi.
-      first-none (clashAt k xs b i) k
+      first-none (notAsymmetricAt k xs b i) k
       (λ j hj. either (before k xs b i j) (λ f. clash-not-back k xs b i j f (h i j hi hj f)) (clash-not-forth k xs b i j)))
 
   -- one ballot: no gap
   abbrev NoGap : Type 0
   NoGap = (i l j : ℕ) → i < k → l < k → j < k → before k xs b i l ≡ false → before k xs b l j ≡ false → before k xs b i j ≡ false
 
-  gap-free : gap k xs b ≡ false → NoGap
-  unfolding gap gapAfter apart
+  gap-free : notWeakOrder k xs b ≡ false → NoGap
+  unfolding notWeakOrder notWeakOrderAfter neitherAfterNorBefore
   gap-free e i l j hi hl hj f g =
       either (before k xs b i j)
       (λ h.
       absurd
       (true≢false
-      (sym (and-both (before k xs b i j) (apart k xs b i j) h (some-here (λ m. not (before k xs b i m) && not (before k xs b m j)) k l hl (and-both (not (before k xs b i l)) (not (before k xs b l j)) (ap not f) (ap not g))))
-      ∙ none-some (λ j. before k xs b i j && apart k xs b i j) k (none-some (gapAfter k xs b) k e i hi) j hj)))
+      (sym (and-both (before k xs b i j) (neitherAfterNorBefore k xs b i j) h (some-here (λ m. not (before k xs b i m) && not (before k xs b m j)) k l hl (and-both (not (before k xs b i l)) (not (before k xs b l j)) (ap not f) (ap not g))))
+      ∙ none-some (λ j. before k xs b i j && neitherAfterNorBefore k xs b i j) k (none-some (notWeakOrderAfter k xs b) k e i hi) j hj)))
       (λ h. h)
 
-  free-gap : NoGap → gap k xs b ≡ false
-  unfolding gap gapAfter apart
+  free-gap : NoGap → notWeakOrder k xs b ≡ false
+  unfolding notWeakOrder notWeakOrderAfter neitherAfterNorBefore
   free-gap h =
-      some-none (gapAfter k xs b) k
+      some-none (notWeakOrderAfter k xs b) k
       (λ i hi.
-      some-none (λ j. before k xs b i j && apart k xs b i j) k
+      some-none (λ j. before k xs b i j && neitherAfterNorBefore k xs b i j) k
       (λ j hj.
-      either (before k xs b i j) (λ f. and-second-fails (before k xs b i j) (apart k xs b i j) (none-apart i j hi hj f)) (and-first-fails (before k xs b i j) (apart k xs b i j))))
+      either (before k xs b i j) (λ f. and-second-fails (before k xs b i j) (neitherAfterNorBefore k xs b i j) (none-apart i j hi hj f)) (and-first-fails (before k xs b i j) (neitherAfterNorBefore k xs b i j))))
     where
-      none-apart : (i j : ℕ) → i < k → j < k → before k xs b i j ≡ true → apart k xs b i j ≡ false
+      none-apart : (i j : ℕ) → i < k → j < k → before k xs b i j ≡ true → neitherAfterNorBefore k xs b i j ≡ false
       none-apart i j hi hj f =
           some-none (λ l. not (before k xs b i l) && not (before k xs b l j)) k
           (λ l hl.
@@ -96,15 +87,15 @@ module _ (k : ℕ) (xs : List ℕ) (b : ℕ) where
 
 -- the tests pass exactly where every ballot is a strict weak order
 pub passes-orders : (k n : ℕ) (xs : List ℕ) →
-    ((firstClash k n xs ≡ Nowhere) × (firstGap k n xs ≡ Nowhere)) ↔ ((b : ℕ) → b < n → StrictWeakOrder k (before k xs b))
-unfolding firstClash firstGap gap-found
+    ((firstNotAsymmetric k n xs ≡ Nowhere) × (firstNotWeakOrder k n xs ≡ Nowhere)) ↔ ((b : ℕ) → b < n → StrictWeakOrder k (before k xs b))
+unfolding firstNotAsymmetric firstNotWeakOrder gap-found
 passes-orders k n xs = (
   λ p b h.
-      order-of k xs b (clash-free k xs b (none-first (clashInBallot k xs) n (p .0) b h))
-      (gap-free k xs b (not-found k xs b (gap k xs b) (none-first (λ b. cond (gap k xs b) (At b) Nowhere) n (p .1) b h))),
+      order-of k xs b (clash-free k xs b (none-first (notAsymmetricInBallot k xs) n (p .0) b h))
+      (gap-free k xs b (not-found k xs b (notWeakOrder k xs b) (none-first (λ b. cond (notWeakOrder k xs b) (At b) Nowhere) n (p .1) b h))),
   λ orders. (
-    first-none (clashInBallot k xs) n (λ b h. free-clash k xs b (orders b h .asymmetric)),
-    first-none (λ b. cond (gap k xs b) (At b) Nowhere) n
+    first-none (notAsymmetricInBallot k xs) n (λ b h. free-clash k xs b (orders b h .asymmetric)),
+    first-none (λ b. cond (notWeakOrder k xs b) (At b) Nowhere) n
         (λ b h. ap (λ (t : Bool). cond t (At b) Nowhere) (free-gap k xs b (orders b h .negativelyTransitive))),
   ),
 )

@@ -1,15 +1,15 @@
 -- The rows of an array of counts, and the eight bytes that a count answers.
 -- Assumes nothing.
-use mathlib.Core.Path.{_≡_, _∙_, refl, sym, ap}
+use mathlib.Core.Path.{_≡_, _∙_, sym, ap}
 use mathlib.Core.Logic.{⊎-elim}
 use mathlib.Core.List.{List, [], _++_, map}
 use Prim.Native.Nat.{ℕ, _+_, _-_, _≤_, _<_}
 use native.Mathlib.Omega.{arith}
 use lib.ListN.{length, getD, take, replicate, length-take, length-map, length-append, length-replicate, getD-replicate, List·getD-map, List·getD-append, List·getD-eq-default}
-use lib.Seq.{getD-take, getD-append-add, take-nil, ext-getD, length-take-le}
+use lib.Seq.{getD-take, getD-append-add, take-nil, length-take-le}
 use Rattle.jury.specs.ClosingBytes.{eightBytes}
-use Rattle.jury.specs.Inner.{rowsIn}
-use Rattle.jury.proofs.Cases.{below-or-not}
+use Rattle.jury.specs.inner.Counts.{rowsIn}
+use Rattle.basics.proofs.Cases.{below-or-not}
 
 pub rows-length : (k d : ℕ) (counts : List (List ℕ)) → k ≤ length counts → length (rowsIn k d counts) ≡ k
 unfolding rowsIn

@@ -10,10 +10,11 @@ use native.Mathlib.Numerals.{add-one}
 use native.Mathlib.Omega.{arith}
 use Rattle.gates.specs.declared.place.Place.{Place}
 use Rattle.gates.specs.declared.place.Place.the-variants.{At, Nowhere}
-use Rattle.jury.specs.Rankings.{rankPlace, before, orElse, firstOver, someBelow, clashAt}
-use Rattle.jury.proofs.BallotLaws.{row-within}
-use Rattle.jury.proofs.Cases.{below-or-not}
-use Rattle.jury.proofs.Flags.{or-first, or-second}
+use Rattle.jury.specs.Rankings.{rankPlace, before, orElse, firstOver, notAsymmetricAt}
+use Rattle.basics.specs.Below.{someBelow}
+use Rattle.basics.proofs.Cases.{below-or-not}
+use Rattle.basics.proofs.Flags.{or-first, or-second}
+use Rattle.basics.proofs.Arithmetic.{row-within}
 
 -- nothing was found so far, and nothing here
 pub first-later : (found : ℕ → Place) (i : ℕ) → firstOver i found ≡ Nowhere → found i ≡ Nowhere → firstOver (i + 1) found ≡ Nowhere
@@ -103,14 +104,14 @@ pub ballot-within : (k n b : ℕ) → b < n → (b + 1) * k * k ≤ n * k * k
 ballot-within k n b h = mul-le-mul {n₁ = (b + 1) * k} {m₁ = k} {n₂ = n * k} {m₂ = k} (mul-le-mul {n₁ = b + 1} {m₁ = k} {n₂ = n} {m₂ = k} (omega arith) (omega arith)) (omega arith)
 
 -- a byte that clashes, and one that does not
-pub clash-here : (k : ℕ) (xs : List ℕ) (b i j : ℕ) → before k xs b i j ≡ true → before k xs b j i ≡ true → clashAt k xs b i j ≡ At (rankPlace k b i j)
-unfolding clashAt
+pub clash-here : (k : ℕ) (xs : List ℕ) (b i j : ℕ) → before k xs b i j ≡ true → before k xs b j i ≡ true → notAsymmetricAt k xs b i j ≡ At (rankPlace k b i j)
+unfolding notAsymmetricAt
 clash-here k xs b i j e f = rw (e, f)
 
-pub clash-not-forth : (k : ℕ) (xs : List ℕ) (b i j : ℕ) → before k xs b i j ≡ false → clashAt k xs b i j ≡ Nowhere
-unfolding clashAt
+pub clash-not-forth : (k : ℕ) (xs : List ℕ) (b i j : ℕ) → before k xs b i j ≡ false → notAsymmetricAt k xs b i j ≡ Nowhere
+unfolding notAsymmetricAt
 clash-not-forth k xs b i j e = rw e
 
-pub clash-not-back : (k : ℕ) (xs : List ℕ) (b i j : ℕ) → before k xs b i j ≡ true → before k xs b j i ≡ false → clashAt k xs b i j ≡ Nowhere
-unfolding clashAt
+pub clash-not-back : (k : ℕ) (xs : List ℕ) (b i j : ℕ) → before k xs b i j ≡ true → before k xs b j i ≡ false → notAsymmetricAt k xs b i j ≡ Nowhere
+unfolding notAsymmetricAt
 clash-not-back k xs b i j e f = rw (e, f)

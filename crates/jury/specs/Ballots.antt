@@ -11,7 +11,7 @@ use Rattle.gates.specs.Test.{firstAboveOne}
 use Rattle.jury.specs.declared.shape.Shape.{Shape}
 use Rattle.jury.specs.Shape.{isRanking, ballotBytes}
 use Rattle.jury.specs.Reason.{Reason, unless, foundAt}
-use Rattle.jury.specs.Rankings.{firstClash, firstGap}
+use Rattle.jury.specs.Rankings.{firstNotAsymmetric, firstNotWeakOrder}
 
 -- How many of these bytes are 1.
 unfoldable pub ones : List ℕ → ℕ
@@ -34,7 +34,9 @@ gradedReasons s xs = foundAt 6 (firstBadRow 0 (rowsOf (s .grades) (s .ballots * 
 
 -- What rankings must say: 11 over all ballots, then 12.
 unfoldable pub rankedReasons : Shape → List ℕ → List (Option Reason)
-rankedReasons s xs = foundAt 11 (firstClash (s .candidates) (s .ballots) xs) ∷ foundAt 12 (firstGap (s .candidates) (s .ballots) xs) ∷ []
+rankedReasons s xs =
+    foundAt 11 (firstNotAsymmetric (s .candidates) (s .ballots) xs)
+    ∷ foundAt 12 (firstNotWeakOrder (s .candidates) (s .ballots) xs) ∷ []
 
 -- The tests of the ballots in checking order: 4, 5 over all bytes, then those of the kind of the shape.
 unfoldable pub ballotReasons : Shape → List ℕ → List (Option Reason)

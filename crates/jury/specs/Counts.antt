@@ -1,18 +1,16 @@
 -- Grade counts: how many ballots give each candidate each grade.
 use mathlib.Core.Path.{_≡_}
 use mathlib.Core.Bool.{cond, _&&_}
-use mathlib.Core.List.{List, [], _∷_}
+use mathlib.Core.List.{List, []}
 use Prim.Native.Nat.{ℕ, zero, suc, _+_, _*_, _<_}
 use lib.Dec.{eqb, ltb}
 use lib.ListN.{getD}
 use Rattle.jury.specs.declared.shape.Shape.{Shape}
+use Rattle.basics.specs.Lists.{sum}
+use Rattle.basics.specs.Lists.{tabulate}
 
--- The sum of some counts.
-unfoldable pub sum : List ℕ → ℕ
-sum [] = 0
-sum (x ∷ xs) = x + sum xs
-
--- The byte of ballot b, candidate c and grade g: the rows of a ballot are its candidates, the bytes of a row the grades from the best on.
+-- The byte of ballot b, candidate c and grade g: the rows of a ballot are its candidates, the bytes of a row the
+-- grades from the best on.
 unfoldable pub byteOf : Shape → List ℕ → ℕ → ℕ → ℕ → ℕ
 byteOf s xs b c g = getD xs ((b * s .candidates + c) * s .grades + g) 0
 
@@ -25,18 +23,14 @@ countUpTo s xs (suc b) c g = countUpTo s xs b c g + cond (eqb (byteOf s xs b c g
 unfoldable pub countOf : Shape → List ℕ → ℕ → ℕ → ℕ
 countOf s xs c g = countUpTo s xs (s .ballots) c g
 
--- The values of f at 0, 1, and so on, n of them.
-unfoldable pub tabulate : {A : Type 0} → ℕ → (ℕ → A) → List A
-tabulate zero f = []
-tabulate (suc n) f = f 0 ∷ tabulate n (λ i. f (suc i))
-
 -- The matrix of grade counts: a row for each candidate, in it a count for each grade from the best on.
 unfoldable pub countsOf : Shape → List ℕ → List (List ℕ)
 countsOf s xs = tabulate (s .candidates) (λ c. tabulate (s .grades) (countOf s xs c))
 
 -- The same as the program keeps it, in an eight by seven array whose other entries are 0.
 unfoldable pub countArray : Shape → List ℕ → List (List ℕ)
-countArray s xs = tabulate 8 (λ c. tabulate 7 (λ g. cond (ltb c (s .candidates) && ltb g (s .grades)) (countOf s xs c g) 0))
+countArray s xs =
+    tabulate 8 (λ c. tabulate 7 (λ g. cond (ltb c (s .candidates) && ltb g (s .grades)) (countOf s xs c g) 0))
 
 -- [sum]: whoever the candidate is, its counts have the sum n.
 abbrev pub AddUp : Shape → List (List ℕ) → Type 0

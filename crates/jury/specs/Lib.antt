@@ -6,8 +6,5 @@ pub mod Ballots
 pub mod WeakOrder
 pub mod Counts
 pub mod ClosingBytes
-pub mod Gauge
-pub mod Winner
-pub mod Panels
 pub mod Accepted
-pub mod Inner
+pub mod inner

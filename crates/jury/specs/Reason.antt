@@ -5,12 +5,12 @@ use mathlib.Core.List.{List, [], _∷_}
 use Prim.Native.Nat.{ℕ}
 use Rattle.gates.specs.declared.place.Place.{Place}
 use Rattle.gates.specs.declared.place.Place.the-variants.{At, Nowhere}
-use Rattle.gates.specs.declared.list.Tested.{Tested}
-use Rattle.gates.specs.declared.list.Tested.the-variants as tested
+use Rattle.gates.specs.declared.list.ListCheck.{ListCheck}
+use Rattle.gates.specs.declared.list.ListCheck.the-variants as tested
 use Rattle.jury.specs.declared.reason.Refusal.{Refusal}
-use Rattle.jury.specs.declared.reason.Refusal.the-variants.{Shape, Table, Gate, BallotsLength, BallotByte, BallotRow, BallotClash, BallotGap, TapeLength, TapeByte, WiresLength, BoardLength, Urn, Juror, FullUrn, Trustees, PartTables, Dealing, Juries, GatesPerRound}
-use Rattle.jury.specs.declared.shape.Shaped.{Shaped}
-use Rattle.jury.specs.declared.shape.Shaped.the-variants.{Within, Outside}
+use Rattle.jury.specs.declared.reason.Refusal.the-variants.{Shape, Table, Gate, BallotsLength, BallotByte, BallotRow, NotAsymmetric, NotWeakOrder, TapeLength, TapeByte, WiresLength, BoardLength, Urn, Juror, FullUrn, Trustees, PartTables, Dealing, Juries, GatesPerRound}
+use Rattle.jury.specs.declared.shape.ShapeResult.{ShapeResult}
+use Rattle.jury.specs.declared.shape.ShapeResult.the-variants.{Within, Outside}
 use Rattle.jury.specs.declared.reason.Verdict.{Verdict}
 use Rattle.jury.specs.declared.reason.Verdict.the-variants.{Accepted, Refused}
 
@@ -31,8 +31,8 @@ reasonOf (Gate g) = reasonAt 3 g
 reasonOf BallotsLength = reasonAt 4 0
 reasonOf (BallotByte i) = reasonAt 5 i
 reasonOf (BallotRow r) = reasonAt 6 r
-reasonOf (BallotClash i) = reasonAt 11 i
-reasonOf (BallotGap b) = reasonAt 12 b
+reasonOf (NotAsymmetric i) = reasonAt 11 i
+reasonOf (NotWeakOrder b) = reasonAt 12 b
 reasonOf TapeLength = reasonAt 7 0
 reasonOf (TapeByte i) = reasonAt 8 i
 reasonOf WiresLength = reasonAt 9 0
@@ -52,7 +52,7 @@ refusedFor Accepted = none
 refusedFor (Refused r) = some (reasonOf r)
 
 -- The reason of what the constructor of shapes answers, where it refuses.
-unfoldable pub shapedFor : Shaped → Option Reason
+unfoldable pub shapedFor : ShapeResult → Option Reason
 shapedFor (Within s) = none
 shapedFor Outside = some (reasonAt 1 0)
 
@@ -66,8 +66,9 @@ unfoldable pub foundAt : ℕ → Place → Option Reason
 foundAt number Nowhere = none
 foundAt number (At place) = some (reasonAt number place)
 
--- The number and place [order] of each answer of the gate layer's test of a list: 2 where the numbers make no whole gates or the gates are fewer or more than there may be, 3 at the first bad gate.
-unfoldable pub listReason : Tested → Option Reason
+-- The number and place [order] of each answer of the gate layer's test of a list: 2 where the numbers make no whole
+-- gates or the gates are fewer or more than there may be, 3 at the first bad gate.
+unfoldable pub listReason : ListCheck → Option Reason
 listReason (tested.Accepted gates conditional) = none
 listReason tested.PartOfAGate = some (reasonAt 2 0)
 listReason tested.TooFewGates = some (reasonAt 2 0)

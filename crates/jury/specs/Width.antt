@@ -3,7 +3,8 @@ use mathlib.Core.Bool.{cond}
 use Prim.Native.Nat.{ℕ, zero, suc, _/_}
 use lib.Dec.{eqb}
 
--- 0 has no digit; any other number has one more than its half, rounded down. For numbers that at most `steps` halvings take to 0.
+-- 0 has no digit; any other number has one more than its half, rounded down. For numbers that at most `steps`
+-- halvings take to 0.
 unfoldable pub widthWithin : ℕ → ℕ → ℕ
 widthWithin zero m = 0
 widthWithin (suc steps) m = cond (eqb m 0) 0 (suc (widthWithin steps (m / 2)))

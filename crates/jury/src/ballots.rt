@@ -1,8 +1,8 @@
 // The tests of ballots.
-use crate::byte::wide;
 use crate::reason::Refusal;
 use crate::reason::Verdict;
 use crate::shape::Shape;
+use basics::byte::wide;
 use gates::place::Place;
 ghost use mathlib.Core.Path.{_≡_};
 ghost use Prim.Native.Nat.{ℕ, _*_, _≤_, _<_};
@@ -33,7 +33,9 @@ pub fn test(shape: Shape, ballots: &[u8]) -> Verdict
 
 // Reason 6.
 fn test_grades(shape: Shape, ballots: &[u8]) -> Verdict
-    requires { ⌜ T (gradedLimits shape) × (length (now ballots) ≡ shape .ballots * shape .candidates * shape .grades) ⌝ }
+    requires { ⌜
+        T (gradedLimits shape) × (length (now ballots) ≡ shape .ballots * shape .candidates * shape .grades)
+        ⌝ }
     requires { ⌜ Bits (now ballots) ⌝ }
     ensures { λ r. ⌜ refusedFor r ≡ firstOf (gradedReasons shape (now (ballots .entry))) ⌝ }
 {
@@ -48,11 +50,15 @@ fn test_rankings(shape: Shape, ballots: &[u8]) -> Verdict
     requires { ⌜ length (now ballots) ≡ shape .ballots * shape .candidates * shape .candidates ⌝ }
     ensures { λ r. ⌜ refusedFor r ≡ firstOf (rankedReasons shape (now (ballots .entry))) ⌝ }
 {
-    if let Place::At(i) = crate::rankings::first_clash(ballots, shape.candidates, shape.ballots) {
-        return Verdict::Refused(Refusal::BallotClash(i));
+    if let Place::At(i) = crate::rankings::first_not_asymmetric(
+        ballots,
+        shape.candidates,
+        shape.ballots,
+    ) {
+        return Verdict::Refused(Refusal::NotAsymmetric(i));
     }
-    match crate::rankings::first_gap(ballots, shape.candidates, shape.ballots) {
-        Place::At(b) => Verdict::Refused(Refusal::BallotGap(b)),
+    match crate::rankings::first_not_weak_order(ballots, shape.candidates, shape.ballots) {
+        Place::At(b) => Verdict::Refused(Refusal::NotWeakOrder(b)),
         Place::Nowhere => Verdict::Accepted,
     }
 }

@@ -5,7 +5,7 @@ ghost use Prim.Native.Nat.{ℕ, _*_, _≤_, _<_};
 ghost use lib.ListN.{length, getD};
 ghost use Rattle.jury.specs.Counts.{countArray, AddUp};
 ghost use Rattle.jury.specs.Accepted.{GradedBallots};
-ghost use Rattle.jury.specs.Inner.{rowsIn, EightBySeven, plusRow, plusBallot};
+ghost use Rattle.jury.specs.inner.Counts.{rowsIn, EightBySeven, plusRow, plusBallot};
 
 // How many ballots give each candidate each grade. Entries outside the shape stay 0.
 pub fn counts(shape: Shape, ballots: &[u8]) -> [[u16; 7]; 8]

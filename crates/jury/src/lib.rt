@@ -1,6 +1,5 @@
 // Tasting juries: shapes, ballots with their tests and counts, reasons.
 pub mod ballots;
-pub mod byte;
 pub mod counts;
 pub mod rankings;
 pub mod reason;

@@ -6,13 +6,13 @@ ghost use lib.ListN.{length};
 ghost use Rattle.jury.specs.Rankings as spec;
 
 // The first byte, through all ballots, that is 1 while its opposite is 1 too.
-pub fn first_clash(ballots: &[u8], k: usize, n: usize) -> Place
+pub fn first_not_asymmetric(ballots: &[u8], k: usize, n: usize) -> Place
     requires { ⌜ length (now ballots) ≡ n * k * k ⌝ }
-    ensures { λ r. ⌜ r ≡ spec.firstClash k n (now (ballots .entry)) ⌝ }
+    ensures { λ r. ⌜ r ≡ spec.firstNotAsymmetric k n (now (ballots .entry)) ⌝ }
 {
     let mut b = 0;
     while b < n {
-        match clash_in_ballot(ballots, k, b) {
+        match not_asymmetric_in_ballot(ballots, k, b) {
             Place::At(place) => return Place::At(place),
             Place::Nowhere => {}
         }
@@ -22,13 +22,13 @@ pub fn first_clash(ballots: &[u8], k: usize, n: usize) -> Place
 }
 
 // The first such byte of ballot b.
-fn clash_in_ballot(ballots: &[u8], k: usize, b: usize) -> Place
+fn not_asymmetric_in_ballot(ballots: &[u8], k: usize, b: usize) -> Place
     requires { ⌜ (b + 1) * k * k ≤ length (now ballots) ⌝ }
-    ensures { λ r. ⌜ r ≡ spec.clashInBallot k (now (ballots .entry)) b ⌝ }
+    ensures { λ r. ⌜ r ≡ spec.notAsymmetricInBallot k (now (ballots .entry)) b ⌝ }
 {
     let mut i = 0;
     while i < k {
-        match clash_in_row(ballots, k, b, i) {
+        match not_asymmetric_in_row(ballots, k, b, i) {
             Place::At(place) => return Place::At(place),
             Place::Nowhere => {}
         }
@@ -38,9 +38,9 @@ fn clash_in_ballot(ballots: &[u8], k: usize, b: usize) -> Place
 }
 
 // The first such byte of row i of ballot b.
-fn clash_in_row(ballots: &[u8], k: usize, b: usize, i: usize) -> Place
+fn not_asymmetric_in_row(ballots: &[u8], k: usize, b: usize, i: usize) -> Place
     requires { ⌜ ((b + 1) * k * k ≤ length (now ballots)) × (i < k) ⌝ }
-    ensures { λ r. ⌜ r ≡ spec.clashInRow k (now (ballots .entry)) b i ⌝ }
+    ensures { λ r. ⌜ r ≡ spec.notAsymmetricInRow k (now (ballots .entry)) b i ⌝ }
 {
     let mut j = 0;
     while j < k {
@@ -52,14 +52,15 @@ fn clash_in_row(ballots: &[u8], k: usize, b: usize, i: usize) -> Place
     Place::Nowhere
 }
 
-// The first ballot in which some candidate is before another while a third is neither after the one nor before the other.
-pub fn first_gap(ballots: &[u8], k: usize, n: usize) -> Place
+// The first ballot in which some candidate is before another while a third is neither after the one nor before the
+// other.
+pub fn first_not_weak_order(ballots: &[u8], k: usize, n: usize) -> Place
     requires { ⌜ length (now ballots) ≡ n * k * k ⌝ }
-    ensures { λ r. ⌜ r ≡ spec.firstGap k n (now (ballots .entry)) ⌝ }
+    ensures { λ r. ⌜ r ≡ spec.firstNotWeakOrder k n (now (ballots .entry)) ⌝ }
 {
     let mut b = 0;
     while b < n {
-        if has_gap(ballots, k, b) {
+        if not_weak_order(ballots, k, b) {
             return Place::At(b);
         }
         b += 1;
@@ -68,13 +69,13 @@ pub fn first_gap(ballots: &[u8], k: usize, n: usize) -> Place
 }
 
 // Whether ballot b is such a ballot.
-fn has_gap(ballots: &[u8], k: usize, b: usize) -> bool
+fn not_weak_order(ballots: &[u8], k: usize, b: usize) -> bool
     requires { ⌜ (b + 1) * k * k ≤ length (now ballots) ⌝ }
-    ensures { λ r. ⌜ r ≡ spec.gap k (now (ballots .entry)) b ⌝ }
+    ensures { λ r. ⌜ r ≡ spec.notWeakOrder k (now (ballots .entry)) b ⌝ }
 {
     let mut i = 0;
     while i < k {
-        if gap_after(ballots, k, b, i) {
+        if not_weak_order_after(ballots, k, b, i) {
             return true;
         }
         i += 1;
@@ -83,9 +84,9 @@ fn has_gap(ballots: &[u8], k: usize, b: usize) -> bool
 }
 
 // Whether i is before some candidate while a third stands neither behind i nor before that one.
-fn gap_after(ballots: &[u8], k: usize, b: usize, i: usize) -> bool
+fn not_weak_order_after(ballots: &[u8], k: usize, b: usize, i: usize) -> bool
     requires { ⌜ ((b + 1) * k * k ≤ length (now ballots)) × (i < k) ⌝ }
-    ensures { λ r. ⌜ r ≡ spec.gapAfter k (now (ballots .entry)) b i ⌝ }
+    ensures { λ r. ⌜ r ≡ spec.notWeakOrderAfter k (now (ballots .entry)) b i ⌝ }
 {
     let mut j = 0;
     while j < k {
@@ -100,7 +101,7 @@ fn gap_after(ballots: &[u8], k: usize, b: usize, i: usize) -> bool
 // Whether some candidate is not after i and not before j.
 fn is_apart(ballots: &[u8], k: usize, b: usize, i: usize, j: usize) -> bool
     requires { ⌜ ((b + 1) * k * k ≤ length (now ballots)) × (i < k) × (j < k) ⌝ }
-    ensures { λ r. ⌜ r ≡ spec.apart k (now (ballots .entry)) b i j ⌝ }
+    ensures { λ r. ⌜ r ≡ spec.neitherAfterNorBefore k (now (ballots .entry)) b i j ⌝ }
 {
     let mut l = 0;
     while l < k {

@@ -2,8 +2,8 @@
 ghost use mathlib.Core.Path.{_≡_};
 ghost use Rattle.jury.specs.Reason.{reasonOf};
 
-// In checking order 1 to 10, with those of rankings, 11 and 12, behind 6; then those of the urn, 13 to 15, of the trustees, 16 to
-// 18, and of the dispatcher, 19 and 20. The number in a case is the place.
+// In checking order 1 to 10, with those of rankings, 11 and 12, behind 6; then those of the urn, 13 to 15, of the
+// trustees, 16 to 18, and of the dispatcher, 19 and 20. The number in a case is the place.
 pub enum Refusal {
     Shape,
     Table,
@@ -11,8 +11,8 @@ pub enum Refusal {
     BallotsLength,
     BallotByte(usize),
     BallotRow(usize),
-    BallotClash(usize),
-    BallotGap(usize),
+    NotAsymmetric(usize),
+    NotWeakOrder(usize),
     TapeLength,
     TapeByte(usize),
     WiresLength,
@@ -45,8 +45,8 @@ impl Refusal {
             Refusal::BallotsLength => 4,
             Refusal::BallotByte(_) => 5,
             Refusal::BallotRow(_) => 6,
-            Refusal::BallotClash(_) => 11,
-            Refusal::BallotGap(_) => 12,
+            Refusal::NotAsymmetric(_) => 11,
+            Refusal::NotWeakOrder(_) => 12,
             Refusal::TapeLength => 7,
             Refusal::TapeByte(_) => 8,
             Refusal::WiresLength => 9,
@@ -70,8 +70,8 @@ impl Refusal {
             Refusal::Gate(g) => g,
             Refusal::BallotByte(i) => i,
             Refusal::BallotRow(r) => r,
-            Refusal::BallotClash(i) => i,
-            Refusal::BallotGap(b) => b,
+            Refusal::NotAsymmetric(i) => i,
+            Refusal::NotWeakOrder(b) => b,
             Refusal::TapeByte(i) => i,
             Refusal::Shape => 0,
             Refusal::Table => 0,

@@ -1,5 +1,5 @@
-// The shape of a jury: its numbers of candidates, grades and ballots, and the limits that belong to it. Where there are no
-// grades the candidates are ranked.
+// The shape of a jury: its numbers of candidates, grades and ballots, and the limits that belong to it. Where there
+// are no grades the candidates are ranked.
 ghost use mathlib.Core.Path.{_≡_};
 ghost use mathlib.Core.Bool.{cond};
 ghost use lib.Dec.{T};
@@ -15,7 +15,7 @@ pub struct Shape {
 }
 
 // What the constructor answers.
-pub enum Shaped {
+pub enum ShapeResult {
     Within(Shape),
     Outside,
 }
@@ -34,9 +34,16 @@ impl Shape {
     pub const MOST_BALLOTS: usize = 255;
 
     // A shape within the limits, or its refusal.
-    pub fn new(candidates: usize, grades: usize, ballots: usize) -> Shaped
-        ensures { λ r. ⌜ r ≡ cond (withinLimits (record { candidates = candidates; grades = grades; ballots = ballots })) (Shaped.Within (record { candidates = candidates; grades = grades; ballots = ballots })) Shaped.Outside ⌝ }
-        ensures { λ r. ⌜ shapedFor r ≡ unless (withinLimits (record { candidates = candidates; grades = grades; ballots = ballots })) 1 ⌝ }
+    pub fn new(candidates: usize, grades: usize, ballots: usize) -> ShapeResult
+        ensures { λ r. ⌜
+            r ≡ cond (withinLimits (record { candidates = candidates; grades = grades; ballots = ballots }))
+            (ShapeResult.Within (record { candidates = candidates; grades = grades; ballots = ballots }))
+            ShapeResult.Outside
+            ⌝ }
+        ensures { λ r. ⌜
+            shapedFor r
+            ≡ unless (withinLimits (record { candidates = candidates; grades = grades; ballots = ballots })) 1
+            ⌝ }
     {
         let shape = Shape {
             candidates,
@@ -44,9 +51,9 @@ impl Shape {
             ballots,
         };
         if shape.is_within_limits() {
-            Shaped::Within(shape)
+            ShapeResult::Within(shape)
         } else {
-            Shaped::Outside
+            ShapeResult::Outside
         }
     }
 

@@ -1,13 +1,12 @@
 -- The lent buffers are long enough for every list that fits the table, and what the run answers is what the rehearsal answers.
 -- Assumes nothing.
-use mathlib.Core.Path.{_≡_, _∙_, refl, sym, ap, subst}
-use mathlib.Core.Bool.{true, false}
-use mathlib.Core.Option.{Option, none, some}
+use mathlib.Core.Path.{_≡_, _∙_, refl, sym, ap}
+use mathlib.Core.Bool.{false}
+use mathlib.Core.Option.{Option, none}
 use mathlib.Core.List.{List, [], _∷_, _++_}
 use Prim.Native.Nat.{ℕ, zero, suc, _+_, _-_, _*_, _≤_, _<_}
 use native.Mathlib.Omega.{arith}
-use lib.Dec.{T}
-use lib.ListN.{length, getD, take, drop, length-take, length-drop, length-append, drop-of-length-le}
+use lib.ListN.{length, take, drop, length-take, length-drop, length-append, drop-of-length-le}
 use lib.Seq.{drop-append-le, take-at, take-all}
 use Rattle.gates.specs.Gate.{numbersOf}
 use Rattle.gates.specs.Board.{conditionalCount, Bits, MaskTape}
@@ -18,21 +17,23 @@ use Rattle.jury.specs.Reason.{Reason, reasonOf, reasonAt, firstOf}
 use Rattle.jury.specs.Ballots.{ballotReasons}
 use Rattle.jury.specs.declared.reason.Refusal.{Refusal}
 use Rattle.jury.specs.declared.reason.Refusal.the-variants as refusal
-use Rattle.jury.proofs.Flags.{T-true, true-T}
+use Rattle.basics.proofs.Flags.{T-true, true-T}
 use Rattle.jury.proofs.Limits.{bounds-T, inputs-bound}
 use Rattle.tally.specs.Rule.{closingFor}
 use Rattle.tally.specs.OwnList.{ownList}
 use Rattle.tally.proofs.Rules.{closing-length}
-use Rattle.tally.specs.Answer.{Said, refused, accepted, said, Size, sizeOf, saidBy}
+use Rattle.tally.specs.Answer.{refused, accepted, outcome, Size, sizeOf, outcomeOf}
 use Rattle.tally.specs.declared.answer.Answer.the-variants as answer
-use Rattle.tally.specs.Run.{ran}
-use Rattle.tally.specs.Write.{writeReasons, writeSaid, written}
+use Rattle.tally.specs.Run.{runResult}
+use Rattle.tally.specs.Write.{writeReasons, writeOutcome, written}
 use Rattle.tally.specs.Demands.{listIn}
 use Rattle.tally.proofs.TestReasons.{orElse, first-append}
 use Rattle.tally.proofs.Writing.{WritePassed, write-passed, write-refused, outside, write-length, list-in}
-use Rattle.tally.proofs.RunReasons.{said-refused, said-accepted}
+use Rattle.tally.proofs.RunReasons.{outcome-refused, outcome-accepted}
 use Rattle.tally.proofs.OwnRun.{own-answer, own-closing}
-use Rattle.rehearsal.specs.Rehearsal.{Lent, Cut, shapeIn, ballotsIn, rehearsalReasons, printedOf, rehearsalSaid, runSaid}
+use Rattle.rehearsal.specs.Rehearsal.{shapeIn, ballotsIn, rehearsalReasons, printedOf, rehearsalOutcome}
+use Rattle.rehearsal.specs.inner.Buffers.{Buffers, Cut}
+use Rattle.rehearsal.specs.inner.Rehearses.{runOutcome}
 
 bits-take : (n : ℕ) (xs : List ℕ) → Bits xs → Bits (take n xs)
 bits-take zero xs b i = omega arith
@@ -86,62 +87,62 @@ module _ (s : Shape) (list : List ℕ) (gates conditional : ℕ) (tape wires boa
     unfolding board′
     board-long = omega (arith, cut-long (conditional + s .candidates) board board-fits, u .conditional-are)
 
-    answers : ran s list ballots tape′ wires′ board′ .answer ≡ said (firstOf (ballotReasons s ballots)) (sizeOf (ownList s))
+    answers : runResult s list ballots tape′ wires′ board′ .answer ≡ outcome (firstOf (ballotReasons s ballots)) (sizeOf (ownList s))
     answers =
-        ap (λ (l : List ℕ). ran s l ballots tape′ wires′ board′ .answer) (u .list-is)
+        ap (λ (l : List ℕ). runResult s l ballots tape′ wires′ board′ .answer) (u .list-is)
         ∙ own-answer s (T-true (withinLimits s) (u .within)) ballots tape′ wires′ board′ mask wires-long board-long
 
-    pub refusal-said : (reason : Refusal) → saidBy (answer.Refused reason) ≡ ran s list ballots (take conditional tape) (take (inputs + gates) wires) (take (conditional + s .candidates) board) .answer
-        → refused (reasonOf reason) ≡ runSaid s ballots
-    unfolding saidBy runSaid said tape′ wires′ board′
-    refusal-said reason e =
+    pub refusal-outcome : (reason : Refusal) → outcomeOf (answer.Refused reason) ≡ runResult s list ballots (take conditional tape) (take (inputs + gates) wires) (take (conditional + s .candidates) board) .answer
+        → refused (reasonOf reason) ≡ runOutcome s ballots
+    unfolding outcomeOf runOutcome outcome tape′ wires′ board′
+    refusal-outcome reason e =
         let o = firstOf (ballotReasons s ballots) in
-        sym (ap (λ (o : Option Reason). said o (printedOf s ballots)) (said-refused o (sizeOf (ownList s)) (reasonOf reason) (sym (e ∙ answers))))
+        sym (ap (λ (o : Option Reason). outcome o (printedOf s ballots)) (outcome-refused o (sizeOf (ownList s)) (reasonOf reason) (sym (e ∙ answers))))
 
     -- the closing bytes on the board, whatever stands behind
-    placed : (b rest : List ℕ) → b ≡ ran s list ballots tape′ wires′ board′ .board → firstOf (ballotReasons s ballots) ≡ none
+    placed : (b rest : List ℕ) → b ≡ runResult s list ballots tape′ wires′ board′ .board → firstOf (ballotReasons s ballots) ≡ none
         → take (s .candidates) (drop (conditionalCount (ownList s)) (b ++ rest)) ≡ closingFor s ballots
     placed b rest e none-applies =
         let n = conditionalCount (ownList s) in
         let p = own-closing s (T-true (withinLimits s) (u .within)) ballots tape′ wires′ board′ mask wires-long board-long none-applies in
-        let f : b ≡ ran s (numbersOf (ownList s)) ballots tape′ wires′ board′ .board = e ∙ ap (λ (l : List ℕ). ran s l ballots tape′ wires′ board′ .board) (u .list-is) in
+        let f : b ≡ runResult s (numbersOf (ownList s)) ballots tape′ wires′ board′ .board = e ∙ ap (λ (l : List ℕ). runResult s l ballots tape′ wires′ board′ .board) (u .list-is) in
         let closing = closingFor s ballots in
         let long : length b ≡ n + s .candidates = ap length f ∙ p .0 in
         ap (take (s .candidates)) (drop-append-le n b rest (omega arith) ∙ ap (λ (l : List ℕ). drop n l ++ rest) f ∙ ap (λ (l : List ℕ). l ++ rest) (p .1))
         ∙ take-at closing rest (s .candidates) (closing-length s ballots)
 
-    pub winners-said : (g c : ℕ) (b rest : List ℕ) → saidBy (answer.Accepted g c) ≡ ran s list ballots (take conditional tape) (take (inputs + gates) wires) (take (conditional + s .candidates) board) .answer
-        → b ≡ ran s list ballots (take conditional tape) (take (inputs + gates) wires) (take (conditional + s .candidates) board) .board
-        → accepted (record { jury = s; winners = take (s .candidates) (drop c (b ++ rest)) }) ≡ runSaid s ballots
-    unfolding printedOf saidBy runSaid said sizeOf tape′ wires′ board′
-    winners-said g c b rest e f =
+    pub winners-outcome : (g c : ℕ) (b rest : List ℕ) → outcomeOf (answer.Accepted g c) ≡ runResult s list ballots (take conditional tape) (take (inputs + gates) wires) (take (conditional + s .candidates) board) .answer
+        → b ≡ runResult s list ballots (take conditional tape) (take (inputs + gates) wires) (take (conditional + s .candidates) board) .board
+        → accepted (record { jury = s; winners = take (s .candidates) (drop c (b ++ rest)) }) ≡ runOutcome s ballots
+    unfolding printedOf outcomeOf runOutcome outcome sizeOf tape′ wires′ board′
+    winners-outcome g c b rest e f =
         let o = firstOf (ballotReasons s ballots) in
-        let h = said-accepted o (sizeOf (ownList s)) (record { gates = g; conditional = c }) (sym (e ∙ answers)) in
-        let same : accepted (record { gates = g; conditional = c }) ≡ accepted (sizeOf (ownList s)) = e ∙ answers ∙ ap (λ (o : Option Reason). said o (sizeOf (ownList s))) h in
+        let h = outcome-accepted o (sizeOf (ownList s)) (record { gates = g; conditional = c }) (sym (e ∙ answers)) in
+        let same : accepted (record { gates = g; conditional = c }) ≡ accepted (sizeOf (ownList s)) = e ∙ answers ∙ ap (λ (o : Option Reason). outcome o (sizeOf (ownList s))) h in
         let size : record { gates = g; conditional = c } ≡ sizeOf (ownList s) = cc in
         let n : c ≡ conditionalCount (ownList s) = ap (λ (z : Size). z .conditional) size in
         ap (λ (l : List ℕ). accepted (record { jury = s; winners = l })) (ap (λ (m : ℕ). take (s .candidates) (drop m (b ++ rest))) n ∙ placed b rest f h)
-        ∙ sym (ap (λ (o : Option Reason). said o (printedOf s ballots)) h)
+        ∙ sym (ap (λ (o : Option Reason). outcome o (printedOf s ballots)) h)
 
     -- they lie on the board
-    pub winners-end : (g c : ℕ) (b rest : List ℕ) → saidBy (answer.Accepted g c) ≡ ran s list ballots (take conditional tape) (take (inputs + gates) wires) (take (conditional + s .candidates) board) .answer
-        → b ≡ ran s list ballots (take conditional tape) (take (inputs + gates) wires) (take (conditional + s .candidates) board) .board
+    pub winners-end : (g c : ℕ) (b rest : List ℕ) → outcomeOf (answer.Accepted g c) ≡ runResult s list ballots (take conditional tape) (take (inputs + gates) wires) (take (conditional + s .candidates) board) .answer
+        → b ≡ runResult s list ballots (take conditional tape) (take (inputs + gates) wires) (take (conditional + s .candidates) board) .board
         → c + s .candidates ≤ length (b ++ rest)
-    unfolding saidBy sizeOf said tape′ wires′ board′
+    unfolding outcomeOf sizeOf outcome tape′ wires′ board′
     winners-end g c b rest e f =
         let o = firstOf (ballotReasons s ballots) in
-        let h = said-accepted o (sizeOf (ownList s)) (record { gates = g; conditional = c }) (sym (e ∙ answers)) in
-        let same : accepted (record { gates = g; conditional = c }) ≡ accepted (sizeOf (ownList s)) = e ∙ answers ∙ ap (λ (o : Option Reason). said o (sizeOf (ownList s))) h in
+        let h = outcome-accepted o (sizeOf (ownList s)) (record { gates = g; conditional = c }) (sym (e ∙ answers)) in
+        let same : accepted (record { gates = g; conditional = c }) ≡ accepted (sizeOf (ownList s)) = e ∙ answers ∙ ap (λ (o : Option Reason). outcome o (sizeOf (ownList s))) h in
         let size : record { gates = g; conditional = c } ≡ sizeOf (ownList s) = cc in
         let n : c ≡ conditionalCount (ownList s) = ap (λ (z : Size). z .conditional) size in
         let p = own-closing s (T-true (withinLimits s) (u .within)) ballots tape′ wires′ board′ mask wires-long board-long h in
-        let long : length b ≡ conditionalCount (ownList s) + s .candidates = ap length (f ∙ ap (λ (l : List ℕ). ran s l ballots tape′ wires′ board′ .board) (u .list-is)) ∙ p .0 in
+        let long : length b ≡ conditionalCount (ownList s) + s .candidates = ap length (f ∙ ap (λ (l : List ℕ). runResult s l ballots tape′ wires′ board′ .board) (u .list-is)) ∙ p .0 in
         omega (arith, length-append b rest)
 
 -- after an accepted write, the list's numbers and the buffers are what the run asks
-module _ (s : Shape) (table tape wires board : List ℕ) (l : Lent table tape wires board) (g c : ℕ) (e : saidBy (answer.Accepted g c) ≡ writeSaid s table) where
+module _ (s : Shape) (table tape wires board : List ℕ) (l : Buffers table tape wires board) (g c : ℕ) (e : outcomeOf (answer.Accepted g c) ≡ writeOutcome s table) where
   passed : WritePassed s table (record { gates = g; conditional = c })
-  passed = unfold saidBy in (write-passed s table (record { gates = g; conditional = c }) (sym e))
+  passed = unfold outcomeOf in (write-passed s table (record { gates = g; conditional = c }) (sym e))
 
   gates-own : g ≡ length (ownList s)
   gates-own = unfold sizeOf in (ap (λ (z : Size). z .gates) (passed .own-size))
@@ -169,26 +170,26 @@ module _ (s : Shape) (table tape wires board : List ℕ) (l : Lent table tape wi
       own-numbers : take (4 * g) (written s table) ≡ numbersOf (ownList s)
       own-numbers = unfold listIn in (list-in s table (record { gates = g; conditional = c }) passed)
 
-  pub by-the-run : (input : List ℕ) → s ≡ shapeIn input → runSaid s (ballotsIn input) ≡ rehearsalSaid input table
-  unfolding runSaid rehearsalSaid rehearsalReasons orElse
+  pub by-the-run : (input : List ℕ) → s ≡ shapeIn input → runOutcome s (ballotsIn input) ≡ rehearsalOutcome input table
+  unfolding runOutcome rehearsalOutcome rehearsalReasons orElse
   by-the-run input f =
       let ballots = ballotReasons (shapeIn input) (ballotsIn input) in
       let none-applies = ap (λ (z : Shape). firstOf (writeReasons z table)) (sym f) ∙ passed .reasons in
-      ap (λ (z : Shape). runSaid z (ballotsIn input)) f
-      ∙ sym (ap (λ (o : Option Reason). said o (printedOf (shapeIn input) (ballotsIn input))) (first-append (writeReasons (shapeIn input) table) ballots ∙ ap (λ (o : Option Reason). orElse o (firstOf ballots)) none-applies))
+      ap (λ (z : Shape). runOutcome z (ballotsIn input)) f
+      ∙ sym (ap (λ (o : Option Reason). outcome o (printedOf (shapeIn input) (ballotsIn input))) (first-append (writeReasons (shapeIn input) table) ballots ∙ ap (λ (o : Option Reason). orElse o (firstOf ballots)) none-applies))
 
 -- a refused write decides
-pub by-the-write : (input table : List ℕ) (s : Shape) (reason : Refusal) → s ≡ shapeIn input → saidBy (answer.Refused reason) ≡ writeSaid s table → refused (reasonOf reason) ≡ rehearsalSaid input table
-unfolding saidBy writeSaid said rehearsalSaid rehearsalReasons orElse
+pub by-the-write : (input table : List ℕ) (s : Shape) (reason : Refusal) → s ≡ shapeIn input → outcomeOf (answer.Refused reason) ≡ writeOutcome s table → refused (reasonOf reason) ≡ rehearsalOutcome input table
+unfolding outcomeOf writeOutcome outcome rehearsalOutcome rehearsalReasons orElse
 by-the-write input table s reason f e =
     let ballots = ballotReasons (shapeIn input) (ballotsIn input) in
-    let r = said-refused (firstOf (writeReasons s table)) (sizeOf (ownList s)) (reasonOf reason) (sym e) in
+    let r = outcome-refused (firstOf (writeReasons s table)) (sizeOf (ownList s)) (reasonOf reason) (sym e) in
     let applies = ap (λ (z : Shape). firstOf (writeReasons z table)) (sym f) ∙ r in
-    sym (ap (λ (o : Option Reason). said o (printedOf (shapeIn input) (ballotsIn input))) (first-append (writeReasons (shapeIn input) table) ballots ∙ ap (λ (o : Option Reason). orElse o (firstOf ballots)) applies))
+    sym (ap (λ (o : Option Reason). outcome o (printedOf (shapeIn input) (ballotsIn input))) (first-append (writeReasons (shapeIn input) table) ballots ∙ ap (λ (o : Option Reason). orElse o (firstOf ballots)) applies))
 
 -- a shape outside the limits is refused as its write would be
-pub by-the-limits : (input table : List ℕ) → withinLimits (shapeIn input) ≡ false → refused (reasonOf refusal.Shape) ≡ rehearsalSaid input table
-unfolding saidBy reasonOf
+pub by-the-limits : (input table : List ℕ) → withinLimits (shapeIn input) ≡ false → refused (reasonOf refusal.Shape) ≡ rehearsalOutcome input table
+unfolding outcomeOf reasonOf
 by-the-limits input table w = by-the-write input table (shapeIn input) refusal.Shape refl (sym (write-refused (shapeIn input) table (reasonAt 1 0) (outside (shapeIn input) table w) .0))
 
 -- the ballots behind the first three bytes

@@ -1,19 +1,13 @@
 -- What the rehearsal program answers for its input.
-use mathlib.Core.Path.{_≡_}
 use mathlib.Core.Option.{Option}
 use mathlib.Core.List.{List, _++_}
-use Prim.Native.Nat.{ℕ, _+_, _≤_}
-use lib.Dec.{T}
-use lib.ListN.{length, getD, take, drop}
-use Rattle.gates.specs.Gate.{numbersOf}
-use Rattle.gates.specs.Board.{conditionalCount, Bits}
+use Prim.Native.Nat.{ℕ}
+use lib.ListN.{getD, take, drop}
 use Rattle.jury.specs.declared.shape.Shape.{Shape}
-use Rattle.jury.specs.Shape.{withinLimits}
 use Rattle.jury.specs.Reason.{Reason, reasonOf, firstOf}
 use Rattle.jury.specs.Ballots.{ballotReasons}
 use Rattle.tally.specs.Rule.{closingFor}
-use Rattle.tally.specs.OwnList.{ownList}
-use Rattle.tally.specs.Answer.{Said, refused, accepted, said}
+use Rattle.tally.specs.Answer.{Outcome, refused, accepted, outcome}
 use Rattle.tally.specs.Write.{writeReasons}
 use Rattle.rehearsal.specs.declared.rehearse.Rehearsed.{Rehearsed}
 use Rattle.rehearsal.specs.declared.rehearse.Rehearsed.the-variants.{Winners, Refused}
@@ -25,7 +19,8 @@ shapeIn input = record { candidates = getD input 0 0; grades = getD input 1 0; b
 unfoldable pub ballotsIn : List ℕ → List ℕ
 ballotsIn input = drop 3 input
 
--- The list is written, then run: the reasons that concern writing come first. The list that was written passes its test, and wire table, tape and board are cut to their lengths, so only the ballots can turn the run away.
+-- The list is written, then run: the reasons that concern writing come first. The list that was written passes its
+-- test, and wire table, tape and board are cut to their lengths, so that only the ballots can turn the run away.
 unfoldable pub rehearsalReasons : List ℕ → List ℕ → List (Option Reason)
 rehearsalReasons input table = writeReasons (shapeIn input) table ++ ballotReasons (shapeIn input) (ballotsIn input)
 
@@ -38,39 +33,12 @@ pub record Printed : Type 0 where
 unfoldable pub printedOf : Shape → List ℕ → Printed
 printedOf s ballots = record { jury = s; winners = closingFor s ballots }
 
-unfoldable pub rehearsalSaid : List ℕ → List ℕ → Said Printed
-rehearsalSaid input table = said (firstOf (rehearsalReasons input table)) (printedOf (shapeIn input) (ballotsIn input))
+unfoldable pub rehearsalOutcome : List ℕ → List ℕ → Outcome Printed
+rehearsalOutcome input table =
+    outcome (firstOf (rehearsalReasons input table)) (printedOf (shapeIn input) (ballotsIn input))
 
--- What each case of the program's enum means, as a number with values: the k closing bytes stand on the board from a place on.
-unfoldable pub saidOn : List ℕ → Rehearsed → Said Printed
-saidOn board (Winners s first) = accepted (record { jury = s; winners = take (s .candidates) (drop first board) })
-saidOn board (Refused r) = refused (reasonOf r)
-
--- Where the closing bytes end.
-unfoldable pub endOn : Rehearsed → ℕ
-endOn (Winners s first) = first + s .candidates
-endOn (Refused r) = 0
-
--- What the program lends: a tape of bits, which the program fills with zeros, a table for at most 4,000 gates, and a wire table and a board that are long enough for them.
-pub record Lent (table tape wires board : List ℕ) : Type 0 where
-  pub tableLength : length table ≤ 16000
-  pub tapeLength : 4000 ≤ length tape
-  pub tapeBits : Bits tape
-  pub wiresLength : 20320 ≤ length wires
-  pub boardLength : 4008 ≤ length board
-
--- What a run of the own list is lent: its numbers, a mask tape and buffers that are long enough.
-pub record Cut (s : Shape) (list : List ℕ) (gates conditional : ℕ) (tape wires board : List ℕ) : Type 0 where
-  pub within : T (withinLimits s)
-  pub list-is : list ≡ numbersOf (ownList s)
-  pub gates-are : gates ≡ length (ownList s)
-  pub conditional-are : conditional ≡ conditionalCount (ownList s)
-  pub few : gates ≤ 4000
-  pub tapeLength : 4000 ≤ length tape
-  pub tapeBits : Bits tape
-  pub wiresLength : 20320 ≤ length wires
-  pub boardLength : 4008 ≤ length board
-
--- What it answers.
-unfoldable pub runSaid : Shape → List ℕ → Said Printed
-runSaid s ballots = said (firstOf (ballotReasons s ballots)) (printedOf s ballots)
+-- What each case of the program's enum means, as a number with values: the k closing bytes stand on the board from a
+-- place on.
+unfoldable pub outcomeOn : List ℕ → Rehearsed → Outcome Printed
+outcomeOn board (Winners s first) = accepted (record { jury = s; winners = take (s .candidates) (drop first board) })
+outcomeOn board (Refused r) = refused (reasonOf r)

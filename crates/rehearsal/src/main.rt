@@ -2,7 +2,6 @@
 mod rehearse;
 
 use crate::rehearse::Rehearsed;
-use jury::reason::Refusal;
 use jury::shape::Shape;
 use libc::STDIN_FILENO;
 ghost use mathlib.Core.Path.{_≡_};
@@ -10,18 +9,11 @@ ghost use lib.ListN.{length, replicate};
 ghost use Rattle.gates.specs.Board.{Bits};
 
 fn print_jury(shape: Shape) {
-    cases::print_text(b"jury");
-    cases::print_number(shape.candidates);
-    cases::print_number(shape.grades);
-    cases::print_number(shape.ballots);
-    cases::print_text(b"\n");
-}
-
-fn print_refused(reason: Refusal) {
-    cases::print_text(b"refused");
-    cases::print_number(reason.number());
-    cases::print_number(reason.place());
-    cases::print_text(b"\n");
+    printing::print_text(b"jury");
+    printing::print_number(shape.candidates);
+    printing::print_number(shape.grades);
+    printing::print_number(shape.ballots);
+    printing::print_text(b"\n");
 }
 
 fn table() -> [u32; 16000]
@@ -63,10 +55,10 @@ fn main() {
     let mut board = board();
     let got = io::read_full(STDIN_FILENO, &mut input);
     match rehearse::rehearse(&input[..got], &mut table, &tape, &mut wires, &mut board) {
-        Rehearsed::Refused(reason) => print_refused(reason),
+        Rehearsed::Refused(reason) => printing::print_refused(reason.number(), reason.place()),
         Rehearsed::Winners { shape, first } => {
             print_jury(shape);
-            cases::print_bytes(b"winners", &board[first..first + shape.candidates]);
+            printing::print_bytes(b"winners", &board[first..first + shape.candidates]);
         }
     }
 }

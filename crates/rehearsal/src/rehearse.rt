@@ -1,14 +1,15 @@
 // The rehearsal of a jury: its list is written and run on lent buffers.
 use jury::reason::Refusal;
 use jury::shape::Shape;
-use jury::shape::Shaped;
+use jury::shape::ShapeResult;
 use tally::answer::Answer;
 ghost use mathlib.Core.Path.{_≡_};
 ghost use mathlib.Core.Bool.{cond};
-ghost use Prim.Native.Nat.{_≤_};
-ghost use lib.ListN.{length, getD};
+ghost use lib.ListN.{getD};
 ghost use Rattle.jury.specs.Shape.{withinLimits};
-ghost use Rattle.rehearsal.specs.Rehearsal.{Lent, Cut, shapeIn, rehearsalSaid, runSaid, saidOn, endOn};
+ghost use Rattle.rehearsal.specs.Rehearsal.{shapeIn, rehearsalOutcome};
+ghost use Rattle.rehearsal.specs.inner.Buffers.{Buffers, Ready, Cut};
+ghost use Rattle.rehearsal.specs.inner.Rehearses.{Rehearses, runOutcome};
 
 // The shape and the place of the closing bytes on the board, or the first reason that applies.
 pub enum Rehearsed {
@@ -28,8 +29,10 @@ fn byte(input: &[u8], i: usize) -> usize
 }
 
 // The shape that the first three bytes give, or that there is none within the limits.
-fn shape(input: &[u8]) -> Shaped
-    ensures { λ r. ⌜ r ≡ cond (withinLimits (shapeIn (now (input .entry)))) (Shaped.Within (shapeIn (now (input .entry)))) Shaped.Outside ⌝ }
+fn shape(input: &[u8]) -> ShapeResult
+    ensures { λ r.
+        ⌜ r ≡ cond (withinLimits (shapeIn (now (input .entry))))
+        (ShapeResult.Within (shapeIn (now (input .entry)))) ShapeResult.Outside ⌝ }
 {
     Shape::new(byte(input, 0), byte(input, 1), byte(input, 2))
 }
@@ -46,8 +49,7 @@ fn run_list(
     board: &mut [u8],
 ) -> Rehearsed
     requires { ⌜ Cut shape (now list) gates conditional (now tape) (now wires) (now board) ⌝ }
-    ensures { λ r. ⌜ saidOn (now (board .exit)) r ≡ runSaid shape (now (ballots .entry)) ⌝ }
-    ensures { λ r. ⌜ endOn r ≤ length (now (board .exit)) ⌝ }
+    ensures { λ r. ⌜ Rehearses (runOutcome shape (now (ballots .entry))) (now (board .exit)) r ⌝ }
 {
     let answer = tally::run::run(
         shape,
@@ -78,10 +80,9 @@ fn rehearse_shape(
     wires: &mut [u8],
     board: &mut [u8],
 ) -> Rehearsed
-    requires { ⌜ shape ≡ shapeIn (now input) ⌝ }
-    requires { ⌜ Lent (now table) (now tape) (now wires) (now board) ⌝ }
-    ensures { λ r. ⌜ saidOn (now (board .exit)) r ≡ rehearsalSaid (now (input .entry)) (now (table .entry)) ⌝ }
-    ensures { λ r. ⌜ endOn r ≤ length (now (board .exit)) ⌝ }
+    requires { ⌜ Ready shape (now input) (now table) (now tape) (now wires) (now board) ⌝ }
+    ensures { λ r.
+        ⌜ Rehearses (rehearsalOutcome (now (input .entry)) (now (table .entry))) (now (board .exit)) r ⌝ }
 {
     match tally::write::write(shape, table) {
         Answer::Refused(reason) => Rehearsed::Refused(reason),
@@ -113,12 +114,12 @@ pub fn rehearse(
     wires: &mut [u8],
     board: &mut [u8],
 ) -> Rehearsed
-    requires { ⌜ Lent (now table) (now tape) (now wires) (now board) ⌝ }
-    ensures { λ r. ⌜ saidOn (now (board .exit)) r ≡ rehearsalSaid (now (input .entry)) (now (table .entry)) ⌝ }
-    ensures { λ r. ⌜ endOn r ≤ length (now (board .exit)) ⌝ }
+    requires { ⌜ Buffers (now table) (now tape) (now wires) (now board) ⌝ }
+    ensures { λ r.
+        ⌜ Rehearses (rehearsalOutcome (now (input .entry)) (now (table .entry))) (now (board .exit)) r ⌝ }
 {
     match shape(input) {
-        Shaped::Outside => Rehearsed::Refused(Refusal::Shape),
-        Shaped::Within(shape) => rehearse_shape(shape, input, table, tape, wires, board),
+        ShapeResult::Outside => Rehearsed::Refused(Refusal::Shape),
+        ShapeResult::Within(shape) => rehearse_shape(shape, input, table, tape, wires, board),
     }
 }

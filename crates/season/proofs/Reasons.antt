@@ -4,8 +4,8 @@ use mathlib.Core.Path.{_≡_, _∙_, refl, sym, ap}
 use mathlib.Core.Logic.{_⊎_, inl, inr}
 use mathlib.Core.Bool.{Bool, true, false, _&&_}
 use mathlib.Core.Option.{Option, none, some}
-use mathlib.Core.List.{List, [], _∷_}
-use Prim.Native.Nat.{ℕ, _*_, _%_, _≤_, _<_}
+use mathlib.Core.List.{List, [], _∷_, _++_}
+use Prim.Native.Nat.{ℕ, _+_, _*_, _%_, _≤_, _<_}
 use native.Mathlib.Omega.{arith}
 use lib.Dec.{leb, eqb}
 use lib.ListN.{length}
@@ -13,12 +13,14 @@ use borrow.Author.Tests.{eq-eqb, ne-eqb, le-leb, lt-leb}
 use Rattle.gates.specs.declared.place.Place.{Place}
 use Rattle.gates.specs.declared.place.Place.the-variants.{At, Nowhere}
 use Rattle.jury.specs.Reason.{Reason, reasonAt, unless, foundAt, firstOf}
-use Rattle.jury.proofs.Flags.{and-both, and-first-fails, and-second-fails}
+use Rattle.basics.proofs.Flags.{and-both, and-first-fails, and-second-fails}
 use Rattle.season.specs.declared.sheet.Totals.{Totals}
 use Rattle.season.specs.declared.sheet.Refusal.{Refusal}
 use Rattle.season.specs.declared.sheet.Refusal.the-variants.{Length, BadRun}
 use Rattle.season.specs.declared.sheet.Answer.the-variants.{Accepted, Refused}
-use Rattle.season.specs.Season.{runBytes, mostRuns, runsIn, firstBadRun, totalsOf, sheetReasons, reasonOf, reasonFor, totalsFor, totalsAfter, SheetMemory}
+use Rattle.season.specs.Season.{runBytes, mostRuns, runsIn, firstBadRun, totalsOf, sheetReasons, reasonOf, reasonFor, totalsFor, totalsAfter, sumOver, Sheet}
+use Rattle.season.specs.declared.run.Run.{Run}
+use Rattle.season.specs.Theorems.{SheetMemory, SheetSums}
 
 -- the answer of both tests
 unfoldable pub judged : Bool → Place → Option Reason
@@ -51,15 +53,13 @@ module _ (bytes : List ℕ) where
   no-reason h l e = judged-by bytes true Nowhere (size-passes h l) e
 
   -- the program's answers are the definition's
-  pub refused-is : (r : Refusal) → firstOf (sheetReasons bytes) ≡ some (reasonOf r) →
-      (reasonFor (Refused r) ≡ firstOf (sheetReasons bytes)) × (totalsFor (Refused r) ≡ totalsAfter (firstOf (sheetReasons bytes)) (totalsOf (runsIn bytes)))
+  pub refused-is : (r : Refusal) → firstOf (sheetReasons bytes) ≡ some (reasonOf r) → Sheet bytes (Refused r)
   unfolding reasonFor totalsFor totalsAfter
-  refused-is r e = (sym e, sym (ap (λ (o : Option Reason). totalsAfter o (totalsOf (runsIn bytes))) e))
+  refused-is r e = record { reason = sym e; totals = sym (ap (λ (o : Option Reason). totalsAfter o (totalsOf (runsIn bytes))) e) }
 
-  pub accepted-is : (t : Totals) → firstOf (sheetReasons bytes) ≡ none → t ≡ totalsOf (runsIn bytes) →
-      (reasonFor (Accepted t) ≡ firstOf (sheetReasons bytes)) × (totalsFor (Accepted t) ≡ totalsAfter (firstOf (sheetReasons bytes)) (totalsOf (runsIn bytes)))
+  pub accepted-is : (t : Totals) → firstOf (sheetReasons bytes) ≡ none → t ≡ totalsOf (runsIn bytes) → Sheet bytes (Accepted t)
   unfolding reasonFor totalsFor totalsAfter
-  accepted-is t e h = (sym e, ap some h ∙ sym (ap (λ (o : Option Reason). totalsAfter o (totalsOf (runsIn bytes))) e))
+  accepted-is t e h = record { reason = sym e; totals = ap some h ∙ sym (ap (λ (o : Option Reason). totalsAfter o (totalsOf (runsIn bytes))) e) }
 
 judged-number : (size : Bool) (run : Place) (r : Reason) → judged size run ≡ some r → (r .number ≡ 21) ⊎ (r .number ≡ 22)
 unfolding judged unless foundAt firstOf reasonAt
@@ -71,3 +71,16 @@ pub sheet-memory : SheetMemory
 sheet-memory = record {
   number = λ bytes r e. judged-number (eqb (length bytes % runBytes) 0 && leb (length bytes) (mostRuns * runBytes)) (firstBadRun 0 (runsIn bytes)) r (sym (judged-by bytes _ _ refl refl) ∙ e);
 }
+
+sum-joined : (f : Run → ℕ) (rs qs : List Run) → sumOver f (rs ++ qs) ≡ sumOver f rs + sumOver f qs
+unfolding sumOver
+sum-joined f [] qs = omega arith
+sum-joined f (r ∷ rs) qs = omega (arith, sum-joined f rs qs)
+
+pub sheet-sums : SheetSums
+unfolding totalsAfter
+sheet-sums =
+    record {
+      told = λ bytes r s e. s .totals ∙ ap (λ (o : Option Reason). totalsAfter o (totalsOf (runsIn bytes))) e;
+      joined = sum-joined;
+    }

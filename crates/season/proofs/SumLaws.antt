@@ -11,7 +11,7 @@ use lib.ListN.{take, drop}
 use Rattle.season.specs.declared.run.Run.{Run}
 use Rattle.season.specs.declared.sheet.Totals.{Totals}
 use Rattle.season.specs.Season.{runBytes, runOf, firstRuns, sumOver, winnersOf, sharedOf, totalsOf}
-use Rattle.season.specs.Inner.{Small, SumsOf, plusRun}
+use Rattle.season.specs.inner.Sums.{Small, SumsOf, plusRun}
 use Rattle.season.proofs.RunLaws.{runs-step, runs-end, part-is, left-is}
 
 -- two totals, number by number

@@ -1,2 +1,3 @@
 pub mod Season
-pub mod Inner
+pub mod Theorems
+pub mod inner

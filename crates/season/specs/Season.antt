@@ -1,6 +1,6 @@
--- The season sheet, [sheet]: what the bytes of a season tell, which of them are turned away, and the sums over all runs.
+-- The season sheet, [sheet]: what the bytes of a season tell, which of them are turned away, and the sums over all
+-- runs.
 use mathlib.Core.Path.{_≡_}
-use mathlib.Core.Logic.{_⊎_}
 use mathlib.Core.Bool.{Bool, cond, _&&_}
 use mathlib.Core.Option.{Option, none, some}
 use mathlib.Core.List.{List, [], _∷_}
@@ -27,7 +27,8 @@ mostRuns = 4096
 
 -- The 32-bit number that starts at a place, low byte first.
 unfoldable pub numberAt : ℕ → List ℕ → ℕ
-numberAt at bytes = getD bytes at 0 + 256 * (getD bytes (at + 1) 0 + 256 * (getD bytes (at + 2) 0 + 256 * getD bytes (at + 3) 0))
+numberAt at bytes =
+    getD bytes at 0 + 256 * (getD bytes (at + 1) 0 + 256 * (getD bytes (at + 2) 0 + 256 * getD bytes (at + 3) 0))
 
 -- A run: k, d, n, the mask of closing bytes, then G and C.
 unfoldable pub runOf : List ℕ → Run
@@ -60,7 +61,9 @@ winnersOf r = onesIn 8 (r .mask)
 
 -- The shape of a run is within the limits, and its mask has no bit from k on.
 unfoldable pub goodRun : Run → Bool
-goodRun r = withinLimits (record { candidates = r .candidates; grades = r .grades; ballots = r .ballots }) && ltb (r .mask) (2 ^ r .candidates)
+goodRun r =
+    withinLimits (record { candidates = r .candidates; grades = r .grades; ballots = r .ballots })
+    && ltb (r .mask) (2 ^ r .candidates)
 
 -- The first run that is not good, the first run here standing at place i.
 unfoldable pub firstBadRun : ℕ → List Run → Place
@@ -112,6 +115,7 @@ unfoldable pub totalsAfter : Option Reason → Totals → Option Totals
 totalsAfter none totals = some totals
 totalsAfter (some r) totals = none
 
--- The memory demand for the sheet: nothing is lent for writing, and a refusal has one of the two numbers.
-pub record SheetMemory : Type 0 where
-  pub number : (bytes : List ℕ) (r : Reason) → firstOf (sheetReasons bytes) ≡ some r → (r .number ≡ 21) ⊎ (r .number ≡ 22)
+-- What the entry point promises of its answer.
+pub record Sheet (bytes : List ℕ) (r : Answer) : Type 0 where
+  pub reason : reasonFor r ≡ firstOf (sheetReasons bytes)
+  pub totals : totalsFor r ≡ totalsAfter (firstOf (sheetReasons bytes)) (totalsOf (runsIn bytes))

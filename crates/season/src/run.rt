@@ -5,7 +5,7 @@ ghost use Prim.Native.Nat.{_+_, _<_, _≤_, _^_};
 ghost use lib.Dec.{ltb};
 ghost use lib.ListN.{length};
 ghost use Rattle.season.specs.Season.{runBytes, runOf, numberAt, onesIn, winnersOf, goodRun};
-ghost use Rattle.season.specs.Inner.{Small};
+ghost use Rattle.season.specs.inner.Sums.{Small};
 
 // The bytes of a run.
 pub const RUN_BYTES: usize = 12;

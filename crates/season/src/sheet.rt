@@ -5,14 +5,14 @@ use gates::place::Place;
 ghost use mathlib.Core.Path.{_≡_};
 ghost use Prim.Native.Nat.{_*_, _≤_};
 ghost use lib.ListN.{length};
-ghost use Rattle.jury.specs.Reason.{firstOf};
-ghost use Rattle.season.specs.Season.{runBytes, mostRuns, firstRuns, runsIn, firstBadRun, totalsOf, reasonOf, reasonFor, totalsFor, sheetReasons, totalsAfter};
-ghost use Rattle.season.specs.Inner.{Small, SumsOf, plusRun};
+ghost use Rattle.season.specs.Season.{runBytes, mostRuns, firstRuns, firstBadRun, totalsOf, reasonOf, Sheet};
+ghost use Rattle.season.specs.inner.Sums.{Small, SumsOf, plusRun};
 
 // The most bytes of a sheet: 4,096 runs.
 pub const MOST_BYTES: usize = 49152;
 
-// What the sheet tells: how many runs, their gates, conditional gates and ballots, and how many runs have several winners.
+// What the sheet tells: how many runs, their gates, conditional gates and ballots, and how many runs have several
+// winners.
 pub struct Totals {
     pub runs: usize,
     pub gates: usize,
@@ -120,8 +120,7 @@ fn sums(bytes: &[u8], runs: usize) -> Totals
 
 // The sheet of any bytes. The length is tested before any run is looked at.
 pub fn sheet(bytes: &[u8]) -> Answer
-    ensures { λ r. ⌜ reasonFor r ≡ firstOf (sheetReasons (now (bytes .entry))) ⌝ }
-    ensures { λ r. ⌜ totalsFor r ≡ totalsAfter (firstOf (sheetReasons (now (bytes .entry)))) (totalsOf (runsIn (now (bytes .entry)))) ⌝ }
+    ensures { λ r. ⌜ Sheet (now (bytes .entry)) r ⌝ }
 {
     if bytes.len() % run::RUN_BYTES != 0 {
         return Answer::Refused(Refusal::Length);

@@ -1,13 +1,12 @@
 // Prints the season sheet of the runs on standard input.
 use libc::STDIN_FILENO;
 use season::sheet::Answer;
-use season::sheet::Refusal;
 use season::sheet::Totals;
 
 fn print_line(word: &[u8], number: usize) {
-    cases::print_text(word);
-    cases::print_number(number);
-    cases::print_text(b"\n");
+    printing::print_text(word);
+    printing::print_number(number);
+    printing::print_text(b"\n");
 }
 
 fn print_totals(totals: Totals) {
@@ -18,19 +17,12 @@ fn print_totals(totals: Totals) {
     print_line(b"shared", totals.shared);
 }
 
-fn print_refused(reason: Refusal) {
-    cases::print_text(b"refused");
-    cases::print_number(reason.number());
-    cases::print_number(reason.place());
-    cases::print_text(b"\n");
-}
-
 // One byte more is kept than a sheet may have, so that a longer input is refused and not cut.
 fn main() {
     let mut input = [0u8; 49153];
     let got = io::read_full(STDIN_FILENO, &mut input);
     match season::sheet::sheet(&input[..got]) {
         Answer::Accepted(totals) => print_totals(totals),
-        Answer::Refused(reason) => print_refused(reason),
+        Answer::Refused(reason) => printing::print_refused(reason.number(), reason.place()),
     }
 }

@@ -3,16 +3,14 @@
 use mathlib.Core.Path.{_≡_, _∙_, refl, sym, ap, subst}
 use mathlib.Core.Bool.{Bool, true, false, cond}
 use mathlib.Core.Option.{Option, none, some}
-use mathlib.Core.Logic.{_≢_, _↔_}
 use mathlib.Core.List.{List, [], _∷_}
-use Prim.Native.Nat.{ℕ, _+_, _*_, _≤_, _<_}
+use Prim.Native.Nat.{ℕ, _+_, _*_, _≤_}
 use native.Mathlib.Omega.{arith}
-use lib.Dec.{eqb}
-use lib.ListN.{length, getD, take, length-replicate}
+use lib.Dec.{T}
+use lib.ListN.{length, take, length-replicate}
 use Rattle.gates.specs.Gate.{Gate, gatesOf}
 use Rattle.gates.specs.Wires.{wiresOf, outputsOf}
 use Rattle.gates.specs.Board.{MaskTape}
-use Rattle.gates.specs.Test.{firstAboveOne}
 use Rattle.gates.specs.declared.place.Place.{Place}
 use Rattle.gates.specs.declared.place.Place.the-variants.{At, Nowhere}
 use Rattle.jury.specs.declared.shape.Shape.{Shape}
@@ -20,22 +18,25 @@ use Rattle.jury.specs.Shape.{ballotBytes}
 use Rattle.jury.specs.Reason.{Reason, reasonAt, unless, foundAt, firstOf}
 use Rattle.jury.specs.Shape.{isRanking}
 use Rattle.jury.specs.Ballots.{rowsOf, firstBadRow, gradedReasons, rankedReasons, ballotReasons}
-use Rattle.jury.specs.Rankings.{firstClash, firstGap}
+use Rattle.jury.specs.Rankings.{firstNotAsymmetric, firstNotWeakOrder}
 use Rattle.jury.specs.Accepted.{AcceptedBallots}
 use Rattle.jury.proofs.BallotLaws.{judged, kindReason, judged-by}
-use Rattle.tally.specs.Answer.{refused, accepted, said, Size, sizeOf}
-use Rattle.tally.specs.Rule.{closingFor, Wins}
+use Rattle.tally.specs.Answer.{Outcome, refused, accepted, hasNumberIn, Size, sizeOf}
+use Rattle.tally.specs.Rule.{closingFor}
+use Rattle.tally.specs.SaysWhoWins.{SaysWhoWins}
+use Rattle.tally.specs.Memory.{Each, KeepsMemory, BoardKeepsMemory}
 use Rattle.tally.specs.OwnList.{ownList}
-use Rattle.tally.specs.Count.{plainClosing}
-use Rattle.tally.specs.Test.{testReasons, testSaid}
-use Rattle.tally.specs.Write.{writeReasons, writeSaid, written, OwnListHolds}
-use Rattle.tally.specs.Run.{Ran, lentReasons, runReasons, ranAfter, ran}
+use Rattle.tally.specs.Count.{countReason, plainClosing, countOutcome}
+use Rattle.tally.specs.Test.{testReasons, testOutcome}
+use Rattle.tally.specs.Write.{writeReasons, writeOutcome}
+use Rattle.tally.specs.Run.{RunResult, bufferReasons, runReasons, runResultAfter, runResult}
 use Rattle.tally.specs.Hiding.{closingBytes}
-use Rattle.tally.specs.Demands.{Memory, listIn, Accuracy, ThreeDemands}
-use Rattle.tally.proofs.Rules.{byte-says}
-use Rattle.tally.proofs.PlainFacts.{plain-first}
+use Rattle.tally.specs.Demands.{Memory, listIn, RunAccuracy, CountAccuracy, ThreeDemands}
+use Rattle.tally.proofs.Rules.{rule-says}
+use Rattle.tally.proofs.PlainFacts.{plain-first, plain-length, plain-says}
+use Rattle.tally.proofs.CountReason.{count-accepts}
 use Rattle.tally.proofs.TestReasons.{never, orElse, TestPassed, test-passed}
-use Rattle.tally.proofs.RunReasons.{lentFound, lent-by, firstOfThree, run-first, said-refused, RunPassed, run-passed, ran-by}
+use Rattle.tally.proofs.RunReasons.{lentFound, lent-by, firstOfThree, run-first, outcome-refused, RunPassed, run-passed, ran-by}
 use Rattle.tally.proofs.Hiding.{ran-accepted, run-answer, run-wires, run-finished, run-closing, board-tells-no-more}
 use Rattle.tally.proofs.Numbering as numbering
 use Rattle.tally.proofs.OwnList.{own-list-holds}
@@ -43,29 +44,29 @@ use Rattle.tally.proofs.Writing as writing
 
 -- the whole of a call that was refused
 module _ (s : Shape) (table ballots tape wires board : List ℕ) where
-  after-refusal : (o : Option Reason) (r : Reason) → ranAfter o s (gatesOf table) ballots tape wires board .answer ≡ refused r
-      → (o ≡ some r) × (ranAfter o s (gatesOf table) ballots tape wires board .wires ≡ wires) × (ranAfter o s (gatesOf table) ballots tape wires board .board ≡ board)
-  unfolding ranAfter
+  after-refusal : (o : Option Reason) (r : Reason) → runResultAfter o s (gatesOf table) ballots tape wires board .answer ≡ refused r
+      → (o ≡ some r) × (runResultAfter o s (gatesOf table) ballots tape wires board .wires ≡ wires) × (runResultAfter o s (gatesOf table) ballots tape wires board .board ≡ board)
+  unfolding runResultAfter
   after-refusal none r e = never (sizeOf (gatesOf table)) r (sym e)
   after-refusal (some q) r e = let same : q ≡ r = cc in (ap some same, refl, refl)
 
-  whole : ran s table ballots tape wires board ≡ ranAfter (firstOf (runReasons s table ballots tape wires board)) s (gatesOf table) ballots tape wires board
+  whole : runResult s table ballots tape wires board ≡ runResultAfter (firstOf (runReasons s table ballots tape wires board)) s (gatesOf table) ballots tape wires board
   whole = ran-by s table ballots tape wires board (firstOf (runReasons s table ballots tape wires board)) refl
 
-  ran-refused : (r : Reason) → ran s table ballots tape wires board .answer ≡ refused r
-      → (firstOf (runReasons s table ballots tape wires board) ≡ some r) × (ran s table ballots tape wires board .wires ≡ wires) × (ran s table ballots tape wires board .board ≡ board)
+  ran-refused : (r : Reason) → runResult s table ballots tape wires board .answer ≡ refused r
+      → (firstOf (runReasons s table ballots tape wires board) ≡ some r) × (runResult s table ballots tape wires board .wires ≡ wires) × (runResult s table ballots tape wires board .board ≡ board)
   ran-refused r e =
       let o = firstOf (runReasons s table ballots tape wires board) in
-      let q = after-refusal o r (sym (ap (λ (z : Ran). z .answer) whole) ∙ e) in
-      (q .0, ap (λ (z : Ran). z .wires) whole ∙ q .1, ap (λ (z : Ran). z .board) whole ∙ q .2)
+      let q = after-refusal o r (sym (ap (λ (z : RunResult). z .answer) whole) ∙ e) in
+      (q .0, ap (λ (z : RunResult). z .wires) whole ∙ q .1, ap (λ (z : RunResult). z .board) whole ∙ q .2)
 
   -- no run changes a length
   lengths : (o : Option Reason) → firstOf (runReasons s table ballots tape wires board) ≡ o
-      → (length (ran s table ballots tape wires board .wires) ≡ length wires) × (length (ran s table ballots tape wires board .board) ≡ length board)
-  unfolding ranAfter
+      → (length (runResult s table ballots tape wires board .wires) ≡ length wires) × (length (runResult s table ballots tape wires board .board) ≡ length board)
+  unfolding runResultAfter
   lengths (some r) e =
       let f = ran-by s table ballots tape wires board (some r) e in
-      (ap (λ (z : Ran). length (z .wires)) f, ap (λ (z : Ran). length (z .board)) f)
+      (ap (λ (z : RunResult). length (z .wires)) f, ap (λ (z : RunResult). length (z .board)) f)
   lengths none e =
       let p = run-passed s table ballots tape wires board e in
       let f = run-finished s table ballots wires board tape p tape (p .mask) in (
@@ -73,21 +74,25 @@ module _ (s : Shape) (table ballots tape wires board : List ℕ) where
         omega (arith, f .size, p .boardLength),
       )
 
+pub run-lengths : (s : Shape) (table ballots tape wires board : List ℕ)
+    → (length (runResult s table ballots tape wires board .wires) ≡ length wires) × (length (runResult s table ballots tape wires board .board) ≡ length board)
+run-lengths s table ballots tape wires board = lengths s table ballots tape wires board (firstOf (runReasons s table ballots tape wires board)) refl
+
 -- reasons past the third have larger numbers
 row-number : (row : Place) (r : Reason) → firstOf (foundAt 6 row ∷ []) ≡ some r → 4 ≤ r .number
 unfolding foundAt firstOf reasonAt
 row-number (At i) r e = let n : 6 ≡ r .number = cc in omega arith
 row-number Nowhere r e = let z : _≡_ {A = ℕ} 0 1 = cc in absurd (omega arith)
 
-ranks-number : (clash gap : Place) (r : Reason) → firstOf (foundAt 11 clash ∷ foundAt 12 gap ∷ []) ≡ some r → 4 ≤ r .number
+ranks-number : (clash notWeakOrder : Place) (r : Reason) → firstOf (foundAt 11 clash ∷ foundAt 12 notWeakOrder ∷ []) ≡ some r → 4 ≤ r .number
 unfolding foundAt firstOf reasonAt
-ranks-number (At i) gap r e = let n : 11 ≡ r .number = cc in omega arith
+ranks-number (At i) notWeakOrder r e = let n : 11 ≡ r .number = cc in omega arith
 ranks-number Nowhere (At b) r e = let n : 12 ≡ r .number = cc in omega arith
 ranks-number Nowhere Nowhere r e = let z : _≡_ {A = ℕ} 0 1 = cc in absurd (omega arith)
 
 kind-number : (s : Shape) (xs : List ℕ) (t : Bool) (r : Reason) → firstOf (cond t (rankedReasons s xs) (gradedReasons s xs)) ≡ some r → 4 ≤ r .number
 unfolding rankedReasons gradedReasons
-kind-number s xs true r e = ranks-number (firstClash (s .candidates) (s .ballots) xs) (firstGap (s .candidates) (s .ballots) xs) r e
+kind-number s xs true r e = ranks-number (firstNotAsymmetric (s .candidates) (s .ballots) xs) (firstNotWeakOrder (s .candidates) (s .ballots) xs) r e
 kind-number s xs false r e = row-number (firstBadRow 0 (rowsOf (s .grades) (s .ballots * s .candidates) xs)) r e
 
 ballots-number : (size : Bool) (byte : Place) (kind : Option Reason) → ((q : Reason) → kind ≡ some q → 4 ≤ q .number) → (r : Reason) → judged size byte kind ≡ some r → 4 ≤ r .number
@@ -128,18 +133,18 @@ module _ (s : Shape) (table : List ℕ) (size : Size) (p : writing.WritePassed s
   unfolding list
   test =
       test-passed s list (sizeOf (gatesOf list))
-      (ap (testSaid s) (writing.list-in s table size p) ∙ own-list-holds s (p .within) .passes ∙ ap accepted (ap sizeOf (sym gates)))
+      (ap (testOutcome s) (writing.list-in s table size p) ∙ own-list-holds s (p .within) .passes ∙ ap accepted (ap sizeOf (sym gates)))
 
-  number : (ballots tape wires board : List ℕ) (r : Reason) → ran s list ballots tape wires board .answer ≡ refused r → 4 ≤ r .number
+  number : (ballots tape wires board : List ℕ) (r : Reason) → runResult s list ballots tape wires board .answer ≡ refused r → 4 ≤ r .number
   number ballots tape wires board r e =
-      let lent = lentReasons (ballotBytes s) (s .candidates) (sizeOf (gatesOf list)) tape wires board in
+      let lent = bufferReasons (ballotBytes s) (s .candidates) (sizeOf (gatesOf list)) tape wires board in
       late (firstOf (testReasons s list)) (firstOf (ballotReasons s ballots)) (firstOf lent) r (test .reasons)
       (λ q f. ballots-number _ _ (kindReason s ballots) (λ o g. kind-number s ballots (isRanking s) o (unfold kindReason in g)) q (sym (judged-by s ballots _ _ _ refl refl refl) ∙ f))
       (λ q f. lent-number _ _ _ _ q (sym (lent-by (ballotBytes s) (s .candidates) (sizeOf (gatesOf list)) tape wires board _ _ _ _ refl refl refl refl) ∙ f))
       (sym (run-first s list ballots tape wires board) ∙ ran-refused s list ballots tape wires board r e .0)
 
   accepts : (ballots tape wires board : List ℕ) → AcceptedBallots s ballots → MaskTape (gatesOf list) tape
-      → length wires ≡ ballotBytes s + size .gates → length board ≡ size .conditional + s .candidates → ran s list ballots tape wires board .answer ≡ accepted size
+      → length wires ≡ ballotBytes s + size .gates → length board ≡ size .conditional + s .candidates → runResult s list ballots tape wires board .answer ≡ accepted size
   unfolding sizeOf
   accepts ballots tape wires board a m w b =
       let q : RunPassed s list ballots tape wires board = record {
@@ -151,50 +156,66 @@ module _ (s : Shape) (table : List ℕ) (size : Size) (p : writing.WritePassed s
       } in
       run-answer s list ballots wires board tape q tape m ∙ ap accepted own-size
 
-  module _ (ballots tape wires board : List ℕ) (answer : Size) (e : ran s list ballots tape wires board .answer ≡ accepted answer) where
+  module _ (ballots tape wires board : List ℕ) (answer : Size) (e : runResult s list ballots tape wires board .answer ≡ accepted answer) where
     passed : RunPassed s list ballots tape wires board
     passed = run-passed s list ballots tape wires board (ran-accepted s list ballots wires board tape answer e .0)
 
-    closing : closingBytes s (ran s list ballots tape wires board .board) ≡ closingFor s ballots
+    closing : closingBytes s (runResult s list ballots tape wires board .board) ≡ closingFor s ballots
     closing =
         run-closing s list ballots wires board tape passed tape (passed .mask)
         ∙ ap (λ (gs : List Gate). outputsOf (s .candidates) (wiresOf ballots gs)) gates
         ∙ own-list-holds s (p .within) .closing ballots (passed .ballotsPassed)
 
-    plain : closingBytes s (ran s list ballots tape wires board .board) ≡ take (s .candidates) (plainClosing s ballots)
+    plain : closingBytes s (runResult s list ballots tape wires board .board) ≡ take (s .candidates) (plainClosing s ballots)
     plain = closing ∙ sym (plain-first s ballots (passed .ballotsPassed))
 
-    module _ (i : ℕ) (h : i < s .candidates) where
-      byte : getD (closingBytes s (ran s list ballots tape wires board .board)) i 0 ≡ getD (closingFor s ballots) i 0
-      byte = ap (λ (bytes : List ℕ). getD bytes i 0) closing
+    says : SaysWhoWins s ballots (closingBytes s (runResult s list ballots tape wires board .board))
+    says = subst (SaysWhoWins s ballots) (sym closing) (rule-says s ballots (passed .ballotsPassed))
 
-      winner : (getD (closingBytes s (ran s list ballots tape wires board .board)) i 0 ≡ 1) ↔ Wins s ballots i
-      winner = let iff = byte-says s ballots (passed .ballotsPassed) i h .one in (λ one. iff .0 (sym byte ∙ one), λ wins. byte ∙ iff .1 wins)
+-- a call that is lent nothing to write to keeps it
+nothing-lent : {Values : Type 0} {numbers : List ℕ} {answer : Outcome Values}
+    → ((r : Reason) → answer ≡ refused r → T (hasNumberIn numbers r)) → KeepsMemory numbers answer [] []
+unfolding Each
+nothing-lent named = record { number = named; refusal = λ r e. tt; empties = λ values e. tt; lengths = tt }
 
-      loser : (getD (closingBytes s (ran s list ballots tape wires board .board)) i 0 ≡ 0) ↔ (¬ Wins s ballots i)
-      loser = let iff = byte-says s ballots (passed .ballotsPassed) i h .zero in (λ zero. iff .0 (sym byte ∙ zero), λ loses. byte ∙ iff .1 loses)
+run-memory : (s : Shape) (table ballots tape wires board : List ℕ)
+    → BoardKeepsMemory (1 ∷ 2 ∷ 3 ∷ 4 ∷ 5 ∷ 6 ∷ 11 ∷ 12 ∷ 7 ∷ 8 ∷ 9 ∷ 10 ∷ []) wires board (runResult s table ballots tape wires board)
+unfolding Each
+run-memory s table ballots tape wires board =
+    let long = run-lengths s table ballots tape wires board in
+    record {
+      number = numbering.run-number s table ballots tape wires board;
+      refusal = λ r e. let q = ran-refused s table ballots tape wires board r e in (q .1, (q .2, tt));
+      empties = λ size e.
+          let p = run-passed s table ballots tape wires board (ran-accepted s table ballots wires board tape size e .0) in
+          (run-wires s table ballots wires board tape p tape (p .mask), tt);
+      lengths = (long .0, (long .1, tt));
+    }
 
 memory : Memory
+unfolding Each
 memory =
     record {
-      measure-number = numbering.measure-number;
-      write-number = numbering.write-number;
-      test-number = numbering.test-number;
-      run-number = numbering.run-number;
-      count-number = numbering.count-number;
-      write-refused = λ s table r e. writing.write-refused s table r (refused-reason s table r e) .1;
-      write-length = writing.write-length;
-      run-refused = λ s table ballots tape wires board r e. let q = ran-refused s table ballots tape wires board r e in (q .1, q .2);
-      run-empties = λ s table ballots tape wires board size e.
-          let p = run-passed s table ballots tape wires board (ran-accepted s table ballots wires board tape size e .0) in
-          run-wires s table ballots wires board tape p tape (p .mask);
-      run-length = λ s table ballots tape wires board. lengths s table ballots tape wires board (firstOf (runReasons s table ballots tape wires board)) refl;
+      measure = λ s. nothing-lent (numbering.measure-number s);
+      write = λ s table. record {
+        number = numbering.write-number s table;
+        refusal = λ r e. (writing.write-refused s table r (refused-reason s table r e) .1, tt);
+        empties = λ size e. tt;
+        lengths = (writing.write-length s table, tt);
+      };
+      test = λ s table. nothing-lent (numbering.test-number s table);
+      run = run-memory;
+      count = λ s ballots. nothing-lent (count-named s ballots);
     }
   where
-    refused-reason : (s : Shape) (table : List ℕ) (r : Reason) → writeSaid s table ≡ refused r → firstOf (writeReasons s table) ≡ some r
-    refused-reason s table r e = said-refused (firstOf (writeReasons s table)) (sizeOf (ownList s)) r (unfold writeSaid in e)
+    refused-reason : (s : Shape) (table : List ℕ) (r : Reason) → writeOutcome s table ≡ refused r → firstOf (writeReasons s table) ≡ some r
+    refused-reason s table r e = outcome-refused (firstOf (writeReasons s table)) (sizeOf (ownList s)) r (unfold writeOutcome in e)
 
-accuracy : (s : Shape) (table : List ℕ) (size : Size) → writeSaid s table ≡ accepted size → Accuracy s table size
+    count-named : (s : Shape) (ballots : List ℕ) (r : Reason) → countOutcome s ballots ≡ refused r → T (hasNumberIn (1 ∷ 4 ∷ 5 ∷ 6 ∷ 11 ∷ 12 ∷ []) r)
+    count-named s ballots r e =
+        numbering.count-number s ballots r (outcome-refused (countReason s ballots) (plainClosing s ballots) r (unfold countOutcome in e))
+
+accuracy : (s : Shape) (table : List ℕ) (size : Size) → writeOutcome s table ≡ accepted size → RunAccuracy s table size
 unfolding list
 accuracy s table size e =
     let p = writing.write-passed s table size e in
@@ -202,9 +223,15 @@ accuracy s table size e =
       never-2-or-3 = λ ballots tape wires board r f. let n = number s table size p ballots tape wires board r f in (λ two. omega (arith, two), λ three. omega (arith, three));
       runs = accepts s table size p;
       plain = plain s table size p;
-      winners = winner s table size p;
-      losers = loser s table size p;
+      says-who-wins = says s table size p;
+    }
+
+counting : CountAccuracy
+counting =
+    record {
+      says-who-wins = λ s ballots e. plain-says s ballots (count-accepts s ballots .0 e);
+      eight-bytes = plain-length;
     }
 
 pub three-demands : ThreeDemands
-three-demands = record { memory = memory; accuracy = accuracy; hiding = board-tells-no-more }
+three-demands = record { memory = memory; accuracy = accuracy; counting = counting; hiding = board-tells-no-more }

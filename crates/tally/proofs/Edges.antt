@@ -10,24 +10,26 @@ use lib.Dec.{eqb}
 use lib.ListN.{length}
 use Rattle.gates.specs.Gate.{numbersOf}
 use Rattle.gates.specs.Test.{firstAboveOne}
-use Rattle.gates.specs.declared.list.Tested.the-variants.{PartOfAGate, TooManyGates}
+use Rattle.gates.specs.declared.list.ListCheck.the-variants.{PartOfAGate, TooManyGates}
 use Rattle.gates.proofs.Accepting.{zeros, zeros-length, zeros-free, zeros-good, good-list-accepted, part-of-a-gate, too-many}
 use Rattle.jury.specs.declared.shape.Shape.{Shape}
 use Rattle.jury.specs.Shape.{isRanking, gradedLimits, rankedLimits, withinLimits, columns, ballotBytes}
 use Rattle.jury.specs.Reason.{Reason, reasonAt, unless, foundAt, listReason, firstOf}
 use Rattle.jury.specs.Ballots.{ones, rowsOf, firstBadRow, gradedReasons, rankedReasons, ballotReasons}
-use Rattle.jury.specs.Rankings.{rankPlace, before, orElse, firstOver, someBelow, clashAt, clashInRow, clashInBallot, firstClash, apart, gapAfter, gap, firstGap}
-use Rattle.jury.specs.Counts.{sum, byteOf, countUpTo, countOf, tabulate, countsOf}
-use Rattle.jury.specs.Gauge.{medianFrom, medianOf}
+use Rattle.jury.specs.Rankings.{rankPlace, before, orElse, firstOver, notAsymmetricAt, notAsymmetricInRow, notAsymmetricInBallot, firstNotAsymmetric, neitherAfterNorBefore, notWeakOrderAfter, notWeakOrder, firstNotWeakOrder}
+use Rattle.basics.specs.Below.{someBelow}
+use Rattle.basics.specs.Lists.{sum, tabulate}
+use Rattle.jury.specs.Counts.{byteOf, countUpTo, countOf, countsOf}
+use Rattle.rule_judgment.specs.Median.{medianFrom, medianOf}
 use Rattle.jury.specs.ClosingBytes.{eightBytes}
-use Rattle.judgment.specs.Judgment.{strike, strikes, sequenceOf, precedes, nonePrecedes, judgmentOf}
+use Rattle.rule_judgment.specs.Judgment.{strike, strikes, sequenceOf, precedes, nonePrecedes, judgmentOf}
 use Rattle.jury.proofs.Limits.{bounds}
-use Rattle.schulze.specs.Schulze.{link, weakest, candidates, without, selections, maximum, simplePaths, strongest, every, wins, closingBytes}
-use Rattle.schulze.specs.Votes.{votes}
+use Rattle.rule_schulze.specs.Schulze.{link, weakest, candidates, without, selections, maximum, simplePaths, strongest, every, wins, closingBytes}
+use Rattle.rule_schulze.specs.Votes.{votes}
 use Rattle.tally.specs.Rule.{closingFor}
 use Rattle.tally.specs.Count.{countReason, closingAfter, plainClosing}
 use Rattle.tally.specs.Answer.{refused as turnedAway, accepted}
-use Rattle.tally.specs.Test.{testSaid}
+use Rattle.tally.specs.Test.{testOutcome}
 use Rattle.tally.proofs.TestReasons.{list-refused, list-accepted}
 
 pub record Edge : Type 0 where
@@ -83,24 +85,24 @@ edges =
     ∷ []
 
 pub edges-reasons : map (λ (e : Edge). countReason (e .shape) (e .ballots)) edges ≡ map (λ (e : Edge). e .reason) edges
-unfolding edges refused countReason isRanking gradedLimits rankedLimits withinLimits columns ballotBytes reasonAt unless foundAt firstOf ones rowsOf firstBadRow gradedReasons rankedReasons ballotReasons rankPlace before orElse firstOver someBelow clashAt clashInRow clashInBallot firstClash apart gapAfter gap firstGap firstAboveOne
+unfolding edges refused countReason isRanking gradedLimits rankedLimits withinLimits columns ballotBytes reasonAt unless foundAt firstOf ones rowsOf firstBadRow gradedReasons rankedReasons ballotReasons rankPlace before orElse firstOver someBelow notAsymmetricAt notAsymmetricInRow notAsymmetricInBallot firstNotAsymmetric neitherAfterNorBefore notWeakOrderAfter notWeakOrder firstNotWeakOrder firstAboveOne
 edges-reasons = refl
 
 pub edges-closing : map (λ (e : Edge). plainClosing (e .shape) (e .ballots)) edges ≡ map (λ (e : Edge). e .closing) edges
-unfolding edges refused countReason isRanking gradedLimits rankedLimits withinLimits columns ballotBytes reasonAt unless foundAt firstOf ones rowsOf firstBadRow gradedReasons rankedReasons ballotReasons rankPlace before orElse firstOver someBelow clashAt clashInRow clashInBallot firstClash apart gapAfter gap firstGap firstAboveOne byteOf countUpTo countOf tabulate countsOf sum medianFrom medianOf strike strikes sequenceOf precedes nonePrecedes judgmentOf closingFor link weakest candidates without selections maximum simplePaths strongest every wins closingBytes votes flatMap eightBytes closingAfter plainClosing
+unfolding edges refused countReason isRanking gradedLimits rankedLimits withinLimits columns ballotBytes reasonAt unless foundAt firstOf ones rowsOf firstBadRow gradedReasons rankedReasons ballotReasons rankPlace before orElse firstOver someBelow notAsymmetricAt notAsymmetricInRow notAsymmetricInBallot firstNotAsymmetric neitherAfterNorBefore notWeakOrderAfter notWeakOrder firstNotWeakOrder firstAboveOne byteOf countUpTo countOf tabulate countsOf sum medianFrom medianOf strike strikes sequenceOf precedes nonePrecedes judgmentOf closingFor link weakest candidates without selections maximum simplePaths strongest every wins closingBytes votes flatMap eightBytes closingAfter plainClosing
 edges-closing = refl
 
 -- 1,048,576 gates are not too many.
-pub most-gates : (s : Shape) (n : ℕ) → withinLimits s ≡ true → s .candidates ≤ n → n ≤ 1048576 → testSaid s (numbersOf (zeros n)) ≡ accepted (record { gates = n; conditional = 0 })
+pub most-gates : (s : Shape) (n : ℕ) → withinLimits s ≡ true → s .candidates ≤ n → n ≤ 1048576 → testOutcome s (numbersOf (zeros n)) ≡ accepted (record { gates = n; conditional = 0 })
 most-gates s n w enough few =
     let l = zeros-length n in
     let t = good-list-accepted (ballotBytes s) (s .candidates) (zeros n) (zeros-good (ballotBytes s) n) (omega arith) (omega arith) in
     list-accepted s (numbersOf (zeros n)) w n 0 (rw (zeros-length n, zeros-free n) at t)
 
 -- 1,048,577 are, whatever they are.
-pub one-gate-more : (s : Shape) (table : List ℕ) → withinLimits s ≡ true → 4194304 < length table → testSaid s table ≡ turnedAway (reasonAt 2 0)
+pub one-gate-more : (s : Shape) (table : List ℕ) → withinLimits s ≡ true → 4194304 < length table → testOutcome s table ≡ turnedAway (reasonAt 2 0)
 one-gate-more s table w long = by (eqb (length table % 4) 0) refl
   where
-    by : (whole : Bool) → eqb (length table % 4) 0 ≡ whole → testSaid s table ≡ turnedAway (reasonAt 2 0)
+    by : (whole : Bool) → eqb (length table % 4) 0 ≡ whole → testOutcome s table ≡ turnedAway (reasonAt 2 0)
     by false e = list-refused s table w PartOfAGate (reasonAt 2 0) (part-of-a-gate (ballotBytes s) (s .candidates) table e) (unfold listReason in refl)
     by true e = list-refused s table w TooManyGates (reasonAt 2 0) (too-many (ballotBytes s) (s .candidates) table e (bounds s w .k-most) long) (unfold listReason in refl)

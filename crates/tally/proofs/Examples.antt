@@ -12,12 +12,12 @@ use Rattle.gates.specs.Board.{boardOf}
 use Rattle.gates.specs.Test.{tested, firstAboveOne}
 use Rattle.gates.specs.HidingExample.{oneGate, boardUnder}
 use Rattle.gates.specs.HidingExample as gates
-use Rattle.gates.specs.declared.list.Tested.the-variants.{Accepted}
+use Rattle.gates.specs.declared.list.ListCheck.the-variants.{Accepted}
 use Rattle.jury.specs.Shape.{isRanking, gradedLimits, rankedLimits, withinLimits, columns, ballotBytes}
 use Rattle.jury.specs.Reason.{unless, foundAt, firstOf}
-use Rattle.jury.specs.Ballots.{ones, rowsOf, firstBadRow, gradedReasons, rankedReasons, ballotReasons}
-use Rattle.tally.specs.Answer.{accepted, Size, sizeOf}
-use Rattle.tally.specs.Run.{Ran, lentReasons, runReasons, ranAfter, ran}
+use Rattle.jury.specs.Ballots.{ones, rowsOf, firstBadRow, gradedReasons, ballotReasons}
+use Rattle.tally.specs.Answer.{accepted, Size}
+use Rattle.tally.specs.Run.{RunResult, bufferReasons, runResultAfter, runResult}
 use Rattle.tally.specs.Examples.{oneBallot, PairOfRuns}
 use Rattle.tally.proofs.TestReasons.{TestPassed, list-accepted, test-passed}
 use Rattle.tally.proofs.RunReasons.{by-lent, ran-by}
@@ -39,20 +39,20 @@ passed = test-passed oneBallot oneGate one (list-accepted oneBallot oneGate with
 
 -- an accepted run of the list, once its ballots and what is lent pass their tests
 module _ (ballots tape wires board : List ℕ) (b : firstOf (ballotReasons oneBallot ballots) ≡ none)
-    (l : firstOf (lentReasons (ballotBytes oneBallot) (oneBallot .candidates) one tape wires board) ≡ none) where
+    (l : firstOf (bufferReasons (ballotBytes oneBallot) (oneBallot .candidates) one tape wires board) ≡ none) where
   outcome : (bs : List ℕ) → boardUnder ballots tape ≡ bs
-      → ran oneBallot oneGate ballots tape wires board ≡ record { answer = accepted (record { gates = 1; conditional = 1 }); wires = replicate (length wires) 0; board = bs }
-  unfolding ranAfter boardUnder one oneBallot
+      → runResult oneBallot oneGate ballots tape wires board ≡ record { answer = accepted (record { gates = 1; conditional = 1 }); wires = replicate (length wires) 0; board = bs }
+  unfolding runResultAfter boardUnder one oneBallot
   outcome bs e =
       ran-by oneBallot oneGate ballots tape wires board none (by-lent oneBallot oneGate ballots tape wires board (passed .reasons) one none (passed .size) b l)
       ∙ ap (λ (z : Size). record { answer = accepted z; wires = replicate (length wires) 0; board = boardOf (wiresOf ballots (gatesOf oneGate)) (gatesOf oneGate) 1 tape }) (sym (passed .size))
       ∙ ap (λ (z : List ℕ). record { answer = accepted one; wires = replicate (length wires) 0; board = z }) e
 
 pub pair-of-runs : PairOfRuns
-unfolding oneBallot isRanking columns gradedReasons ballotReasons lentReasons ballotBytes ones rowsOf firstBadRow unless foundAt firstOf firstAboveOne one
+unfolding oneBallot isRanking columns gradedReasons ballotReasons bufferReasons ballotBytes ones rowsOf firstBadRow unless foundAt firstOf firstAboveOne one
 pair-of-runs =
     record {
       first-run = outcome (1 ∷ 0 ∷ []) (0 ∷ []) (9 ∷ 9 ∷ 9 ∷ []) (9 ∷ 9 ∷ []) refl refl (1 ∷ 0 ∷ []) gates.first-board;
       second-run = outcome (0 ∷ 1 ∷ []) (1 ∷ []) (7 ∷ 7 ∷ 7 ∷ []) (7 ∷ 7 ∷ []) refl refl (1 ∷ 0 ∷ []) gates.second-board;
-      other-tape = ap (λ (r : Ran). r .board) (outcome (0 ∷ 1 ∷ []) (0 ∷ []) (7 ∷ 7 ∷ 7 ∷ []) (7 ∷ 7 ∷ []) refl refl (0 ∷ 0 ∷ []) gates.other-tape);
+      other-tape = ap (λ (r : RunResult). r .board) (outcome (0 ∷ 1 ∷ []) (0 ∷ []) (7 ∷ 7 ∷ 7 ∷ []) (7 ∷ 7 ∷ []) refl refl (0 ∷ 0 ∷ []) gates.other-tape);
     }

@@ -3,7 +3,7 @@
 use mathlib.Core.Path.{_≡_, _∙_, refl, sym, ap, subst}
 use mathlib.Core.Option.{Option, none, some}
 use mathlib.Core.List.{List}
-use Prim.Native.Nat.{ℕ, _+_, _-_, _≤_}
+use Prim.Native.Nat.{ℕ, _-_, _≤_}
 use native.Mathlib.Omega.{arith}
 use lib.ListN.{length, drop, replicate}
 use Rattle.gates.specs.Gate.{gatesOf}
@@ -16,25 +16,25 @@ use Rattle.gates.proofs.Hiding.{board-finished, one-tape}
 use Rattle.jury.specs.declared.shape.Shape.{Shape}
 use Rattle.jury.specs.Shape.{ballotBytes}
 use Rattle.jury.specs.Reason.{Reason, firstOf}
-use Rattle.tally.specs.Answer.{Said, refused, accepted, Size, sizeOf}
-use Rattle.tally.specs.Run.{Ran, runReasons, ranAfter, ran}
-use Rattle.tally.specs.Hiding.{closingBytes, Hidden, BoardTellsNoMore}
+use Rattle.tally.specs.Answer.{accepted, Size, sizeOf}
+use Rattle.tally.specs.Run.{RunResult, runReasons, runResultAfter, runResult}
+use Rattle.tally.specs.Hiding.{closingBytes, RunTellsNoMore}
 use Rattle.tally.proofs.TestReasons.{never}
 use Rattle.tally.proofs.RunReasons.{RunPassed, run-passed, run-passed-back, ran-by}
 
 module _ (s : Shape) (table ballots wires board : List ℕ) where
   -- a run that answers G and C is one to which no reason applies, and both numbers are those of the list
   answered : (t : List ℕ) (size : Size) (o : Option Reason) → firstOf (runReasons s table ballots t wires board) ≡ o
-      → ranAfter o s (gatesOf table) ballots t wires board .answer ≡ accepted size → (firstOf (runReasons s table ballots t wires board) ≡ none) × (size ≡ sizeOf (gatesOf table))
-  unfolding ranAfter
+      → runResultAfter o s (gatesOf table) ballots t wires board .answer ≡ accepted size → (firstOf (runReasons s table ballots t wires board) ≡ none) × (size ≡ sizeOf (gatesOf table))
+  unfolding runResultAfter
   answered t size none e f = (e, cc)
   answered t size (some r) e f = never size r f
 
-  pub ran-accepted : (t : List ℕ) (size : Size) → ran s table ballots t wires board .answer ≡ accepted size
+  pub ran-accepted : (t : List ℕ) (size : Size) → runResult s table ballots t wires board .answer ≡ accepted size
       → (firstOf (runReasons s table ballots t wires board) ≡ none) × (size ≡ sizeOf (gatesOf table))
   ran-accepted t size e =
       let o = firstOf (runReasons s table ballots t wires board) in
-      answered t size o refl (sym (ap (λ (r : Ran). r .answer) (ran-by s table ballots t wires board o refl)) ∙ e)
+      answered t size o refl (sym (ap (λ (r : RunResult). r .answer) (ran-by s table ballots t wires board o refl)) ∙ e)
 
   module _ (t : List ℕ) (passed : RunPassed s table ballots t wires board) (u : List ℕ) (mask : MaskTape (gatesOf table) u) where
     -- another mask tape is accepted too
@@ -48,25 +48,25 @@ module _ (s : Shape) (table ballots wires board : List ℕ) where
           boardLength = passed .boardLength;
         }
 
-    outcome : ran s table ballots u wires board ≡ ranAfter none s (gatesOf table) ballots u wires board
+    outcome : runResult s table ballots u wires board ≡ runResultAfter none s (gatesOf table) ballots u wires board
     outcome = ran-by s table ballots u wires board none (run-passed-back s table ballots u wires board other-tape)
 
-    pub run-answer : ran s table ballots u wires board .answer ≡ accepted (sizeOf (gatesOf table))
-    unfolding ranAfter
-    run-answer = ap (λ (r : Ran). r .answer) outcome
+    pub run-answer : runResult s table ballots u wires board .answer ≡ accepted (sizeOf (gatesOf table))
+    unfolding runResultAfter
+    run-answer = ap (λ (r : RunResult). r .answer) outcome
 
-    pub run-wires : ran s table ballots u wires board .wires ≡ replicate (length wires) 0
-    unfolding ranAfter
-    run-wires = ap (λ (r : Ran). r .wires) outcome
+    pub run-wires : runResult s table ballots u wires board .wires ≡ replicate (length wires) 0
+    unfolding runResultAfter
+    run-wires = ap (λ (r : RunResult). r .wires) outcome
 
-    pub run-board : ran s table ballots u wires board .board ≡ boardOf (wiresOf ballots (gatesOf table)) (gatesOf table) (s .candidates) u
-    unfolding ranAfter
-    run-board = ap (λ (r : Ran). r .board) outcome
+    pub run-board : runResult s table ballots u wires board .board ≡ boardOf (wiresOf ballots (gatesOf table)) (gatesOf table) (s .candidates) u
+    unfolding runResultAfter
+    run-board = ap (λ (r : RunResult). r .board) outcome
 
     -- and it does not depend on what stood in the wire table and the board
     pub same-buffers : (wires′ board′ : List ℕ) → length wires′ ≡ length wires → length board′ ≡ length board
-        → ran s table ballots u wires′ board′ .board ≡ boardOf (wiresOf ballots (gatesOf table)) (gatesOf table) (s .candidates) u
-    unfolding ranAfter
+        → runResult s table ballots u wires′ board′ .board ≡ boardOf (wiresOf ballots (gatesOf table)) (gatesOf table) (s .candidates) u
+    unfolding runResultAfter
     same-buffers wires′ board′ w b =
         let other : RunPassed s table ballots u wires′ board′ = record {
           test = passed .test;
@@ -75,7 +75,7 @@ module _ (s : Shape) (table ballots wires board : List ℕ) where
           wiresLength = w ∙ passed .wiresLength;
           boardLength = b ∙ passed .boardLength;
         } in
-        ap (λ (r : Ran). r .board) (ran-by s table ballots u wires′ board′ none (run-passed-back s table ballots u wires′ board′ other))
+        ap (λ (r : RunResult). r .board) (ran-by s table ballots u wires′ board′ none (run-passed-back s table ballots u wires′ board′ other))
 
     enough : s .candidates ≤ length (wiresOf ballots (gatesOf table))
     enough =
@@ -83,19 +83,19 @@ module _ (s : Shape) (table ballots wires board : List ℕ) where
         let f = accepted-list (ballotBytes s) (s .candidates) table (size .gates) (size .conditional) (passed .test .tests) in
         omega (arith, f .enough, length-wires ballots (gatesOf table))
 
-    pub run-finished : Finished (wiresOf ballots (gatesOf table)) (gatesOf table) (s .candidates) u (ran s table ballots u wires board .board)
+    pub run-finished : Finished (wiresOf ballots (gatesOf table)) (gatesOf table) (s .candidates) u (runResult s table ballots u wires board .board)
     run-finished =
         subst (Finished (wiresOf ballots (gatesOf table)) (gatesOf table) (s .candidates) u) (sym run-board) (board-finished (wiresOf ballots (gatesOf table)) (gatesOf table) (s .candidates) u enough (mask .size))
 
     -- the closing bytes are the last wires
-    pub run-closing : closingBytes s (ran s table ballots u wires board .board) ≡ outputsOf (s .candidates) (wiresOf ballots (gatesOf table))
+    pub run-closing : closingBytes s (runResult s table ballots u wires board .board) ≡ outputsOf (s .candidates) (wiresOf ballots (gatesOf table))
     unfolding closingBytes
     run-closing =
-        let b = ran s table ballots u wires board .board in
+        let b = runResult s table ballots u wires board .board in
         let n : length b - s .candidates ≡ conditionalCount (gatesOf table) = omega (arith, run-finished .size) in
         ap (λ (m : ℕ). drop m b) n ∙ run-finished .closing
 
-pub board-tells-no-more : BoardTellsNoMore
+pub board-tells-no-more : RunTellsNoMore
 board-tells-no-more s table xs ys t u vs ws bs ds first second e f closing =
     let gs = gatesOf table in
     let a = ran-accepted s table xs vs bs t first e in

@@ -9,19 +9,19 @@ use lib.Dec.{T}
 use Rattle.gates.specs.Gate.{Gate, gatesOf}
 use Rattle.gates.specs.declared.place.Place.{Place}
 use Rattle.gates.specs.declared.place.Place.the-variants.{At, Nowhere}
-use Rattle.gates.specs.declared.list.Tested.{Tested}
-use Rattle.gates.specs.declared.list.Tested.the-variants.{Accepted, PartOfAGate, TooFewGates, TooManyGates, BadGate}
+use Rattle.gates.specs.declared.list.ListCheck.{ListCheck}
+use Rattle.gates.specs.declared.list.ListCheck.the-variants.{Accepted, PartOfAGate, TooFewGates, TooManyGates, BadGate}
 use Rattle.jury.specs.declared.shape.Shape.{Shape}
 use Rattle.jury.specs.Shape.{isRanking, withinLimits, ballotBytes}
 use Rattle.jury.specs.Reason.{Reason, reasonAt, unless, foundAt, listReason, firstOf}
 use Rattle.jury.specs.Ballots.{gradedReasons, rankedReasons, ballotReasons}
 use Rattle.tally.specs.OwnList.{ownList}
-use Rattle.tally.specs.Answer.{Said, refused, accepted, said, hasNumberIn, Size, sizeOf}
+use Rattle.tally.specs.Answer.{Outcome, refused, accepted, outcome, hasNumberIn, Size, sizeOf}
 use Rattle.tally.specs.Count.{countReason}
-use Rattle.tally.specs.Measure.{measuresOf, measureSaid}
-use Rattle.tally.specs.Run.{lentReasons, runReasons, ranAfter, ran}
-use Rattle.tally.specs.Test.{testReasons, testSaid}
-use Rattle.tally.specs.Write.{writeReasons, writeSaid}
+use Rattle.tally.specs.Measure.{measuresOf, measureOutcome}
+use Rattle.tally.specs.Run.{bufferReasons, runReasons, runResultAfter, runResult}
+use Rattle.tally.specs.Test.{testReasons, testOutcome}
+use Rattle.tally.specs.Write.{writeReasons, writeOutcome}
 
 -- no reason, or one of these numbers
 unfoldable pub Fine : List ℕ → Option Reason → Type 0
@@ -32,7 +32,7 @@ unfoldable pub All : List ℕ → List (Option Reason) → Type 0
 All ns [] = Unit {0}
 All ns (o ∷ os) = Fine ns o × All ns os
 
-unfoldable pub FineSaid : {Values : Type 0} → List ℕ → Said Values → Type 0
+unfoldable pub FineSaid : {Values : Type 0} → List ℕ → Outcome Values → Type 0
 FineSaid ns (refused r) = T (hasNumberIn ns r)
 FineSaid ns (accepted v) = Unit {0}
 
@@ -58,7 +58,7 @@ module _ (ns : List ℕ) where
   found-fine n Nowhere h = tt
   found-fine n (At i) h = h i
 
-  pub list-fine : (t : Tested) → T (hasNumberIn ns (reasonAt 2 0)) → ((g : ℕ) → T (hasNumberIn ns (reasonAt 3 g))) → Fine ns (listReason t)
+  pub list-fine : (t : ListCheck) → T (hasNumberIn ns (reasonAt 2 0)) → ((g : ℕ) → T (hasNumberIn ns (reasonAt 3 g))) → Fine ns (listReason t)
   unfolding Fine listReason
   list-fine (Accepted gates conditional) two three = tt
   list-fine PartOfAGate two three = two
@@ -66,12 +66,12 @@ module _ (ns : List ℕ) where
   list-fine TooManyGates two three = two
   list-fine (BadGate g) two three = three g
 
-  pub said-fine : {Values : Type 0} (o : Option Reason) (values : Values) → Fine ns o → FineSaid ns (said o values)
-  unfolding Fine FineSaid said
-  said-fine none values f = tt
-  said-fine (some r) values f = f
+  pub outcome-fine : {Values : Type 0} (o : Option Reason) (values : Values) → Fine ns o → FineSaid ns (outcome o values)
+  unfolding Fine FineSaid outcome
+  outcome-fine none values f = tt
+  outcome-fine (some r) values f = f
 
-  pub refused-fine : {Values : Type 0} (answer : Said Values) (r : Reason) → FineSaid ns answer → answer ≡ refused r → T (hasNumberIn ns r)
+  pub refused-fine : {Values : Type 0} (answer : Outcome Values) (r : Reason) → FineSaid ns answer → answer ≡ refused r → T (hasNumberIn ns r)
   unfolding FineSaid
   refused-fine answer r f e = subst (FineSaid ns) e f
 
@@ -79,29 +79,29 @@ module _ (ns : List ℕ) where
   pub kind-fine : (s : Shape) (xs : List ℕ) (ranking : Bool) → ((i : ℕ) → T (hasNumberIn ns (reasonAt 6 i))) → ((i : ℕ) → T (hasNumberIn ns (reasonAt 11 i))) → ((b : ℕ) → T (hasNumberIn ns (reasonAt 12 b)))
       → All ns (cond ranking (rankedReasons s xs) (gradedReasons s xs))
   unfolding All rankedReasons gradedReasons
-  kind-fine s xs true row clash gap = (found-fine 11 _ clash, (found-fine 12 _ gap, tt))
-  kind-fine s xs false row clash gap = (found-fine 6 _ row, tt)
+  kind-fine s xs true row clash notWeakOrder = (found-fine 11 _ clash, (found-fine 12 _ notWeakOrder, tt))
+  kind-fine s xs false row clash notWeakOrder = (found-fine 6 _ row, tt)
 
 -- every reason of a run
 all : List ℕ
 all = 1 ∷ 2 ∷ 3 ∷ 4 ∷ 5 ∷ 6 ∷ 11 ∷ 12 ∷ 7 ∷ 8 ∷ 9 ∷ 10 ∷ []
 
-pub measure-number : (s : Shape) (r : Reason) → measureSaid s ≡ refused r → T (hasNumberIn (1 ∷ []) r)
-unfolding measureSaid All hasNumberIn reasonAt
+pub measure-number : (s : Shape) (r : Reason) → measureOutcome s ≡ refused r → T (hasNumberIn (1 ∷ []) r)
+unfolding measureOutcome All hasNumberIn reasonAt
 measure-number s r e =
-    refused-fine (1 ∷ []) (measureSaid s) r (said-fine (1 ∷ []) _ (measuresOf s) (first-fine (1 ∷ []) (unless (withinLimits s) 1 ∷ []) (unless-fine (1 ∷ []) _ 1 tt, tt))) e
+    refused-fine (1 ∷ []) (measureOutcome s) r (outcome-fine (1 ∷ []) _ (measuresOf s) (first-fine (1 ∷ []) (unless (withinLimits s) 1 ∷ []) (unless-fine (1 ∷ []) _ 1 tt, tt))) e
 
-pub write-number : (s : Shape) (table : List ℕ) (r : Reason) → writeSaid s table ≡ refused r → T (hasNumberIn (1 ∷ 2 ∷ []) r)
-unfolding writeSaid writeReasons All hasNumberIn reasonAt
+pub write-number : (s : Shape) (table : List ℕ) (r : Reason) → writeOutcome s table ≡ refused r → T (hasNumberIn (1 ∷ 2 ∷ []) r)
+unfolding writeOutcome writeReasons All hasNumberIn reasonAt
 write-number s table r e =
     let ns : List ℕ = 1 ∷ 2 ∷ [] in
-    refused-fine ns (writeSaid s table) r (said-fine ns _ (sizeOf (ownList s)) (first-fine ns (writeReasons s table) (unless-fine ns _ 1 tt, (unless-fine ns _ 2 tt, tt)))) e
+    refused-fine ns (writeOutcome s table) r (outcome-fine ns _ (sizeOf (ownList s)) (first-fine ns (writeReasons s table) (unless-fine ns _ 1 tt, (unless-fine ns _ 2 tt, tt)))) e
 
-pub test-number : (s : Shape) (table : List ℕ) (r : Reason) → testSaid s table ≡ refused r → T (hasNumberIn (1 ∷ 2 ∷ 3 ∷ []) r)
-unfolding testSaid testReasons All hasNumberIn reasonAt
+pub test-number : (s : Shape) (table : List ℕ) (r : Reason) → testOutcome s table ≡ refused r → T (hasNumberIn (1 ∷ 2 ∷ 3 ∷ []) r)
+unfolding testOutcome testReasons All hasNumberIn reasonAt
 test-number s table r e =
     let ns : List ℕ = 1 ∷ 2 ∷ 3 ∷ [] in
-    refused-fine ns (testSaid s table) r (said-fine ns _ (sizeOf (gatesOf table)) (first-fine ns (testReasons s table) (unless-fine ns _ 1 tt, (list-fine ns _ tt (λ g. tt), tt)))) e
+    refused-fine ns (testOutcome s table) r (outcome-fine ns _ (sizeOf (gatesOf table)) (first-fine ns (testReasons s table) (unless-fine ns _ 1 tt, (list-fine ns _ tt (λ g. tt), tt)))) e
 
 pub count-number : (s : Shape) (ballots : List ℕ) (r : Reason) → countReason s ballots ≡ some r → T (hasNumberIn (1 ∷ 4 ∷ 5 ∷ 6 ∷ 11 ∷ 12 ∷ []) r)
 unfolding Fine countReason ballotReasons gradedReasons rankedReasons All hasNumberIn reasonAt
@@ -119,25 +119,25 @@ ballots-all : (s : Shape) (xs : List ℕ) → All all (ballotReasons s xs)
 unfolding All ballotReasons hasNumberIn reasonAt all
 ballots-all s xs = (unless-fine all _ 4 tt, (found-fine all 5 _ (λ i. tt), kind-fine all s xs (isRanking s) (λ i. tt) (λ i. tt) (λ b. tt)))
 
-lent-all : (i k : ℕ) (size : Size) (tape wires board : List ℕ) → All all (lentReasons i k size tape wires board)
-unfolding All lentReasons hasNumberIn reasonAt all
+lent-all : (i k : ℕ) (size : Size) (tape wires board : List ℕ) → All all (bufferReasons i k size tape wires board)
+unfolding All bufferReasons hasNumberIn reasonAt all
 lent-all i k size tape wires board = (unless-fine all _ 7 tt, (found-fine all 8 _ (λ i. tt), (unless-fine all _ 9 tt, (unless-fine all _ 10 tt, tt))))
 
 run-all : (s : Shape) (table ballots tape wires board : List ℕ) → All all (runReasons s table ballots tape wires board)
 unfolding runReasons
 run-all s table ballots tape wires board =
-    both all (testReasons s table ++ ballotReasons s ballots) (lentReasons (ballotBytes s) (s .candidates) (sizeOf (gatesOf table)) tape wires board)
+    both all (testReasons s table ++ ballotReasons s ballots) (bufferReasons (ballotBytes s) (s .candidates) (sizeOf (gatesOf table)) tape wires board)
     (both all (testReasons s table) (ballotReasons s ballots) (test-all s table) (ballots-all s ballots))
     (lent-all (ballotBytes s) (s .candidates) (sizeOf (gatesOf table)) tape wires board)
 
-ran-fine : (o : Option Reason) (s : Shape) (gs : List Gate) (ballots tape wires board : List ℕ) → Fine all o → FineSaid all (ranAfter o s gs ballots tape wires board .answer)
-unfolding Fine FineSaid ranAfter
+ran-fine : (o : Option Reason) (s : Shape) (gs : List Gate) (ballots tape wires board : List ℕ) → Fine all o → FineSaid all (runResultAfter o s gs ballots tape wires board .answer)
+unfolding Fine FineSaid runResultAfter
 ran-fine none s gs ballots tape wires board f = tt
 ran-fine (some r) s gs ballots tape wires board f = f
 
-pub run-number : (s : Shape) (table ballots tape wires board : List ℕ) (r : Reason) → ran s table ballots tape wires board .answer ≡ refused r
+pub run-number : (s : Shape) (table ballots tape wires board : List ℕ) (r : Reason) → runResult s table ballots tape wires board .answer ≡ refused r
     → T (hasNumberIn (1 ∷ 2 ∷ 3 ∷ 4 ∷ 5 ∷ 6 ∷ 11 ∷ 12 ∷ 7 ∷ 8 ∷ 9 ∷ 10 ∷ []) r)
-unfolding ran all
+unfolding runResult all
 run-number s table ballots tape wires board r e =
-    refused-fine all (ran s table ballots tape wires board .answer) r
+    refused-fine all (runResult s table ballots tape wires board .answer) r
     (ran-fine _ s (gatesOf table) ballots tape wires board (first-fine all (runReasons s table ballots tape wires board) (run-all s table ballots tape wires board))) e

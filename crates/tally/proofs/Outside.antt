@@ -2,25 +2,25 @@
 -- Assumes nothing.
 use mathlib.Core.Path.{_≡_, refl}
 use mathlib.Core.Bool.{false}
-use mathlib.Core.List.{List, [], _∷_, _++_}
+use mathlib.Core.List.{List, []}
 use Prim.Native.Nat.{ℕ}
 use Rattle.jury.specs.declared.shape.Shape.{Shape}
 use Rattle.jury.specs.Shape.{withinLimits}
 use Rattle.jury.specs.Reason.{reasonAt, unless, firstOf}
 use Rattle.jury.specs.ClosingBytes.{eightBytes}
-use Rattle.tally.specs.Answer.{said, refused}
-use Rattle.tally.specs.Measure.{measureSaid}
+use Rattle.tally.specs.Answer.{outcome, refused}
+use Rattle.tally.specs.Measure.{measureOutcome}
 use Rattle.tally.specs.Test.{testReasons}
-use Rattle.tally.specs.Run.{runReasons, ranAfter, ran}
+use Rattle.tally.specs.Run.{runReasons, runResultAfter, runResult}
 use Rattle.tally.specs.Count.{countReason, closingAfter, plainClosing}
 
 module _ (s : Shape) (w : withinLimits s ≡ false) where
-  pub outside-measure : measureSaid s ≡ refused (reasonAt 1 0)
-  unfolding measureSaid said firstOf unless
+  pub outside-measure : measureOutcome s ≡ refused (reasonAt 1 0)
+  unfolding measureOutcome outcome firstOf unless
   outside-measure = rw w refl
 
-  pub outside-run : (table ballots tape wires board : List ℕ) → ran s table ballots tape wires board ≡ record { answer = refused (reasonAt 1 0); wires = wires; board = board }
-  unfolding ran runReasons ranAfter testReasons firstOf unless
+  pub outside-run : (table ballots tape wires board : List ℕ) → runResult s table ballots tape wires board ≡ record { answer = refused (reasonAt 1 0); wires = wires; board = board }
+  unfolding runResult runReasons runResultAfter testReasons firstOf unless
   outside-run table ballots tape wires board = rw w refl
 
   pub outside-closing : (ballots : List ℕ) → plainClosing s ballots ≡ eightBytes []

@@ -9,27 +9,28 @@ use Rattle.gates.specs.Gate.{Gate, numbersOf}
 use Rattle.gates.specs.Wires.{wiresOf, outputsOf}
 use Rattle.gates.specs.Board.{conditionalCount}
 use Rattle.gates.specs.Test.{tested}
-use Rattle.gates.specs.declared.list.Tested.the-variants.{Accepted}
+use Rattle.gates.specs.declared.list.ListCheck.the-variants.{Accepted}
 use Rattle.gates.proofs.Accepting.{good-list-accepted}
 use Rattle.jury.specs.declared.shape.Shape.{Shape}
-use Rattle.jury.specs.Shape.{isRanking, gradedLimits, withinLimits, ballotBytes}
+use Rattle.jury.specs.Shape.{isRanking, withinLimits, ballotBytes}
 use Rattle.jury.specs.Width.{widthOf}
 use Rattle.jury.specs.Accepted.{AcceptedBallots}
 use Rattle.jury.proofs.AcceptedLaws as ballots-laws
 use Rattle.jury.proofs.Limits.{Ranked, ranked, ranked-bytes, graded-kind, ranked-kind}
-use Rattle.circuit.specs.OwnList as graded
-use Rattle.circuit.specs.Bound as graded-bound
-use Rattle.circuit.proofs.Accuracy.{own, own-list-is-accurate}
-use Rattle.circuit.proofs.OwnListLaws.{own-list-keeps-the-bound, own-list-short}
-use Rattle.ranking.specs.OwnRanking.{ownRanking, rankingBound, OwnRankingHolds}
-use Rattle.ranking.proofs.OwnRankingLaws.{own-ranking-holds}
+use Rattle.graded_circuit.specs.OwnList as graded
+use Rattle.graded_circuit.specs.Bound as graded-bound
+use Rattle.graded_circuit.proofs.Accuracy.{own, own-list-is-accurate}
+use Rattle.graded_circuit.proofs.OwnListLaws.{own-list-keeps-the-bound, own-list-short}
+use Rattle.ranked_circuit.specs.OwnRanking.{ownRanking, rankingBound, OwnRankingHolds}
+use Rattle.ranked_circuit.proofs.OwnRankingLaws.{own-ranking-holds}
 use Rattle.tally.specs.Answer.{accepted, sizeOf}
 use Rattle.tally.specs.Rule.{closingFor}
 use Rattle.tally.specs.OwnList.{ownList, gateBound}
-use Rattle.tally.specs.Test.{testSaid}
+use Rattle.tally.specs.Test.{testOutcome}
 use Rattle.tally.specs.Write.{OwnListHolds}
-use Rattle.tally.proofs.Rules.{either, closing-graded, closing-ranked}
+use Rattle.tally.proofs.Rules.{closing-graded, closing-ranked}
 use Rattle.tally.proofs.TestReasons.{list-accepted}
+use Rattle.basics.proofs.Flags.{either}
 
 -- the list and the bound of each kind
 pub own-graded : (s : Shape) → isRanking s ≡ false → ownList s ≡ graded.ownList s
@@ -85,7 +86,7 @@ module _ (s : Shape) (w : withinLimits s ≡ true) where
   holds : Holds
   holds = either (isRanking s) ranked-holds graded-holds
 
-  own-passes : testSaid s (numbersOf (ownList s)) ≡ accepted (sizeOf (ownList s))
+  own-passes : testOutcome s (numbersOf (ownList s)) ≡ accepted (sizeOf (ownList s))
   unfolding sizeOf
   own-passes = list-accepted s (numbersOf (ownList s)) w (length (ownList s)) (conditionalCount (ownList s)) (holds .takes)
 

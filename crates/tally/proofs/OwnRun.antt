@@ -1,6 +1,6 @@
 -- A run of the own list with a mask tape and buffers of the right lengths: only its ballots can turn it away, and its closing bytes are majority judgment's.
 -- Assumes nothing.
-use mathlib.Core.Path.{_≡_, _∙_, refl, sym, ap, subst}
+use mathlib.Core.Path.{_≡_, _∙_, refl, sym, ap}
 use mathlib.Core.Bool.{true}
 use mathlib.Core.Option.{Option, none, some}
 use mathlib.Core.List.{List}
@@ -18,9 +18,9 @@ use Rattle.jury.specs.Reason.{Reason, firstOf}
 use Rattle.jury.specs.Ballots.{ballotReasons}
 use Rattle.tally.specs.Rule.{closingFor}
 use Rattle.tally.specs.OwnList.{ownList}
-use Rattle.tally.specs.Answer.{accepted, said, Size, sizeOf}
+use Rattle.tally.specs.Answer.{accepted, outcome, sizeOf}
 use Rattle.tally.specs.Test.{testReasons}
-use Rattle.tally.specs.Run.{Ran, lentReasons, runReasons, ranAfter, ran}
+use Rattle.tally.specs.Run.{RunResult, bufferReasons, runReasons, runResultAfter, runResult}
 use Rattle.tally.proofs.TestReasons.{orElse, TestPassed, test-passed}
 use Rattle.tally.proofs.RunReasons.{lent-passed-back, firstOfThree, run-first, run-passed, ran-by}
 use Rattle.tally.proofs.Hiding.{run-finished}
@@ -49,7 +49,7 @@ module _ (s : Shape) (w : withinLimits s ≡ true) (ballots tape wires board : L
   unfolding list
   test = test-passed s list (sizeOf (gatesOf list)) (own-list-holds s w .passes ∙ ap (λ (gs : List Gate). accepted (sizeOf gs)) (sym gates))
 
-  lent : firstOf (lentReasons (ballotBytes s) (s .candidates) (sizeOf (gatesOf list)) tape wires board) ≡ none
+  lent : firstOf (bufferReasons (ballotBytes s) (s .candidates) (sizeOf (gatesOf list)) tape wires board) ≡ none
   unfolding sizeOf
   lent =
       lent-passed-back (ballotBytes s) (s .candidates) (sizeOf (gatesOf list)) tape wires board
@@ -63,28 +63,28 @@ module _ (s : Shape) (w : withinLimits s ≡ true) (ballots tape wires board : L
   reason : firstOf (runReasons s list ballots tape wires board) ≡ firstOf (ballotReasons s ballots)
   reason =
       run-first s list ballots tape wires board
-      ∙ middle-alone (firstOf (testReasons s list)) (firstOf (ballotReasons s ballots)) (firstOf (lentReasons (ballotBytes s) (s .candidates) (sizeOf (gatesOf list)) tape wires board)) (test .reasons) lent
+      ∙ middle-alone (firstOf (testReasons s list)) (firstOf (ballotReasons s ballots)) (firstOf (bufferReasons (ballotBytes s) (s .candidates) (sizeOf (gatesOf list)) tape wires board)) (test .reasons) lent
 
-  answer-of : (o : Option Reason) → ranAfter o s (gatesOf list) ballots tape wires board .answer ≡ said o (sizeOf (gatesOf list))
-  unfolding ranAfter said
+  answer-of : (o : Option Reason) → runResultAfter o s (gatesOf list) ballots tape wires board .answer ≡ outcome o (sizeOf (gatesOf list))
+  unfolding runResultAfter outcome
   answer-of none = refl
   answer-of (some r) = refl
 
-  pub own-answer : ran s (numbersOf (ownList s)) ballots tape wires board .answer ≡ said (firstOf (ballotReasons s ballots)) (sizeOf (ownList s))
+  pub own-answer : runResult s (numbersOf (ownList s)) ballots tape wires board .answer ≡ outcome (firstOf (ballotReasons s ballots)) (sizeOf (ownList s))
   unfolding list
   own-answer =
       let o = firstOf (ballotReasons s ballots) in
-      ap (λ (r : Ran). r .answer) (ran-by s list ballots tape wires board o reason) ∙ answer-of o ∙ ap (λ (gs : List Gate). said o (sizeOf gs)) gates
+      ap (λ (r : RunResult). r .answer) (ran-by s list ballots tape wires board o reason) ∙ answer-of o ∙ ap (λ (gs : List Gate). outcome o (sizeOf gs)) gates
 
   -- where the ballots pass, the board has its closing bytes behind the shown bits
   pub own-closing : firstOf (ballotReasons s ballots) ≡ none
-      → (length (ran s (numbersOf (ownList s)) ballots tape wires board .board) ≡ conditionalCount (ownList s) + s .candidates)
-      × (drop (conditionalCount (ownList s)) (ran s (numbersOf (ownList s)) ballots tape wires board .board) ≡ closingFor s ballots)
+      → (length (runResult s (numbersOf (ownList s)) ballots tape wires board .board) ≡ conditionalCount (ownList s) + s .candidates)
+      × (drop (conditionalCount (ownList s)) (runResult s (numbersOf (ownList s)) ballots tape wires board .board) ≡ closingFor s ballots)
   unfolding list
   own-closing e =
       let p = run-passed s list ballots tape wires board (reason ∙ e) in
       let f = run-finished s list ballots wires board tape p tape (p .mask) in
-      let b = ran s list ballots tape wires board .board in (
+      let b = runResult s list ballots tape wires board .board in (
         f .size ∙ ap (λ (gs : List Gate). conditionalCount gs + s .candidates) gates,
         ap (λ (gs : List Gate). drop (conditionalCount gs) b) (sym gates) ∙ f .closing
             ∙ ap (λ (gs : List Gate). outputsOf (s .candidates) (wiresOf ballots gs)) gates ∙ own-list-holds s w .closing ballots (p .ballotsPassed),

@@ -1,6 +1,6 @@
 -- What a plain count answers: for accepted ballots the closing bytes of the rule, then zeros, and on a refusal zeros alone.
 -- Assumes nothing.
-use mathlib.Core.Path.{_≡_, _∙_, ap}
+use mathlib.Core.Path.{_≡_, _∙_, sym, ap}
 use mathlib.Core.Logic.{⊎-elim}
 use mathlib.Core.Option.{Option, none, some}
 use mathlib.Core.List.{List, [], _++_}
@@ -12,12 +12,13 @@ use Rattle.jury.specs.declared.shape.Shape.{Shape}
 use Rattle.jury.specs.Reason.{Reason}
 use Rattle.jury.specs.ClosingBytes.{eightBytes}
 use Rattle.tally.specs.Rule.{closingFor}
+use Rattle.tally.specs.SaysWhoWins.{SaysWhoWins}
 use Rattle.tally.specs.Count.{countReason, closingAfter, plainClosing}
 use Rattle.jury.specs.Accepted.{AcceptedBallots}
-use Rattle.jury.proofs.Cases.{below-or-not}
+use Rattle.basics.proofs.Cases.{below-or-not}
 use Rattle.jury.proofs.Limits.{bounds}
 use Rattle.tally.proofs.CountReason.{count-accepts}
-use Rattle.tally.proofs.Rules.{closing-length}
+use Rattle.tally.proofs.Rules.{closing-length, rule-says, says-same}
 use Rattle.jury.proofs.Rows.{eight-at, eight-length}
 
 after-length : (r : Option Reason) (bytes : List ℕ) → length (closingAfter r bytes) ≡ 8
@@ -29,11 +30,6 @@ after-length (some r) bytes = eight-length []
 pub plain-length : (s : Shape) (xs : List ℕ) → length (plainClosing s xs) ≡ 8
 unfolding plainClosing
 plain-length s xs = after-length (countReason s xs) (closingFor s xs)
-
--- a refusal has eight zeros
-pub plain-refused : (s : Shape) (xs : List ℕ) (r : Reason) → countReason s xs ≡ some r → plainClosing s xs ≡ replicate 8 0
-unfolding plainClosing closingAfter eightBytes
-plain-refused s xs r e = ap (λ (o : Option Reason). closingAfter o (closingFor s xs)) e
 
 module _ (s : Shape) (xs : List ℕ) (a : AcceptedBallots s xs) where
   pub plain-accepted : plainClosing s xs ≡ eightBytes (closingFor s xs)
@@ -52,15 +48,19 @@ module _ (s : Shape) (xs : List ℕ) (a : AcceptedBallots s xs) where
       ∙ take-append-le (s .candidates) (closingFor s xs) (replicate 8 0) (omega (arith, bytes-length))
       ∙ take-all (s .candidates) (closingFor s xs) (omega (arith, bytes-length))
 
-  -- zeros from place k on
-  pub plain-past : (i : ℕ) → s .candidates ≤ i → getD (plainClosing s xs) i 0 ≡ 0
-  plain-past i h = ⊎-elim inside outside (below-or-not i 8)
+  -- and each of the eight is that of the rule, or 0
+  plain-byte : (i : ℕ) → getD (plainClosing s xs) i 0 ≡ getD (closingFor s xs) i 0
+  plain-byte i = ⊎-elim inside outside (below-or-not i 8)
     where
-      inside : i < 8 → getD (plainClosing s xs) i 0 ≡ 0
-      inside l =
-          ap (λ (bytes : List ℕ). getD bytes i 0) plain-accepted
-          ∙ eight-at (closingFor s xs) i l
-          ∙ List·getD-eq-default (closingFor s xs) 0 {n = i} (omega (arith, bytes-length))
+      inside : i < 8 → getD (plainClosing s xs) i 0 ≡ getD (closingFor s xs) i 0
+      inside l = ap (λ (bytes : List ℕ). getD bytes i 0) plain-accepted ∙ eight-at (closingFor s xs) i l
 
-      outside : 8 ≤ i → getD (plainClosing s xs) i 0 ≡ 0
-      outside l = List·getD-eq-default (plainClosing s xs) 0 {n = i} (omega (arith, plain-length s xs))
+      outside : 8 ≤ i → getD (plainClosing s xs) i 0 ≡ getD (closingFor s xs) i 0
+      outside l =
+          let most = bounds s (a .within) .k-most in
+          List·getD-eq-default (plainClosing s xs) 0 {n = i} (omega (arith, plain-length s xs))
+          ∙ sym (List·getD-eq-default (closingFor s xs) 0 {n = i} (omega (arith, bytes-length, most)))
+
+  -- so that they say who wins
+  pub plain-says : SaysWhoWins s xs (plainClosing s xs)
+  plain-says = says-same s xs (closingFor s xs) (plainClosing s xs) plain-byte (rule-says s xs a)

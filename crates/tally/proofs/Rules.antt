@@ -1,12 +1,12 @@
 -- The rule of a shape by its kind: what its closing bytes are, and that they say who wins.
 -- Assumes nothing.
-use mathlib.Core.Path.{_≡_, _∙_, refl, sym, ap, subst}
+use mathlib.Core.Path.{_≡_, _∙_, sym, ap, subst}
 use mathlib.Core.Bool.{Bool, true, false, cond, true≢false}
 use mathlib.Core.Logic.{_⊎_, inl, inr, ⊎-elim, _↔_}
 use mathlib.Core.List.{List}
 use Prim.Native.Nat.{ℕ, zero, suc, _≤_, _<_}
 use native.Mathlib.Omega.{arith}
-use lib.ListN.{length, getD}
+use lib.ListN.{length, getD, List·getD-eq-default}
 use Rattle.jury.specs.declared.shape.Shape.{Shape}
 use Rattle.jury.specs.Shape.{isRanking}
 use Rattle.jury.specs.Accepted.{AcceptedBallots}
@@ -14,19 +14,17 @@ use Rattle.jury.specs.Counts.{countsOf}
 use Rattle.jury.proofs.AcceptedLaws as ballots-laws
 use Rattle.jury.proofs.CountFacts.{counts-length}
 use Rattle.jury.proofs.Limits.{graded-kind}
-use Rattle.jury.proofs.Tabulate.{length-tabulate}
-use Rattle.judgment.specs.Judgment.{judgmentOf}
-use Rattle.judgment.proofs.Winners.{judgment-length}
-use Rattle.judgment.proofs.Theorems.{bytes-say, each-gets}
-use Rattle.schulze.specs.Schulze.{wins, closingBytes}
-use Rattle.schulze.specs.Votes.{votes}
-use Rattle.schulze.proofs.Winning.{closing-at, closing-one}
+use Rattle.basics.proofs.Tabulate.{length-tabulate}
+use Rattle.rule_judgment.specs.Judgment.{judgmentOf}
+use Rattle.rule_judgment.proofs.Winners.{judgment-length}
+use Rattle.rule_judgment.proofs.Theorems.{bytes-say, each-gets}
+use Rattle.rule_schulze.specs.Schulze.{wins, closingBytes}
+use Rattle.rule_schulze.specs.Votes.{votes}
+use Rattle.rule_schulze.proofs.Winning.{closing-at, closing-one}
 use Rattle.tally.specs.Rule.{closingFor, Wins}
-
--- a test holds or fails
-pub either : (t : Bool) {A : Type 0} → (t ≡ true → A) → (t ≡ false → A) → A
-either true yes′ no′ = yes′ refl
-either false yes′ no′ = no′ refl
+use Rattle.tally.specs.SaysWhoWins.{SaysWhoWins}
+use Rattle.basics.proofs.Flags.{either}
+use Rattle.basics.proofs.Flags.{bit-most}
 
 -- a byte that is 0 or 1, and 1 exactly where a statement holds, is 0 exactly where it does not
 none-exactly : {W : Type 0} (x : ℕ) → x ≤ 1 → (x ≡ 1) ↔ W → (x ≡ 0) ↔ (¬ W)
@@ -38,10 +36,6 @@ none-exactly x h iff = (
     zero-or-more : (x : ℕ) → (x ≤ 0) ⊎ (1 ≤ x)
     zero-or-more zero = inl (omega arith)
     zero-or-more (suc x) = inr (omega arith)
-
-bit-of : (t : Bool) → cond {A = ℕ} t 1 0 ≤ 1
-bit-of true = omega arith
-bit-of false = omega arith
 
 module _ (s : Shape) (xs : List ℕ) where
   pub closing-graded : isRanking s ≡ false → closingFor s xs ≡ judgmentOf (countsOf s xs)
@@ -61,36 +55,58 @@ module _ (s : Shape) (xs : List ℕ) where
       ranked-length : length (closingBytes (votes (s .candidates) (s .ballots) xs) (s .candidates)) ≡ s .candidates
       ranked-length = unfold closingBytes in (length-tabulate (s .candidates) (λ i. cond {A = ℕ} (wins (votes (s .candidates) (s .ballots) xs) (s .candidates) i) 1 0))
 
-  -- what byte i says
-  pub record ByteSays (i : ℕ) : Type 0 where
-    pub one : (getD (closingFor s xs) i 0 ≡ 1) ↔ Wins s xs i
-    pub zero : (getD (closingFor s xs) i 0 ≡ 0) ↔ (¬ Wins s xs i)
-
-  module _ (a : AcceptedBallots s xs) (i : ℕ) (h : i < s .candidates) where
-    says-graded : isRanking s ≡ false → ByteSays i
-    says-graded e =
+  module _ (a : AcceptedBallots s xs) where
+    graded-winner : isRanking s ≡ false → (i : ℕ) → i < s .candidates → (getD (closingFor s xs) i 0 ≡ 1) ↔ Wins s xs i
+    graded-winner e i h =
         let byte : getD (closingFor s xs) i 0 ≡ getD (judgmentOf (countsOf s xs)) i 0 = ap (λ (bytes : List ℕ). getD bytes i 0) (closing-graded e) in
         let g = ballots-laws.graded s xs a (graded-kind s (a .within) e) in
-        let says = bytes-say (s .ballots) (countsOf s xs) (each-gets s xs g) i (omega (arith, counts-length s xs)) in
+        let says = bytes-say (s .ballots) (countsOf s xs) (each-gets s xs g) i (omega (arith, counts-length s xs)) in (
+          λ one. record { graded = λ f. says .one .0 (sym byte ∙ one); ranked = λ f. absurd (true≢false (sym f ∙ e)) },
+          λ wins. byte ∙ says .one .1 (wins .graded e),
+        )
+
+    graded-loser : isRanking s ≡ false → (i : ℕ) → i < s .candidates → (getD (closingFor s xs) i 0 ≡ 0) ↔ (¬ Wins s xs i)
+    graded-loser e i h =
+        let byte : getD (closingFor s xs) i 0 ≡ getD (judgmentOf (countsOf s xs)) i 0 = ap (λ (bytes : List ℕ). getD bytes i 0) (closing-graded e) in
+        let g = ballots-laws.graded s xs a (graded-kind s (a .within) e) in
+        let says = bytes-say (s .ballots) (countsOf s xs) (each-gets s xs g) i (omega (arith, counts-length s xs)) in (
+          λ zero wins. says .zero .0 (sym byte ∙ zero) (wins .graded e),
+          λ loses. byte ∙ says .zero .1 (λ wins. loses (record { graded = λ f. wins; ranked = λ f. absurd (true≢false (sym f ∙ e)) })),
+        )
+
+    module _ (e : isRanking s ≡ true) (i : ℕ) (h : i < s .candidates) where
+      ranked-byte : getD (closingFor s xs) i 0 ≡ getD (closingBytes (votes (s .candidates) (s .ballots) xs) (s .candidates)) i 0
+      ranked-byte = ap (λ (bytes : List ℕ). getD bytes i 0) (closing-ranked e)
+
+      ranked-winner : (getD (closingFor s xs) i 0 ≡ 1) ↔ Wins s xs i
+      ranked-winner =
+          let says = closing-one (votes (s .candidates) (s .ballots) xs) (s .candidates) i h in (
+            λ one. record { graded = λ f. absurd (true≢false (sym e ∙ f)); ranked = λ f. says .0 (sym ranked-byte ∙ one) },
+            λ wins. ranked-byte ∙ says .1 (wins .ranked e),
+          )
+
+      ranked-loser : (getD (closingFor s xs) i 0 ≡ 0) ↔ (¬ Wins s xs i)
+      ranked-loser =
+          let v = votes (s .candidates) (s .ballots) xs in
+          let bit : getD (closingFor s xs) i 0 ≤ 1 =
+          subst (λ (x : ℕ). x ≤ 1) (sym (ranked-byte ∙ closing-at v (s .candidates) i h)) (bit-most (wins v (s .candidates) i)) in
+          none-exactly (getD (closingFor s xs) i 0) bit ranked-winner
+
+    -- the rule's bytes say who wins
+    pub rule-says : SaysWhoWins s xs (closingFor s xs)
+    rule-says =
         record {
-          one = (λ one. record { graded = λ f. says .one .0 (sym byte ∙ one); ranked = λ f. absurd (true≢false (sym f ∙ e)) }, λ wins. byte ∙ says .one .1 (wins .graded e));
-          zero = (
-            λ zero wins. says .zero .0 (sym byte ∙ zero) (wins .graded e),
-            λ loses. byte ∙ says .zero .1 (λ wins. loses (record { graded = λ f. wins; ranked = λ f. absurd (true≢false (sym f ∙ e)) })),
-          );
+          winner = λ i h. either (isRanking s) (λ e. ranked-winner e i h) (λ e. graded-winner e i h);
+          loser = λ i h. either (isRanking s) (λ e. ranked-loser e i h) (λ e. graded-loser e i h);
+          past = λ i h. List·getD-eq-default (closingFor s xs) 0 {n = i} (omega (arith, closing-length));
         }
 
-    says-ranked : isRanking s ≡ true → ByteSays i
-    says-ranked e =
-        let v = votes (s .candidates) (s .ballots) xs in
-        let byte : getD (closingFor s xs) i 0 ≡ getD (closingBytes v (s .candidates)) i 0 = ap (λ (bytes : List ℕ). getD bytes i 0) (closing-ranked e) in
-        let says = closing-one v (s .candidates) i h in
-        let iff : (getD (closingFor s xs) i 0 ≡ 1) ↔ Wins s xs i = (
-          λ one. record { graded = λ f. absurd (true≢false (sym e ∙ f)); ranked = λ f. says .0 (sym byte ∙ one) },
-          λ wins. byte ∙ says .1 (wins .ranked e),
-        ) in
-        let bit : getD (closingFor s xs) i 0 ≤ 1 = subst (λ (x : ℕ). x ≤ 1) (sym (byte ∙ closing-at v (s .candidates) i h)) (bit-of (wins v (s .candidates) i)) in
-        record { one = iff; zero = none-exactly (getD (closingFor s xs) i 0) bit iff }
-
-    pub byte-says : ByteSays i
-    byte-says = either (isRanking s) says-ranked says-graded
+-- so do all bytes that are theirs at each place
+pub says-same : (s : Shape) (xs bytes others : List ℕ) → ((i : ℕ) → getD others i 0 ≡ getD bytes i 0)
+    → SaysWhoWins s xs bytes → SaysWhoWins s xs others
+says-same s xs bytes others same says =
+    record {
+      winner = λ i h. (λ one. says .winner i h .0 (sym (same i) ∙ one), λ wins. same i ∙ says .winner i h .1 wins);
+      loser = λ i h. (λ zero. says .loser i h .0 (sym (same i) ∙ zero), λ loses. same i ∙ says .loser i h .1 loses);
+      past = λ i h. same i ∙ says .past i h;
+    }

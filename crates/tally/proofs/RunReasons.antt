@@ -1,6 +1,6 @@
 -- The ten reasons of a run: what their order answers, and what is known where none applies.
 -- Assumes nothing.
-use mathlib.Core.Path.{_≡_, _∙_, refl, sym, ap, subst}
+use mathlib.Core.Path.{_≡_, _∙_, refl, sym, ap}
 use mathlib.Core.Bool.{Bool, true, false}
 use mathlib.Core.Option.{Option, none, some}
 use mathlib.Core.List.{List, [], _∷_, _++_}
@@ -21,12 +21,12 @@ use Rattle.jury.specs.Reason.{Reason, unless, foundAt, firstOf}
 use Rattle.jury.specs.Ballots.{ballotReasons}
 use Rattle.jury.specs.Accepted.{AcceptedBallots}
 use Rattle.jury.proofs.AcceptedLaws as ballots-laws
-use Rattle.gates.specs.Step.{RunReady}
+use Rattle.gates.specs.inner.Step.{RunReady}
 use Rattle.gates.specs.Test.{firstBad}
 use Rattle.gates.proofs.Evaluating.{accepted-list}
-use Rattle.tally.specs.Answer.{refused, accepted, said, Size, sizeOf}
-use Rattle.tally.specs.Test.{testReasons, testSaid}
-use Rattle.tally.specs.Run.{lentReasons, runReasons, ranAfter, ran}
+use Rattle.tally.specs.Answer.{Outcome, refused, accepted, outcome, Size, sizeOf}
+use Rattle.tally.specs.Test.{testReasons, testOutcome}
+use Rattle.tally.specs.Run.{RunResult, bufferReasons, runReasons, runResultAfter, runResult}
 use Rattle.tally.proofs.TestReasons.{orElse, first-append, never, TestPassed, test-passed}
 
 -- what the tests 7 to 10 answer, from their outcomes
@@ -35,8 +35,8 @@ lentFound tape byte wires board = firstOf (unless tape 7 ∷ foundAt 8 byte ∷ 
 
 module _ (i k : ℕ) (size : Size) (tape wires board : List ℕ) where
   pub lent-by : (t : Bool) (p : Place) (u v : Bool) → eqb (length tape) (size .conditional) ≡ t → firstAboveOne 0 tape ≡ p
-      → eqb (length wires) (i + size .gates) ≡ u → eqb (length board) (size .conditional + k) ≡ v → firstOf (lentReasons i k size tape wires board) ≡ lentFound t p u v
-  unfolding lentReasons lentFound
+      → eqb (length wires) (i + size .gates) ≡ u → eqb (length board) (size .conditional + k) ≡ v → firstOf (bufferReasons i k size tape wires board) ≡ lentFound t p u v
+  unfolding bufferReasons lentFound
   lent-by t p u v e f g h = rw (e, f, g, h)
 
   -- where none of them applies
@@ -54,7 +54,7 @@ module _ (i k : ℕ) (size : Size) (tape wires board : List ℕ) where
   passed-by true Nowhere true false e = let z : _≡_ {A = ℕ} 0 1 = cc in absurd (omega arith)
   passed-by true Nowhere true true e = (refl, refl, refl, refl)
 
-  pub lent-passed : firstOf (lentReasons i k size tape wires board) ≡ none → LentPassed
+  pub lent-passed : firstOf (bufferReasons i k size tape wires board) ≡ none → LentPassed
   lent-passed e =
       let t = eqb (length tape) (size .conditional) in
       let u = eqb (length wires) (i + size .gates) in
@@ -67,7 +67,7 @@ module _ (i k : ℕ) (size : Size) (tape wires board : List ℕ) where
         boardLength = eqb-true (length board) (size .conditional + k) (q .3);
       }
 
-  pub lent-passed-back : LentPassed → firstOf (lentReasons i k size tape wires board) ≡ none
+  pub lent-passed-back : LentPassed → firstOf (bufferReasons i k size tape wires board) ≡ none
   unfolding lentFound unless foundAt firstOf
   lent-passed-back l =
       lent-by true Nowhere true true (eq-eqb (length tape) (size .conditional) (l .tapeLength)) (l .tapeBits)
@@ -77,40 +77,48 @@ module _ (i k : ℕ) (size : Size) (tape wires board : List ℕ) where
 unfoldable pub firstOfThree : Option Reason → Option Reason → Option Reason → Option Reason
 firstOfThree test ballots lent = orElse (orElse test ballots) lent
 
-three-passed : (a b c : Option Reason) → firstOfThree a b c ≡ none → (a ≡ none) × (b ≡ none) × (c ≡ none)
+pub three-passed : (a b c : Option Reason) → firstOfThree a b c ≡ none → (a ≡ none) × (b ≡ none) × (c ≡ none)
 unfolding firstOfThree orElse
 three-passed none none none e = (refl, refl, refl)
 three-passed none none (some r) e = let z : _≡_ {A = ℕ} 0 1 = cc in absurd (omega arith)
 three-passed none (some r) c e = let z : _≡_ {A = ℕ} 0 1 = cc in absurd (omega arith)
 three-passed (some r) b c e = let z : _≡_ {A = ℕ} 0 1 = cc in absurd (omega arith)
 
--- the reason of an answer
-pub said-refused : (o : Option Reason) (values : Size) (r : Reason) → said o values ≡ refused r → o ≡ some r
-unfolding said
-said-refused none values r e = never values r (sym e)
-said-refused (some q) values r e = let same : q ≡ r = cc in ap some same
+-- three parts make the result of a call
+pub same-result : {answer answer′ : Outcome Size} {wires wires′ board board′ : List ℕ} → answer ≡ answer′ → wires ≡ wires′ → board ≡ board′
+    → _≡_ {A = RunResult} (record { answer = answer; wires = wires; board = board }) (record { answer = answer′; wires = wires′; board = board′ })
+same-result {answer} {answer′} {wires} {wires′} {board} {board′} e f g =
+    ap (λ (z : Outcome Size). record { answer = z; wires = wires; board = board }) e
+    ∙ ap (λ (z : List ℕ). record { answer = answer′; wires = z; board = board }) f
+    ∙ ap (λ (z : List ℕ). record { answer = answer′; wires = wires′; board = z }) g
 
-pub said-accepted : (o : Option Reason) (values size : Size) → said o values ≡ accepted size → o ≡ none
-unfolding said
-said-accepted none values size e = refl
-said-accepted (some q) values size e = never size q e
+-- the reason of an answer
+pub outcome-refused : {Values : Type 0} (o : Option Reason) (values : Values) (r : Reason) → outcome o values ≡ refused r → o ≡ some r
+unfolding outcome
+outcome-refused none values r e = let z : _≡_ {A = ℕ} 0 1 = cc in absurd (omega arith)
+outcome-refused (some q) values r e = let same : q ≡ r = cc in ap some same
+
+pub outcome-accepted : (o : Option Reason) (values size : Size) → outcome o values ≡ accepted size → o ≡ none
+unfolding outcome
+outcome-accepted none values size e = refl
+outcome-accepted (some q) values size e = never size q e
 
 module _ (s : Shape) (table ballots tape wires board : List ℕ) where
   pub run-first : firstOf (runReasons s table ballots tape wires board)
-      ≡ firstOfThree (firstOf (testReasons s table)) (firstOf (ballotReasons s ballots)) (firstOf (lentReasons (ballotBytes s) (s .candidates) (sizeOf (gatesOf table)) tape wires board))
+      ≡ firstOfThree (firstOf (testReasons s table)) (firstOf (ballotReasons s ballots)) (firstOf (bufferReasons (ballotBytes s) (s .candidates) (sizeOf (gatesOf table)) tape wires board))
   unfolding runReasons firstOfThree
   run-first =
-      let lent = lentReasons (ballotBytes s) (s .candidates) (sizeOf (gatesOf table)) tape wires board in
+      let lent = bufferReasons (ballotBytes s) (s .candidates) (sizeOf (gatesOf table)) tape wires board in
       first-append (testReasons s table ++ ballotReasons s ballots) lent
       ∙ ap (λ (r : Option Reason). orElse r (firstOf lent)) (first-append (testReasons s table) (ballotReasons s ballots))
 
   -- the answer by the first group in which a test applies
-  pub by-test : (r : Reason) → testSaid s table ≡ refused r → firstOf (runReasons s table ballots tape wires board) ≡ some r
-  unfolding testSaid firstOfThree orElse
+  pub by-test : (r : Reason) → testOutcome s table ≡ refused r → firstOf (runReasons s table ballots tape wires board) ≡ some r
+  unfolding testOutcome firstOfThree orElse
   by-test r e =
       run-first
-      ∙ ap (λ (o : Option Reason). firstOfThree o (firstOf (ballotReasons s ballots)) (firstOf (lentReasons (ballotBytes s) (s .candidates) (sizeOf (gatesOf table)) tape wires board)))
-      (said-refused (firstOf (testReasons s table)) (sizeOf (gatesOf table)) r e)
+      ∙ ap (λ (o : Option Reason). firstOfThree o (firstOf (ballotReasons s ballots)) (firstOf (bufferReasons (ballotBytes s) (s .candidates) (sizeOf (gatesOf table)) tape wires board)))
+      (outcome-refused (firstOf (testReasons s table)) (sizeOf (gatesOf table)) r e)
 
   module _ (t : firstOf (testReasons s table) ≡ none) where
     pub by-ballots : (r : Reason) → firstOf (ballotReasons s ballots) ≡ some r → firstOf (runReasons s table ballots tape wires board) ≡ some r
@@ -118,10 +126,10 @@ module _ (s : Shape) (table ballots tape wires board : List ℕ) where
     by-ballots r e = run-first ∙ rw (t, e)
 
     pub by-lent : (size : Size) (o : Option Reason) → size ≡ sizeOf (gatesOf table) → firstOf (ballotReasons s ballots) ≡ none
-        → firstOf (lentReasons (ballotBytes s) (s .candidates) size tape wires board) ≡ o → firstOf (runReasons s table ballots tape wires board) ≡ o
+        → firstOf (bufferReasons (ballotBytes s) (s .candidates) size tape wires board) ≡ o → firstOf (runReasons s table ballots tape wires board) ≡ o
     unfolding firstOfThree orElse
     by-lent size o f b e =
-        run-first ∙ rw (t, b) (ap (λ (z : Size). firstOf (lentReasons (ballotBytes s) (s .candidates) z tape wires board)) (sym f) ∙ e)
+        run-first ∙ rw (t, b) (ap (λ (z : Size). firstOf (bufferReasons (ballotBytes s) (s .candidates) z tape wires board)) (sym f) ∙ e)
 
   -- an accepted run, as facts
   pub record RunPassed : Type 0 where
@@ -132,11 +140,11 @@ module _ (s : Shape) (table ballots tape wires board : List ℕ) where
     pub boardLength : length board ≡ conditionalCount (gatesOf table) + s .candidates
 
   pub run-passed : firstOf (runReasons s table ballots tape wires board) ≡ none → RunPassed
-  unfolding testSaid said sizeOf
+  unfolding testOutcome outcome sizeOf
   run-passed e =
       let size = sizeOf (gatesOf table) in
-      let q = three-passed (firstOf (testReasons s table)) (firstOf (ballotReasons s ballots)) (firstOf (lentReasons (ballotBytes s) (s .candidates) size tape wires board)) (sym run-first ∙ e) in
-      let t = test-passed s table size (ap (λ (r : Option Reason). said r size) (q .0)) in
+      let q = three-passed (firstOf (testReasons s table)) (firstOf (ballotReasons s ballots)) (firstOf (bufferReasons (ballotBytes s) (s .candidates) size tape wires board)) (sym run-first ∙ e) in
+      let t = test-passed s table size (ap (λ (r : Option Reason). outcome r size) (q .0)) in
       let l = lent-passed (ballotBytes s) (s .candidates) size tape wires board (q .2) in
       record {
         test = t;
@@ -172,6 +180,6 @@ module _ (s : Shape) (table ballots tape wires board : List ℕ) where
       }
 
   -- the whole of a call by its first reason
-  pub ran-by : (o : Option Reason) → firstOf (runReasons s table ballots tape wires board) ≡ o → ran s table ballots tape wires board ≡ ranAfter o s (gatesOf table) ballots tape wires board
-  unfolding ran
-  ran-by o e = ap (λ (r : Option Reason). ranAfter r s (gatesOf table) ballots tape wires board) e
+  pub ran-by : (o : Option Reason) → firstOf (runReasons s table ballots tape wires board) ≡ o → runResult s table ballots tape wires board ≡ runResultAfter o s (gatesOf table) ballots tape wires board
+  unfolding runResult
+  ran-by o e = ap (λ (r : Option Reason). runResultAfter r s (gatesOf table) ballots tape wires board) e

@@ -10,14 +10,14 @@ use lib.ListN.{length}
 use Rattle.gates.specs.Gate.{gatesOf}
 use Rattle.gates.specs.Board.{conditionalCount}
 use Rattle.gates.specs.Test.{tested}
-use Rattle.gates.specs.declared.list.Tested.{Tested}
-use Rattle.gates.specs.declared.list.Tested.the-variants.{Accepted, PartOfAGate, TooFewGates, TooManyGates, BadGate}
+use Rattle.gates.specs.declared.list.ListCheck.{ListCheck}
+use Rattle.gates.specs.declared.list.ListCheck.the-variants.{Accepted, PartOfAGate, TooFewGates, TooManyGates, BadGate}
 use Rattle.gates.proofs.Evaluating.{accepted-list}
 use Rattle.jury.specs.declared.shape.Shape.{Shape}
 use Rattle.jury.specs.Shape.{withinLimits, ballotBytes}
 use Rattle.jury.specs.Reason.{Reason, reasonAt, unless, listReason, firstOf}
-use Rattle.tally.specs.Answer.{Said, refused, accepted, said, Size, sizeOf}
-use Rattle.tally.specs.Test.{testReasons, testSaid}
+use Rattle.tally.specs.Answer.{refused, accepted, outcome, Size, sizeOf}
+use Rattle.tally.specs.Test.{testReasons, testOutcome}
 
 -- the first reason of tests one after the other
 unfoldable pub orElse : Option Reason → Option Reason → Option Reason
@@ -36,32 +36,32 @@ never values r e = let z : _≡_ {A = ℕ} 0 1 = cc in absurd (omega arith)
 
 module _ (s : Shape) (table : List ℕ) where
   -- the answer by what the tests found
-  by : Bool → Tested → Option Reason
+  by : Bool → ListCheck → Option Reason
   by within t = firstOf (unless within 1 ∷ listReason t ∷ [])
 
-  reasons-by : (within : Bool) (t : Tested) → withinLimits s ≡ within → tested (ballotBytes s) (s .candidates) table ≡ t → firstOf (testReasons s table) ≡ by within t
+  reasons-by : (within : Bool) (t : ListCheck) → withinLimits s ≡ within → tested (ballotBytes s) (s .candidates) table ≡ t → firstOf (testReasons s table) ≡ by within t
   unfolding testReasons by
   reasons-by within t w e =
       ap (λ (b : Bool). firstOf (unless b 1 ∷ listReason (tested (ballotBytes s) (s .candidates) table) ∷ [])) w
-      ∙ ap (λ (u : Tested). firstOf (unless within 1 ∷ listReason u ∷ [])) e
+      ∙ ap (λ (u : ListCheck). firstOf (unless within 1 ∷ listReason u ∷ [])) e
 
-  pub outside-list : withinLimits s ≡ false → testSaid s table ≡ refused (reasonAt 1 0)
-  unfolding testSaid said by unless firstOf
-  outside-list w = ap (λ (r : Option Reason). said r (sizeOf (gatesOf table))) (reasons-by false (tested (ballotBytes s) (s .candidates) table) w refl)
+  pub outside-list : withinLimits s ≡ false → testOutcome s table ≡ refused (reasonAt 1 0)
+  unfolding testOutcome outcome by unless firstOf
+  outside-list w = ap (λ (r : Option Reason). outcome r (sizeOf (gatesOf table))) (reasons-by false (tested (ballotBytes s) (s .candidates) table) w refl)
 
   module _ (w : withinLimits s ≡ true) where
-    pub list-refused : (t : Tested) (r : Reason) → tested (ballotBytes s) (s .candidates) table ≡ t → listReason t ≡ some r → testSaid s table ≡ refused r
-    unfolding testSaid said by unless firstOf
+    pub list-refused : (t : ListCheck) (r : Reason) → tested (ballotBytes s) (s .candidates) table ≡ t → listReason t ≡ some r → testOutcome s table ≡ refused r
+    unfolding testOutcome outcome by unless firstOf
     list-refused t r e f =
-        ap (λ (o : Option Reason). said o (sizeOf (gatesOf table))) (reasons-by true t w e)
-        ∙ ap (λ (o : Option Reason). said (firstOf (o ∷ [])) (sizeOf (gatesOf table))) f
+        ap (λ (o : Option Reason). outcome o (sizeOf (gatesOf table))) (reasons-by true t w e)
+        ∙ ap (λ (o : Option Reason). outcome (firstOf (o ∷ [])) (sizeOf (gatesOf table))) f
 
     pub list-accepted : (gates conditional : ℕ) → tested (ballotBytes s) (s .candidates) table ≡ Accepted gates conditional
-        → testSaid s table ≡ accepted (record { gates = gates; conditional = conditional })
-    unfolding testSaid said by unless firstOf listReason sizeOf
+        → testOutcome s table ≡ accepted (record { gates = gates; conditional = conditional })
+    unfolding testOutcome outcome by unless firstOf listReason sizeOf
     list-accepted gates conditional e =
         let f = accepted-list (ballotBytes s) (s .candidates) table gates conditional e in
-        ap (λ (o : Option Reason). said o (sizeOf (gatesOf table))) (reasons-by true (Accepted gates conditional) w e)
+        ap (λ (o : Option Reason). outcome o (sizeOf (gatesOf table))) (reasons-by true (Accepted gates conditional) w e)
         ∙ ap (λ (n : ℕ). accepted (record { gates = n; conditional = sizeOf (gatesOf table) .conditional })) (sym (f .gates-are))
         ∙ ap (λ (n : ℕ). accepted (record { gates = gates; conditional = n })) (sym (f .conditional-are))
 
@@ -80,10 +80,10 @@ module _ (s : Shape) (table : List ℕ) where
     pub reasons : firstOf (testReasons s table) ≡ none
     pub size : values ≡ sizeOf (gatesOf table)
 
-  pub test-passed : (values : Size) → testSaid s table ≡ accepted values → TestPassed values
+  pub test-passed : (values : Size) → testOutcome s table ≡ accepted values → TestPassed values
   test-passed values e = shape (withinLimits s) refl
     where
-      list : withinLimits s ≡ true → (t : Tested) → tested (ballotBytes s) (s .candidates) table ≡ t → TestPassed values
+      list : withinLimits s ≡ true → (t : ListCheck) → tested (ballotBytes s) (s .candidates) table ≡ t → TestPassed values
       list w PartOfAGate p = never values (reasonAt 2 0) (sym (list-refused w PartOfAGate (reasonAt 2 0) p (unfold listReason in refl)) ∙ e)
       list w TooFewGates p = never values (reasonAt 2 0) (sym (list-refused w TooFewGates (reasonAt 2 0) p (unfold listReason in refl)) ∙ e)
       list w TooManyGates p = never values (reasonAt 2 0) (sym (list-refused w TooManyGates (reasonAt 2 0) p (unfold listReason in refl)) ∙ e)

@@ -16,11 +16,10 @@ use Rattle.jury.specs.declared.shape.Shape.{Shape}
 use Rattle.jury.specs.Shape.{withinLimits}
 use Rattle.jury.specs.Reason.{Reason, reasonAt, unless, firstOf}
 use Rattle.tally.specs.OwnList.{ownList}
-use Rattle.tally.specs.Answer.{refused, accepted, said, Size, sizeOf}
-use Rattle.tally.specs.Write.{writeReasons, writeSaid, writtenAfter, written}
+use Rattle.tally.specs.Answer.{refused, accepted, outcome, Size, sizeOf}
+use Rattle.tally.specs.Write.{writeReasons, writeOutcome, writtenAfter, written}
 use Rattle.tally.specs.Demands.{listIn}
 use Rattle.tally.proofs.TestReasons.{never}
-use Rattle.tally.proofs.RunReasons.{said-refused}
 
 module _ (s : Shape) (table : List ℕ) where
   by : Bool → Bool → Option Reason
@@ -31,9 +30,9 @@ module _ (s : Shape) (table : List ℕ) where
   reasons-by within long e f = rw (e, f)
 
   -- the answer and the table, by the first reason that applies
-  pub write-refused : (r : Reason) → firstOf (writeReasons s table) ≡ some r → (writeSaid s table ≡ refused r) × (written s table ≡ table)
-  unfolding writeSaid said written writtenAfter
-  write-refused r e = (ap (λ (o : Option Reason). said o (sizeOf (ownList s))) e, ap (λ (o : Option Reason). writtenAfter o (numbersOf (ownList s)) table) e)
+  pub write-refused : (r : Reason) → firstOf (writeReasons s table) ≡ some r → (writeOutcome s table ≡ refused r) × (written s table ≡ table)
+  unfolding writeOutcome outcome written writtenAfter
+  write-refused r e = (ap (λ (o : Option Reason). outcome o (sizeOf (ownList s))) e, ap (λ (o : Option Reason). writtenAfter o (numbersOf (ownList s)) table) e)
 
   pub outside : withinLimits s ≡ false → firstOf (writeReasons s table) ≡ some (reasonAt 1 0)
   unfolding by unless firstOf
@@ -48,9 +47,9 @@ module _ (s : Shape) (table : List ℕ) where
   fits e f = reasons-by true true e f
 
   pub write-accepted : firstOf (writeReasons s table) ≡ none
-      → (writeSaid s table ≡ accepted (sizeOf (ownList s))) × (written s table ≡ numbersOf (ownList s) ++ drop (length (numbersOf (ownList s))) table)
-  unfolding writeSaid said written writtenAfter
-  write-accepted e = (ap (λ (o : Option Reason). said o (sizeOf (ownList s))) e, ap (λ (o : Option Reason). writtenAfter o (numbersOf (ownList s)) table) e)
+      → (writeOutcome s table ≡ accepted (sizeOf (ownList s))) × (written s table ≡ numbersOf (ownList s) ++ drop (length (numbersOf (ownList s))) table)
+  unfolding writeOutcome outcome written writtenAfter
+  write-accepted e = (ap (λ (o : Option Reason). outcome o (sizeOf (ownList s))) e, ap (λ (o : Option Reason). writtenAfter o (numbersOf (ownList s)) table) e)
 
   -- an accepted write, as facts
   pub record WritePassed (size : Size) : Type 0 where
@@ -59,7 +58,7 @@ module _ (s : Shape) (table : List ℕ) where
     pub reasons : firstOf (writeReasons s table) ≡ none
     pub own-size : size ≡ sizeOf (ownList s)
 
-  pub write-passed : (size : Size) → writeSaid s table ≡ accepted size → WritePassed size
+  pub write-passed : (size : Size) → writeOutcome s table ≡ accepted size → WritePassed size
   write-passed size e = shape (withinLimits s) refl
     where
       refuses : {A : Type 0} (r : Reason) → firstOf (writeReasons s table) ≡ some r → A
@@ -99,7 +98,7 @@ module _ (s : Shape) (table : List ℕ) where
   pub write-length : length (written s table) ≡ length table
   write-length = long-after (firstOf (writeReasons s table)) refl
 
-  -- what `writer` leaves of the table is what the definition says
+  -- what `graded_writer` leaves of the table is what the definition says
   pub stored : 4 * length (ownList s) ≤ length table → sets table (4 * 0) (numbersOf (ownList s)) ≡ numbersOf (ownList s) ++ drop (length (numbersOf (ownList s))) table
   stored h =
       let ns = numbersOf (ownList s) in

@@ -12,14 +12,14 @@ use Rattle.tally.specs.declared.answer.Answer.{Answer}
 use Rattle.tally.specs.declared.answer.Answer.the-variants.{Accepted, Refused}
 
 -- A call is turned away for a reason, or it is accepted and gives its values.
-pub data Said (Values : Type 0) : Type 0 where
-  refused : Reason → Said Values
-  accepted : Values → Said Values
+pub data Outcome (Values : Type 0) : Type 0 where
+  refused : Reason → Outcome Values
+  accepted : Values → Outcome Values
 
 -- A call is accepted exactly where no reason applies.
-unfoldable pub said : {Values : Type 0} → Option Reason → Values → Said Values
-said (some r) values = refused r
-said none values = accepted values
+unfoldable pub outcome : {Values : Type 0} → Option Reason → Values → Outcome Values
+outcome (some r) values = refused r
+outcome none values = accepted values
 
 -- Whether a reason has one of these numbers.
 unfoldable pub hasNumberIn : List ℕ → Reason → Bool
@@ -36,6 +36,6 @@ unfoldable pub sizeOf : List Gate → Size
 sizeOf gs = record { gates = length gs; conditional = conditionalCount gs }
 
 -- What each case of the program's enum means, as a number with values.
-unfoldable pub saidBy : Answer → Said Size
-saidBy (Accepted gates conditional) = accepted (record { gates = gates; conditional = conditional })
-saidBy (Refused r) = refused (reasonOf r)
+unfoldable pub outcomeOf : Answer → Outcome Size
+outcomeOf (Accepted gates conditional) = accepted (record { gates = gates; conditional = conditional })
+outcomeOf (Refused r) = refused (reasonOf r)

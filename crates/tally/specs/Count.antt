@@ -1,4 +1,5 @@
 -- The entry point [count].
+use mathlib.Core.Path.{_≡_}
 use mathlib.Core.Option.{Option, none, some}
 use mathlib.Core.List.{List, [], _∷_}
 use Prim.Native.Nat.{ℕ}
@@ -7,6 +8,7 @@ use Rattle.jury.specs.Shape.{withinLimits}
 use Rattle.jury.specs.Reason.{Reason, unless, firstOf}
 use Rattle.jury.specs.Ballots.{ballotReasons}
 use Rattle.jury.specs.ClosingBytes.{eightBytes}
+use Rattle.tally.specs.Answer.{Outcome, outcome}
 use Rattle.tally.specs.Rule.{closingFor}
 
 -- The reasons that concern a count, in checking order: 1, 4, 5, then 6 of grades or 11 and 12 of rankings.
@@ -20,3 +22,12 @@ closingAfter (some r) bytes = eightBytes []
 
 unfoldable pub plainClosing : Shape → List ℕ → List ℕ
 plainClosing s xs = closingAfter (countReason s xs) (closingFor s xs)
+
+-- What the entry point promises of its verdict and of the closing bytes.
+pub record Counts (s : Shape) (xs : List ℕ) (reason : Option Reason) (bytes : List ℕ) : Type 0 where
+  pub verdict : reason ≡ countReason s xs
+  pub closing : bytes ≡ plainClosing s xs
+
+-- The outcome of a count.
+unfoldable pub countOutcome : Shape → List ℕ → Outcome (List ℕ)
+countOutcome s xs = outcome (countReason s xs) (plainClosing s xs)

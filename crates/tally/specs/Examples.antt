@@ -1,21 +1,21 @@
--- Demand 3 on two concrete runs: different ballots, equal closing bytes, two tapes, one board. One candidate, two grades, one ballot; the list is a stranger's, one gate that says whether wire 0 and wire 1 are both 1.
+-- Demand 3 on two concrete runs: different ballots, equal closing bytes, two tapes, one board. One candidate, two
+-- grades, one ballot; the list is a stranger's, one gate that says whether wire 0 and wire 1 are both 1.
 use mathlib.Core.Path.{_≡_}
-use mathlib.Core.List.{List, [], _∷_}
-use Prim.Native.Nat.{ℕ}
+use mathlib.Core.List.{[], _∷_}
 use Rattle.gates.specs.HidingExample.{oneGate}
 use Rattle.jury.specs.declared.shape.Shape.{Shape}
 use Rattle.tally.specs.Answer.{accepted}
-use Rattle.tally.specs.Run.{ran}
+use Rattle.tally.specs.Run.{runResult}
 
 unfoldable pub oneBallot : Shape
 oneBallot = record { candidates = 1; grades = 2; ballots = 1 }
 
 pub record PairOfRuns : Type 0 where
   -- the better grade under the mask 0
-  pub first-run : ran oneBallot oneGate (1 ∷ 0 ∷ []) (0 ∷ []) (9 ∷ 9 ∷ 9 ∷ []) (9 ∷ 9 ∷ [])
+  pub first-run : runResult oneBallot oneGate (1 ∷ 0 ∷ []) (0 ∷ []) (9 ∷ 9 ∷ 9 ∷ []) (9 ∷ 9 ∷ [])
       ≡ record { answer = accepted (record { gates = 1; conditional = 1 }); wires = 0 ∷ 0 ∷ 0 ∷ []; board = 1 ∷ 0 ∷ [] }
   -- the worse grade under the mask 1, over other old bytes: the same board
-  pub second-run : ran oneBallot oneGate (0 ∷ 1 ∷ []) (1 ∷ []) (7 ∷ 7 ∷ 7 ∷ []) (7 ∷ 7 ∷ [])
+  pub second-run : runResult oneBallot oneGate (0 ∷ 1 ∷ []) (1 ∷ []) (7 ∷ 7 ∷ 7 ∷ []) (7 ∷ 7 ∷ [])
       ≡ record { answer = accepted (record { gates = 1; conditional = 1 }); wires = 0 ∷ 0 ∷ 0 ∷ []; board = 1 ∷ 0 ∷ [] }
   -- the worse grade under the mask 0: another board
-  pub other-tape : ran oneBallot oneGate (0 ∷ 1 ∷ []) (0 ∷ []) (7 ∷ 7 ∷ 7 ∷ []) (7 ∷ 7 ∷ []) .board ≡ 0 ∷ 0 ∷ []
+  pub other-tape : runResult oneBallot oneGate (0 ∷ 1 ∷ []) (0 ∷ []) (7 ∷ 7 ∷ 7 ∷ []) (7 ∷ 7 ∷ []) .board ≡ 0 ∷ 0 ∷ []

@@ -9,33 +9,48 @@ use Rattle.gates.specs.Board.{MaskTape}
 use Rattle.gates.specs.Hiding.{ExactlyOne, Finished}
 use Rattle.jury.specs.declared.shape.Shape.{Shape}
 use Rattle.tally.specs.Answer.{accepted, Size, sizeOf}
-use Rattle.tally.specs.Run.{ran}
+use Rattle.tally.specs.Run.{BoardCall, runResult}
 
 -- The closing bytes stand last on the board.
 unfoldable pub closingBytes : Shape → List ℕ → List ℕ
 closingBytes s board = drop (length board - s .candidates) board
 
--- What two runs of one shape and one list show of their ballots xs and ys, for wire tables vs and ws and boards bs and ds of any earlier contents. `Finished` says of a board's bytes that each shown bit is its gate's wire a plus its own tape byte modulo 2, and that the closing bytes stand behind them; the wires it reads are `wiresOf`, which ballots and list alone decide, so that no mask alters a wire.
-pub record Hidden (s : Shape) (table xs ys vs ws bs ds : List ℕ) : Type 0 where
-  -- under every mask tape the first run answers the list's own G and C, and finishes its board over the same wires
-  pub first-answer : (t : List ℕ) → MaskTape (gatesOf table) t → ran s table xs t vs bs .answer ≡ accepted (sizeOf (gatesOf table))
-  pub first-board : (t : List ℕ) → MaskTape (gatesOf table) t → Finished (wiresOf xs (gatesOf table)) (gatesOf table) (s .candidates) t (ran s table xs t vs bs .board)
+-- Two calls of one shape and list, on the ballots xs and ys, over wire tables vs, ws and boards bs, ds of any contents.
+-- `Finished`: each shown bit is its gate's wire a plus its own tape byte modulo 2, and the closing bytes follow. It
+-- reads `wiresOf`, which ballots and list alone decide: no mask alters a wire.
+pub record BoardsHide (s : Shape) (table xs ys : List ℕ) (one other : BoardCall) (vs ws bs ds : List ℕ) : Type 0 where
+  -- under every mask tape the first call answers the list's own G and C, and finishes its board over the same wires
+  pub first-answer : (t : List ℕ) → MaskTape (gatesOf table) t → one t vs bs .answer ≡ accepted (sizeOf (gatesOf table))
+  pub first-board : (t : List ℕ) → MaskTape (gatesOf table) t
+      → Finished (wiresOf xs (gatesOf table)) (gatesOf table) (s .candidates) t (one t vs bs .board)
   -- and so does the second
-  pub second-answer : (t : List ℕ) → MaskTape (gatesOf table) t → ran s table ys t ws ds .answer ≡ accepted (sizeOf (gatesOf table))
-  pub second-board : (t : List ℕ) → MaskTape (gatesOf table) t → Finished (wiresOf ys (gatesOf table)) (gatesOf table) (s .candidates) t (ran s table ys t ws ds .board)
+  pub second-answer : (t : List ℕ) → MaskTape (gatesOf table) t
+      → other t ws ds .answer ≡ accepted (sizeOf (gatesOf table))
+  pub second-board : (t : List ℕ) → MaskTape (gatesOf table) t
+      → Finished (wiresOf ys (gatesOf table)) (gatesOf table) (s .candidates) t (other t ws ds .board)
   -- for each first tape there is one second tape, and no other, under which the boards are the same
   pub same-board : (t : List ℕ) → MaskTape (gatesOf table) t
-      → ExactlyOne (λ (u : List ℕ). MaskTape (gatesOf table) u × (ran s table xs t vs bs .board ≡ ran s table ys u ws ds .board))
+      → ExactlyOne (λ (u : List ℕ). MaskTape (gatesOf table) u × (one t vs bs .board ≡ other u ws ds .board))
   -- and that one serves for whatever else may have stood in the wire tables and boards
   pub any-buffers : (t u vs′ ws′ bs′ ds′ : List ℕ) → MaskTape (gatesOf table) t → MaskTape (gatesOf table) u
       → length vs′ ≡ length vs → length ws′ ≡ length ws → length bs′ ≡ length bs → length ds′ ≡ length ds
-      → ran s table xs t vs bs .board ≡ ran s table ys u ws ds .board → ran s table xs t vs′ bs′ .board ≡ ran s table ys u ws′ ds′ .board
+      → one t vs bs .board ≡ other u ws ds .board → one t vs′ bs′ .board ≡ other u ws′ ds′ .board
 
--- It holds of all accepted runs of one shape and one list, whoever wrote it, that end with the same closing bytes.
-abbrev pub BoardTellsNoMore : Type 0
-BoardTellsNoMore =
-    (s : Shape) (table xs ys t u vs ws bs ds : List ℕ) (first second : Size)
-    → ran s table xs t vs bs .answer ≡ accepted first
-    → ran s table ys u ws ds .answer ≡ accepted second
-    → closingBytes s (ran s table xs t vs bs .board) ≡ closingBytes s (ran s table ys u ws ds .board)
-    → (first ≡ sizeOf (gatesOf table)) × (second ≡ sizeOf (gatesOf table)) × Hidden s table xs ys vs ws bs ds
+-- Of all accepted calls of one shape and one list, whoever wrote it, that end with the same closing bytes.
+-- `call` is the kind of call, by shape, list and inputs, and `ballotsOf` are the ballots that these inputs hold.
+abbrev pub BoardTellsNoMore : {Inputs : Type 0}
+    → (call : Shape → List ℕ → Inputs → BoardCall) (ballotsOf : Shape → Inputs → List ℕ) → Type 0
+BoardTellsNoMore {Inputs} call ballotsOf =
+    (s : Shape) (table : List ℕ) (x y : Inputs) (t u vs ws bs ds : List ℕ) (first second : Size)
+    → call s table x t vs bs .answer ≡ accepted first
+    → call s table y u ws ds .answer ≡ accepted second
+    → closingBytes s (call s table x t vs bs .board) ≡ closingBytes s (call s table y u ws ds .board)
+    → (first ≡ sizeOf (gatesOf table)) × (second ≡ sizeOf (gatesOf table))
+    × BoardsHide s table (ballotsOf s x) (ballotsOf s y) (call s table x) (call s table y) vs ws bs ds
+
+-- Two runs, and all accepted runs.
+abbrev pub Hidden : (s : Shape) (table xs ys vs ws bs ds : List ℕ) → Type 0
+Hidden s table xs ys = BoardsHide s table xs ys (runResult s table xs) (runResult s table ys)
+
+abbrev pub RunTellsNoMore : Type 0
+RunTellsNoMore = BoardTellsNoMore runResult (λ s ballots. ballots)

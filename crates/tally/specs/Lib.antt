@@ -5,6 +5,8 @@ pub mod Count
 pub mod Measure
 pub mod Test
 pub mod Run
+pub mod SaysWhoWins
+pub mod Memory
 pub mod Hiding
 pub mod Examples
 pub mod Write

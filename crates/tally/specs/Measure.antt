@@ -6,7 +6,7 @@ use Rattle.gates.specs.Board.{conditionalCount}
 use Rattle.jury.specs.declared.shape.Shape.{Shape}
 use Rattle.jury.specs.Shape.{withinLimits, ballotBytes}
 use Rattle.jury.specs.Reason.{reasonOf, unless, firstOf}
-use Rattle.tally.specs.Answer.{Said, refused, accepted, said}
+use Rattle.tally.specs.Answer.{Outcome, refused, accepted, outcome}
 use Rattle.tally.specs.OwnList.{ownList}
 use Rattle.tally.specs.declared.measure.Measured.{Measured}
 use Rattle.tally.specs.declared.measure.Measured.the-variants.{Accepted, Refused}
@@ -21,10 +21,11 @@ unfoldable pub measuresOf : Shape → Measures
 measuresOf s = record { gates = length (ownList s); conditional = conditionalCount (ownList s); inputs = ballotBytes s }
 
 -- Only reason 1 concerns a measure.
-unfoldable pub measureSaid : Shape → Said Measures
-measureSaid s = said (firstOf (unless (withinLimits s) 1 ∷ [])) (measuresOf s)
+unfoldable pub measureOutcome : Shape → Outcome Measures
+measureOutcome s = outcome (firstOf (unless (withinLimits s) 1 ∷ [])) (measuresOf s)
 
 -- What each case of the program's enum means, as a number with values.
-unfoldable pub measuredBy : Measured → Said Measures
-measuredBy (Accepted gates conditional inputs) = accepted (record { gates = gates; conditional = conditional; inputs = inputs })
+unfoldable pub measuredBy : Measured → Outcome Measures
+measuredBy (Accepted gates conditional inputs) =
+    accepted (record { gates = gates; conditional = conditional; inputs = inputs })
 measuredBy (Refused r) = refused (reasonOf r)

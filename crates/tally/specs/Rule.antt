@@ -6,16 +6,18 @@ use Prim.Native.Nat.{ℕ}
 use Rattle.jury.specs.declared.shape.Shape.{Shape}
 use Rattle.jury.specs.Shape.{isRanking}
 use Rattle.jury.specs.Counts.{countsOf}
-use Rattle.judgment.specs.Judgment.{judgmentOf}
-use Rattle.judgment.specs.Winner as judgment
-use Rattle.schulze.specs.Votes.{votes}
-use Rattle.schulze.specs.Schulze.{closingBytes}
-use Rattle.schulze.specs.Winner.{Winner}
+use Rattle.rule_judgment.specs.Judgment.{judgmentOf}
+use Rattle.rule_judgment.specs.Winner as judgment
+use Rattle.rule_schulze.specs.Votes.{votes}
+use Rattle.rule_schulze.specs.Schulze.{closingBytes}
+use Rattle.rule_schulze.specs.Winner.{Winner}
 
 -- The closing bytes that the rule gives the ballots of a jury.
 unfoldable pub closingFor : Shape → List ℕ → List ℕ
 closingFor s xs =
-    cond (isRanking s) (closingBytes (votes (s .candidates) (s .ballots) xs) (s .candidates)) (judgmentOf (countsOf s xs))
+    cond (isRanking s)
+    (closingBytes (votes (s .candidates) (s .ballots) xs) (s .candidates))
+    (judgmentOf (countsOf s xs))
 
 -- Who wins, said without a computation.
 pub record Wins (s : Shape) (xs : List ℕ) (i : ℕ) : Type 0 where

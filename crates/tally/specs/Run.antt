@@ -12,12 +12,13 @@ use Rattle.jury.specs.declared.shape.Shape.{Shape}
 use Rattle.jury.specs.Shape.{ballotBytes}
 use Rattle.jury.specs.Reason.{Reason, unless, foundAt, firstOf}
 use Rattle.jury.specs.Ballots.{ballotReasons}
-use Rattle.tally.specs.Answer.{Said, refused, accepted, Size, sizeOf}
+use Rattle.tally.specs.Answer.{Outcome, refused, accepted, outcome, Size, sizeOf}
 use Rattle.tally.specs.Test.{testReasons}
 
--- The tests of what is lent besides the list and the ballots, in checking order: 7, 8, 9, 10. A tape byte is due for each conditional gate, a wire for each input and each gate, a board byte for each tape byte and each output.
-unfoldable pub lentReasons : ℕ → ℕ → Size → List ℕ → List ℕ → List ℕ → List (Option Reason)
-lentReasons i k size tape wires board =
+-- The tests of what is lent besides the list and the ballots, in checking order: 7, 8, 9, 10. A tape byte is due for
+-- each conditional gate, a wire for each input and each gate, a board byte for each tape byte and each output.
+unfoldable pub bufferReasons : ℕ → ℕ → Size → List ℕ → List ℕ → List ℕ → List (Option Reason)
+bufferReasons i k size tape wires board =
     unless (eqb (length tape) (size .conditional)) 7
     ∷ foundAt 8 (firstAboveOne 0 tape)
     ∷ unless (eqb (length wires) (i + size .gates)) 9
@@ -27,20 +28,35 @@ lentReasons i k size tape wires board =
 -- All reasons of a run in checking order, by the size of the list that is lent.
 unfoldable pub runReasons : Shape → List ℕ → List ℕ → List ℕ → List ℕ → List ℕ → List (Option Reason)
 runReasons s table ballots tape wires board =
-    testReasons s table ++ ballotReasons s ballots ++ lentReasons (ballotBytes s) (s .candidates) (sizeOf (gatesOf table)) tape wires board
+    testReasons s table
+    ++ ballotReasons s ballots
+    ++ bufferReasons (ballotBytes s) (s .candidates) (sizeOf (gatesOf table)) tape wires board
+
+abbrev pub runOutcome : Shape → List ℕ → List ℕ → List ℕ → List ℕ → List ℕ → Outcome Size
+runOutcome s table ballots tape wires board =
+    outcome (firstOf (runReasons s table ballots tape wires board)) (sizeOf (gatesOf table))
 
 -- What a call leaves: its answer, the wire table and the board.
-pub record Ran : Type 0 where
-  pub answer : Said Size
+pub record RunResult : Type 0 where
+  pub answer : Outcome Size
   pub wires : List ℕ
   pub board : List ℕ
 
--- A refusal alters nothing that is lent. An accepted run leaves zeros in the wire table, and on the board the shown bits and the closing bytes of the wires that the ballots have under the list (request 2.13).
-unfoldable pub ranAfter : Option Reason → Shape → List Gate → List ℕ → List ℕ → List ℕ → List ℕ → Ran
-ranAfter (some r) s gs ballots tape wires board = record { answer = refused r; wires = wires; board = board }
-ranAfter none s gs ballots tape wires board =
-    record { answer = accepted (sizeOf gs); wires = replicate (length wires) 0; board = boardOf (wiresOf ballots gs) gs (s .candidates) tape }
+-- What a call leaves, by its tape, wire table and board: a call whose shape, list and ballots are settled.
+abbrev pub BoardCall : Type 0
+BoardCall = (tape wires board : List ℕ) → RunResult
 
-unfoldable pub ran : Shape → List ℕ → List ℕ → List ℕ → List ℕ → List ℕ → Ran
-ran s table ballots tape wires board =
-    ranAfter (firstOf (runReasons s table ballots tape wires board)) s (gatesOf table) ballots tape wires board
+-- A refusal alters nothing that is lent. An accepted run leaves zeros in the wire table (request 2.13); on the board,
+-- the shown bits and the closing bytes of the wires that the ballots have under the list.
+unfoldable pub runResultAfter : Option Reason → Shape → List Gate → List ℕ → List ℕ → List ℕ → List ℕ → RunResult
+runResultAfter (some r) s gs ballots tape wires board = record { answer = refused r; wires = wires; board = board }
+runResultAfter none s gs ballots tape wires board =
+    record {
+      answer = accepted (sizeOf gs);
+      wires = replicate (length wires) 0;
+      board = boardOf (wiresOf ballots gs) gs (s .candidates) tape;
+    }
+
+unfoldable pub runResult : Shape → List ℕ → List ℕ → List ℕ → List ℕ → List ℕ → RunResult
+runResult s table ballots tape wires board =
+    runResultAfter (firstOf (runReasons s table ballots tape wires board)) s (gatesOf table) ballots tape wires board

@@ -7,11 +7,12 @@ use Rattle.gates.specs.Test.{tested}
 use Rattle.jury.specs.declared.shape.Shape.{Shape}
 use Rattle.jury.specs.Shape.{withinLimits, ballotBytes}
 use Rattle.jury.specs.Reason.{Reason, unless, listReason, firstOf}
-use Rattle.tally.specs.Answer.{Said, said, Size, sizeOf}
+use Rattle.tally.specs.Answer.{Outcome, outcome, Size, sizeOf}
 
--- The reasons that concern a test, in checking order: 1, 2, 3. The ballot bytes are the inputs of the list, the k closing bytes its outputs.
+-- The reasons that concern a test, in checking order: 1, 2, 3. The ballot bytes are the inputs of the list, the k
+-- closing bytes its outputs.
 unfoldable pub testReasons : Shape → List ℕ → List (Option Reason)
 testReasons s table = unless (withinLimits s) 1 ∷ listReason (tested (ballotBytes s) (s .candidates) table) ∷ []
 
-unfoldable pub testSaid : Shape → List ℕ → Said Size
-testSaid s table = said (firstOf (testReasons s table)) (sizeOf (gatesOf table))
+unfoldable pub testOutcome : Shape → List ℕ → Outcome Size
+testOutcome s table = outcome (firstOf (testReasons s table)) (sizeOf (gatesOf table))

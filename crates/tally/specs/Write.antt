@@ -3,7 +3,7 @@ use mathlib.Core.Path.{_≡_}
 use mathlib.Core.Option.{Option, none, some}
 use mathlib.Core.List.{List, [], _∷_, _++_}
 use Prim.Native.Nat.{ℕ, _*_, _≤_}
-use lib.Dec.{leb}
+use lib.Dec.{T, leb}
 use lib.ListN.{length, drop}
 use Rattle.gates.specs.Gate.{numbersOf}
 use Rattle.gates.specs.Wires.{wiresOf, outputsOf}
@@ -11,17 +11,17 @@ use Rattle.jury.specs.declared.shape.Shape.{Shape}
 use Rattle.jury.specs.Shape.{withinLimits}
 use Rattle.jury.specs.Reason.{Reason, unless, firstOf}
 use Rattle.jury.specs.Accepted.{AcceptedBallots}
-use Rattle.tally.specs.Answer.{Said, accepted, said, Size, sizeOf}
+use Rattle.tally.specs.Answer.{Outcome, accepted, outcome, Size, sizeOf}
 use Rattle.tally.specs.Rule.{closingFor}
 use Rattle.tally.specs.OwnList.{ownList, gateBound}
-use Rattle.tally.specs.Test.{testSaid}
+use Rattle.tally.specs.Test.{testOutcome}
 
 -- The reasons that concern writing, in checking order: 1, and 2 where the table has no room for all gates of the list.
 unfoldable pub writeReasons : Shape → List ℕ → List (Option Reason)
 writeReasons s table = unless (withinLimits s) 1 ∷ unless (leb (4 * length (ownList s)) (length table)) 2 ∷ []
 
-unfoldable pub writeSaid : Shape → List ℕ → Said Size
-writeSaid s table = said (firstOf (writeReasons s table)) (sizeOf (ownList s))
+unfoldable pub writeOutcome : Shape → List ℕ → Outcome Size
+writeOutcome s table = outcome (firstOf (writeReasons s table)) (sizeOf (ownList s))
 
 -- The table afterwards: the list's numbers and behind them what stood there; after a refusal all that stood there.
 unfoldable pub writtenAfter : Option Reason → List ℕ → List ℕ → List ℕ
@@ -34,8 +34,18 @@ written s table = writtenAfter (firstOf (writeReasons s table)) (numbersOf (ownL
 -- What holds of the own list of a shape within its limits.
 pub record OwnListHolds (s : Shape) : Type 0 where
   -- the tester accepts its numbers for that shape, with its own G and C, C being the count of conditional marks in it
-  pub passes : testSaid s (numbersOf (ownList s)) ≡ accepted (sizeOf (ownList s))
+  pub passes : testOutcome s (numbersOf (ownList s)) ≡ accepted (sizeOf (ownList s))
   -- G keeps the bound of [bound] and [judgment-bound], or that of request 2.2
   pub bounded : length (ownList s) ≤ gateBound s
   -- its closing bytes are those of the rule, whatever the accepted ballots
-  pub closing : (ballots : List ℕ) → AcceptedBallots s ballots → outputsOf (s .candidates) (wiresOf ballots (ownList s)) ≡ closingFor s ballots
+  pub closing : (ballots : List ℕ) → AcceptedBallots s ballots
+      → outputsOf (s .candidates) (wiresOf ballots (ownList s)) ≡ closingFor s ballots
+
+abbrev pub HoldsWithin : Shape → Type 0
+HoldsWithin s = T (withinLimits s) → OwnListHolds s
+
+-- What the entry point promises of its answer and of the table.
+pub record Writes (s : Shape) (before : List ℕ) (answer : Outcome Size) (after : List ℕ) : Type 0 where
+  pub answers : answer ≡ writeOutcome s before
+  pub leaves : after ≡ written s before
+  pub own-list : HoldsWithin s

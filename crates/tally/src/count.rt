@@ -7,7 +7,7 @@ ghost use Rattle.jury.specs.Reason.{refusedFor};
 ghost use Rattle.jury.specs.Accepted.{AcceptedBallots};
 ghost use Rattle.jury.specs.ClosingBytes.{eightBytes};
 ghost use Rattle.tally.specs.Rule.{closingFor};
-ghost use Rattle.tally.specs.Count.{countReason, plainClosing};
+ghost use Rattle.tally.specs.Count.{Counts};
 
 // The outcome of a count, and the closing bytes: those behind the first k are 0, and on a refusal all eight are.
 pub struct Counted {
@@ -17,8 +17,7 @@ pub struct Counted {
 
 // Counts the ballots of a jury of any shape, however it was made.
 pub fn count(shape: Shape, ballots: &[u8]) -> Counted
-    ensures { λ r. ⌜ refusedFor (r .verdict) ≡ countReason shape (now (ballots .entry)) ⌝ }
-    ensures { λ r. ⌜ r .closing ≡ plainClosing shape (now (ballots .entry)) ⌝ }
+    ensures { λ r. ⌜ Counts shape (now (ballots .entry)) (refusedFor (r .verdict)) (r .closing) ⌝ }
 {
     if !shape.is_within_limits() {
         return Counted {
@@ -47,9 +46,9 @@ fn closing_bytes(shape: Shape, ballots: &[u8]) -> [u8; 8]
     ensures { λ r. ⌜ r ≡ eightBytes (closingFor shape (now (ballots .entry))) ⌝ }
 {
     if shape.is_ranking() {
-        schulze::count::closing_bytes(ballots, shape.candidates, shape.ballots)
+        rule_schulze::count::closing_bytes(ballots, shape.candidates, shape.ballots)
     } else {
         let counts = jury::counts::counts(shape, ballots);
-        judgment::rule::winners(shape, counts)
+        rule_judgment::rule::winners(shape, counts)
     }
 }

@@ -1,7 +1,6 @@
 // The counting core's entry points.
 pub mod answer;
 pub mod count;
-pub mod empty;
 pub mod measure;
 mod own;
 pub mod run;

@@ -2,7 +2,7 @@
 use jury::reason::Refusal;
 use jury::shape::Shape;
 ghost use mathlib.Core.Path.{_≡_};
-ghost use Rattle.tally.specs.Measure.{measuredBy, measureSaid};
+ghost use Rattle.tally.specs.Measure.{measuredBy, measureOutcome};
 
 // G, C and I of the own list, or the reason that applies.
 pub enum Measured {
@@ -16,7 +16,7 @@ pub enum Measured {
 
 // Measures the own list of a shape, with no table.
 pub fn measure(shape: Shape) -> Measured
-    ensures { λ r. ⌜ measuredBy r ≡ measureSaid shape ⌝ }
+    ensures { λ r. ⌜ measuredBy r ≡ measureOutcome shape ⌝ }
 {
     if !shape.is_within_limits() {
         return Measured::Refused(Refusal::Shape);

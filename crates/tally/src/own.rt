@@ -1,24 +1,26 @@
 // The own list of a shape of either kind.
+use gate_words::writer::Writer;
 use jury::shape::Shape;
-use words::writer::Writer;
 ghost use mathlib.Core.Path.{_≡_};
 ghost use lib.Dec.{T};
 ghost use lib.ListN.{length};
 ghost use Rattle.gates.specs.Board.{conditionalCount};
-ghost use Rattle.words.specs.Writing.{Wrote};
+ghost use Rattle.gate_words.specs.Writing.{Wrote};
 ghost use Rattle.jury.specs.Shape.{withinLimits, ballotBytes};
 ghost use Rattle.tally.specs.OwnList.{ownList};
 
-// Writes it from the table's first number on, as far as the table goes. The writer says how many gates the list has, and
-// how many of them are conditional, whatever the table.
+// Writes it from the table's first number on, as far as the table goes. The writer says how many gates the list has,
+// and how many of them are conditional, whatever the table.
 pub fn own_list(shape: Shape, table: &mut [u32]) -> Writer
     requires { ⌜ T (withinLimits shape) ⌝ }
-    ensures { λ r. ⌜ Wrote (record { gate = 0; wire = ballotBytes shape; conditional = 0 }) (now (table .entry)) (ownList shape) (now (table .exit)) r ⌝ }
+    ensures { λ r.
+        ⌜ Wrote (record { gate = 0; wire = ballotBytes shape; conditional = 0 }) (now (table .entry)) (ownList shape)
+        (now (table .exit)) r ⌝ }
 {
     if shape.is_ranking() {
-        ranking_writer::list::ranked_list(shape.candidates as u32, shape.ballots as u32, table)
+        ranked_writer::list::ranked_list(shape.candidates as u32, shape.ballots as u32, table)
     } else {
-        writer::list::own_list(shape, table)
+        graded_writer::list::own_list(shape, table)
     }
 }
 
@@ -38,5 +40,5 @@ pub fn gates(shape: Shape) -> usize
     if shape.is_ranking() {
         return measure(shape).gate;
     }
-    sizes::list::gates(shape)
+    graded_size::list::gates(shape)
 }

@@ -5,13 +5,12 @@ use jury::reason::Refusal;
 use jury::reason::Verdict;
 use jury::shape::Shape;
 ghost use mathlib.Core.Path.{_≡_};
-ghost use Rattle.gates.specs.Gate.{gatesOf};
 ghost use Rattle.jury.specs.Reason.{refusedFor, firstOf};
-ghost use Rattle.tally.specs.Answer.{saidBy, said, sizeOf};
-ghost use Rattle.tally.specs.Run.{lentReasons, runReasons, ran};
+ghost use Rattle.tally.specs.Answer.{outcomeOf};
+ghost use Rattle.tally.specs.Run.{bufferReasons, runOutcome, runResult};
 
 // Reasons 7 to 10, for a list of so many inputs, outputs, gates and conditional gates.
-pub fn test_lent(
+pub fn test_buffers(
     inputs: usize,
     outputs: usize,
     gates: usize,
@@ -20,7 +19,9 @@ pub fn test_lent(
     wires: &[u8],
     board: &[u8],
 ) -> Verdict
-    ensures { λ r. ⌜ refusedFor r ≡ firstOf (lentReasons inputs outputs (record { gates = gates; conditional = conditional }) (now (tape .entry)) (now (wires .entry)) (now (board .entry))) ⌝ }
+    ensures { λ r.
+        ⌜ refusedFor r ≡ firstOf (bufferReasons inputs outputs (record { gates = gates; conditional = conditional })
+        (now (tape .entry)) (now (wires .entry)) (now (board .entry))) ⌝ }
 {
     if !gates::lengths::has_length(tape, conditional, 0) {
         return Verdict::Refused(Refusal::TapeLength);
@@ -46,7 +47,9 @@ fn test_run(
     wires: &[u8],
     board: &[u8],
 ) -> Answer
-    ensures { λ r. ⌜ saidBy r ≡ said (firstOf (runReasons shape (now (table .entry)) (now (ballots .entry)) (now (tape .entry)) (now (wires .entry)) (now (board .entry)))) (sizeOf (gatesOf (now (table .entry)))) ⌝ }
+    ensures { λ r.
+        ⌜ outcomeOf r ≡ runOutcome shape (now (table .entry)) (now (ballots .entry)) (now (tape .entry))
+        (now (wires .entry)) (now (board .entry)) ⌝ }
 {
     let answer = crate::test::test(shape, table);
     let Answer::Accepted { gates, conditional } = answer else {
@@ -56,7 +59,7 @@ fn test_run(
         return Answer::Refused(reason);
     }
     let inputs = shape.ballot_bytes();
-    match test_lent(
+    match test_buffers(
         inputs,
         shape.candidates,
         gates,
@@ -70,8 +73,8 @@ fn test_run(
     }
 }
 
-// Runs a list, whoever wrote it, on the ballots of a jury, with one mask for each conditional gate. The wire table holds
-// the ballots and every value in clear while it runs, so it is emptied once the closing bytes stand on the board.
+// Runs a list, whoever wrote it, on the ballots of a jury, with one mask for each conditional gate. While it runs, the
+// wire table holds the ballots and every value in clear: it is emptied once the closing bytes stand on the board.
 pub fn run(
     shape: Shape,
     table: &[u32],
@@ -80,9 +83,10 @@ pub fn run(
     wires: &mut [u8],
     board: &mut [u8],
 ) -> Answer
-    ensures { λ r. ⌜ saidBy r ≡ (ran shape (now (table .entry)) (now (ballots .entry)) (now (tape .entry)) (now (wires .entry)) (now (board .entry))) .answer ⌝ }
-    ensures { λ _. ⌜ now (wires .exit) ≡ (ran shape (now (table .entry)) (now (ballots .entry)) (now (tape .entry)) (now (wires .entry)) (now (board .entry))) .wires ⌝ }
-    ensures { λ _. ⌜ now (board .exit) ≡ (ran shape (now (table .entry)) (now (ballots .entry)) (now (tape .entry)) (now (wires .entry)) (now (board .entry))) .board ⌝ }
+    ensures { λ r.
+        ⌜ record { answer = outcomeOf r; wires = now (wires .exit); board = now (board .exit) }
+        ≡ runResult shape (now (table .entry)) (now (ballots .entry)) (now (tape .entry)) (now (wires .entry))
+        (now (board .entry)) ⌝ }
 {
     let answer = test_run(shape, table, ballots, tape, wires, board);
     if let Answer::Accepted {
@@ -90,7 +94,7 @@ pub fn run(
         conditional: _,
     } = answer {
         gates::step::run(ballots, table, shape.candidates, tape, wires, board);
-        crate::empty::empty(wires);
+        basics::table::empty(wires);
     }
     answer
 }

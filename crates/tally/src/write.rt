@@ -2,17 +2,12 @@
 use crate::answer::Answer;
 use jury::reason::Refusal;
 use jury::shape::Shape;
-ghost use mathlib.Core.Path.{_≡_};
-ghost use lib.Dec.{T};
-ghost use Rattle.jury.specs.Shape.{withinLimits};
-ghost use Rattle.tally.specs.Answer.{saidBy};
-ghost use Rattle.tally.specs.Write.{writeSaid, written, OwnListHolds};
+ghost use Rattle.tally.specs.Answer.{outcomeOf};
+ghost use Rattle.tally.specs.Write.{Writes};
 
 // Writes the own list of a shape, a function of the shape alone, into a table of at least its length.
 pub fn write(shape: Shape, table: &mut [u32]) -> Answer
-    ensures { λ r. ⌜ saidBy r ≡ writeSaid shape (now (table .entry)) ⌝ }
-    ensures { λ _. ⌜ now (table .exit) ≡ written shape (now (table .entry)) ⌝ }
-    ensures { λ _. ⌜ (T (withinLimits shape) → OwnListHolds shape) ⌝ }
+    ensures { λ r. ⌜ Writes shape (now (table .entry)) (outcomeOf r) (now (table .exit)) ⌝ }
 {
     if !shape.is_within_limits() {
         return Answer::Refused(Refusal::Shape);

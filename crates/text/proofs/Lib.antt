@@ -3,5 +3,6 @@ pub mod Storing
 pub mod Scanning
 pub mod Reasons
 pub mod Whole
-pub mod RoundTrip
 pub mod Numbering
+pub mod RoundTrip
+pub mod Examples

@@ -1,39 +1,34 @@
 -- A refused text or list has one of the numbers that concern writing and reading.
 -- Assumes nothing.
 use mathlib.Core.Path.{_≡_}
-use mathlib.Core.Option.{Option}
 use mathlib.Core.List.{List, [], _∷_}
 use Prim.Native.Nat.{ℕ}
-use lib.Dec.{T}
+use lib.Dec.{T, leb}
+use lib.ListN.{length}
+use Rattle.gates.specs.Gate.{gatesOf}
 use Rattle.jury.specs.declared.shape.Shape.{Shape}
 use Rattle.jury.specs.Reason.{Reason, reasonAt, unless}
 use Rattle.tally.specs.Answer.{refused, hasNumberIn}
 use Rattle.tally.specs.Test.{testReasons}
-use Rattle.tally.proofs.Numbering.{All, first-fine, both, unless-fine, found-fine, list-fine, said-fine, refused-fine}
-use Rattle.text.specs.Write.{textReasons, textSaid}
-use Rattle.text.specs.Read.{readReasons, readSaid}
+use Rattle.tally.proofs.Numbering.{All, first-fine, both, unless-fine, found-fine, list-fine, outcome-fine, refused-fine}
+use Rattle.text.specs.Text.{textOf}
+use Rattle.text.specs.Write.{textReasons, textOutcome}
+use Rattle.text.specs.Read.{readReasons, readOutcome}
 
--- every reason of both
-numbers : List ℕ
-numbers = 1 ∷ 2 ∷ 3 ∷ 23 ∷ 24 ∷ []
+pub text-number : (s : Shape) (table output : List ℕ) (r : Reason) → textOutcome s table output ≡ refused r → T (hasNumberIn (1 ∷ 2 ∷ 3 ∷ 24 ∷ []) r)
+unfolding textOutcome textReasons testReasons All hasNumberIn reasonAt
+text-number s table output r e =
+    let ns : List ℕ = 1 ∷ 2 ∷ 3 ∷ 24 ∷ [] in
+    refused-fine ns (textOutcome s table output) r
+    (outcome-fine ns _ _
+    (first-fine ns (textReasons s table output)
+    (both ns (testReasons s table) (unless (leb (length (textOf (gatesOf table))) (length output)) 24 ∷ []) (unless-fine ns _ 1 tt, (list-fine ns _ tt (λ g. tt), tt)) (unless-fine ns _ 24 tt, tt)))) e
 
-test-numbers : (s : Shape) (table : List ℕ) → All numbers (testReasons s table)
-unfolding All testReasons hasNumberIn reasonAt numbers
-test-numbers s table = (unless-fine numbers _ 1 tt, (list-fine numbers _ tt (λ g. tt), tt))
-
-text-numbers : (s : Shape) (table output : List ℕ) → All numbers (textReasons s table output)
-unfolding All textReasons hasNumberIn reasonAt numbers
-text-numbers s table output = both numbers (testReasons s table) _ (test-numbers s table) (unless-fine numbers _ 24 tt, tt)
-
-read-numbers : (s : Shape) (text output : List ℕ) → All numbers (readReasons s text output)
-unfolding All readReasons hasNumberIn reasonAt numbers
-read-numbers s text output =
-    (unless-fine numbers _ 1 tt, (unless-fine numbers _ 2 tt, (found-fine numbers 23 _ (λ i. tt), (found-fine numbers 3 _ (λ g. tt), (unless-fine numbers _ 24 tt, tt)))))
-
-pub text-number : (s : Shape) (table output : List ℕ) (r : Reason) → textSaid s table output ≡ refused r → T (hasNumberIn (1 ∷ 2 ∷ 3 ∷ 23 ∷ 24 ∷ []) r)
-unfolding textSaid numbers
-text-number s table output r e = refused-fine numbers (textSaid s table output) r (said-fine numbers _ _ (first-fine numbers (textReasons s table output) (text-numbers s table output))) e
-
-pub read-number : (s : Shape) (text output : List ℕ) (r : Reason) → readSaid s text output ≡ refused r → T (hasNumberIn (1 ∷ 2 ∷ 3 ∷ 23 ∷ 24 ∷ []) r)
-unfolding readSaid numbers
-read-number s text output r e = refused-fine numbers (readSaid s text output) r (said-fine numbers _ _ (first-fine numbers (readReasons s text output) (read-numbers s text output))) e
+pub read-number : (s : Shape) (text output : List ℕ) (r : Reason) → readOutcome s text output ≡ refused r → T (hasNumberIn (1 ∷ 2 ∷ 23 ∷ 3 ∷ 24 ∷ []) r)
+unfolding readOutcome readReasons All hasNumberIn reasonAt
+read-number s text output r e =
+    let ns : List ℕ = 1 ∷ 2 ∷ 23 ∷ 3 ∷ 24 ∷ [] in
+    refused-fine ns (readOutcome s text output) r
+    (outcome-fine ns _ _
+    (first-fine ns (readReasons s text output)
+    (unless-fine ns _ 1 tt, (unless-fine ns _ 2 tt, (found-fine ns 23 _ (λ i. tt), (found-fine ns 3 _ (λ g. tt), (unless-fine ns _ 24 tt, tt))))))) e

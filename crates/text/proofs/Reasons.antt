@@ -1,6 +1,6 @@
 -- What writing and reading answer and leave, by the outcomes of their tests.
 -- Assumes nothing.
-use mathlib.Core.Path.{_≡_, _∙_, refl, sym, ap}
+use mathlib.Core.Path.{_≡_, _∙_, refl, ap}
 use mathlib.Core.Bool.{Bool, true, false, _&&_}
 use mathlib.Core.Option.{Option, none, some}
 use mathlib.Core.List.{List, [], _∷_, _++_}
@@ -16,28 +16,28 @@ use Rattle.gates.specs.declared.place.Place.the-variants.{At, Nowhere}
 use Rattle.jury.specs.declared.shape.Shape.{Shape}
 use Rattle.jury.specs.Shape.{withinLimits, ballotBytes}
 use Rattle.jury.specs.Reason.{Reason, reasonAt, unless, foundAt, firstOf}
-use Rattle.tally.specs.Answer.{Said, refused, accepted, said, Size, sizeOf}
-use Rattle.tally.specs.Test.{testReasons, testSaid}
+use Rattle.tally.specs.Answer.{Outcome, refused, accepted, outcome, sizeOf}
+use Rattle.tally.specs.Test.{testReasons, testOutcome}
 use Rattle.tally.proofs.TestReasons.{orElse, first-append}
-use Rattle.text.specs.Text.{textOf, linesOf, firstOther, gatesIn}
-use Rattle.text.specs.Write.{textReasons, textSaid, outputAfter, textWritten}
-use Rattle.text.specs.Read.{readReasons, readSaid, numbersRead}
+use Rattle.tally.proofs.RunReasons.{outcome-refused}
+use Rattle.text.specs.Answer.{TextResult}
+use Rattle.text.specs.Text.{textOf, linesOf, firstMalformed, gatesIn}
+use Rattle.text.specs.Write.{textReasons, textOutcome, outputAfter, textWritten}
+use Rattle.text.specs.Read.{readReasons, readOutcome, numbersRead}
 
--- a refusal is the first reason that applies
-pub said-refused : {A : Type 0} (o : Option Reason) (v : A) (r : Reason) → said o v ≡ refused r → o ≡ some r
-unfolding said
-said-refused none v r e = let z : _≡_ {A = ℕ} 0 1 = cc in absurd (omega arith)
-said-refused (some q) v r e = let p : q ≡ r = cc in ap {B = Option Reason} some p
+-- both parts make the result of a call
+pub same-text : {answer answer′ : Outcome ℕ} {output output′ : List ℕ} → (answer ≡ answer′) × (output ≡ output′)
+    → _≡_ {A = TextResult} (record { answer = answer; output = output }) (record { answer = answer′; output = output′ })
+same-text {answer} {answer′} {output} {output′} e =
+    ap (λ (z : Outcome ℕ). record { answer = z; output = output }) (e .0) ∙ ap (λ (z : List ℕ). record { answer = answer′; output = z }) (e .1)
 
-pub said-accepted : {A : Type 0} (o : Option Reason) (v w : A) → said o v ≡ accepted w → (o ≡ none) × (v ≡ w)
-unfolding said
-said-accepted none v w e = (refl, cc)
-said-accepted (some q) v w e = let z : _≡_ {A = ℕ} 0 1 = cc in absurd (omega arith)
+-- an accepted call has no reason against it
+pub outcome-accepted : {A : Type 0} (o : Option Reason) (v w : A) → outcome o v ≡ accepted w → (o ≡ none) × (v ≡ w)
+unfolding outcome
+outcome-accepted none v w e = (refl, cc)
+outcome-accepted (some q) v w e = let z : _≡_ {A = ℕ} 0 1 = cc in absurd (omega arith)
 
 module _ (s : Shape) (table output : List ℕ) where
-  longEnough : Bool → Option Reason
-  longEnough t = orElse (firstOf (testReasons s table)) (firstOf (unless t 24 ∷ []))
-
   -- the reasons of writing by those of the test and the room
   text-by : (o : Option Reason) (t : Bool) → firstOf (testReasons s table) ≡ o → leb (length (textOf (gatesOf table))) (length output) ≡ t
       → firstOf (textReasons s table output) ≡ orElse o (firstOf (unless t 24 ∷ []))
@@ -47,9 +47,9 @@ module _ (s : Shape) (table output : List ℕ) where
       ∙ ap (λ (x : Option Reason). orElse x (firstOf (unless (leb (length (textOf (gatesOf table))) (length output)) 24 ∷ []))) e
       ∙ ap (λ (x : Bool). orElse o (firstOf (unless x 24 ∷ []))) f
 
-  pub text-of-list : (r : Reason) → testSaid s table ≡ refused r → firstOf (textReasons s table output) ≡ some r
-  unfolding testSaid orElse
-  text-of-list r e = text-by (some r) _ (said-refused (firstOf (testReasons s table)) (sizeOf (gatesOf table)) r e) refl
+  pub text-of-list : (r : Reason) → testOutcome s table ≡ refused r → firstOf (textReasons s table output) ≡ some r
+  unfolding testOutcome orElse
+  text-of-list r e = text-by (some r) _ (outcome-refused (firstOf (testReasons s table)) (sizeOf (gatesOf table)) r e) refl
 
   pub text-short : firstOf (testReasons s table) ≡ none → length output < length (textOf (gatesOf table)) → firstOf (textReasons s table output) ≡ some (reasonAt 24 0)
   unfolding orElse unless firstOf
@@ -60,13 +60,13 @@ module _ (s : Shape) (table output : List ℕ) where
   text-good e h = text-by none true e (le-leb (length (textOf (gatesOf table))) (length output) h)
 
   -- what is left of a refused and of an accepted call
-  pub text-refused : (r : Reason) → firstOf (textReasons s table output) ≡ some r → (refused r ≡ textSaid s table output) × (output ≡ textWritten s table output)
-  unfolding textSaid textWritten said outputAfter
+  pub text-refused : (r : Reason) → firstOf (textReasons s table output) ≡ some r → (refused r ≡ textOutcome s table output) × (output ≡ textWritten s table output)
+  unfolding textOutcome textWritten outcome outputAfter
   text-refused r e = (rw e, rw e)
 
   pub text-accepted : firstOf (textReasons s table output) ≡ none
-      → (accepted (length (textOf (gatesOf table))) ≡ textSaid s table output) × (textOf (gatesOf table) ++ drop (length (textOf (gatesOf table))) output ≡ textWritten s table output)
-  unfolding textSaid textWritten said outputAfter
+      → (accepted (length (textOf (gatesOf table))) ≡ textOutcome s table output) × (textOf (gatesOf table) ++ drop (length (textOf (gatesOf table))) output ≡ textWritten s table output)
+  unfolding textOutcome textWritten outcome outputAfter
   text-accepted e = (rw e, rw e)
 
 module _ (s : Shape) (text output : List ℕ) where
@@ -75,7 +75,7 @@ module _ (s : Shape) (text output : List ℕ) where
   found w k m p q o = firstOf (unless w 1 ∷ unless (k && m) 2 ∷ foundAt 23 p ∷ foundAt 3 q ∷ unless o 24 ∷ [])
 
   module _ (w k m : Bool) (p q : Place) (o : Bool) where
-    read-by : withinLimits s ≡ w → leb (s .candidates) (length (linesOf text)) ≡ k → leb (length (linesOf text)) 1048576 ≡ m → firstOther 0 (linesOf text) ≡ p
+    read-by : withinLimits s ≡ w → leb (s .candidates) (length (linesOf text)) ≡ k → leb (length (linesOf text)) 1048576 ≡ m → firstMalformed 0 (linesOf text) ≡ p
         → firstBad (ballotBytes s) 0 (gatesIn (linesOf text)) ≡ q → leb (4 * length (linesOf text)) (length output) ≡ o → firstOf (readReasons s text output) ≡ found w k m p q o
     unfolding readReasons found
     read-by a b c d e f = rw (a, b, c, d, e, f)
@@ -95,11 +95,11 @@ module _ (s : Shape) (text output : List ℕ) where
       too-many h = read-by true true false _ _ _ a (le-leb (s .candidates) (length (linesOf text)) b) (lt-leb (length (linesOf text)) 1048576 h) refl refl refl
 
       module _ (c : length (linesOf text) ≤ 1048576) where
-        pub other-line : (i : ℕ) → firstOther 0 (linesOf text) ≡ At i → firstOf (readReasons s text output) ≡ some (reasonAt 23 i)
+        pub other-line : (i : ℕ) → firstMalformed 0 (linesOf text) ≡ At i → firstOf (readReasons s text output) ≡ some (reasonAt 23 i)
         unfolding found unless foundAt firstOf
         other-line i d = read-by true true true (At i) _ _ a (le-leb (s .candidates) (length (linesOf text)) b) (le-leb (length (linesOf text)) 1048576 c) d refl refl
 
-        module _ (d : firstOther 0 (linesOf text) ≡ Nowhere) where
+        module _ (d : firstMalformed 0 (linesOf text) ≡ Nowhere) where
           pub bad-gate : (g : ℕ) → firstBad (ballotBytes s) 0 (gatesIn (linesOf text)) ≡ At g → firstOf (readReasons s text output) ≡ some (reasonAt 3 g)
           unfolding found unless foundAt firstOf
           bad-gate g e = read-by true true true Nowhere (At g) _ a (le-leb (s .candidates) (length (linesOf text)) b) (le-leb (length (linesOf text)) 1048576 c) d e refl
@@ -113,11 +113,11 @@ module _ (s : Shape) (text output : List ℕ) where
             unfolding found unless foundAt firstOf
             numbers-good h = read-by true true true Nowhere Nowhere true a (le-leb (s .candidates) (length (linesOf text)) b) (le-leb (length (linesOf text)) 1048576 c) d e (le-leb (4 * length (linesOf text)) (length output) h)
 
-  pub read-refused : (r : Reason) → firstOf (readReasons s text output) ≡ some r → (refused r ≡ readSaid s text output) × (output ≡ numbersRead s text output)
-  unfolding readSaid numbersRead said outputAfter
+  pub read-refused : (r : Reason) → firstOf (readReasons s text output) ≡ some r → (refused r ≡ readOutcome s text output) × (output ≡ numbersRead s text output)
+  unfolding readOutcome numbersRead outcome outputAfter
   read-refused r e = (rw e, rw e)
 
   pub read-accepted : firstOf (readReasons s text output) ≡ none
-      → (accepted (4 * length (linesOf text)) ≡ readSaid s text output) × (numbersOf (gatesIn (linesOf text)) ++ drop (length (numbersOf (gatesIn (linesOf text)))) output ≡ numbersRead s text output)
-  unfolding readSaid numbersRead said outputAfter
+      → (accepted (4 * length (linesOf text)) ≡ readOutcome s text output) × (numbersOf (gatesIn (linesOf text)) ++ drop (length (numbersOf (gatesIn (linesOf text)))) output ≡ numbersRead s text output)
+  unfolding readOutcome numbersRead outcome outputAfter
   read-accepted e = (rw e, rw e)

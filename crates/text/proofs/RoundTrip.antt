@@ -7,33 +7,35 @@ use mathlib.Core.List.{List, [], _∷_, _++_}
 use Prim.Native.Nat.{ℕ, _+_, _*_, _≤_}
 use native.Mathlib.Nat.{add-zero}
 use native.Mathlib.Omega.{arith}
-use lib.Dec.{T, leb}
+use lib.Dec.{leb}
 use lib.ListN.{length, take, drop, length-append, length-drop}
 use lib.Seq.{take-at}
 use borrow.Author.Tests.{leb-true}
-use Rattle.gates.specs.Gate.{Gate, gatesOf, numbersOf}
+use Rattle.gates.specs.Gate.{gatesOf, numbersOf}
 use Rattle.gates.specs.Board.{conditionalCount}
-use Rattle.gates.specs.Test.{firstBad, tested}
+use Rattle.gates.specs.Test.{firstBad}
 use Rattle.gates.specs.declared.place.Place.{Place}
 use Rattle.gates.specs.declared.place.Place.the-variants.{At, Nowhere}
-use Rattle.gates.specs.declared.list.Tested.the-variants.{Accepted}
 use Rattle.gates.proofs.Laws.{AllGood, all-good, read-whole, length-numbers}
 use Rattle.gates.proofs.Accepting.{good-list-accepted}
 use Rattle.gates.proofs.Evaluating.{accepted-list}
 use Rattle.gates.proofs.Reading.{whole-table}
 use Rattle.jury.specs.declared.shape.Shape.{Shape}
 use Rattle.jury.specs.Shape.{withinLimits, ballotBytes}
-use Rattle.jury.specs.Reason.{Reason, reasonAt, unless, foundAt, firstOf}
+use Rattle.jury.specs.Reason.{Reason, unless, foundAt, firstOf}
 use Rattle.jury.proofs.Limits.{bounds, inputs-bound}
-use Rattle.tally.specs.Answer.{refused, accepted, said, hasNumberIn, Size, sizeOf}
-use Rattle.tally.specs.Test.{testReasons, testSaid}
+use Rattle.tally.specs.Answer.{accepted, outcome, sizeOf}
+use Rattle.tally.specs.Test.{testReasons, testOutcome}
 use Rattle.tally.proofs.TestReasons.{orElse, first-append, test-passed, test-passed-back}
-use Rattle.tally.proofs.Numbering.{All, first-fine, both, unless-fine, found-fine, list-fine, said-fine, refused-fine}
-use Rattle.text.specs.Text.{textOf, linesOf, firstOther, gatesIn}
-use Rattle.text.specs.Write.{textReasons, textSaid, outputAfter, textWritten}
-use Rattle.text.specs.Read.{readReasons, readSaid, numbersRead}
-use Rattle.text.specs.RoundTrip.{RoundTrip, TextMemory}
-use Rattle.text.proofs.Reasons.{said-refused, said-accepted, text-good, text-refused, text-accepted, numbers-good, read-refused, read-accepted}
+use Rattle.tally.specs.Memory.{Each}
+use Rattle.tally.proofs.RunReasons.{outcome-refused}
+use Rattle.text.proofs.Numbering.{text-number, read-number}
+use Rattle.text.specs.Text.{textOf, linesOf, firstMalformed, gatesIn}
+use Rattle.text.specs.Write.{textReasons, textOutcome, textWritten}
+use Rattle.text.specs.Read.{readReasons, readOutcome, numbersRead}
+use Rattle.text.specs.RoundTrip.{RoundTrip}
+use Rattle.text.specs.Demands.{TextMemory}
+use Rattle.text.proofs.Reasons.{outcome-accepted, text-good, text-refused, text-accepted, numbers-good, read-refused, read-accepted}
 use Rattle.text.proofs.Whole.{gates-many, text-is, all-writable, text-lines}
 
 impossible : {P : Type 0} (r : Reason) → some r ≡ none → P
@@ -48,8 +50,8 @@ test-none s table output e = by (firstOf (testReasons s table)) (sym (first-appe
     by none e = refl
     by (some r) e = impossible r e
 
-test-accepted : (s : Shape) (table : List ℕ) → firstOf (testReasons s table) ≡ none → testSaid s table ≡ accepted (sizeOf (gatesOf table))
-unfolding testSaid said
+test-accepted : (s : Shape) (table : List ℕ) → firstOf (testReasons s table) ≡ none → testOutcome s table ≡ accepted (sizeOf (gatesOf table))
+unfolding testOutcome outcome
 test-accepted s table e = rw e
 
 -- what an accepted reading establishes
@@ -57,18 +59,18 @@ record ReadPassed (s : Shape) (text output : List ℕ) : Type 0 where
   limits : withinLimits s ≡ true
   enough : s .candidates ≤ length (linesOf text)
   few : length (linesOf text) ≤ 1048576
-  all-gates : firstOther 0 (linesOf text) ≡ Nowhere
+  all-gates : firstMalformed 0 (linesOf text) ≡ Nowhere
   good : firstBad (ballotBytes s) 0 (gatesIn (linesOf text)) ≡ Nowhere
 
 read-passed : (s : Shape) (text output : List ℕ) → firstOf (readReasons s text output) ≡ none → ReadPassed s text output
 unfolding readReasons firstOf unless foundAt
 read-passed s text output e =
-    by (withinLimits s) (leb (s .candidates) (length (linesOf text))) (leb (length (linesOf text)) 1048576) (firstOther 0 (linesOf text)) (firstBad (ballotBytes s) 0 (gatesIn (linesOf text))) refl refl refl refl refl e
+    by (withinLimits s) (leb (s .candidates) (length (linesOf text))) (leb (length (linesOf text)) 1048576) (firstMalformed 0 (linesOf text)) (firstBad (ballotBytes s) 0 (gatesIn (linesOf text))) refl refl refl refl refl e
   where
     room : Option Reason
     room = unless (leb (4 * length (linesOf text)) (length output)) 24
 
-    by : (w k m : Bool) (p q : Place) → withinLimits s ≡ w → leb (s .candidates) (length (linesOf text)) ≡ k → leb (length (linesOf text)) 1048576 ≡ m → firstOther 0 (linesOf text) ≡ p
+    by : (w k m : Bool) (p q : Place) → withinLimits s ≡ w → leb (s .candidates) (length (linesOf text)) ≡ k → leb (length (linesOf text)) 1048576 ≡ m → firstMalformed 0 (linesOf text) ≡ p
         → firstBad (ballotBytes s) 0 (gatesIn (linesOf text)) ≡ q → firstOf (unless w 1 ∷ unless (k && m) 2 ∷ foundAt 23 p ∷ foundAt 3 q ∷ room ∷ []) ≡ none → ReadPassed s text output
     by true true true Nowhere Nowhere a b c d f e = record { limits = a; enough = leb-true (s .candidates) (length (linesOf text)) b; few = leb-true (length (linesOf text)) 1048576 c; all-gates = d; good = f }
     by true true true Nowhere (At g) a b c d f e = impossible _ e
@@ -77,14 +79,14 @@ read-passed s text output e =
     by true false m p q a b c d f e = impossible _ e
     by false k m p q a b c d f e = impossible _ e
 
-back : (s : Shape) (table output numbers : List ℕ) (n : ℕ) → textSaid s table output ≡ accepted n → length table ≤ length numbers
-    → (readSaid s (take n (textWritten s table output)) numbers ≡ accepted (length table))
+back : (s : Shape) (table output numbers : List ℕ) (n : ℕ) → textOutcome s table output ≡ accepted n → length table ≤ length numbers
+    → (readOutcome s (take n (textWritten s table output)) numbers ≡ accepted (length table))
     × (numbersRead s (take n (textWritten s table output)) numbers ≡ table ++ drop (length table) numbers)
-unfolding textSaid
+unfolding textOutcome
 back s table output numbers n e room =
     let gs = gatesOf table in
     let text = textOf gs in
-    let p = said-accepted (firstOf (textReasons s table output)) (length text) n e in
+    let p = outcome-accepted (firstOf (textReasons s table output)) (length text) n e in
     let t = test-passed s table (sizeOf gs) (test-accepted s table (test-none s table output (p .0))) in
     let f = accepted-list (ballotBytes s) (s .candidates) table _ _ (t .tests) in
     let bound : ballotBytes s ≤ 16320 = inputs-bound s (bounds s (t .within)) in
@@ -96,18 +98,18 @@ back s table output numbers n e room =
     let none-applies = numbers-good s text numbers (t .within) (omega (arith, f .enough, l .as-many)) (omega (arith, f .few, l .as-many)) (l .all-gates 0) (ap (firstBad (ballotBytes s) 0) (l .read-back) ∙ f .good) (omega arith) in
     let r = read-accepted s text numbers none-applies in
     let same : numbersOf (gatesIn (linesOf text)) ≡ table = ap numbersOf (l .read-back) ∙ whole in (
-      ap (λ (x : List ℕ). readSaid s x numbers) written ∙ sym (r .0) ∙ ap (λ (k : ℕ). accepted k) long,
+      ap (λ (x : List ℕ). readOutcome s x numbers) written ∙ sym (r .0) ∙ ap (λ (k : ℕ). accepted k) long,
       ap (λ (x : List ℕ). numbersRead s x numbers) written ∙ sym (r .1) ∙ ap (λ (x : List ℕ). x ++ drop (length x) numbers) same,
     )
 
-forth : (s : Shape) (text numbers output : List ℕ) (n : ℕ) → readSaid s text numbers ≡ accepted n → length text ≤ length output
-    → (textSaid s (take n (numbersRead s text numbers)) output ≡ accepted (length text))
+forth : (s : Shape) (text numbers output : List ℕ) (n : ℕ) → readOutcome s text numbers ≡ accepted n → length text ≤ length output
+    → (textOutcome s (take n (numbersRead s text numbers)) output ≡ accepted (length text))
     × (textWritten s (take n (numbersRead s text numbers)) output ≡ text ++ drop (length text) output)
-unfolding readSaid
+unfolding readOutcome
 forth s text numbers output n e room =
     let gs = gatesIn (linesOf text) in
     let ns = numbersOf gs in
-    let p = said-accepted (firstOf (readReasons s text numbers)) (4 * length (linesOf text)) n e in
+    let p = outcome-accepted (firstOf (readReasons s text numbers)) (4 * length (linesOf text)) n e in
     let f = read-passed s text numbers (p .0) in
     let many = gates-many (linesOf text) 0 (f .all-gates) in
     let long : length ns ≡ n = omega (arith, length-numbers gs, many, p .1) in
@@ -117,7 +119,7 @@ forth s text numbers output n e room =
     let passes = test-passed-back s ns (f .limits) (length gs) (conditionalCount gs) ok in
     let same : textOf (gatesOf ns) ≡ text = ap textOf (read-whole gs) ∙ sym (text-is text (f .all-gates)) in
     let w = text-accepted s ns output (text-good s ns output passes (omega (arith, ap length same))) in (
-      ap (λ (x : List ℕ). textSaid s x output) read ∙ sym (w .0) ∙ ap (λ (x : List ℕ). accepted (length x)) same,
+      ap (λ (x : List ℕ). textOutcome s x output) read ∙ sym (w .0) ∙ ap (λ (x : List ℕ). accepted (length x)) same,
       ap (λ (x : List ℕ). textWritten s x output) read ∙ sym (w .1) ∙ ap (λ (x : List ℕ). x ++ drop (length x) output) same,
     )
 
@@ -146,7 +148,7 @@ text-length s table output = by (firstOf (textReasons s table output)) refl
 read-room : (s : Shape) (text output : List ℕ) → firstOf (readReasons s text output) ≡ none → 4 * length (linesOf text) ≤ length output
 unfolding readReasons firstOf unless foundAt
 read-room s text output e =
-    by (withinLimits s) (leb (s .candidates) (length (linesOf text)) && leb (length (linesOf text)) 1048576) (firstOther 0 (linesOf text)) (firstBad (ballotBytes s) 0 (gatesIn (linesOf text))) (leb (4 * length (linesOf text)) (length output)) refl e
+    by (withinLimits s) (leb (s .candidates) (length (linesOf text)) && leb (length (linesOf text)) 1048576) (firstMalformed 0 (linesOf text)) (firstBad (ballotBytes s) 0 (gatesIn (linesOf text))) (leb (4 * length (linesOf text)) (length output)) refl e
   where
     by : (w k : Bool) (p q : Place) (t : Bool) → leb (4 * length (linesOf text)) (length output) ≡ t → firstOf (unless w 1 ∷ unless k 2 ∷ foundAt 23 p ∷ foundAt 3 q ∷ unless t 24 ∷ []) ≡ none → 4 * length (linesOf text) ≤ length output
     by true true Nowhere Nowhere true f e = leb-true (4 * length (linesOf text)) (length output) f
@@ -167,33 +169,22 @@ read-length s text output = by (firstOf (readReasons s text output)) refl
         ∙ same-length (numbersOf (gatesIn (linesOf text))) output (omega (arith, length-numbers (gatesIn (linesOf text)), many, read-room s text output e))
     by (some r) e = ap length (sym (read-refused s text output r e .1))
 
--- the numbers of the tests of either call
-write-number : (s : Shape) (table output : List ℕ) (r : Reason) → textSaid s table output ≡ refused r → T (hasNumberIn (1 ∷ 2 ∷ 3 ∷ 24 ∷ []) r)
-unfolding textSaid textReasons testReasons All hasNumberIn reasonAt
-write-number s table output r e =
-    let ns : List ℕ = 1 ∷ 2 ∷ 3 ∷ 24 ∷ [] in
-    refused-fine ns (textSaid s table output) r
-    (said-fine ns _ _
-    (first-fine ns (textReasons s table output)
-    (both ns (testReasons s table) (unless (leb (length (textOf (gatesOf table))) (length output)) 24 ∷ []) (unless-fine ns _ 1 tt, (list-fine ns _ tt (λ g. tt), tt)) (unless-fine ns _ 24 tt, tt)))) e
-
-read-number : (s : Shape) (text output : List ℕ) (r : Reason) → readSaid s text output ≡ refused r → T (hasNumberIn (1 ∷ 2 ∷ 23 ∷ 3 ∷ 24 ∷ []) r)
-unfolding readSaid readReasons All hasNumberIn reasonAt
-read-number s text output r e =
-    let ns : List ℕ = 1 ∷ 2 ∷ 23 ∷ 3 ∷ 24 ∷ [] in
-    refused-fine ns (readSaid s text output) r
-    (said-fine ns _ _
-    (first-fine ns (readReasons s text output)
-    (unless-fine ns _ 1 tt, (unless-fine ns _ 2 tt, (found-fine ns 23 _ (λ i. tt), (found-fine ns 3 _ (λ g. tt), (unless-fine ns _ 24 tt, tt))))))) e
-
 pub text-memory : TextMemory
-unfolding textSaid readSaid
+unfolding textOutcome readOutcome Each
 text-memory =
     record {
-      write-number = write-number;
-      read-number = read-number;
-      write-refused = λ s table output r e. sym (text-refused s table output r (said-refused (firstOf (textReasons s table output)) (length (textOf (gatesOf table))) r e) .1);
-      write-length = text-length;
-      read-refused = λ s text output r e. sym (read-refused s text output r (said-refused (firstOf (readReasons s text output)) (4 * length (linesOf text)) r e) .1);
-      read-length = read-length;
+      write = λ s table output. record {
+        number = text-number s table output;
+        refusal = λ r e.
+            (sym (text-refused s table output r (outcome-refused (firstOf (textReasons s table output)) (length (textOf (gatesOf table))) r e) .1), tt);
+        empties = λ length e. tt;
+        lengths = (text-length s table output, tt);
+      };
+      read = λ s text output. record {
+        number = read-number s text output;
+        refusal = λ r e.
+            (sym (read-refused s text output r (outcome-refused (firstOf (readReasons s text output)) (4 * length (linesOf text)) r e) .1), tt);
+        empties = λ length e. tt;
+        lengths = (read-length s text output, tt);
+      };
     }

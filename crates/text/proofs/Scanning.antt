@@ -4,8 +4,7 @@ use mathlib.Core.Path.{_≡_, _∙_, refl, sym, ap, subst}
 use mathlib.Core.Bool.{Bool, true, false, cond, _&&_}
 use mathlib.Core.Option.{Option, none, some}
 use mathlib.Core.List.{List, [], _∷_}
-use Prim.Native.Nat.{ℕ, zero, suc, _+_, _-_, _≤_, _<_}
-use native.Mathlib.Nat.{add-zero}
+use Prim.Native.Nat.{ℕ, suc, _+_, _-_, _≤_, _<_}
 use native.Mathlib.Omega.{arith}
 use lib.Dec.{ltb, eqb}
 use lib.ListN.{length, getD, drop, length-drop, drop-of-length-le}
@@ -16,12 +15,12 @@ use Rattle.gates.specs.Test.{goodGate, firstBad}
 use Rattle.gates.specs.declared.place.Place.{Place}
 use Rattle.gates.specs.declared.place.Place.the-variants.{At, Nowhere}
 use Rattle.gates.proofs.Reading.{first-bad-nil, first-bad-cons, good-by}
-use Rattle.lines.specs.Decimal.{taken}
-use Rattle.lines.specs.Line.{gateIn, gateOf}
-use Rattle.text.specs.Text.{inFront, linesOf, otherAt, firstOther, gatesIn}
-use Rattle.lines.specs.Inner.{lineFound, LineWithin}
-use Rattle.lines.specs.declared.line.Line.{Line}
-use Rattle.lines.specs.declared.line.Line.the-variants as line
+use Rattle.text_lines.specs.Decimal.{taken}
+use Rattle.text_lines.specs.Line.{gateIn, gateOf}
+use Rattle.text.specs.Text.{inFront, linesOf, malformedAt, firstMalformed, gatesIn}
+use Rattle.text_lines.specs.inner.Found.{lineFound, LineWithin}
+use Rattle.text_lines.specs.declared.line.Line.{Line}
+use Rattle.text_lines.specs.declared.line.Line.the-variants as line
 use Rattle.text.proofs.TextLaws.{gate-first, other-first, other-here, other-later, gates-cons, first-line}
 
 -- the numbers of a gate as one
@@ -42,7 +41,7 @@ module _ (text : List ℕ) (at : ℕ) (r : Line) (e : lineFound text r ≡ gateI
         let f = gate-first (drop at text) (record { value = gate kind a b c; behind = drop next text }) gate-here .shorter in
         omega (arith, length-drop next text, length-drop at text, next-within)
 
-    pub later-other : (i : ℕ) → firstOther i (linesOf (drop at text)) ≡ firstOther (suc i) (linesOf (drop next text))
+    pub later-other : (i : ℕ) → firstMalformed i (linesOf (drop at text)) ≡ firstMalformed (suc i) (linesOf (drop next text))
     later-other i = other-later i (drop at text) (record { value = gate kind a b c; behind = drop next text }) gate-here
 
     pub later-gates : gatesIn (linesOf (drop at text)) ≡ gate kind a b c ∷ gatesIn (linesOf (drop next text))
@@ -68,17 +67,17 @@ module _ (text : List ℕ) (at : ℕ) (r : Line) (e : lineFound text r ≡ gateI
         ap (firstBad inputs i) later-gates ∙ first-bad-cons inputs i (gate kind a b c) (gatesIn (linesOf (drop next text)))
         ∙ ap (λ (t : Bool). cond t (firstBad inputs (suc i) (gatesIn (linesOf (drop next text)))) (At i)) (sym bad)
 
-  pub here-other : r ≡ line.Other → at < length text → (i : ℕ) → firstOther i (linesOf (drop at text)) ≡ At i
+  pub here-other : r ≡ line.Malformed → at < length text → (i : ℕ) → firstMalformed i (linesOf (drop at text)) ≡ At i
   unfolding lineFound
   here-other p h i =
       let q : drop at text ≡ getD text at 0 ∷ drop (suc at) text = drop-cons text at 0 h in
       let n : gateIn (getD text at 0 ∷ drop (suc at) text) ≡ none = ap gateIn (sym q) ∙ sym (sym (ap (lineFound text) p) ∙ e) in
-      ap (λ (l : List ℕ). firstOther i (linesOf l)) q ∙ other-here i (getD text at 0 ∷ drop (suc at) text) (other-first (getD text at 0) (drop (suc at) text) n)
+      ap (λ (l : List ℕ). firstMalformed i (linesOf l)) q ∙ other-here i (getD text at 0 ∷ drop (suc at) text) (other-first (getD text at 0) (drop (suc at) text) n)
 
 -- past the last character
 module _ (text : List ℕ) (at : ℕ) (h : length text ≤ at) where
-  pub other-end : (i : ℕ) → firstOther i (linesOf (drop at text)) ≡ Nowhere
-  unfolding firstOther linesOf
+  pub other-end : (i : ℕ) → firstMalformed i (linesOf (drop at text)) ≡ Nowhere
+  unfolding firstMalformed linesOf
   other-end i = rw (drop-of-length-le text {i = at} h)
 
   pub gates-end : gatesIn (linesOf (drop at text)) ≡ []
@@ -93,12 +92,12 @@ pub not-both : {P : Type 0} (o : Place) (i : ℕ) → o ≡ At i → o ≡ Nowhe
 not-both o i p q = let z : _≡_ {A = ℕ} 0 1 = cc in absurd (omega arith)
 
 -- no line is another, from whatever number the lines are counted
-pub nowhere-any : (ls : List (List ℕ)) (i j : ℕ) → firstOther i ls ≡ Nowhere → firstOther j ls ≡ Nowhere
-unfolding firstOther otherAt
+pub nowhere-any : (ls : List (List ℕ)) (i j : ℕ) → firstMalformed i ls ≡ Nowhere → firstMalformed j ls ≡ Nowhere
+unfolding firstMalformed malformedAt
 nowhere-any [] i j e = refl
 nowhere-any (l ∷ ls) i j e = by (gateOf l) e (nowhere-any ls (suc i) (suc j))
   where
-    by : (o : Option Gate) → otherAt o i (firstOther (suc i) ls) ≡ Nowhere → (firstOther (suc i) ls ≡ Nowhere → firstOther (suc j) ls ≡ Nowhere) → otherAt o j (firstOther (suc j) ls) ≡ Nowhere
+    by : (o : Option Gate) → malformedAt o i (firstMalformed (suc i) ls) ≡ Nowhere → (firstMalformed (suc i) ls ≡ Nowhere → firstMalformed (suc j) ls ≡ Nowhere) → malformedAt o j (firstMalformed (suc j) ls) ≡ Nowhere
     by none e ih = let z : _≡_ {A = ℕ} 0 1 = cc in absurd (omega arith)
     by (some g) e ih = ih e
 

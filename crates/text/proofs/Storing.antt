@@ -11,7 +11,7 @@ use lib.Seq.{sets, sets-eq}
 use Rattle.gates.specs.Gate.{Gate, gatesOf}
 use Rattle.gates.proofs.Table.{gates-from}
 use Rattle.gates.proofs.Reading.{gate-numbers}
-use Rattle.lines.specs.Line.{lineOf}
+use Rattle.text_lines.specs.Line.{lineOf}
 use Rattle.text.specs.Text.{textOf}
 
 -- four numbers one after the other

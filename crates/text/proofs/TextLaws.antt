@@ -1,22 +1,21 @@
 -- A text and its lines: where a gate stands at the start, it is the first line; where none does, the first line is no gate.
 -- Assumes nothing.
-use mathlib.Core.Path.{_≡_, _∙_, refl, sym, ap, subst}
+use mathlib.Core.Path.{_≡_, _∙_, refl, sym, ap}
 use mathlib.Core.Bool.{Bool, true, false, cond}
-use mathlib.Core.Option.{Option, none, some, Option·some-injective, Option·none-ne-some}
-use mathlib.Core.List.{List, [], _∷_, _++_, append-assoc, append-nil, flatten}
-use Prim.Native.Nat.{ℕ, zero, suc, _+_, _/_, _%_, _≤_, _<_}
+use mathlib.Core.Option.{Option, none, some, Option·none-ne-some}
+use mathlib.Core.List.{List, [], _∷_, _++_, append-assoc, flatten}
+use Prim.Native.Nat.{ℕ, zero, suc, _+_, _/_, _%_, _<_}
 use native.Mathlib.Omega.{arith}
 use lib.Dec.{ltb, eqb}
 use lib.ListN.{length, length-append}
 use borrow.Author.Tests.{ne-eqb}
 use Rattle.gates.specs.Kind.{operandsOf}
 use Rattle.gates.specs.Gate.{Gate}
-use Rattle.gates.specs.declared.place.Place.{Place}
-use Rattle.gates.specs.declared.place.Place.the-variants.{At, Nowhere}
-use Rattle.lines.specs.Decimal.{decimalWithin, decimal, Taken, taken}
-use Rattle.lines.specs.Line.{operandText, lineOf, gateIn, gateOf}
-use Rattle.text.specs.Text.{textOf, inFront, linesOf, otherAt, firstOther, gateBefore, gatesIn}
-use Rattle.lines.proofs.LineLaws.{Writable, read-line, wrote-line, line-read, line-wrote}
+use Rattle.gates.specs.declared.place.Place.the-variants.{At}
+use Rattle.text_lines.specs.Decimal.{decimalWithin, decimal, Taken}
+use Rattle.text_lines.specs.Line.{operandText, lineOf, gateIn, gateOf}
+use Rattle.text.specs.Text.{inFront, linesOf, malformedAt, firstMalformed, gateBefore, gatesIn}
+use Rattle.text_lines.proofs.LineLaws.{Writable, read-line, wrote-line, line-read, line-wrote}
 
 -- no line feed among these characters
 abbrev NoFeed : List ℕ → Type 0
@@ -156,13 +155,13 @@ other-first c cs e = by (gateOf (f .line)) refl
         absurd (Option·none-ne-some (record { value = g; behind = flatten (f .later) }) (sym e ∙ ap gateIn whole ∙ read-line g (flatten (f .later)) (w .0)))
 
 -- The first line that is no gate, and the gates, line by line.
-pub other-here : (i : ℕ) (cs : List ℕ) (o : OtherFirst cs) → firstOther i (linesOf cs) ≡ At i
-unfolding firstOther otherAt
-other-here i cs o = ap (firstOther i) (o .lines) ∙ rw (o .reads)
+pub other-here : (i : ℕ) (cs : List ℕ) (o : OtherFirst cs) → firstMalformed i (linesOf cs) ≡ At i
+unfolding firstMalformed malformedAt
+other-here i cs o = ap (firstMalformed i) (o .lines) ∙ rw (o .reads)
 
-pub other-later : (i : ℕ) (cs : List ℕ) (t : Taken Gate) → gateIn cs ≡ some t → firstOther i (linesOf cs) ≡ firstOther (suc i) (linesOf (t .behind))
-unfolding firstOther otherAt
-other-later i cs t e = let f = gate-first cs t e in ap (firstOther i) (f .lines) ∙ rw (f .reads)
+pub other-later : (i : ℕ) (cs : List ℕ) (t : Taken Gate) → gateIn cs ≡ some t → firstMalformed i (linesOf cs) ≡ firstMalformed (suc i) (linesOf (t .behind))
+unfolding firstMalformed malformedAt
+other-later i cs t e = let f = gate-first cs t e in ap (firstMalformed i) (f .lines) ∙ rw (f .reads)
 
 pub gates-cons : (cs : List ℕ) (t : Taken Gate) → gateIn cs ≡ some t → gatesIn (linesOf cs) ≡ t .value ∷ gatesIn (linesOf (t .behind))
 unfolding gatesIn gateBefore

@@ -1,7 +1,6 @@
 -- Whole texts: the text of writable gates has their lines, and lines that are all gates are the text of those gates.
 -- Assumes nothing.
 use mathlib.Core.Path.{_≡_, _∙_, refl, sym, ap}
-use mathlib.Core.Bool.{Bool, true, false}
 use mathlib.Core.Option.{Option, none, some}
 use mathlib.Core.List.{List, [], _∷_, _++_, flatten}
 use Prim.Native.Nat.{ℕ, suc, _+_, _≤_}
@@ -14,31 +13,31 @@ use Rattle.gates.specs.declared.place.Place.the-variants.{Nowhere}
 use Rattle.gates.proofs.Laws.{AllGood}
 use Rattle.gates.proofs.Goodness.{good-gate}
 use Rattle.gates.proofs.Reading.{good-unused}
-use Rattle.lines.specs.Line.{lineOf, gateOf}
-use Rattle.text.specs.Text.{textOf, linesOf, otherAt, firstOther, gateBefore, gatesIn}
-use Rattle.lines.proofs.LineLaws.{Writable, line-read, line-wrote}
+use Rattle.text_lines.specs.Line.{lineOf, gateOf}
+use Rattle.text.specs.Text.{textOf, linesOf, malformedAt, firstMalformed, gateBefore, gatesIn}
+use Rattle.text_lines.proofs.LineLaws.{Writable, line-read, line-wrote}
 use Rattle.text.proofs.TextLaws.{lines-cons, flatten-lines}
 
 -- lines that are all gates: as many gates as lines, and the lines are those gates' text
-pub gates-many : (ls : List (List ℕ)) (i : ℕ) → firstOther i ls ≡ Nowhere → length (gatesIn ls) ≡ length ls
-unfolding firstOther otherAt gatesIn gateBefore
+pub gates-many : (ls : List (List ℕ)) (i : ℕ) → firstMalformed i ls ≡ Nowhere → length (gatesIn ls) ≡ length ls
+unfolding firstMalformed malformedAt gatesIn gateBefore
 gates-many [] i e = refl
 gates-many (l ∷ ls) i e = by (gateOf l) e (gates-many ls (suc i))
   where
-    by : (o : Option Gate) → otherAt o i (firstOther (suc i) ls) ≡ Nowhere → (firstOther (suc i) ls ≡ Nowhere → length (gatesIn ls) ≡ length ls) → length (gateBefore o (gatesIn ls)) ≡ suc (length ls)
+    by : (o : Option Gate) → malformedAt o i (firstMalformed (suc i) ls) ≡ Nowhere → (firstMalformed (suc i) ls ≡ Nowhere → length (gatesIn ls) ≡ length ls) → length (gateBefore o (gatesIn ls)) ≡ suc (length ls)
     by none e ih = let z : _≡_ {A = ℕ} 0 1 = cc in absurd (omega arith)
     by (some g) e ih = ap suc (ih e)
 
-lines-text : (ls : List (List ℕ)) (i : ℕ) → firstOther i ls ≡ Nowhere → flatten ls ≡ textOf (gatesIn ls)
-unfolding firstOther otherAt gatesIn gateBefore textOf flatten
+lines-text : (ls : List (List ℕ)) (i : ℕ) → firstMalformed i ls ≡ Nowhere → flatten ls ≡ textOf (gatesIn ls)
+unfolding firstMalformed malformedAt gatesIn gateBefore textOf flatten
 lines-text [] i e = refl
 lines-text (l ∷ ls) i e = by (gateOf l) refl e (lines-text ls (suc i))
   where
-    by : (o : Option Gate) → gateOf l ≡ o → otherAt o i (firstOther (suc i) ls) ≡ Nowhere → (firstOther (suc i) ls ≡ Nowhere → flatten ls ≡ textOf (gatesIn ls)) → l ++ flatten ls ≡ textOf (gateBefore o (gatesIn ls))
+    by : (o : Option Gate) → gateOf l ≡ o → malformedAt o i (firstMalformed (suc i) ls) ≡ Nowhere → (firstMalformed (suc i) ls ≡ Nowhere → flatten ls ≡ textOf (gatesIn ls)) → l ++ flatten ls ≡ textOf (gateBefore o (gatesIn ls))
     by none p e ih = let z : _≡_ {A = ℕ} 0 1 = cc in absurd (omega arith)
     by (some g) p e ih = ap (λ (x : List ℕ). x ++ flatten ls) (line-wrote l g p .1) ∙ ap (λ (x : List ℕ). lineOf g ++ x) (ih e)
 
-pub text-is : (text : List ℕ) → firstOther 0 (linesOf text) ≡ Nowhere → text ≡ textOf (gatesIn (linesOf text))
+pub text-is : (text : List ℕ) → firstMalformed 0 (linesOf text) ≡ Nowhere → text ≡ textOf (gatesIn (linesOf text))
 text-is text e = sym (flatten-lines text) ∙ lines-text (linesOf text) 0 e
 
 -- gates that are good for wires below 2 ^ 32 are writable
@@ -63,19 +62,19 @@ all-writable own (g ∷ gs) few p = (good-writable own g (omega arith) (p .0), a
 
 -- the lines of the text of writable gates
 pub record TextLines (gs : List Gate) : Type 0 where
-  pub all-gates : (i : ℕ) → firstOther i (linesOf (textOf gs)) ≡ Nowhere
+  pub all-gates : (i : ℕ) → firstMalformed i (linesOf (textOf gs)) ≡ Nowhere
   pub read-back : gatesIn (linesOf (textOf gs)) ≡ gs
   pub as-many : length (linesOf (textOf gs)) ≡ length gs
 
 pub text-lines : (gs : List Gate) → AllWritable gs → TextLines gs
-unfolding textOf firstOther otherAt gatesIn gateBefore linesOf
+unfolding textOf firstMalformed malformedAt gatesIn gateBefore linesOf
 text-lines [] w = record { all-gates = λ i. refl; read-back = refl; as-many = refl }
 text-lines (g ∷ gs) w =
     let t = text-lines gs (w .1) in
     let e = lines-cons g (textOf gs) in
     let r = line-read g (w .0) in
     record {
-      all-gates = λ i. ap (firstOther i) e ∙ ap (λ (o : Option Gate). otherAt o i (firstOther (suc i) (linesOf (textOf gs)))) r ∙ t .all-gates (suc i);
+      all-gates = λ i. ap (firstMalformed i) e ∙ ap (λ (o : Option Gate). malformedAt o i (firstMalformed (suc i) (linesOf (textOf gs)))) r ∙ t .all-gates (suc i);
       read-back = ap gatesIn e ∙ ap (λ (o : Option Gate). gateBefore o (gatesIn (linesOf (textOf gs)))) r ∙ ap (λ (l : List Gate). g ∷ l) (t .read-back);
       as-many = ap length e ∙ ap suc (t .as-many);
     }

@@ -3,3 +3,5 @@ pub mod Answer
 pub mod Write
 pub mod Read
 pub mod RoundTrip
+pub mod Demands
+pub mod Examples

@@ -5,28 +5,34 @@ use mathlib.Core.List.{List, [], _∷_}
 use Prim.Native.Nat.{ℕ, _*_}
 use lib.Dec.{leb}
 use lib.ListN.{length}
-use Rattle.gates.specs.Gate.{Gate, numbersOf}
+use Rattle.gates.specs.Gate.{numbersOf}
 use Rattle.gates.specs.Test.{firstBad}
 use Rattle.jury.specs.declared.shape.Shape.{Shape}
 use Rattle.jury.specs.Shape.{withinLimits, ballotBytes}
 use Rattle.jury.specs.Reason.{Reason, unless, foundAt, firstOf}
-use Rattle.tally.specs.Answer.{Said, said}
-use Rattle.text.specs.Text.{linesOf, firstOther, gatesIn}
+use Rattle.tally.specs.Answer.{Outcome, outcome}
+use Rattle.text.specs.Answer.{TextResult}
+use Rattle.text.specs.Text.{linesOf, firstMalformed, gatesIn}
 use Rattle.text.specs.Write.{outputAfter}
 
--- The reasons in checking order: 1; 2, fewer lines than the k candidates or more than 1,048,576; 23, the first line that is no gate, over all lines; 3, the first gate that is not good; 24, an output of fewer than four numbers for each line.
+-- The reasons in checking order: 1; 2, fewer lines than the k candidates or more than 1,048,576; 23, the first line
+-- that is no gate, over all lines; 3, the first gate that is not good; 24, an output of fewer than four numbers a line.
 unfoldable pub readReasons : Shape → List ℕ → List ℕ → List (Option Reason)
 readReasons s text output =
     unless (withinLimits s) 1
     ∷ unless (leb (s .candidates) (length (linesOf text)) && leb (length (linesOf text)) 1048576) 2
-    ∷ foundAt 23 (firstOther 0 (linesOf text))
+    ∷ foundAt 23 (firstMalformed 0 (linesOf text))
     ∷ foundAt 3 (firstBad (ballotBytes s) 0 (gatesIn (linesOf text)))
     ∷ unless (leb (4 * length (linesOf text)) (length output)) 24
     ∷ []
 
 -- An accepted call answers how many numbers it wrote.
-unfoldable pub readSaid : Shape → List ℕ → List ℕ → Said ℕ
-readSaid s text output = said (firstOf (readReasons s text output)) (4 * length (linesOf text))
+unfoldable pub readOutcome : Shape → List ℕ → List ℕ → Outcome ℕ
+readOutcome s text output = outcome (firstOf (readReasons s text output)) (4 * length (linesOf text))
 
 unfoldable pub numbersRead : Shape → List ℕ → List ℕ → List ℕ
-numbersRead s text output = outputAfter (firstOf (readReasons s text output)) (numbersOf (gatesIn (linesOf text))) output
+numbersRead s text output =
+    outputAfter (firstOf (readReasons s text output)) (numbersOf (gatesIn (linesOf text))) output
+
+abbrev pub readTextResult : Shape → (text output : List ℕ) → TextResult
+readTextResult s text output = record { answer = readOutcome s text output; output = numbersRead s text output }

@@ -7,7 +7,7 @@ use lib.Dec.{eqb}
 use Rattle.gates.specs.Gate.{Gate}
 use Rattle.gates.specs.declared.place.Place.{Place}
 use Rattle.gates.specs.declared.place.Place.the-variants.{At, Nowhere}
-use Rattle.lines.specs.Line.{lineFeed, lineOf, gateOf}
+use Rattle.text_lines.specs.Line.{lineFeed, lineOf, gateOf}
 
 -- One line a gate.
 unfoldable pub textOf : List Gate → List ℕ
@@ -25,13 +25,13 @@ linesOf [] = []
 linesOf (c ∷ cs) = cond (eqb c lineFeed) ((c ∷ []) ∷ linesOf cs) (inFront c (linesOf cs))
 
 -- The first line that is no gate, the first line here being line i.
-unfoldable pub otherAt : Option Gate → ℕ → Place → Place
-otherAt none i later = At i
-otherAt (some g) i later = later
+unfoldable pub malformedAt : Option Gate → ℕ → Place → Place
+malformedAt none i later = At i
+malformedAt (some g) i later = later
 
-unfoldable pub firstOther : ℕ → List (List ℕ) → Place
-firstOther i [] = Nowhere
-firstOther i (line ∷ lines) = otherAt (gateOf line) i (firstOther (suc i) lines)
+unfoldable pub firstMalformed : ℕ → List (List ℕ) → Place
+firstMalformed i [] = Nowhere
+firstMalformed i (line ∷ lines) = malformedAt (gateOf line) i (firstMalformed (suc i) lines)
 
 -- The gates of those lines that are gates.
 unfoldable pub gateBefore : Option Gate → List Gate → List Gate

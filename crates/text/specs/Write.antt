@@ -7,17 +7,20 @@ use lib.ListN.{length, drop}
 use Rattle.gates.specs.Gate.{gatesOf}
 use Rattle.jury.specs.declared.shape.Shape.{Shape}
 use Rattle.jury.specs.Reason.{Reason, unless, firstOf}
-use Rattle.tally.specs.Answer.{Said, said}
+use Rattle.tally.specs.Answer.{Outcome, outcome}
 use Rattle.tally.specs.Test.{testReasons}
+use Rattle.text.specs.Answer.{TextResult}
 use Rattle.text.specs.Text.{textOf}
 
--- The reasons in checking order: 1, 2 and 3 as for the test of a list, then 24, an output that is too short for the text.
+-- The reasons in checking order: 1, 2 and 3 as for the test of a list, then 24, an output that is too short for the
+-- text.
 unfoldable pub textReasons : Shape → List ℕ → List ℕ → List (Option Reason)
-textReasons s table output = testReasons s table ++ unless (leb (length (textOf (gatesOf table))) (length output)) 24 ∷ []
+textReasons s table output =
+    testReasons s table ++ unless (leb (length (textOf (gatesOf table))) (length output)) 24 ∷ []
 
 -- An accepted call answers how many characters it wrote.
-unfoldable pub textSaid : Shape → List ℕ → List ℕ → Said ℕ
-textSaid s table output = said (firstOf (textReasons s table output)) (length (textOf (gatesOf table)))
+unfoldable pub textOutcome : Shape → List ℕ → List ℕ → Outcome ℕ
+textOutcome s table output = outcome (firstOf (textReasons s table output)) (length (textOf (gatesOf table)))
 
 -- An output afterwards: what was written and then what stood behind it, or all as it was on a refusal.
 unfoldable pub outputAfter : Option Reason → List ℕ → List ℕ → List ℕ
@@ -26,3 +29,6 @@ outputAfter none new output = new ++ drop (length new) output
 
 unfoldable pub textWritten : Shape → List ℕ → List ℕ → List ℕ
 textWritten s table output = outputAfter (firstOf (textReasons s table output)) (textOf (gatesOf table)) output
+
+abbrev pub writeTextResult : Shape → (table output : List ℕ) → TextResult
+writeTextResult s table output = record { answer = textOutcome s table output; output = textWritten s table output }

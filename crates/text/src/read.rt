@@ -7,13 +7,14 @@ use gates::place::Place;
 use jury::reason::Refusal;
 use jury::shape::Shape;
 ghost use mathlib.Core.Path.{_≡_};
-ghost use Rattle.text.specs.Answer.{lengthSaid};
-ghost use Rattle.text.specs.Read.{readSaid, numbersRead};
+ghost use Rattle.text.specs.Answer.{lengthOutcome};
+ghost use Rattle.text.specs.Read.{readTextResult};
 
 // Reads a text as a list for a jury of a shape: four numbers a line, an operand that is not in use being 0.
 pub fn read(shape: Shape, text: &[u8], output: &mut [u32]) -> Answer
-    ensures { λ r. ⌜ lengthSaid r ≡ readSaid shape (now (text .entry)) (now (output .entry)) ⌝ }
-    ensures { λ _. ⌜ now (output .exit) ≡ numbersRead shape (now (text .entry)) (now (output .entry)) ⌝ }
+    ensures { λ r.
+        ⌜ record { answer = lengthOutcome r; output = now (output .exit) }
+        ≡ readTextResult shape (now (text .entry)) (now (output .entry)) ⌝ }
 {
     if !shape.is_within_limits() {
         return Answer::Refused(TextRefusal::OfList(Refusal::Shape));
@@ -25,7 +26,7 @@ pub fn read(shape: Shape, text: &[u8], output: &mut [u32]) -> Answer
     if MOST_GATES < lines {
         return Answer::Refused(TextRefusal::OfList(Refusal::Table));
     }
-    if let Place::At(i) = scan::first_other(text) {
+    if let Place::At(i) = scan::first_malformed(text) {
         return Answer::Refused(TextRefusal::Line(i));
     }
     if let Place::At(g) = scan::first_bad(shape.ballot_bytes(), text) {

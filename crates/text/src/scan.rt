@@ -1,7 +1,8 @@
 // A text line by line: one pass for each test, and one that puts the numbers.
 use gates::place::Place;
-use lines::line;
-use lines::line::Line;
+use text_lines::line;
+use text_lines::line::LINE_FEED;
+use text_lines::line::Line;
 ghost use mathlib.Core.Path.{_≡_};
 ghost use Prim.Native.Nat.{_+_, _*_, _≤_, _<_};
 ghost use lib.ListN.{length};
@@ -11,9 +12,7 @@ ghost use lib.Dec.{ltb};
 ghost use mathlib.Core.Bool.{_&&_};
 ghost use Rattle.gates.specs.Test.{firstBad};
 ghost use Rattle.gates.specs.declared.place.Place.the-variants.{Nowhere};
-ghost use Rattle.text.specs.Text.{linesOf, firstOther, gatesIn};
-
-const LINE_FEED: u8 = 10;
+ghost use Rattle.text.specs.Text.{linesOf, firstMalformed, gatesIn};
 
 // How many lines a text has: its line feeds, and one more where characters stand behind the last of them.
 pub(crate) fn line_count(text: &[u8]) -> usize
@@ -38,8 +37,8 @@ pub(crate) fn line_count(text: &[u8]) -> usize
 }
 
 // The first line that is no gate.
-pub(crate) fn first_other(text: &[u8]) -> Place
-    ensures { λ r. ⌜ r ≡ firstOther 0 (linesOf (now (text .entry))) ⌝ }
+pub(crate) fn first_malformed(text: &[u8]) -> Place
+    ensures { λ r. ⌜ r ≡ firstMalformed 0 (linesOf (now (text .entry))) ⌝ }
 {
     let mut at = 0;
     let mut i = 0;
@@ -77,7 +76,7 @@ fn are_below(own: usize, a: u32, b: u32, c: u32) -> bool
 pub(crate) fn first_bad(inputs: usize, text: &[u8]) -> Place
     requires { ⌜ 0 < inputs ⌝ }
     requires { ⌜ inputs < 4294967296 ⌝ }
-    requires { ⌜ firstOther 0 (linesOf (now text)) ≡ Nowhere ⌝ }
+    requires { ⌜ firstMalformed 0 (linesOf (now text)) ≡ Nowhere ⌝ }
     ensures { λ r. ⌜ r ≡ firstBad inputs 0 (gatesIn (linesOf (now (text .entry)))) ⌝ }
 {
     let mut at = 0;
@@ -104,9 +103,11 @@ pub(crate) fn first_bad(inputs: usize, text: &[u8]) -> Place
 
 // Puts the numbers of a text whose lines are all gates.
 pub(crate) fn put_gates(text: &[u8], output: &mut [u32])
-    requires { ⌜ firstOther 0 (linesOf (now text)) ≡ Nowhere ⌝ }
+    requires { ⌜ firstMalformed 0 (linesOf (now text)) ≡ Nowhere ⌝ }
     requires { ⌜ 4 * length (linesOf (now text)) ≤ length (now output) ⌝ }
-    ensures { λ _. ⌜ now (output .exit) ≡ sets (now (output .entry)) 0 (numbersOf (gatesIn (linesOf (now (text .entry))))) ⌝ }
+    ensures { λ _.
+        ⌜ now (output .exit)
+        ≡ sets (now (output .entry)) 0 (numbersOf (gatesIn (linesOf (now (text .entry))))) ⌝ }
 {
     let mut at = 0;
     let mut i = 0;

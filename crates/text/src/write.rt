@@ -2,15 +2,15 @@
 use crate::answer::Answer;
 use crate::answer::TextRefusal;
 use jury::shape::Shape;
-use lines::print;
+use text_lines::print;
 ghost use mathlib.Core.Path.{_≡_};
 ghost use Prim.Native.Nat.{_≤_};
 ghost use lib.ListN.{length};
 ghost use lib.Seq.{sets};
 ghost use Rattle.gates.specs.Gate.{gatesOf};
 ghost use Rattle.text.specs.Text.{textOf};
-ghost use Rattle.text.specs.Answer.{lengthSaid};
-ghost use Rattle.text.specs.Write.{textSaid, textWritten};
+ghost use Rattle.text.specs.Answer.{lengthOutcome};
+ghost use Rattle.text.specs.Write.{writeTextResult};
 
 // How many characters the text of a table's gates takes.
 fn text_length(table: &[u32]) -> usize
@@ -52,8 +52,9 @@ fn put_text(table: &[u32], output: &mut [u8])
 
 // Writes the text of a list, whoever wrote the list, for a jury of a shape.
 pub fn write(shape: Shape, table: &[u32], output: &mut [u8]) -> Answer
-    ensures { λ r. ⌜ lengthSaid r ≡ textSaid shape (now (table .entry)) (now (output .entry)) ⌝ }
-    ensures { λ _. ⌜ now (output .exit) ≡ textWritten shape (now (table .entry)) (now (output .entry)) ⌝ }
+    ensures { λ r.
+        ⌜ record { answer = lengthOutcome r; output = now (output .exit) }
+        ≡ writeTextResult shape (now (table .entry)) (now (output .entry)) ⌝ }
 {
     let tested = tally::test::test(shape, table);
     if let tally::answer::Answer::Refused(reason) = tested {

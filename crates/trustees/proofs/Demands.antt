@@ -6,7 +6,7 @@ use mathlib.Core.List.{List, [], _∷_, _++_}
 use Prim.Native.Nat.{ℕ, _+_, _*_}
 use lib.Dec.{T}
 use lib.ListN.{length, replicate, length-replicate}
-use Rattle.gates.specs.Gate.{Gate, gatesOf}
+use Rattle.gates.specs.Gate.{gatesOf}
 use Rattle.jury.specs.declared.shape.Shape.{Shape}
 use Rattle.jury.specs.Shape.{isRanking}
 use Rattle.jury.specs.Reason.{Reason, reasonAt, firstOf}
@@ -14,14 +14,16 @@ use Rattle.jury.specs.Ballots.{ballotReasons}
 use Rattle.jury.specs.ClosingBytes.{eightBytes}
 use Rattle.tally.specs.Answer.{refused, accepted, hasNumberIn, Size, sizeOf}
 use Rattle.tally.specs.Test.{testReasons}
+use Rattle.tally.specs.Memory.{Each}
 use Rattle.tally.proofs.TestReasons.{never}
 use Rattle.tally.proofs.Numbering.{Fine, All, FineSaid, first-fine, both, unless-fine, found-fine, list-fine, kind-fine, refused-fine}
 use Rattle.tally.proofs.Writing as writing
-use Rattle.shares.specs.Views.{Dealing, publishedOf}
-use Rattle.shares.proofs.Tables.{length-joined}
-use Rattle.trustees.specs.Shared.{partReasons, Shared, sharedReasons, sharedAfter, shared}
+use Rattle.trustee_shares.proofs.Tables.{length-joined}
+use Rattle.trustees.specs.Call.{PartTables, Call, publishedIn}
+use Rattle.trustees.specs.Reasons.{partReasons, trusteesReasons}
+use Rattle.trustees.specs.Result.{TrusteesResult, trusteesResultAfter, trusteesResult}
 use Rattle.trustees.specs.Demands.{Memory, Demands}
-use Rattle.trustees.proofs.Reasons.{call-passed, shared-by}
+use Rattle.trustees.proofs.Reasons.{call-passed, result-by}
 use Rattle.trustees.proofs.Sums.{call-ready, published-long}
 use Rattle.trustees.proofs.Accuracy.{call-accepted, accuracy, own-list}
 use Rattle.trustees.proofs.Hiding.{views-tell-no-more}
@@ -38,79 +40,83 @@ ballots-all : (s : Shape) (xs : List ℕ) → All numbers (ballotReasons s xs)
 unfolding All ballotReasons hasNumberIn reasonAt numbers
 ballots-all s xs = (unless-fine numbers _ 4 tt, (found-fine numbers 5 _ (λ i. tt), kind-fine numbers s xs (isRanking s) (λ i. tt) (λ i. tt) (λ b. tt)))
 
-parts-all : (k : ℕ) (size : Size) (ballots : List ℕ) (t : ℕ) (d : Dealing) (wireParts published : List ℕ) → All numbers (partReasons k size ballots t d wireParts published)
+parts-all : (k : ℕ) (size : Size) (ballots : List ℕ) (t : ℕ) (lent : PartTables) → All numbers (partReasons k size ballots t lent)
 unfolding All partReasons hasNumberIn reasonAt numbers
-parts-all k size ballots t d wireParts published = (unless-fine numbers _ 16 tt, (unless-fine numbers _ 17 tt, (unless-fine numbers _ 18 tt, tt)))
+parts-all k size ballots t lent = (unless-fine numbers _ 16 tt, (unless-fine numbers _ 17 tt, (unless-fine numbers _ 18 tt, tt)))
 
-shared-fine : (o : Option Reason) (k : ℕ) (gs : List Gate) (ballots : List ℕ) (t : ℕ) (d : Dealing) (wireParts published : List ℕ) → Fine numbers o
-    → FineSaid numbers (sharedAfter o k gs ballots t d wireParts published .answer)
-unfolding Fine FineSaid sharedAfter
-shared-fine none k gs ballots t d wireParts published f = tt
-shared-fine (some r) k gs ballots t d wireParts published f = f
+result-fine : (o : Option Reason) (c : Call) → Fine numbers o → FineSaid numbers (trusteesResultAfter o c .answer)
+unfolding Fine FineSaid trusteesResultAfter
+result-fine none c f = tt
+result-fine (some r) c f = f
 
-module _ (s : Shape) (table ballots : List ℕ) (t : ℕ) (d : Dealing) (wireParts published : List ℕ) where
-  all-fine : All numbers (sharedReasons s table ballots t d wireParts published)
-  unfolding sharedReasons
+module _ (c : Call) where
+  all-fine : All numbers (trusteesReasons c)
+  unfolding trusteesReasons
   all-fine =
-      both numbers (testReasons s table ++ ballotReasons s ballots) (partReasons (s .candidates) (sizeOf (gatesOf table)) ballots t d wireParts published)
-      (both numbers (testReasons s table) (ballotReasons s ballots) (test-all s table) (ballots-all s ballots))
-      (parts-all (s .candidates) (sizeOf (gatesOf table)) ballots t d wireParts published)
+      both numbers (testReasons (c .shape) (c .table) ++ ballotReasons (c .shape) (c .ballots)) (partReasons (c .shape .candidates) (sizeOf (gatesOf (c .table))) (c .ballots) (c .trustees) (c .lent))
+      (both numbers (testReasons (c .shape) (c .table)) (ballotReasons (c .shape) (c .ballots)) (test-all (c .shape) (c .table)) (ballots-all (c .shape) (c .ballots)))
+      (parts-all (c .shape .candidates) (sizeOf (gatesOf (c .table))) (c .ballots) (c .trustees) (c .lent))
 
-  pub number : (r : Reason) → shared s table ballots t d wireParts published .answer ≡ refused r → T (hasNumberIn (1 ∷ 2 ∷ 3 ∷ 4 ∷ 5 ∷ 6 ∷ 11 ∷ 12 ∷ 16 ∷ 17 ∷ 18 ∷ []) r)
-  unfolding shared numbers
+  pub number : (r : Reason) → trusteesResult c .answer ≡ refused r → T (hasNumberIn (1 ∷ 2 ∷ 3 ∷ 4 ∷ 5 ∷ 6 ∷ 11 ∷ 12 ∷ 16 ∷ 17 ∷ 18 ∷ []) r)
+  unfolding trusteesResult numbers
   number r e =
-      refused-fine numbers (shared s table ballots t d wireParts published .answer) r
-      (shared-fine _ (s .candidates) (gatesOf table) ballots t d wireParts published (first-fine numbers (sharedReasons s table ballots t d wireParts published) all-fine)) e
+      refused-fine numbers (trusteesResult c .answer) r
+      (result-fine _ c (first-fine numbers (trusteesReasons c) all-fine)) e
 
-  whole : shared s table ballots t d wireParts published ≡ sharedAfter (firstOf (sharedReasons s table ballots t d wireParts published)) (s .candidates) (gatesOf table) ballots t d wireParts published
-  whole = shared-by s table ballots t d wireParts published (firstOf (sharedReasons s table ballots t d wireParts published)) refl
+  whole : trusteesResult c ≡ trusteesResultAfter (firstOf (trusteesReasons c)) c
+  whole = result-by c (firstOf (trusteesReasons c)) refl
 
-  after-refusal : (o : Option Reason) (r : Reason) → sharedAfter o (s .candidates) (gatesOf table) ballots t d wireParts published .answer ≡ refused r
-      → (sharedAfter o (s .candidates) (gatesOf table) ballots t d wireParts published .wireParts ≡ wireParts)
-      × (sharedAfter o (s .candidates) (gatesOf table) ballots t d wireParts published .published ≡ published)
-      × (sharedAfter o (s .candidates) (gatesOf table) ballots t d wireParts published .closing ≡ replicate 8 0)
-  unfolding sharedAfter eightBytes
-  after-refusal none r e = never (sizeOf (gatesOf table)) r (sym e)
+  after-refusal : (o : Option Reason) (r : Reason) → trusteesResultAfter o c .answer ≡ refused r
+      → (trusteesResultAfter o c .wireParts ≡ c .lent .wireParts)
+      × (trusteesResultAfter o c .published ≡ c .lent .published)
+      × (trusteesResultAfter o c .closing ≡ replicate 8 0)
+  unfolding trusteesResultAfter eightBytes
+  after-refusal none r e = never (sizeOf (gatesOf (c .table))) r (sym e)
   after-refusal (some q) r e = (refl, refl, refl)
 
-  refusal : (r : Reason) → shared s table ballots t d wireParts published .answer ≡ refused r
-      → (shared s table ballots t d wireParts published .wireParts ≡ wireParts) × (shared s table ballots t d wireParts published .published ≡ published)
-      × (shared s table ballots t d wireParts published .closing ≡ replicate 8 0)
+  refusal : (r : Reason) → trusteesResult c .answer ≡ refused r
+      → (trusteesResult c .wireParts ≡ c .lent .wireParts) × (trusteesResult c .published ≡ c .lent .published)
+      × (trusteesResult c .closing ≡ replicate 8 0)
   refusal r e =
-      let o = firstOf (sharedReasons s table ballots t d wireParts published) in
-      let q = after-refusal o r (sym (ap (λ (z : Shared). z .answer) whole) ∙ e) in
-      (ap (λ (z : Shared). z .wireParts) whole ∙ q .0, ap (λ (z : Shared). z .published) whole ∙ q .1, ap (λ (z : Shared). z .closing) whole ∙ q .2)
+      let o = firstOf (trusteesReasons c) in
+      let q = after-refusal o r (sym (ap (λ (z : TrusteesResult). z .answer) whole) ∙ e) in
+      (ap (λ (z : TrusteesResult). z .wireParts) whole ∙ q .0, ap (λ (z : TrusteesResult). z .published) whole ∙ q .1, ap (λ (z : TrusteesResult). z .closing) whole ∙ q .2)
 
-  empties : (size : Size) → shared s table ballots t d wireParts published .answer ≡ accepted size → shared s table ballots t d wireParts published .wireParts ≡ replicate (length wireParts) 0
-  unfolding sharedAfter
+  empties : (size : Size) → trusteesResult c .answer ≡ accepted size → trusteesResult c .wireParts ≡ replicate (length (c .lent .wireParts)) 0
+  unfolding trusteesResultAfter
   empties size e =
-      ap (λ (z : Shared). z .wireParts) (shared-by s table ballots t d wireParts published none (call-accepted s table ballots t d wireParts published size e .0))
+      ap (λ (z : TrusteesResult). z .wireParts) (result-by c none (call-accepted c size e .0))
 
   -- no call changes a length
-  lengths : (o : Option Reason) → firstOf (sharedReasons s table ballots t d wireParts published) ≡ o
-      → (length (shared s table ballots t d wireParts published .wireParts) ≡ length wireParts) × (length (shared s table ballots t d wireParts published .published) ≡ length published)
-  unfolding sharedAfter
+  lengths : (o : Option Reason) → firstOf (trusteesReasons c) ≡ o
+      → (length (trusteesResult c .wireParts) ≡ length (c .lent .wireParts)) × (length (trusteesResult c .published) ≡ length (c .lent .published))
+  unfolding trusteesResultAfter
   lengths (some r) e =
-      let f = shared-by s table ballots t d wireParts published (some r) e in
-      (ap (λ (z : Shared). length (z .wireParts)) f, ap (λ (z : Shared). length (z .published)) f)
+      let f = result-by c (some r) e in
+      (ap (λ (z : TrusteesResult). length (z .wireParts)) f, ap (λ (z : TrusteesResult). length (z .published)) f)
   lengths none e =
-      let f = shared-by s table ballots t d wireParts published none e in
-      let p = call-passed s table ballots t d wireParts published e in
-      let size = sizeOf (gatesOf table) in
-      let r = call-ready s table ballots t d wireParts published size refl p in (
-        ap (λ (z : Shared). length (z .wireParts)) f ∙ length-replicate (length wireParts) 0,
-        ap (λ (z : Shared). length (z .published)) f
-            ∙ length-joined (2 * size .conditional + s .candidates) (publishedOf t (length ballots) (gatesOf table) (s .candidates) d) t (published-long s table ballots t d wireParts published size r)
+      let f = result-by c none e in
+      let p = call-passed c e in
+      let size = sizeOf (gatesOf (c .table)) in
+      let r = call-ready c size refl p in (
+        ap (λ (z : TrusteesResult). length (z .wireParts)) f ∙ length-replicate (length (c .lent .wireParts)) 0,
+        ap (λ (z : TrusteesResult). length (z .published)) f
+            ∙ length-joined (2 * size .conditional + c .shape .candidates) (publishedIn c) (c .trustees) (published-long c size r)
             ∙ sym (r .published-length),
       )
 
-memory : Memory
-memory =
+memory : (c : Call) → Memory c
+unfolding Each
+memory c =
+    let long = lengths c (firstOf (trusteesReasons c)) refl in
     record {
-      number = number;
-      refusal = refusal;
-      empties = empties;
-      lengths = λ s table ballots t d wireParts published. lengths s table ballots t d wireParts published (firstOf (sharedReasons s table ballots t d wireParts published)) refl;
+      keeps = record {
+        number = number c;
+        refusal = λ r e. let q = refusal c r e in (q .0, (q .1, tt));
+        empties = λ size e. (empties c size e, tt);
+        lengths = (long .0, (long .1, tt));
+      };
+      zeros = λ r e. refusal c r e .2;
     }
 
 pub demands : Demands
@@ -118,6 +124,7 @@ demands =
     record {
       memory = memory;
       accuracy = accuracy;
-      own-list = λ s table size e. own-list s table size (writing.write-passed s table size e);
+      own-list = λ c table size answer e own a.
+          own-list c table size (writing.write-passed (c .shape) table size e) own (call-passed c (call-accepted c answer a .0));
       hiding = views-tell-no-more;
     }

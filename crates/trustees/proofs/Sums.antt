@@ -16,21 +16,22 @@ use Rattle.gates.proofs.Counting.{count-most}
 use Rattle.gates.proofs.Evaluating.{accepted-list}
 use Rattle.jury.specs.declared.shape.Shape.{Shape}
 use Rattle.jury.specs.Shape.{gradedLimits, rankedLimits, withinLimits, ballotBytes}
-use Rattle.jury.specs.Counts.{tabulate}
+use Rattle.basics.specs.Lists.{tabulate}
 use Rattle.jury.specs.ClosingBytes.{eightBytes}
-use Rattle.jury.proofs.Cases.{below-or-not}
+use Rattle.basics.proofs.Cases.{below-or-not}
 use Rattle.jury.proofs.Limits.{within, bytes-are, ranked, ranked-bytes, kinds, bounds, inputs-bound}
 use Rattle.jury.proofs.Rows.{eight-at, eight-length}
-use Rattle.jury.proofs.Tabulate.{length-tabulate, getD-tabulate, tabulate-cong, upTo, upTo-new, upTo-old}
+use Rattle.basics.proofs.Tabulate.{length-tabulate, getD-tabulate, tabulate-cong, upTo, upTo-new, upTo-old}
 use Rattle.tally.specs.Answer.{Size, sizeOf}
-use Rattle.shares.specs.Shares.{opened, part, Held}
-use Rattle.shares.specs.Views.{piece, joined, Dealing, ballotsOf, dealtOf, wirePartsOf, maskedFactors, closingParts, publishedOf}
-use Rattle.shares.proofs.Accuracy.{opened-same}
-use Rattle.shares.proofs.Tables.{length-piece, piece-joined}
-use Rattle.shares.proofs.Publishing.{length-masked}
-use Rattle.sharing.specs.Evaluate.{EvaluateReady}
-use Rattle.sharing.proofs.Running.{length-parts}
-use Rattle.trustees.specs.Shared.{closingSums}
+use Rattle.trustee_shares.specs.Shares.{opened, part, Held}
+use Rattle.trustee_shares.specs.Views.{piece, joined, ballotsOf, dealtOf, wirePartsOf, maskedFactors, closingParts, publishedOf}
+use Rattle.trustee_shares.proofs.Accuracy.{opened-same}
+use Rattle.trustee_shares.proofs.Tables.{length-piece, piece-joined}
+use Rattle.trustee_shares.proofs.Publishing.{length-masked}
+use Rattle.trustee_gates.specs.Evaluate.{EvaluateReady}
+use Rattle.trustee_gates.proofs.Running.{length-parts}
+use Rattle.trustees.specs.Call.{Call, wirePartsIn, publishedIn}
+use Rattle.trustees.specs.Result.{closingSums}
 use Rattle.trustees.proofs.Reasons.{CallPassed}
 
 -- bytes below k, and 0 from k on
@@ -67,28 +68,29 @@ some-bytes s e = ⊎-elim graded rank (kinds s e)
         omega (arith, ranked-bytes s (w .ranking))
 
 -- what is known of an accepted call
-pub record Ready (s : Shape) (table ballots : List ℕ) (t : ℕ) (d : Dealing) (wireParts published : List ℕ) (size : Size) : Type 0 where
-  pub small : (size .conditional ≤ 1048576) × (s .candidates ≤ 8)
-  pub k-most : s .candidates ≤ 8
-  pub published-length : length published ≡ t * (2 * size .conditional + s .candidates)
-  pub evaluate : EvaluateReady t (length ballots) table (size .conditional) (s .candidates) (d .ballotParts) (d .dealerParts) wireParts published
+pub record Ready (c : Call) (size : Size) : Type 0 where
+  pub small : (size .conditional ≤ 1048576) × (c .shape .candidates ≤ 8)
+  pub k-most : c .shape .candidates ≤ 8
+  pub published-length : length (c .lent .published) ≡ c .trustees * (2 * size .conditional + c .shape .candidates)
+  pub evaluate : EvaluateReady (c .trustees) (length (c .ballots)) (c .table) (size .conditional) (c .shape .candidates)
+      (c .lent .dealing .ballotParts) (c .lent .dealing .dealerParts) (c .lent .wireParts) (c .lent .published)
 
-module _ (s : Shape) (table ballots : List ℕ) (t : ℕ) (d : Dealing) (wireParts published : List ℕ) where
-  ready-own : CallPassed s table ballots t d wireParts published → Ready s table ballots t d wireParts published (sizeOf (gatesOf table))
+module _ (c : Call) where
+  ready-own : CallPassed c → Ready c (sizeOf (gatesOf (c .table)))
   unfolding sizeOf
   ready-own p =
-      let f = accepted-list (ballotBytes s) (s .candidates) table (length (gatesOf table)) (conditionalCount (gatesOf table)) (p .test .tests) in
-      let w = bounds s (p .test .within) in
+      let f = accepted-list (ballotBytes (c .shape)) (c .shape .candidates) (c .table) (length (gatesOf (c .table))) (conditionalCount (gatesOf (c .table))) (p .test .tests) in
+      let w = bounds (c .shape) (p .test .within) in
       let n = p .ballotsPassed .size in
       let l = p .parts .tables in
       record {
-        small = (omega (arith, f .few, count-most (gatesOf table)), w .k-most);
+        small = (omega (arith, f .few, count-most (gatesOf (c .table))), w .k-most);
         k-most = w .k-most;
         published-length = l .published-length;
         evaluate = record {
-          some-input = omega (arith, some-bytes s (p .test .within));
-          few = omega (arith, f .few, inputs-bound s w);
-          good = ap (λ (i : ℕ). firstBad i 0 (gatesOf table)) n ∙ f .good;
+          some-input = omega (arith, some-bytes (c .shape) (p .test .within));
+          few = omega (arith, f .few, inputs-bound (c .shape) w);
+          good = ap (λ (i : ℕ). firstBad i 0 (gatesOf (c .table))) n ∙ f .good;
           enough = f .enough;
           conditional-is = refl;
           ballot-length = l .ballot-length;
@@ -98,46 +100,46 @@ module _ (s : Shape) (table ballots : List ℕ) (t : ℕ) (d : Dealing) (wirePar
         };
       }
 
-  pub call-ready : (size : Size) → size ≡ sizeOf (gatesOf table) → CallPassed s table ballots t d wireParts published → Ready s table ballots t d wireParts published size
+  pub call-ready : (size : Size) → size ≡ sizeOf (gatesOf (c .table)) → CallPassed c → Ready c size
   call-ready size e p = rw e (ready-own p)
 
   -- the closing bits stand behind the factors in each trustee's piece
-  module _ (size : Size) (r : Ready s table ballots t d wireParts published size) where
+  module _ (size : Size) (r : Ready c size) where
     parts : Held
-    parts = wirePartsOf t (length ballots) (gatesOf table) d
+    parts = wirePartsIn c
 
-    parts-long : (p : ℕ) → p < t → length (parts p) ≡ length ballots + length (gatesOf table)
+    parts-long : (p : ℕ) → p < c .trustees → length (parts p) ≡ length (c .ballots) + length (gatesOf (c .table))
     unfolding parts wirePartsOf ballotsOf
     parts-long p h =
-        length-parts t (dealtOf (gatesOf table) d) (gatesOf table) (piece (length ballots) (d .ballotParts)) 0 (length ballots) p (length-piece t (length ballots) (d .ballotParts) p (r .evaluate .ballot-length) h)
+        length-parts (c .trustees) (dealtOf (gatesOf (c .table)) (c .lent .dealing)) (gatesOf (c .table)) (piece (length (c .ballots)) (c .lent .dealing .ballotParts)) 0 (length (c .ballots)) p (length-piece (c .trustees) (length (c .ballots)) (c .lent .dealing .ballotParts) p (r .evaluate .ballot-length) h)
 
-    closing-long : (p : ℕ) → p < t → length (closingParts (s .candidates) (parts p)) ≡ s .candidates
+    closing-long : (p : ℕ) → p < c .trustees → length (closingParts (c .shape .candidates) (parts p)) ≡ c .shape .candidates
     unfolding closingParts
-    closing-long p h = omega (arith, length-drop (length (parts p) - s .candidates) (parts p), parts-long p h, r .evaluate .enough)
+    closing-long p h = omega (arith, length-drop (length (parts p) - c .shape .candidates) (parts p), parts-long p h, r .evaluate .enough)
 
-    factors-long : (p : ℕ) → length (maskedFactors (parts p) (dealtOf (gatesOf table) d p) 0 (gatesOf table)) ≡ 2 * size .conditional
-    factors-long p = omega (arith, length-masked (parts p) (dealtOf (gatesOf table) d p) 0 (gatesOf table), r .evaluate .conditional-is)
+    factors-long : (p : ℕ) → length (maskedFactors (parts p) (dealtOf (gatesOf (c .table)) (c .lent .dealing) p) 0 (gatesOf (c .table))) ≡ 2 * size .conditional
+    factors-long p = omega (arith, length-masked (parts p) (dealtOf (gatesOf (c .table)) (c .lent .dealing) p) 0 (gatesOf (c .table)), r .evaluate .conditional-is)
 
-    pub published-long : (p : ℕ) → p < t → length (publishedOf t (length ballots) (gatesOf table) (s .candidates) d p) ≡ 2 * size .conditional + s .candidates
+    pub published-long : (p : ℕ) → p < c .trustees → length (publishedIn c p) ≡ 2 * size .conditional + c .shape .candidates
     unfolding publishedOf parts
     published-long p h =
-        omega (arith, length-append (maskedFactors (parts p) (dealtOf (gatesOf table) d p) 0 (gatesOf table)) (closingParts (s .candidates) (parts p)), factors-long p, closing-long p h)
+        omega (arith, length-append (maskedFactors (parts p) (dealtOf (gatesOf (c .table)) (c .lent .dealing) p) 0 (gatesOf (c .table))) (closingParts (c .shape .candidates) (parts p)), factors-long p, closing-long p h)
 
-    pub opened-closing : (after : List ℕ) → after ≡ joined t (publishedOf t (length ballots) (gatesOf table) (s .candidates) d)
-        → eightBytes (tabulate (s .candidates) (λ j. opened t (λ p. part (piece (2 * size .conditional + s .candidates) after p) (2 * size .conditional + j))))
-        ≡ closingSums t (s .candidates) (wirePartsOf t (length ballots) (gatesOf table) d)
+    pub opened-closing : (after : List ℕ) → after ≡ joined (c .trustees) (publishedIn c)
+        → eightBytes (tabulate (c .shape .candidates) (λ j. opened (c .trustees) (λ p. part (piece (2 * size .conditional + c .shape .candidates) after p) (2 * size .conditional + j))))
+        ≡ closingSums (c .trustees) (c .shape .candidates) (wirePartsIn c)
     unfolding closingSums parts
     opened-closing after e =
-        let k = s .candidates in
+        let k = c .shape .candidates in
         let m = 2 * size .conditional in
-        ap eightBytes (tabulate-cong k (λ j. opened t (λ p. part (piece (m + k) after p) (m + j))) (λ j. opened t (λ p. part (closingParts k (parts p)) j))
-        (λ j l. opened-same t (λ p. part (piece (m + k) after p) (m + j)) (λ p. part (closingParts k (parts p)) j)
+        ap eightBytes (tabulate-cong k (λ j. opened (c .trustees) (λ p. part (piece (m + k) after p) (m + j))) (λ j. opened (c .trustees) (λ p. part (closingParts k (parts p)) j))
+        (λ j l. opened-same (c .trustees) (λ p. part (piece (m + k) after p) (m + j)) (λ p. part (closingParts k (parts p)) j)
         (λ (p : ℕ) h.
         ap (λ (xs : List ℕ). part (piece (m + k) xs p) (m + j)) e
-        ∙ ap (λ (xs : List ℕ). part xs (m + j)) (piece-joined (m + k) (publishedOf t (length ballots) (gatesOf table) k d) t published-long p h) ∙ behind p j)))
+        ∙ ap (λ (xs : List ℕ). part xs (m + j)) (piece-joined (m + k) (publishedIn c) (c .trustees) published-long p h) ∙ behind p j)))
       where
-        behind : (p j : ℕ) → part (publishedOf t (length ballots) (gatesOf table) (s .candidates) d p) (2 * size .conditional + j) ≡ part (closingParts (s .candidates) (parts p)) j
+        behind : (p j : ℕ) → part (publishedIn c p) (2 * size .conditional + j) ≡ part (closingParts (c .shape .candidates) (parts p)) j
         behind p j =
             unfold publishedOf part parts in
-            (ap (λ (n : ℕ). getD (maskedFactors (parts p) (dealtOf (gatesOf table) d p) 0 (gatesOf table) ++ closingParts (s .candidates) (parts p)) (n + j) 0) (sym (factors-long p))
-            ∙ getD-append-add (maskedFactors (parts p) (dealtOf (gatesOf table) d p) 0 (gatesOf table)) (closingParts (s .candidates) (parts p)) j 0)
+            (ap (λ (n : ℕ). getD (maskedFactors (parts p) (dealtOf (gatesOf (c .table)) (c .lent .dealing) p) 0 (gatesOf (c .table)) ++ closingParts (c .shape .candidates) (parts p)) (n + j) 0) (sym (factors-long p))
+            ∙ getD-append-add (maskedFactors (parts p) (dealtOf (gatesOf (c .table)) (c .lent .dealing) p) 0 (gatesOf (c .table))) (closingParts (c .shape .candidates) (parts p)) j 0)

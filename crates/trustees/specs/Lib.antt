@@ -1,3 +1,5 @@
-pub mod Shared
-pub mod Inner
+pub mod Call
+pub mod Reasons
+pub mod Result
+pub mod inner
 pub mod Demands

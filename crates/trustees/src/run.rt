@@ -2,17 +2,17 @@
 use jury::shape::Shape;
 use tally::answer::Answer;
 ghost use mathlib.Core.Path.{_≡_};
-ghost use Prim.Native.Nat.{_+_, _*_, _≤_};
-ghost use lib.ListN.{length};
-ghost use Rattle.jury.specs.Counts.{tabulate};
+ghost use Prim.Native.Nat.{_+_};
+ghost use Rattle.basics.specs.Lists.{tabulate};
 ghost use Rattle.jury.specs.ClosingBytes.{eightBytes};
-ghost use Rattle.tally.specs.Answer.{saidBy};
-ghost use Rattle.shares.specs.Shares.{opened, part};
-ghost use Rattle.shares.specs.Views.{piece};
-ghost use Rattle.trustees.specs.Shared.{shared};
+ghost use Rattle.tally.specs.Answer.{outcomeOf};
+ghost use Rattle.trustee_shares.specs.Shares.{opened, part};
+ghost use Rattle.trustee_shares.specs.Views.{piece};
+ghost use Rattle.trustees.specs.inner.Sizes.{ClosingFits};
+ghost use Rattle.trustees.specs.Result.{TrusteesResult, trusteesResult};
 
-// G and C of the list, or the first reason that applies; and the opened closing bits: 0 from place k on, and eight zeros
-// on a refusal.
+// G and C of the list, or the first reason that applies; and the opened closing bits: 0 from place k on, and eight
+// zeros on a refusal.
 pub struct Tallied {
     pub answer: Answer,
     pub closing: [u8; 8],
@@ -20,13 +20,15 @@ pub struct Tallied {
 
 // Opens the closing bits, which stand last in each trustee's piece of what is published.
 fn open_closing(t: usize, size: usize, first: usize, k: usize, published: &[u8]) -> [u8; 8]
-    requires { ⌜ (k ≤ 8) × (first + k ≤ size) × (length (now published) ≡ t * size) ⌝ }
-    ensures { λ r. ⌜ r ≡ eightBytes (tabulate k (λ j. opened t (λ p. part (piece size (now (published .entry)) p) (first + j)))) ⌝ }
+    requires { ⌜ ClosingFits t size first k (now published) ⌝ }
+    ensures { λ r.
+        ⌜ r ≡ eightBytes (tabulate k
+        (λ j. opened t (λ p. part (piece size (now (published .entry)) p) (first + j)))) ⌝ }
 {
     let mut closing = [0u8; 8];
     let mut j = 0;
     while j < k {
-        closing[j] = sharing::table::open(published, size, t, first + j);
+        closing[j] = trustee_gates::table::open(published, size, t, first + j);
         j += 1;
     }
     closing
@@ -39,17 +41,32 @@ pub fn run(
     table: &[u32],
     ballots: &[u8],
     t: usize,
-    parts: &[u8],
-    dealt: &[u8],
+    shares: &[u8],
+    triples: &[u8],
     wires: &mut [u8],
     published: &mut [u8],
 ) -> Tallied
-    ensures { λ r. ⌜ saidBy (r .answer) ≡ (shared shape (now (table .entry)) (now (ballots .entry)) t (record { ballotParts = now (parts .entry); dealerParts = now (dealt .entry) }) (now (wires .entry)) (now (published .entry))) .answer ⌝ }
-    ensures { λ r. ⌜ r .closing ≡ (shared shape (now (table .entry)) (now (ballots .entry)) t (record { ballotParts = now (parts .entry); dealerParts = now (dealt .entry) }) (now (wires .entry)) (now (published .entry))) .closing ⌝ }
-    ensures { λ _. ⌜ now (wires .exit) ≡ (shared shape (now (table .entry)) (now (ballots .entry)) t (record { ballotParts = now (parts .entry); dealerParts = now (dealt .entry) }) (now (wires .entry)) (now (published .entry))) .wireParts ⌝ }
-    ensures { λ _. ⌜ now (published .exit) ≡ (shared shape (now (table .entry)) (now (ballots .entry)) t (record { ballotParts = now (parts .entry); dealerParts = now (dealt .entry) }) (now (wires .entry)) (now (published .entry))) .published ⌝ }
+    ensures { λ r.
+        ⌜ _≡_ {A = TrusteesResult}
+        (record {
+          answer = outcomeOf (r .answer);
+          closing = r .closing;
+          wireParts = now (wires .exit);
+          published = now (published .exit);
+        })
+        (trusteesResult (record {
+          shape = shape;
+          table = now (table .entry);
+          ballots = now (ballots .entry);
+          trustees = t;
+          lent = record {
+            dealing = record { ballotParts = now (shares .entry); dealerParts = now (triples .entry) };
+            wireParts = now (wires .entry);
+            published = now (published .entry);
+          };
+        })) ⌝ }
 {
-    let answer = crate::test::test(shape, table, ballots, t, parts, dealt, wires, published);
+    let answer = crate::test::test(shape, table, ballots, t, shares, triples, wires, published);
     let Answer::Accepted {
         gates: _,
         conditional,
@@ -62,18 +79,18 @@ pub fn run(
     };
     let k = shape.candidates;
     let factors = 2 * conditional;
-    sharing::evaluate::evaluate(
+    trustee_gates::evaluate::evaluate(
         t,
         ballots.len(),
         table,
         conditional,
         k,
-        parts,
-        dealt,
+        shares,
+        triples,
         wires,
         published,
     );
     let closing = open_closing(t, factors + k, factors, k, published);
-    tally::empty::empty(wires);
+    basics::table::empty(wires);
     Tallied { answer, closing }
 }

@@ -5,15 +5,14 @@ use jury::shape::Shape;
 use tally::answer::Answer;
 ghost use mathlib.Core.Path.{_≡_};
 ghost use mathlib.Core.Bool.{_&&_};
-ghost use Prim.Native.Nat.{_+_, _*_, _≤_};
 ghost use lib.Dec.{leb};
 ghost use lib.ListN.{length};
 ghost use Rattle.gates.specs.Gate.{gatesOf};
 ghost use Rattle.jury.specs.Reason.{refusedFor, firstOf};
-ghost use Rattle.tally.specs.Answer.{saidBy, said, sizeOf};
-ghost use Rattle.sharing.specs.Dealing.{dealtWell};
-ghost use Rattle.trustees.specs.Shared.{tablesFit, partReasons, sharedReasons};
-ghost use Rattle.trustees.specs.Inner.{SmallSizes, DealtSizes};
+ghost use Rattle.tally.specs.Answer.{outcomeOf, outcome, sizeOf};
+ghost use Rattle.trustee_gates.specs.Dealing.{dealtWell};
+ghost use Rattle.trustees.specs.Reasons.{tablesFit, partReasons, trusteesReasons};
+ghost use Rattle.trustees.specs.inner.Sizes.{SmallSizes, SmallCall, DealingFits};
 
 pub const LEAST_TRUSTEES: usize = 2;
 
@@ -36,19 +35,23 @@ fn tables_fit(
     gates: usize,
     conditional: usize,
     t: usize,
-    parts: &[u8],
-    dealt: &[u8],
+    shares: &[u8],
+    triples: &[u8],
     wires: &[u8],
     published: &[u8],
 ) -> bool
-    requires { ⌜ SmallSizes inputs outputs gates conditional ⌝ }
-    requires { ⌜ t ≤ 5 ⌝ }
-    ensures { λ r. ⌜ r ≡ tablesFit inputs outputs (record { gates = gates; conditional = conditional }) t (record { ballotParts = now (parts .entry); dealerParts = now (dealt .entry) }) (now (wires .entry)) (now (published .entry)) ⌝ }
+    requires { ⌜ SmallCall inputs outputs gates conditional t ⌝ }
+    ensures { λ r.
+        ⌜ r ≡ tablesFit inputs outputs (record { gates = gates; conditional = conditional }) t (record {
+          dealing = record { ballotParts = now (shares .entry); dealerParts = now (triples .entry) };
+          wireParts = now (wires .entry);
+          published = now (published .entry);
+        }) ⌝ }
 {
-    if parts.len() != t * inputs {
+    if shares.len() != t * inputs {
         return false;
     }
-    if dealt.len() != t * (3 * conditional) {
+    if triples.len() != t * (3 * conditional) {
         return false;
     }
     if wires.len() != t * (inputs + gates) {
@@ -58,20 +61,29 @@ fn tables_fit(
 }
 
 // Whether the parts are bits and add up.
-fn is_dealt_well(t: usize, conditional: usize, ballots: &[u8], parts: &[u8], dealt: &[u8]) -> bool
-    requires { ⌜ DealtSizes t conditional (now ballots) (now parts) (now dealt) ⌝ }
-    ensures { λ r. ⌜ r ≡ dealtWell t conditional (now (ballots .entry)) (record { ballotParts = now (parts .entry); dealerParts = now (dealt .entry) }) ⌝ }
+fn is_dealt_well(
+    t: usize,
+    conditional: usize,
+    ballots: &[u8],
+    shares: &[u8],
+    triples: &[u8],
+) -> bool
+    requires { ⌜ DealingFits t conditional (now ballots)
+        (record { ballotParts = now shares; dealerParts = now triples }) ⌝ }
+    ensures { λ r.
+        ⌜ r ≡ dealtWell t conditional (now (ballots .entry))
+        (record { ballotParts = now (shares .entry); dealerParts = now (triples .entry) }) ⌝ }
 {
-    if !sharing::dealing::only_bits(parts) {
+    if !trustee_gates::dealing::only_bits(shares) {
         return false;
     }
-    if !sharing::dealing::only_bits(dealt) {
+    if !trustee_gates::dealing::only_bits(triples) {
         return false;
     }
-    if !sharing::dealing::adds_up(t, ballots, parts) {
+    if !trustee_gates::dealing::adds_up(t, ballots, shares) {
         return false;
     }
-    sharing::dealing::products_add_up(t, conditional, dealt)
+    trustee_gates::dealing::products_add_up(t, conditional, triples)
 }
 
 // Reasons 16 to 18.
@@ -81,13 +93,20 @@ fn test_parts(
     conditional: usize,
     ballots: &[u8],
     t: usize,
-    parts: &[u8],
-    dealt: &[u8],
+    shares: &[u8],
+    triples: &[u8],
     wires: &[u8],
     published: &[u8],
 ) -> Verdict
     requires { ⌜ SmallSizes (length (now ballots)) outputs gates conditional ⌝ }
-    ensures { λ r. ⌜ refusedFor r ≡ firstOf (partReasons outputs (record { gates = gates; conditional = conditional }) (now (ballots .entry)) t (record { ballotParts = now (parts .entry); dealerParts = now (dealt .entry) }) (now (wires .entry)) (now (published .entry))) ⌝ }
+    ensures { λ r.
+        ⌜ refusedFor r
+        ≡ firstOf (partReasons outputs (record { gates = gates; conditional = conditional }) (now (ballots .entry)) t
+        (record {
+          dealing = record { ballotParts = now (shares .entry); dealerParts = now (triples .entry) };
+          wireParts = now (wires .entry);
+          published = now (published .entry);
+        })) ⌝ }
 {
     if !are_trustees(t) {
         return Verdict::Refused(Refusal::Trustees);
@@ -98,14 +117,14 @@ fn test_parts(
         gates,
         conditional,
         t,
-        parts,
-        dealt,
+        shares,
+        triples,
         wires,
         published,
     ) {
         return Verdict::Refused(Refusal::PartTables);
     }
-    if !is_dealt_well(t, conditional, ballots, parts, dealt) {
+    if !is_dealt_well(t, conditional, ballots, shares, triples) {
         return Verdict::Refused(Refusal::Dealing);
     }
     Verdict::Accepted
@@ -117,12 +136,25 @@ pub(crate) fn test(
     table: &[u32],
     ballots: &[u8],
     t: usize,
-    parts: &[u8],
-    dealt: &[u8],
+    shares: &[u8],
+    triples: &[u8],
     wires: &[u8],
     published: &[u8],
 ) -> Answer
-    ensures { λ r. ⌜ saidBy r ≡ said (firstOf (sharedReasons shape (now (table .entry)) (now (ballots .entry)) t (record { ballotParts = now (parts .entry); dealerParts = now (dealt .entry) }) (now (wires .entry)) (now (published .entry)))) (sizeOf (gatesOf (now (table .entry)))) ⌝ }
+    ensures { λ r.
+        ⌜ outcomeOf r
+        ≡ outcome (firstOf (trusteesReasons (record {
+          shape = shape;
+          table = now (table .entry);
+          ballots = now (ballots .entry);
+          trustees = t;
+          lent = record {
+            dealing = record { ballotParts = now (shares .entry); dealerParts = now (triples .entry) };
+            wireParts = now (wires .entry);
+            published = now (published .entry);
+          };
+        })))
+        (sizeOf (gatesOf (now (table .entry)))) ⌝ }
 {
     let answer = tally::test::test(shape, table);
     let Answer::Accepted { gates, conditional } = answer else {
@@ -137,8 +169,8 @@ pub(crate) fn test(
         conditional,
         ballots,
         t,
-        parts,
-        dealt,
+        shares,
+        triples,
         wires,
         published,
     ) {

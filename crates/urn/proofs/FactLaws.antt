@@ -2,53 +2,56 @@
 -- Assumes nothing.
 use mathlib.Core.Path.{_≡_, _∙_, refl, sym, ap}
 use mathlib.Core.Logic.{⊎-elim}
-use mathlib.Core.Bool.{Bool, true, false, cond, not, _&&_, _||_}
-use mathlib.Core.List.{List, [], _∷_, _++_, map}
-use Prim.Native.Nat.{ℕ, zero, suc, _+_, _*_, _-_, _≤_, _<_}
+use mathlib.Core.Bool.{Bool, true, false, cond, not, _||_}
+use mathlib.Core.List.{List, [], _∷_}
+use Prim.Native.Nat.{ℕ, zero, suc, _*_, _-_, _≤_, _<_}
 use native.Mathlib.Omega.{arith}
 use lib.Dec.{T, eqb, eqb·suc-zero}
 use lib.ListN.{length, getD}
 use borrow.Author.Tests.{eqb-true, not-true}
 use Rattle.jury.specs.Shape.{gradedLimits}
-use Rattle.jury.proofs.Flags.{and-first, and-second, or-first, or-second}
-use Rattle.chains.specs.Slots.{Slot, slotBytes, slotsOf, slotAt}
-use Rattle.chains.specs.Chains.{chain, ballotSlots, ballotChain, freeChain}
-use Rattle.chains.specs.Sound.{all, member, juryOfOne, inUrn, slotCount, urnLength, urnSlots, soundSlots, sound}
+use Rattle.basics.proofs.Flags.{and-first, or-first, or-second}
+use Rattle.urn_chains.specs.Slots.{Slot, slotsOf, slotAt}
+use Rattle.urn_chains.specs.Chains.{chain, ballotSlots, ballotChain, freeChain}
+use Rattle.basics.specs.Lists.{all, member}
+use Rattle.urn_chains.specs.Sound.{juryOfOne, inUrn, slotCount, urnSlots, sound}
 use Rattle.urn.specs.Facts.{isEmpty, jurorsOf, factsOf}
 use Rattle.urn.specs.declared.facts.Facts.{Facts}
-use Rattle.chains.specs.declared.find.Link.the-variants.{Found, Absent}
-use Rattle.chains.specs.Inner.{SlotTable, jurorsAt, linkOf}
-use Rattle.chains.proofs.Lists.{all-append, eqb-sym}
-use Rattle.chains.proofs.Marks.{true-or-false}
-use Rattle.chains.proofs.SlotLaws.{slots-length}
-use Rattle.chains.proofs.SoundLaws.{Parts, sound-parts, parts-found, jurors-of-entries}
-use Rattle.chains.proofs.Judging.{table, few-bytes, slots-by-bytes, free-by-bytes, count-by-bytes}
+use Rattle.urn_chains.specs.declared.find.ChainPosition.the-variants.{Found, Absent}
+use Rattle.urn_chains.specs.inner.Table.{SlotTable}
+use Rattle.urn_chains.specs.inner.Walk.{jurorsAt}
+use Rattle.urn_chains.specs.inner.Position.{positionOf}
+use Rattle.urn_chains.proofs.Lists.{all-append, eqb-sym}
+use Rattle.urn_chains.proofs.Marks.{true-or-false}
+use Rattle.urn_chains.proofs.SoundLaws.{parts-found, jurors-of-entries}
+use Rattle.urn_chains.proofs.SoundLayouts.{its-urn-length, its-parts, its-length}
+use Rattle.urn_chains.proofs.SlotTests.{table, few-bytes, slots-by-bytes, free-by-bytes, count-by-bytes}
 
 found-slot : (a b p s : ℕ) → Found a b ≡ Found p s → s ≡ b
 found-slot a b p s e = cc
 
-pub link-found : (S : List Slot) (j b : ℕ) (is : List ℕ) (p s : ℕ) → linkOf S j b is ≡ Found p s → member j (jurorsAt S is) ≡ true
-unfolding linkOf jurorsAt member
+pub link-found : (S : List Slot) (j b : ℕ) (is : List ℕ) (p s : ℕ) → positionOf S j b is ≡ Found p s → member j (jurorsAt S is) ≡ true
+unfolding positionOf jurorsAt member
 link-found S j b [] p s e = let z : _≡_ {A = ℕ} 0 1 = cc in absurd (omega arith)
 link-found S j b (i ∷ is) p s e =
     ⊎-elim (λ h. or-first (eqb j (slotAt S i .juror)) (member j (jurorsAt S is)) (eqb-sym j (slotAt S i .juror) ∙ h))
-    (λ h. or-second (eqb j (slotAt S i .juror)) (member j (jurorsAt S is)) (link-found S j i is p s (ap (λ (t : Bool). cond t (Found b i) (linkOf S j i is)) (sym h) ∙ e)))
+    (λ h. or-second (eqb j (slotAt S i .juror)) (member j (jurorsAt S is)) (link-found S j i is p s (ap (λ (t : Bool). cond t (Found b i) (positionOf S j i is)) (sym h) ∙ e)))
     (true-or-false (eqb (slotAt S i .juror) j))
 
-pub link-juror : (S : List Slot) (j b : ℕ) (is : List ℕ) (p s : ℕ) → linkOf S j b is ≡ Found p s → slotAt S s .juror ≡ j
-unfolding linkOf
+pub link-juror : (S : List Slot) (j b : ℕ) (is : List ℕ) (p s : ℕ) → positionOf S j b is ≡ Found p s → slotAt S s .juror ≡ j
+unfolding positionOf
 link-juror S j b [] p s e = let z : _≡_ {A = ℕ} 0 1 = cc in absurd (omega arith)
 link-juror S j b (i ∷ is) p s e =
-    ⊎-elim (λ h. ap (λ (m : ℕ). slotAt S m .juror) (found-slot b i p s (ap (λ (t : Bool). cond t (Found b i) (linkOf S j i is)) (sym h) ∙ e)) ∙ eqb-true (slotAt S i .juror) j h)
-    (λ h. link-juror S j i is p s (ap (λ (t : Bool). cond t (Found b i) (linkOf S j i is)) (sym h) ∙ e))
+    ⊎-elim (λ h. ap (λ (m : ℕ). slotAt S m .juror) (found-slot b i p s (ap (λ (t : Bool). cond t (Found b i) (positionOf S j i is)) (sym h) ∙ e)) ∙ eqb-true (slotAt S i .juror) j h)
+    (λ h. link-juror S j i is p s (ap (λ (t : Bool). cond t (Found b i) (positionOf S j i is)) (sym h) ∙ e))
     (true-or-false (eqb (slotAt S i .juror) j))
 
-pub link-absent : (S : List Slot) (j b : ℕ) (is : List ℕ) → linkOf S j b is ≡ Absent → member j (jurorsAt S is) ≡ false
-unfolding linkOf jurorsAt member
+pub link-absent : (S : List Slot) (j b : ℕ) (is : List ℕ) → positionOf S j b is ≡ Absent → member j (jurorsAt S is) ≡ false
+unfolding positionOf jurorsAt member
 link-absent S j b [] e = refl
 link-absent S j b (i ∷ is) e =
-    ⊎-elim (λ h. let q = ap (λ (t : Bool). cond t (Found b i) (linkOf S j i is)) (sym h) ∙ e in let z : _≡_ {A = ℕ} 0 1 = cc in absurd (omega arith))
-    (λ h. ap (λ (t : Bool). t || member j (jurorsAt S is)) (eqb-sym j (slotAt S i .juror) ∙ h) ∙ link-absent S j i is (ap (λ (t : Bool). cond t (Found b i) (linkOf S j i is)) (sym h) ∙ e))
+    ⊎-elim (λ h. let q = ap (λ (t : Bool). cond t (Found b i) (positionOf S j i is)) (sym h) ∙ e in let z : _≡_ {A = ℕ} 0 1 = cc in absurd (omega arith))
+    (λ h. ap (λ (t : Bool). t || member j (jurorsAt S is)) (eqb-sym j (slotAt S i .juror) ∙ h) ∙ link-absent S j i is (ap (λ (t : Bool). cond t (Found b i) (positionOf S j i is)) (sym h) ∙ e))
     (true-or-false (eqb (slotAt S i .juror) j))
 
 empty-chain : (n i : ℕ) (S : List Slot) → 0 < n → isEmpty (chain n i S) ≡ eqb i 0
@@ -57,25 +60,9 @@ empty-chain zero i S h = absurd (omega arith)
 empty-chain (suc n) zero S h = refl
 empty-chain (suc n) (suc i) S h = sym (eqb·suc-zero i)
 
--- a sound urn has the length of one, and sound slots
 module _ (k d : ℕ) (urn : List ℕ) (w : T (gradedLimits (juryOfOne k d))) (e : sound k d urn ≡ true) where
-  pub good-length-of : urnLength (k * d) (length urn) ≡ true
-  unfolding sound
-  good-length-of = and-first (urnLength (k * d) (length urn)) (soundSlots k d (urnSlots k d urn)) e
-
-  pub good-slots : soundSlots k d (urnSlots k d urn) ≡ true
-  unfolding sound
-  good-slots = and-second (urnLength (k * d) (length urn)) (soundSlots k d (urnSlots k d urn)) e
-
   pub its-table : SlotTable (k * d) (slotCount (k * d) (length urn)) urn
-  its-table = table (k * d) urn (slotCount (k * d) (length urn)) (few-bytes k d w) good-length-of refl
-
-  pub its-parts : Parts k d (urnSlots k d urn)
-  its-parts = sound-parts k d (urnSlots k d urn) good-slots
-
-  pub its-length : length (urnSlots k d urn) ≡ slotCount (k * d) (length urn)
-  unfolding urnSlots
-  its-length = slots-length (k * d) (slotCount (k * d) (length urn)) urn
+  its-table = table (k * d) urn (slotCount (k * d) (length urn)) (few-bytes k d w) (its-urn-length k d urn e) refl
 
   pub can-find : all (inUrn (slotCount (k * d) (length urn))) (chain (slotCount (k * d) (length urn)) (getD urn 0 0) (slotsOf (k * d) (slotCount (k * d) (length urn)) urn)) ≡ true
   unfolding urnSlots
@@ -83,8 +70,8 @@ module _ (k d : ℕ) (urn : List ℕ) (w : T (gradedLimits (juryOfOne k d))) (e 
       let n = slotCount (k * d) (length urn) in
       let S = slotsOf (k * d) n urn in
       ap (all (inUrn n)) (sym (slots-by-bytes (k * d) n urn its-table))
-      ∙ ap (λ (m : ℕ). all (inUrn m) (ballotSlots S)) (sym its-length)
-      ∙ and-first (all (inUrn (length S)) (ballotSlots S)) (all (inUrn (length S)) (freeChain S)) (sym (all-append (inUrn (length S)) (ballotSlots S) (freeChain S)) ∙ its-parts .inside)
+      ∙ ap (λ (m : ℕ). all (inUrn m) (ballotSlots S)) (sym (its-length k d urn e))
+      ∙ and-first (all (inUrn (length S)) (ballotSlots S)) (all (inUrn (length S)) (freeChain S)) (sym (all-append (inUrn (length S)) (ballotSlots S) (freeChain S)) ∙ its-parts k d urn e .inside)
 
   pub jurors-are : jurorsOf (ballotChain (urnSlots k d urn)) ≡ jurorsAt (slotsOf (k * d) (slotCount (k * d) (length urn)) urn) (chain (slotCount (k * d) (length urn)) (getD urn 0 0) (slotsOf (k * d) (slotCount (k * d) (length urn)) urn))
   unfolding jurorsOf ballotChain urnSlots
@@ -104,8 +91,8 @@ module _ (k d : ℕ) (urn : List ℕ) (w : T (gradedLimits (juryOfOne k d))) (e 
   few-ballots =
       let n = slotCount (k * d) (length urn) in
       let S = slotsOf (k * d) n urn in
-      let f = parts-found k d S (omega (arith, its-length, its-table .least)) (omega (arith, its-length, its-table .most)) its-parts in
-      omega (arith, count-by-bytes (k * d) n urn its-table, ap length (slots-by-bytes (k * d) n urn its-table), f .count, its-length, its-table .most)
+      let f = parts-found k d S (omega (arith, its-length k d urn e, its-table .least)) (omega (arith, its-length k d urn e, its-table .most)) (its-parts k d urn e) in
+      omega (arith, count-by-bytes (k * d) n urn its-table, ap length (slots-by-bytes (k * d) n urn its-table), f .count, its-length k d urn e, its-table .most)
 
   pub facts-are : (j : ℕ) → factsOf k d urn j ≡ record { sound = true; ballots = length (ballotChain (urnSlots k d urn)); present = member j (jurorsOf (ballotChain (urnSlots k d urn))); full = isEmpty (freeChain (urnSlots k d urn)) }
   unfolding factsOf

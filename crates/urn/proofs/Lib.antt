@@ -1,11 +1,12 @@
 -- Laws that the proofs of functions rest on.
-pub mod Putting
+pub mod SlotBytes
 pub mod FactLaws
-pub mod Deciding
-pub mod AdmitSlots
-pub mod Admitting
-pub mod Withdrawing
-pub mod Taking
-pub mod Emptying
+pub mod Outcomes
+pub mod AdmittedSlots
+pub mod AdmittedBytes
+pub mod WithdrawnSlots
+pub mod WithdrawnBytes
+pub mod EmptyUrn
+pub mod Previews
 pub mod UrnTheorems
 pub mod UrnMemory

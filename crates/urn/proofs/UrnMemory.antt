@@ -1,28 +1,29 @@
 -- The memory demand holds of the urn.
 -- Assumes nothing.
-use mathlib.Core.Path.{_≡_, _∙_, refl, sym, ap, subst}
+use mathlib.Core.Path.{_≡_, refl, sym, subst}
 use mathlib.Core.Bool.{Bool, true, false, cond}
 use mathlib.Core.Option.{Option, none, some}
-use mathlib.Core.List.{List, [], _∷_, _++_}
+use mathlib.Core.List.{List, [], _∷_}
 use Prim.Native.Nat.{ℕ, _+_, _-_}
 use lib.Dec.{T}
 use lib.ListN.{length}
 use Rattle.jury.specs.declared.shape.Shape.{Shape}
 use Rattle.jury.specs.Reason.{Reason, reasonAt, unless, firstOf}
-use Rattle.jury.specs.Shape.{isRanking, gradedLimits}
+use Rattle.jury.specs.Shape.{isRanking}
 use Rattle.jury.specs.Ballots.{rankedReasons, gradedReasons, ballotReasons}
 use Rattle.jury.proofs.Limits.{within, graded-is}
-use Rattle.tally.specs.Answer.{Said, refused, accepted, said, hasNumberIn}
-use Rattle.tally.proofs.Numbering.{All, Fine, first-fine, both, unless-fine, found-fine, said-fine, refused-fine}
-use Rattle.chains.specs.Sound.{juryOfOne}
+use Rattle.tally.specs.Answer.{Outcome, refused, accepted, outcome, hasNumberIn}
+use Rattle.tally.specs.Memory.{Each, KeepsMemory}
+use Rattle.tally.proofs.Numbering.{All, Fine, first-fine, both, unless-fine, found-fine, outcome-fine, refused-fine}
+use Rattle.urn_chains.specs.Sound.{juryOfOne}
 use Rattle.urn.specs.declared.facts.Facts.{Facts}
-use Rattle.urn.specs.Facts.{gradedShape, factsOf, afterwards}
-use Rattle.urn.specs.Admit.{admitReasons, admitSaid, admitted}
-use Rattle.urn.specs.Withdraw.{withdrawReasons, withdrawSaid, withdrawn}
-use Rattle.urn.specs.Empty.{emptyReasons, emptySaid, emptied}
-use Rattle.urn.specs.Theorems.{AfterEmptying, AfterAdmission, AfterWithdrawal, UrnHolds}
+use Rattle.urn_chains.specs.Sound.{gradedShape}
+use Rattle.urn.specs.Facts.{factsOf, afterwards}
+use Rattle.urn.specs.Admit.{admitReasons, admitAnswer, admitted}
+use Rattle.urn.specs.Withdraw.{withdrawReasons, withdrawAnswer, withdrawn}
+use Rattle.urn.specs.Empty.{emptyReasons, emptyOutcome, emptied}
 use Rattle.urn.specs.Memory.{UrnMemory}
-use Rattle.urn.proofs.Deciding.{refused-kept}
+use Rattle.urn.proofs.Outcomes.{refused-kept}
 use Rattle.urn.proofs.UrnTheorems.{urn-holds}
 
 -- the numbers that concern an admission
@@ -36,7 +37,7 @@ ballots-fine s xs graded =
     (unless-fine admitting _ 4 tt, (found-fine admitting 5 _ (λ i. tt), subst (λ (t : Bool). All admitting (cond t (rankedReasons s xs) (gradedReasons s xs))) (sym graded) (found-fine admitting 6 _ (λ i. tt), tt)))
 
 admit-fine : (k d : ℕ) (f : Facts) (j : ℕ) (x : List ℕ) → gradedShape k d ≡ true → All admitting (admitReasons k d f j x)
-unfolding All admitReasons gradedShape hasNumberIn reasonAt admitting
+unfolding All admitReasons hasNumberIn reasonAt admitting
 admit-fine k d f j x e = (
   unless-fine admitting _ 1 tt,
   (
@@ -58,39 +59,61 @@ unfolding admitReasons
 admit-first k d f j x false e = first-of (gradedShape k d) _ e
 admit-first k d f j x true e = first-fine admitting (admitReasons k d f j x) (admit-fine k d f j x e)
 
-admit-numbered : (k d : ℕ) (f : Facts) (j : ℕ) (x : List ℕ) (r : Reason) → admitSaid k d f j x ≡ refused r → T (hasNumberIn (1 ∷ 13 ∷ 14 ∷ 4 ∷ 5 ∷ 6 ∷ 15 ∷ []) r)
-unfolding admitSaid admitting
-admit-numbered k d f j x r e = refused-fine admitting (admitSaid k d f j x) r (said-fine admitting _ _ (admit-first k d f j x (gradedShape k d) refl)) e
+admit-numbered : (k d : ℕ) (f : Facts) (j : ℕ) (x : List ℕ) (r : Reason) → admitAnswer k d f j x ≡ refused r → T (hasNumberIn (1 ∷ 13 ∷ 14 ∷ 4 ∷ 5 ∷ 6 ∷ 15 ∷ []) r)
+unfolding admitAnswer admitting
+admit-numbered k d f j x r e = refused-fine admitting (admitAnswer k d f j x) r (outcome-fine admitting _ _ (admit-first k d f j x (gradedShape k d) refl)) e
 
-withdraw-numbered : (k d : ℕ) (f : Facts) (j : ℕ) (r : Reason) → withdrawSaid k d f j ≡ refused r → T (hasNumberIn (1 ∷ 13 ∷ 14 ∷ []) r)
-unfolding withdrawSaid withdrawReasons All hasNumberIn reasonAt
+withdraw-numbered : (k d : ℕ) (f : Facts) (j : ℕ) (r : Reason) → withdrawAnswer k d f j ≡ refused r → T (hasNumberIn (1 ∷ 13 ∷ 14 ∷ []) r)
+unfolding withdrawAnswer withdrawReasons All hasNumberIn reasonAt
 withdraw-numbered k d f j r e =
     let ns : List ℕ = 1 ∷ 13 ∷ 14 ∷ [] in
-    refused-fine ns (withdrawSaid k d f j) r (said-fine ns _ _ (first-fine ns (withdrawReasons k d f j) (unless-fine ns _ 1 tt, (unless-fine ns _ 13 tt, (unless-fine ns _ 14 tt, tt))))) e
+    refused-fine ns (withdrawAnswer k d f j) r (outcome-fine ns _ _ (first-fine ns (withdrawReasons k d f j) (unless-fine ns _ 1 tt, (unless-fine ns _ 13 tt, (unless-fine ns _ 14 tt, tt))))) e
 
-empty-numbered : (k d : ℕ) (table : List ℕ) (r : Reason) → emptySaid k d table ≡ refused r → T (hasNumberIn (1 ∷ 13 ∷ []) r)
-unfolding emptySaid emptyReasons All hasNumberIn reasonAt
+empty-numbered : (k d : ℕ) (table : List ℕ) (r : Reason) → emptyOutcome k d table ≡ refused r → T (hasNumberIn (1 ∷ 13 ∷ []) r)
+unfolding emptyOutcome emptyReasons All hasNumberIn reasonAt
 empty-numbered k d table r e =
     let ns : List ℕ = 1 ∷ 13 ∷ [] in
-    refused-fine ns (emptySaid k d table) r (said-fine ns _ _ (first-fine ns (emptyReasons k d table) (unless-fine ns _ 1 tt, (unless-fine ns _ 13 tt, tt)))) e
+    refused-fine ns (emptyOutcome k d table) r (outcome-fine ns _ _ (first-fine ns (emptyReasons k d table) (unless-fine ns _ 1 tt, (unless-fine ns _ 13 tt, tt)))) e
 
 -- a length stays where it stays after a refusal and after an accepted call
-kept : (o : Option Reason) (v : ℕ) (new old : List ℕ) → ((count : ℕ) → said o v ≡ accepted count → length (afterwards o new old) ≡ length old) → length (afterwards o new old) ≡ length old
-unfolding said afterwards
+kept : (o : Option Reason) (v : ℕ) (new old : List ℕ) → ((count : ℕ) → outcome o v ≡ accepted count → length (afterwards o new old) ≡ length old) → length (afterwards o new old) ≡ length old
+unfolding outcome afterwards
 kept none v new old f = f v refl
 kept (some r) v new old f = refl
 
+-- a call that is lent an urn, and one that is lent nothing to write to
+lent-urn : (numbers : List ℕ) (o : Option Reason) (v : ℕ) (new old : List ℕ)
+    → ((r : Reason) → outcome o v ≡ refused r → T (hasNumberIn numbers r))
+    → length (afterwards o new old) ≡ length old
+    → KeepsMemory numbers (outcome o v) (record { before = old; after = afterwards o new old } ∷ []) []
+unfolding Each
+lent-urn numbers o v new old fine size =
+    record {
+      number = fine;
+      refusal = λ r e. (refused-kept o v r new old e, tt);
+      empties = λ values e. tt;
+      lengths = (size, tt);
+    }
+
+lent-nothing : (numbers : List ℕ) (answer : Outcome ℕ) → ((r : Reason) → answer ≡ refused r → T (hasNumberIn numbers r)) → KeepsMemory numbers answer [] []
+unfolding Each
+lent-nothing numbers answer fine = record { number = fine; refusal = λ r e. tt; empties = λ values e. tt; lengths = tt }
+
 pub urn-memory : UrnMemory
-unfolding admitSaid admitted withdrawSaid withdrawn emptySaid emptied
+unfolding admitAnswer admitted withdrawAnswer withdrawn emptyOutcome emptied
 urn-memory =
     record {
-      empty-number = empty-numbered;
-      admit-number = λ k d urn j x r e. admit-numbered k d (factsOf k d urn j) j x r e;
-      withdraw-number = λ k d urn j r e. withdraw-numbered k d (factsOf k d urn j) j r e;
-      empty-refused = λ k d table r h. refused-kept (firstOf (emptyReasons k d table)) 0 r _ table h;
-      admit-refused = λ k d urn j x r h. refused-kept (firstOf (admitReasons k d (factsOf k d urn j) j x)) (factsOf k d urn j .ballots + 1) r _ urn h;
-      withdraw-refused = λ k d urn j r h. refused-kept (firstOf (withdrawReasons k d (factsOf k d urn j) j)) (factsOf k d urn j .ballots - 1) r _ urn h;
-      empty-length = λ k d table. kept (firstOf (emptyReasons k d table)) 0 _ table (λ count h. urn-holds .emptying k d table count h .same-length);
-      admit-length = λ k d urn j x. kept (firstOf (admitReasons k d (factsOf k d urn j) j x)) (factsOf k d urn j .ballots + 1) _ urn (λ count h. urn-holds .admission k d urn j x count h .same-length);
-      withdraw-length = λ k d urn j. kept (firstOf (withdrawReasons k d (factsOf k d urn j) j)) (factsOf k d urn j .ballots - 1) _ urn (λ count h. urn-holds .withdrawal k d urn j count h .same-length);
+      empty = λ k d table.
+          let o = firstOf (emptyReasons k d table) in
+          lent-urn (1 ∷ 13 ∷ []) o 0 _ table (empty-numbered k d table) (kept o 0 _ table (λ count h. urn-holds .emptying k d table count h .same-length));
+      admit = λ k d urn j x.
+          let f = factsOf k d urn j in
+          let o = firstOf (admitReasons k d f j x) in
+          lent-urn (1 ∷ 13 ∷ 14 ∷ 4 ∷ 5 ∷ 6 ∷ 15 ∷ []) o (f .ballots + 1) _ urn (admit-numbered k d f j x) (kept o (f .ballots + 1) _ urn (λ count h. urn-holds .admission k d urn j x count h .same-length));
+      withdraw = λ k d urn j.
+          let f = factsOf k d urn j in
+          let o = firstOf (withdrawReasons k d f j) in
+          lent-urn (1 ∷ 13 ∷ 14 ∷ []) o (f .ballots - 1) _ urn (withdraw-numbered k d f j) (kept o (f .ballots - 1) _ urn (λ count h. urn-holds .withdrawal k d urn j count h .same-length));
+      preview-admit = λ k d urn j x. lent-nothing (1 ∷ 13 ∷ 14 ∷ 4 ∷ 5 ∷ 6 ∷ 15 ∷ []) (admitAnswer k d (factsOf k d urn j) j x) (admit-numbered k d (factsOf k d urn j) j x);
+      preview-withdraw = λ k d urn j. lent-nothing (1 ∷ 13 ∷ 14 ∷ []) (withdrawAnswer k d (factsOf k d urn j) j) (withdraw-numbered k d (factsOf k d urn j) j);
     }

@@ -4,127 +4,47 @@ use mathlib.Core.Path.{_≡_, _∙_, refl, sym, ap, subst}
 use mathlib.Core.Logic.{⊎-elim}
 use mathlib.Core.Bool.{Bool, true, false, cond, not, _&&_, _||_}
 use mathlib.Core.Option.{Option, none, some}
-use mathlib.Core.List.{List, [], _∷_, _++_, map}
-use Prim.Native.Nat.{ℕ, suc, _+_, _*_, _-_, _≤_, _<_}
+use mathlib.Core.List.{List, [], _∷_, _++_}
+use Prim.Native.Nat.{ℕ, suc, _+_, _*_, _-_}
 use native.Mathlib.Omega.{arith}
 use lib.Dec.{T, eqb}
 use lib.ListN.{length, drop, length-append}
-use borrow.Author.Tests.{eq-eqb, eqb-true, not-true}
+use borrow.Author.Tests.{eq-eqb, not-true}
 use Rattle.jury.specs.Shape.{gradedLimits}
-use Rattle.jury.specs.Counts.{tabulate}
+use Rattle.basics.specs.Lists.{tabulate}
 use Rattle.jury.specs.Reason.{Reason, firstOf}
-use Rattle.jury.proofs.Flags.{and-first, and-second, and-both, true-T, or-first, or-second}
-use Rattle.tally.specs.Answer.{accepted, said}
+use Rattle.basics.proofs.Flags.{and-first, and-second, and-both, true-T, or-first}
+use Rattle.tally.specs.Answer.{accepted, outcome}
 use Rattle.urn.specs.declared.facts.Facts.{Facts}
-use Rattle.chains.specs.Slots.{Slot, slotBytes, slotsOf, bytesOf}
-use Rattle.chains.specs.Chains.{Entry, ballotChain, freeChain, firstFree, layout}
-use Rattle.chains.specs.Sound.{all, member, distinct, juryOfOne, goodJuror, goodBallot, eachOnce, goodChains, slotCount, urnLength, urnSlots, soundSlots, sound}
-use Rattle.urn.specs.Facts.{gradedShape, isEmpty, jurorsOf, factsOf, afterwards}
-use Rattle.urn.specs.Admit.{admitReasons, admitSaid, withBallot, admitted}
-use Rattle.urn.specs.Withdraw.{withdrawReasons, withdrawSaid, without, slotOfJuror, withoutBallot, withdrawn}
-use Rattle.urn.specs.Empty.{emptyReasons, emptySaid, allFree, emptied}
-use Rattle.urn.specs.Theorems.{AfterEmptying, AfterAdmission, AfterWithdrawal, UrnHolds, TellTheSame, PreviewsTell}
-use Rattle.chains.specs.Inner.{SlotTable}
-use Rattle.chains.proofs.Lists.{all-first, all-rest, all-cons, all-move, distinct-first, distinct-rest, distinct-cons, distinct-move, eqb-sym}
-use Rattle.chains.proofs.Marks.{true-or-false}
-use Rattle.chains.proofs.SlotLaws.{slots-length}
-use Rattle.chains.proofs.SoundLaws.{Parts, chains-true}
-use Rattle.chains.proofs.Linked.{slotsIn, Linked}
-use Rattle.chains.proofs.Layouts.{Fit, chains-fit, layout-length, layout-sound, read-ballots, read-free}
-use Rattle.chains.proofs.BytesLaws.{Sized, slots-sized, layout-sized, bytes-length, slots-back, bytes-back, count-is, length-good, table-is, count-least, count-most}
-use Rattle.chains.proofs.Held.{held, fits, sound-layout}
-use Rattle.urn.proofs.AdmitSlots.{fit-admit}
-use Rattle.urn.proofs.Admitting.{not-empty}
-use Rattle.urn.proofs.Withdrawing.{Split, split, fit-withdraw}
-use Rattle.urn.proofs.Emptying.{all-fit, empty-accepted}
-use Rattle.urn.proofs.FactLaws.{its-table, its-parts, its-length, facts-are, facts-sound, facts-free, facts-present, no-facts}
-use Rattle.urn.proofs.Deciding.{Admissible, admissible, Withdrawable, withdrawable, accepted-none, none-new, withdraw-first, withdraw-none, graded-within}
+use Rattle.urn_chains.specs.Slots.{slotBytes, bytesOf}
+use Rattle.urn_chains.specs.Chains.{Entry, ballotChain, freeChain, firstFree, layout}
+use Rattle.urn_chains.specs.Sound.{entriesOf, freeOf, juryOfOne, goodJuror, goodBallot, slotCount, urnSlots, sound}
+use Rattle.basics.specs.Lists.{all, member, distinct}
+use Rattle.urn_chains.specs.Sound.{gradedShape}
+use Rattle.urn.specs.Facts.{isEmpty, jurorsOf, factsOf}
+use Rattle.urn.specs.Admit.{admitReasons, admitAnswer, withBallot, admitted}
+use Rattle.urn.specs.Withdraw.{withdrawReasons, withdrawAnswer, without, slotOfJuror, withoutBallot, withdrawn}
+use Rattle.urn.specs.Empty.{emptyReasons, emptyOutcome, allFree, emptied}
+use Rattle.urn.specs.Theorems.{AfterEmptying, AfterAdmission, AfterWithdrawal, UrnHolds}
+use Rattle.urn_chains.proofs.Lists.{all-rest, all-cons, all-move, distinct-rest, distinct-cons, distinct-move, eqb-sym}
+use Rattle.urn_chains.proofs.Marks.{true-or-false}
+use Rattle.urn_chains.proofs.Layouts.{layout-length}
+use Rattle.urn_chains.proofs.BytesLaws.{table-is, count-least, count-most}
+use Rattle.urn_chains.proofs.SoundLayouts.{Good, chains-good, Written, bytes-written, written, laid-out, sound-is-laid-out}
+use Rattle.urn.proofs.AdmittedSlots.{fit-admit}
+use Rattle.urn.proofs.AdmittedBytes.{not-empty}
+use Rattle.urn.proofs.WithdrawnSlots.{fit-withdraw}
+use Rattle.urn.proofs.EmptyUrn.{all-fit, empty-accepted}
+use Rattle.urn.proofs.FactLaws.{facts-are, facts-sound, facts-free, facts-present}
+pub use Rattle.urn.proofs.Previews.{previews-tell}
+use Rattle.urn.proofs.Outcomes.{admissible, withdrawable, accepted-none, none-new, withdraw-first, withdraw-none}
 
-same-facts-of : (f g : Facts) → f .sound ≡ g .sound → f .ballots ≡ g .ballots → f .present ≡ g .present → f .full ≡ g .full → f ≡ g
-same-facts-of f g a b c d =
-    ap (λ (x : Bool). record { sound = x; ballots = f .ballots; present = f .present; full = f .full }) a
-    ∙ ap (λ (x : ℕ). record { sound = g .sound; ballots = x; present = f .present; full = f .full }) b
-    ∙ ap (λ (x : Bool). record { sound = g .sound; ballots = g .ballots; present = x; full = f .full }) c
-    ∙ ap (λ (x : Bool). record { sound = g .sound; ballots = g .ballots; present = g .present; full = x }) d
-
-pub previews-tell : PreviewsTell
-previews-tell =
-    record {
-      admission = λ k d one other j x t. ap (λ (f : Facts). admitSaid k d f j x) (same-facts-of (factsOf k d one j) (factsOf k d other j) (t .soundness) (t .ballots) (t .present) (t .full));
-      withdrawal = λ k d one other j t. ap (λ (f : Facts). withdrawSaid k d f j) (same-facts-of (factsOf k d one j) (factsOf k d other j) (t .soundness) (t .ballots) (t .present) (t .full));
-      unsound = λ k d one other j e f.
-          let q = no-facts k d one j e ∙ sym (no-facts k d other j f) in
-          record { soundness = ap (λ (x : Facts). x .sound) q; ballots = ap (λ (x : Facts). x .ballots) q; present = ap (λ (x : Facts). x .present) q; full = ap (λ (x : Facts). x .full) q };
-    }
-
--- The parts of chains as they have to be.
-record Good (k d n : ℕ) (es : List Entry) (is : List ℕ) : Type 0 where
-  fit : Fit n es is
-  jurors : all (λ (e : Entry). goodJuror (e .juror)) es ≡ true
-  jurors-once : distinct (jurorsOf es) ≡ true
-  ballots : all (λ (e : Entry). goodBallot k d (e .ballot)) es ≡ true
-
-chains-good : (k d n : ℕ) (es : List Entry) (is : List ℕ) → 2 ≤ n → goodChains k d n es is ≡ true → Good k d n es is
-unfolding goodChains jurorsOf
-chains-good k d n es is h e =
-    let o = eachOnce n (slotsIn es ++ is) in
-    let j = all (λ (x : Entry). goodJuror (x .juror)) es in
-    let u = distinct (map (λ (x : Entry). x .juror) es) in
-    let v = all (λ (x : Entry). goodBallot k d (x .ballot)) es in
-    let e₂ = and-first (o && j && u) v e in
-    let e₁ = and-first (o && j) u e₂ in
-    record { fit = chains-fit k d n es is h e; jurors = and-second o j e₁; jurors-once = and-second (o && j) u e₂; ballots = and-second (o && j && u) v e }
-
-good-chains : (k d n : ℕ) (es : List Entry) (is : List ℕ) → Good k d n es is → goodChains k d n es is ≡ true
-unfolding goodChains eachOnce jurorsOf
-good-chains k d n es is g = rw (g .fit .inside, g .fit .once, g .fit .covered, g .jurors, g .jurors-once, g .ballots)
-
--- An urn that is written from good chains.
-record Written (k d n : ℕ) (es : List Entry) (is : List ℕ) (u : List ℕ) : Type 0 where
-  isSound : sound k d u ≡ true
-  size : length u ≡ n * slotBytes (k * d)
-  slots : urnSlots k d u ≡ layout n (k * d) es is
-  ballots : ballotChain (urnSlots k d u) ≡ es
-  free : freeChain (urnSlots k d u) ≡ is
-
-written : (k d n : ℕ) (es : List Entry) (is : List ℕ) → 2 ≤ n → n ≤ 256 → Good k d n es is → Written k d n es is (bytesOf (layout n (k * d) es is))
-unfolding sound urnSlots
-written k d n es is l m g =
-    let b = k * d in
-    let L = layout n b es is in
-    let z = layout-sized k d n es is (g .ballots) in
-    let q : length (bytesOf L) ≡ n * slotBytes b = bytes-length b L z ∙ ap (λ (x : ℕ). x * slotBytes b) (layout-length n b es is) in
-    let c : slotCount b (length (bytesOf L)) ≡ n = count-is b n (length (bytesOf L)) q in
-    let s : urnSlots k d (bytesOf L) ≡ L = ap (λ (x : ℕ). slotsOf b x (bytesOf L)) (c ∙ sym (layout-length n b es is)) ∙ slots-back b L z in
-    record {
-      isSound = and-both (urnLength b (length (bytesOf L))) (soundSlots k d (urnSlots k d (bytesOf L))) (length-good b n (length (bytesOf L)) l m q) (ap (soundSlots k d) s ∙ layout-sound k d n b es is l (good-chains k d n es is g));
-      size = q;
-      slots = s;
-      ballots = ap ballotChain s ∙ read-ballots n b es is (g .fit);
-      free = ap freeChain s ∙ read-free n b es is (g .fit);
-    }
-
-module _ (k d : ℕ) (urn : List ℕ) (w : T (gradedLimits (juryOfOne k d))) (e : sound k d urn ≡ true) where
-  sized : Sized (k * d) (urnSlots k d urn)
-  unfolding urnSlots
-  sized = slots-sized (k * d) (slotCount (k * d) (length urn)) urn (its-table k d urn w e .size)
-
-  many : 2 ≤ length (urnSlots k d urn)
-  many = omega (arith, its-length k d urn w e, its-table k d urn w e .least)
-
-  not-many : length (urnSlots k d urn) ≤ 256
-  not-many = omega (arith, its-length k d urn w e, its-table k d urn w e .most)
-
-  good : Good k d (length (urnSlots k d urn)) (ballotChain (urnSlots k d urn)) (freeChain (urnSlots k d urn))
-  good = chains-good k d (length (urnSlots k d urn)) (ballotChain (urnSlots k d urn)) (freeChain (urnSlots k d urn)) many (chains-true k d (urnSlots k d urn) (its-parts k d urn w e))
-
-  -- a sound urn is written from its own chains
-  own : bytesOf (layout (length (urnSlots k d urn)) (k * d) (ballotChain (urnSlots k d urn)) (freeChain (urnSlots k d urn))) ≡ urn
-  unfolding urnSlots
-  own = ap bytesOf (sym (sound-layout k d (k * d) (urnSlots k d urn) many (its-parts k d urn w e) sized)) ∙ bytes-back (k * d) (slotCount (k * d) (length urn)) urn (its-table k d urn w e .size)
+module _ (k d : ℕ) (urn : List ℕ) (e : sound k d urn ≡ true) where
+  good : Good k d (length (urnSlots k d urn)) (entriesOf k d urn) (freeOf k d urn)
+  good = let l = laid-out k d urn e in chains-good k d (length (urnSlots k d urn)) (entriesOf k d urn) (freeOf k d urn) (l .least) (l .good)
 
   long : length urn ≡ length (urnSlots k d urn) * slotBytes (k * d)
-  long = its-table k d urn w e .size ∙ ap (λ (x : ℕ). x * slotBytes (k * d)) (sym (its-length k d urn w e))
+  long = written k d (length (urnSlots k d urn)) (entriesOf k d urn) (freeOf k d urn) urn (laid-out k d urn e) .size
 
 -- chains with one ballot more, from the first free slot
 more-good : (k d n : ℕ) (x : Entry) (es : List Entry) (is : List ℕ) → Good k d n es (x .slot ∷ is) → goodJuror (x .juror) ≡ true → member (x .juror) (jurorsOf es) ≡ false → goodBallot k d (x .ballot) ≡ true → Good k d n (x ∷ es) is
@@ -187,21 +107,21 @@ undo k d urn w e j x u is wr a gj cut =
     ∙ ap (λ (ks : List ℕ). bytesOf (layout (length S) (k * d) (without j (y ∷ es)) (slotOfJuror j (y ∷ es) ∷ ks))) (wr .free)
     ∙ ap (λ (t : Bool). bytesOf (layout (length S) (k * d) (cond t es (y ∷ without j es)) (cond t i (slotOfJuror j es) ∷ is))) (eq-eqb j j refl)
     ∙ ap (λ (ks : List ℕ). bytesOf (layout (length S) (k * d) es ks)) (sym cut)
-    ∙ own k d urn w e
+    ∙ sym (laid-out k d urn e .bytes)
 
 -- the count that an accepted call answers
-count-said : (o : Option Reason) (v count : ℕ) → said o v ≡ accepted count → count ≡ v
-unfolding said
-count-said none v count e = cc
-count-said (some r) v count e = let z : _≡_ {A = ℕ} 0 1 = cc in absurd (omega arith)
+count-outcome : (o : Option Reason) (v count : ℕ) → outcome o v ≡ accepted count → count ≡ v
+unfolding outcome
+count-outcome none v count e = cc
+count-outcome (some r) v count e = let z : _≡_ {A = ℕ} 0 1 = cc in absurd (omega arith)
 
-after-admission : (k d : ℕ) (urn : List ℕ) (j : ℕ) (x : List ℕ) (count : ℕ) → admitSaid k d (factsOf k d urn j) j x ≡ accepted count → AfterAdmission k d urn j x count
-unfolding admitSaid admitted withBallot withdrawn withoutBallot
+after-admission : (k d : ℕ) (urn : List ℕ) (j : ℕ) (x : List ℕ) (count : ℕ) → admitAnswer k d (factsOf k d urn j) j x ≡ accepted count → AfterAdmission k d urn j x count
+unfolding admitAnswer admitted withBallot withdrawn withoutBallot
 after-admission k d urn j x count h =
     let f = factsOf k d urn j in
     let o = accepted-none (firstOf (admitReasons k d f j x)) (f .ballots + 1) count h in
     let p = admissible k d f j x o in
-    let w = graded-within k d (true-T (gradedShape k d) (p .graded)) in
+    let w = (true-T (gradedShape k d) (p .graded)) in
     let e = facts-sound k d urn j (p .isSound) in
     let S = urnSlots k d urn in
     let n = length S in
@@ -210,9 +130,9 @@ after-admission k d urn j x count h =
     let cut = not-empty is (facts-free k d urn j e (p .free)) in
     let y : Entry = record { slot = firstFree is; juror = j; ballot = x } in
     let gj = and-first (goodJuror j) (not (f .present)) (p .juror) in
-    let g = more-good k d n y es (drop 1 is) (subst (λ (ks : List ℕ). Good k d n es ks) cut (good k d urn w e)) gj (juror-absent-is k d urn j e (and-second (goodJuror j) (not (f .present)) (p .juror))) (p .ballot) in
+    let g = more-good k d n y es (drop 1 is) (subst (λ (ks : List ℕ). Good k d n es ks) cut (good k d urn e)) gj (juror-absent-is k d urn j e (and-second (goodJuror j) (not (f .present)) (p .juror))) (p .ballot) in
     let u = bytesOf (layout n (k * d) (y ∷ es) (drop 1 is)) in
-    let wr = written k d n (y ∷ es) (drop 1 is) (many k d urn w e) (not-many k d urn w e) g in
+    let wr = bytes-written k d n (y ∷ es) (drop 1 is) (laid-out k d urn e .least) (laid-out k d urn e .most) g in
     let new = none-new (firstOf (admitReasons k d f j x)) u urn o in
     let back : withdrawn k d u j ≡ urn = undo k d urn w e j x u (drop 1 is) wr (p .graded) gj cut in
     let before : f .ballots ≡ length es = ap (λ (z : Facts). z .ballots) (facts-are k d urn w e j) in
@@ -220,16 +140,16 @@ after-admission k d urn j x count h =
     let after : length (ballotChain (urnSlots k d (admitted k d urn j x))) ≡ suc (length es) = ap length chain in
     record {
       stays-sound = ap (sound k d) new ∙ wr .isSound;
-      same-length = ap length new ∙ wr .size ∙ sym (long k d urn w e);
+      same-length = ap length new ∙ wr .size ∙ sym (long k d urn e);
       ballots = chain;
-      counted = omega (arith, count-said (firstOf (admitReasons k d f j x)) (f .ballots + 1) count h, before, after);
+      counted = omega (arith, count-outcome (firstOf (admitReasons k d f j x)) (f .ballots + 1) count h, before, after);
       free = ap (λ (v : List ℕ). freeChain (urnSlots k d v)) new ∙ wr .free;
       undone = ap (λ (v : List ℕ). withdrawn k d v j) new ∙ back;
     }
 
 -- all slots free
-after-emptying : (k d : ℕ) (table : List ℕ) (count : ℕ) → emptySaid k d table ≡ accepted count → AfterEmptying k d table count
-unfolding emptySaid emptied allFree jurorsOf all distinct
+after-emptying : (k d : ℕ) (table : List ℕ) (count : ℕ) → emptyOutcome k d table ≡ accepted count → AfterEmptying k d table count
+unfolding emptyOutcome emptied allFree jurorsOf all distinct
 after-emptying k d table count h =
     let b = k * d in
     let m = length table in
@@ -239,14 +159,14 @@ after-emptying k d table count h =
     let l = empty-accepted k d table o in
     let g : Good k d n [] is = record { fit = all-fit n (count-least b m l); jurors = refl; jurors-once = refl; ballots = refl } in
     let u = bytesOf (layout n b [] is) in
-    let wr = written k d n [] is (count-least b m l) (count-most b m l) g in
+    let wr = bytes-written k d n [] is (count-least b m l) (count-most b m l) g in
     let new = none-new (firstOf (emptyReasons k d table)) u table o in
     let chain = ap (λ (v : List ℕ). ballotChain (urnSlots k d v)) new ∙ wr .ballots in
     record {
       made-sound = ap (sound k d) new ∙ wr .isSound;
       same-length = ap length new ∙ wr .size ∙ sym (table-is b m l);
       ballots = chain;
-      counted = count-said (firstOf (emptyReasons k d table)) 0 count h ∙ sym (ap length chain);
+      counted = count-outcome (firstOf (emptyReasons k d table)) 0 count h ∙ sym (ap length chain);
       free = ap (λ (v : List ℕ). freeChain (urnSlots k d v)) new ∙ wr .free;
     }
 
@@ -261,23 +181,23 @@ again k d urn es s is e f j x count a = (
   a .free ∙ ap (drop 1) f,
 )
 
-after-withdrawal : (k d : ℕ) (urn : List ℕ) (j count : ℕ) → withdrawSaid k d (factsOf k d urn j) j ≡ accepted count → AfterWithdrawal k d urn j count
-unfolding withdrawSaid withdrawn withoutBallot
+after-withdrawal : (k d : ℕ) (urn : List ℕ) (j count : ℕ) → withdrawAnswer k d (factsOf k d urn j) j ≡ accepted count → AfterWithdrawal k d urn j count
+unfolding withdrawAnswer withdrawn withoutBallot
 after-withdrawal k d urn j count h =
     let f = factsOf k d urn j in
     let o = accepted-none (firstOf (withdrawReasons k d f j)) (f .ballots - 1) count h in
     let p = withdrawable k d f j o in
-    let w = graded-within k d (true-T (gradedShape k d) (p .graded)) in
+    let w = (true-T (gradedShape k d) (p .graded)) in
     let e = facts-sound k d urn j (p .isSound) in
     let S = urnSlots k d urn in
     let n = length S in
     let es = ballotChain S in
     let is = freeChain S in
     let r = juror-split j es (facts-present k d urn j e (and-second (goodJuror j) (f .present) (p .juror))) in
-    let g₀ = less-good k d n (r .0) (r .1) (r .2) is (subst (λ (xs : List Entry). Good k d n xs is) (r .3) (good k d urn w e)) in
+    let g₀ = less-good k d n (r .0) (r .1) (r .2) is (subst (λ (xs : List Entry). Good k d n xs is) (r .3) (good k d urn e)) in
     let g = subst (λ (s : ℕ). Good k d n (without j es) (s ∷ is)) (sym (r .5)) (subst (λ (xs : List Entry). Good k d n xs (r .1 .slot ∷ is)) (sym (r .4)) g₀) in
     let u = bytesOf (layout n (k * d) (without j es) (slotOfJuror j es ∷ is)) in
-    let wr = written k d n (without j es) (slotOfJuror j es ∷ is) (many k d urn w e) (not-many k d urn w e) g in
+    let wr = bytes-written k d n (without j es) (slotOfJuror j es ∷ is) (laid-out k d urn e .least) (laid-out k d urn e .most) g in
     let new = none-new (firstOf (withdrawReasons k d f j)) u urn o in
     let before : f .ballots ≡ length es = ap (λ (z : Facts). z .ballots) (facts-are k d urn w e j) in
     let chain = ap (λ (v : List ℕ). ballotChain (urnSlots k d v)) new ∙ wr .ballots in
@@ -286,9 +206,9 @@ after-withdrawal k d urn j count h =
     let after : length (ballotChain (urnSlots k d (withdrawn k d urn j))) ≡ length (r .0) + length (r .2) = ap length (chain ∙ r .4) ∙ length-append (r .0) (r .2) in
     record {
       stays-sound = ap (sound k d) new ∙ wr .isSound;
-      same-length = ap length new ∙ wr .size ∙ sym (long k d urn w e);
+      same-length = ap length new ∙ wr .size ∙ sym (long k d urn e);
       ballots = chain;
-      counted = omega (arith, count-said (firstOf (withdrawReasons k d f j)) (f .ballots - 1) count h, before, with-one, after);
+      counted = omega (arith, count-outcome (firstOf (withdrawReasons k d f j)) (f .ballots - 1) count h, before, with-one, after);
       free = free;
       taken-again = λ next ballot more a.
           again k d (withdrawn k d urn j) (without j es) (slotOfJuror j es) is chain free next ballot more
@@ -296,4 +216,4 @@ after-withdrawal k d urn j count h =
     }
 
 pub urn-holds : UrnHolds
-urn-holds = record { emptying = after-emptying; admission = after-admission; withdrawal = after-withdrawal }
+urn-holds = record { sound-means = sound-is-laid-out; emptying = after-emptying; admission = after-admission; withdrawal = after-withdrawal }

@@ -6,12 +6,12 @@ use Prim.Native.Nat.{ℕ, _+_, _*_}
 use lib.ListN.{length, drop}
 use Rattle.jury.specs.Reason.{Reason, unless, firstOf}
 use Rattle.jury.specs.Ballots.{ballotReasons}
-use Rattle.tally.specs.Answer.{Said, said}
+use Rattle.tally.specs.Answer.{Outcome, outcome}
 use Rattle.urn.specs.declared.facts.Facts.{Facts}
-use Rattle.chains.specs.Slots.{Slot, bytesOf}
-use Rattle.chains.specs.Chains.{Entry, ballotChain, freeChain, firstFree, layout}
-use Rattle.chains.specs.Sound.{juryOfOne, goodJuror, urnSlots}
-use Rattle.urn.specs.Facts.{gradedShape, factsOf, afterwards}
+use Rattle.urn_chains.specs.Slots.{Slot, bytesOf}
+use Rattle.urn_chains.specs.Chains.{ballotChain, freeChain, firstFree, layout}
+use Rattle.urn_chains.specs.Sound.{juryOfOne, gradedShape, goodJuror, urnSlots}
+use Rattle.urn.specs.Facts.{factsOf, UrnResult, afterwards}
 
 -- The tests in checking order: 1, 13, 14, the tests of the ballot as one of a jury of one (4, 5, 6), 15.
 unfoldable pub admitReasons : ℕ → ℕ → Facts → ℕ → List ℕ → List (Option Reason)
@@ -21,16 +21,27 @@ admitReasons k d facts juror ballot =
     ∷ unless (goodJuror juror && not (facts .present)) 14
     ∷ (ballotReasons (juryOfOne k d) ballot ++ (unless (not (facts .full)) 15 ∷ []))
 
--- The answer: a reason, or the new number of ballots.
-unfoldable pub admitSaid : ℕ → ℕ → Facts → ℕ → List ℕ → Said ℕ
-admitSaid k d facts juror ballot = said (firstOf (admitReasons k d facts juror ballot)) (facts .ballots + 1)
+-- The answer by the facts of an urn: a reason, or the new number of ballots.
+unfoldable pub admitAnswer : ℕ → ℕ → Facts → ℕ → List ℕ → Outcome ℕ
+admitAnswer k d facts juror ballot = outcome (firstOf (admitReasons k d facts juror ballot)) (facts .ballots + 1)
+
+abbrev pub admitOutcome : ℕ → ℕ → List ℕ → ℕ → List ℕ → Outcome ℕ
+admitOutcome k d urn juror ballot = admitAnswer k d (factsOf k d urn juror) juror ballot
 
 -- The ballot in the first free slot, before the ballots that were there; that slot is free no longer.
 unfoldable pub withBallot : ℕ → List Slot → ℕ → List ℕ → List Slot
 withBallot b slots juror ballot =
-    layout (length slots) b (record { slot = firstFree (freeChain slots); juror = juror; ballot = ballot } ∷ ballotChain slots) (drop 1 (freeChain slots))
+    layout (length slots) b
+    (record { slot = firstFree (freeChain slots); juror = juror; ballot = ballot } ∷ ballotChain slots)
+    (drop 1 (freeChain slots))
 
 -- The urn after an admission.
 unfoldable pub admitted : ℕ → ℕ → List ℕ → ℕ → List ℕ → List ℕ
 admitted k d urn juror ballot =
-    afterwards (firstOf (admitReasons k d (factsOf k d urn juror) juror ballot)) (bytesOf (withBallot (k * d) (urnSlots k d urn) juror ballot)) urn
+    afterwards (firstOf (admitReasons k d (factsOf k d urn juror) juror ballot))
+    (bytesOf (withBallot (k * d) (urnSlots k d urn) juror ballot)) urn
+
+-- What an admission leaves.
+abbrev pub admission : ℕ → ℕ → List ℕ → ℕ → List ℕ → UrnResult
+admission k d urn juror ballot =
+    record { answer = admitOutcome k d urn juror ballot; urn = admitted k d urn juror ballot }

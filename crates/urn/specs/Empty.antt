@@ -3,21 +3,21 @@ use mathlib.Core.Option.{Option}
 use mathlib.Core.List.{List, [], _∷_}
 use Prim.Native.Nat.{ℕ, suc, _-_, _*_}
 use lib.ListN.{length}
-use Rattle.jury.specs.Counts.{tabulate}
+use Rattle.basics.specs.Lists.{tabulate}
 use Rattle.jury.specs.Reason.{Reason, unless, firstOf}
-use Rattle.tally.specs.Answer.{Said, said}
-use Rattle.chains.specs.Slots.{Slot, bytesOf}
-use Rattle.chains.specs.Chains.{layout}
-use Rattle.chains.specs.Sound.{slotCount, urnLength}
-use Rattle.urn.specs.Facts.{gradedShape, afterwards}
+use Rattle.tally.specs.Answer.{Outcome, outcome}
+use Rattle.urn_chains.specs.Slots.{Slot, bytesOf}
+use Rattle.urn_chains.specs.Chains.{layout}
+use Rattle.urn_chains.specs.Sound.{gradedShape, slotCount, urnLength}
+use Rattle.urn.specs.Facts.{UrnResult, afterwards}
 
 -- The tests in checking order: 1, then 13 where no urn has this length.
 unfoldable pub emptyReasons : ℕ → ℕ → List ℕ → List (Option Reason)
 emptyReasons k d table = unless (gradedShape k d) 1 ∷ unless (urnLength (k * d) (length table)) 13 ∷ []
 
 -- The answer: a reason, or the number of ballots, which is 0.
-unfoldable pub emptySaid : ℕ → ℕ → List ℕ → Said ℕ
-emptySaid k d table = said (firstOf (emptyReasons k d table)) 0
+unfoldable pub emptyOutcome : ℕ → ℕ → List ℕ → Outcome ℕ
+emptyOutcome k d table = outcome (firstOf (emptyReasons k d table)) 0
 
 -- The n slots of an urn without a ballot, of ballots of b bytes: slots 1, 2 and so on are free, in this order.
 unfoldable pub allFree : ℕ → ℕ → List Slot
@@ -27,3 +27,7 @@ allFree n b = layout n b [] (tabulate (n - 1) suc)
 unfoldable pub emptied : ℕ → ℕ → List ℕ → List ℕ
 emptied k d table =
     afterwards (firstOf (emptyReasons k d table)) (bytesOf (allFree (slotCount (k * d) (length table)) (k * d))) table
+
+-- What the call leaves.
+abbrev pub emptying : ℕ → ℕ → List ℕ → UrnResult
+emptying k d table = record { answer = emptyOutcome k d table; urn = emptied k d table }

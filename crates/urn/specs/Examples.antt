@@ -1,4 +1,5 @@
--- One candidate, two grades: a slot is four bytes. A table of three slots is made an empty urn; juror 9 is admitted to an empty urn of two slots and withdrawn again, over the definitions.
+-- One candidate, two grades: a slot is four bytes. A table of three slots is made an empty urn; juror 9 is admitted
+-- to an empty urn of two slots and withdrawn again, over the definitions.
 use mathlib.Core.Path.{_≡_, refl}
 use mathlib.Core.Bool.{true, false}
 use mathlib.Core.List.{List, [], _∷_}
@@ -7,14 +8,14 @@ use Rattle.gates.specs.Test.{firstAboveOne}
 use Rattle.jury.specs.Shape.{isRanking, gradedLimits, columns, ballotBytes}
 use Rattle.jury.specs.Reason.{unless, foundAt, firstOf}
 use Rattle.jury.specs.Ballots.{ones, rowsOf, firstBadRow, gradedReasons, ballotReasons}
-use Rattle.jury.specs.Counts.{tabulate}
-use Rattle.tally.specs.Answer.{said, accepted}
-use Rattle.chains.specs.Slots.{slotBytes, slotOf, slotsOf, bytesOfSlot, bytesOf, slotAt, freeSlot}
-use Rattle.chains.specs.Chains.{chain, ends, entryAt, ballotSlots, ballotChain, freeChain, firstEntry, firstFree, entrySlot, withBallots, withFree, headSlot, layout}
-use Rattle.chains.specs.Sound.{all, member, distinct, juryOfOne, noReason, goodBallot, goodJuror, inUrn, eachOnce, goodChains, allZero, emptySlot, soundSlots, slotCount, urnLength, urnSlots, sound}
-use Rattle.urn.specs.Facts.{gradedShape, isEmpty, jurorsOf, factsOf, afterwards}
+use Rattle.basics.specs.Lists.{tabulate}
+use Rattle.urn_chains.specs.Slots.{slotBytes, slotOf, slotsOf, bytesOfSlot, bytesOf, slotAt, freeSlot}
+use Rattle.urn_chains.specs.Chains.{chain, ends, entryAt, ballotSlots, ballotChain, freeChain, firstEntry, firstFree, entrySlot, withBallots, withFree, headSlot, layout}
+use Rattle.basics.specs.Lists.{all, member, distinct}
+use Rattle.urn_chains.specs.Sound.{juryOfOne, noReason, goodBallot, goodJuror, inUrn, eachOnce, goodChains, allZero, emptySlot, soundSlots, slotCount, urnLength, urnSlots, sound}
+use Rattle.urn.specs.Facts.{isEmpty, jurorsOf, factsOf, afterwards}
 use Rattle.urn.specs.Empty.{emptyReasons, allFree, emptied}
-use Rattle.urn.specs.Admit.{admitReasons, admitSaid, withBallot, admitted}
+use Rattle.urn.specs.Admit.{admitReasons, withBallot, admitted}
 use Rattle.urn.specs.Withdraw.{withdrawReasons, without, slotOfJuror, withoutBallot, withdrawn}
 
 unfoldable pub emptyUrn : List ℕ
@@ -24,22 +25,37 @@ unfoldable pub oneBallotIn : List ℕ
 oneBallotIn = 1 ∷ 0 ∷ 0 ∷ 0 ∷ 0 ∷ 9 ∷ 0 ∷ 1 ∷ []
 
 pub empty-sound : sound 1 2 emptyUrn ≡ true
-unfolding emptyUrn slotBytes slotOf slotsOf slotAt chain ends entryAt ballotSlots ballotChain freeChain all member distinct goodJuror inUrn eachOnce goodChains allZero emptySlot soundSlots slotCount urnLength urnSlots sound tabulate
+unfolding emptyUrn slotBytes slotOf slotsOf slotAt chain ends entryAt ballotSlots ballotChain freeChain all member
+    distinct goodJuror inUrn eachOnce goodChains allZero emptySlot soundSlots slotCount urnLength urnSlots sound
+    tabulate
 empty-sound = refl
 
 -- the free slot names itself: that chain does not end
 pub loop-unsound : sound 1 2 (0 ∷ 1 ∷ 0 ∷ 0 ∷ 1 ∷ 0 ∷ 0 ∷ 0 ∷ []) ≡ false
-unfolding slotBytes slotOf slotsOf slotAt chain ends entryAt ballotSlots ballotChain freeChain all member distinct goodJuror inUrn eachOnce goodChains allZero emptySlot soundSlots slotCount urnLength urnSlots sound tabulate
+unfolding slotBytes slotOf slotsOf slotAt chain ends entryAt ballotSlots ballotChain freeChain all member distinct
+    goodJuror inUrn eachOnce goodChains allZero emptySlot soundSlots slotCount urnLength urnSlots sound tabulate
 loop-unsound = refl
 
-pub emptying : emptied 1 2 (9 ∷ 9 ∷ 9 ∷ 9 ∷ 9 ∷ 9 ∷ 9 ∷ 9 ∷ 9 ∷ 9 ∷ 9 ∷ 9 ∷ []) ≡ 0 ∷ 1 ∷ 0 ∷ 0 ∷ 2 ∷ 0 ∷ 0 ∷ 0 ∷ 0 ∷ 0 ∷ 0 ∷ 0 ∷ []
-unfolding slotBytes bytesOfSlot bytesOf freeSlot firstEntry firstFree withBallots withFree headSlot layout juryOfOne slotCount urnLength gradedShape afterwards emptyReasons allFree emptied gradedLimits unless firstOf tabulate
+pub emptying : emptied 1 2 (9 ∷ 9 ∷ 9 ∷ 9 ∷ 9 ∷ 9 ∷ 9 ∷ 9 ∷ 9 ∷ 9 ∷ 9 ∷ 9 ∷ [])
+    ≡ 0 ∷ 1 ∷ 0 ∷ 0 ∷ 2 ∷ 0 ∷ 0 ∷ 0 ∷ 0 ∷ 0 ∷ 0 ∷ 0 ∷ []
+unfolding slotBytes bytesOfSlot bytesOf freeSlot firstEntry firstFree withBallots withFree headSlot layout juryOfOne
+    slotCount urnLength afterwards emptyReasons allFree emptied gradedLimits unless firstOf tabulate
 emptying = refl
 
 pub admission : admitted 1 2 emptyUrn 9 (0 ∷ 1 ∷ []) ≡ oneBallotIn
-unfolding emptyUrn oneBallotIn slotBytes slotOf slotsOf bytesOfSlot bytesOf slotAt freeSlot chain ends entryAt ballotSlots ballotChain freeChain firstEntry firstFree entrySlot withBallots withFree headSlot layout all member distinct juryOfOne noReason goodBallot goodJuror inUrn eachOnce goodChains allZero emptySlot soundSlots slotCount urnLength urnSlots sound gradedShape isEmpty jurorsOf factsOf afterwards admitReasons withBallot admitted isRanking gradedLimits columns ballotBytes unless foundAt firstOf ones rowsOf firstBadRow gradedReasons ballotReasons tabulate firstAboveOne
+unfolding emptyUrn oneBallotIn slotBytes slotOf slotsOf bytesOfSlot bytesOf slotAt freeSlot chain ends entryAt
+    ballotSlots ballotChain freeChain firstEntry firstFree entrySlot withBallots withFree headSlot layout all member
+    distinct juryOfOne noReason goodBallot goodJuror inUrn eachOnce goodChains allZero emptySlot soundSlots
+    slotCount urnLength urnSlots sound isEmpty jurorsOf factsOf afterwards admitReasons withBallot admitted
+    isRanking gradedLimits columns ballotBytes unless foundAt firstOf ones rowsOf firstBadRow gradedReasons
+    ballotReasons tabulate firstAboveOne
 admission = refl
 
 pub withdrawal : withdrawn 1 2 oneBallotIn 9 ≡ emptyUrn
-unfolding emptyUrn oneBallotIn slotBytes slotOf slotsOf bytesOfSlot bytesOf slotAt freeSlot chain ends entryAt ballotSlots ballotChain freeChain firstEntry firstFree entrySlot withBallots withFree headSlot layout all member distinct juryOfOne noReason goodBallot goodJuror inUrn eachOnce goodChains allZero emptySlot soundSlots slotCount urnLength urnSlots sound gradedShape isEmpty jurorsOf factsOf afterwards withdrawReasons without slotOfJuror withoutBallot withdrawn isRanking gradedLimits columns ballotBytes unless foundAt firstOf ones rowsOf firstBadRow gradedReasons ballotReasons tabulate firstAboveOne
+unfolding emptyUrn oneBallotIn slotBytes slotOf slotsOf bytesOfSlot bytesOf slotAt freeSlot chain ends entryAt
+    ballotSlots ballotChain freeChain firstEntry firstFree entrySlot withBallots withFree headSlot layout all member
+    distinct juryOfOne noReason goodBallot goodJuror inUrn eachOnce goodChains allZero emptySlot soundSlots
+    slotCount urnLength urnSlots sound isEmpty jurorsOf factsOf afterwards withdrawReasons without slotOfJuror
+    withoutBallot withdrawn isRanking gradedLimits columns ballotBytes unless foundAt firstOf ones rowsOf
+    firstBadRow gradedReasons ballotReasons tabulate firstAboveOne
 withdrawal = refl

@@ -1,21 +1,17 @@
--- What is asked of an urn before a ballot goes in or out.
+-- What is asked of an urn before a ballot goes in or out, and what a call leaves.
 use mathlib.Core.Bool.{Bool, true, false, cond}
 use mathlib.Core.Option.{Option, none, some}
 use mathlib.Core.List.{List, [], _∷_, map}
 use Prim.Native.Nat.{ℕ}
 use lib.ListN.{length}
-use Rattle.jury.specs.Shape.{gradedLimits}
 use Rattle.jury.specs.Reason.{Reason, reasonOf}
-use Rattle.tally.specs.Answer.{Said, refused, accepted}
+use Rattle.tally.specs.Answer.{Outcome, refused, accepted}
 use Rattle.urn.specs.declared.answer.Answer.{Answer}
 use Rattle.urn.specs.declared.answer.Answer.the-variants.{Accepted, Refused}
 use Rattle.urn.specs.declared.facts.Facts.{Facts}
-use Rattle.chains.specs.Chains.{Entry, ballotChain, freeChain}
-use Rattle.chains.specs.Sound.{member, juryOfOne, urnSlots, sound}
-
--- The numbers of candidates and grades are those of a jury that grades: a ranking shape, with no grades, is none.
-unfoldable pub gradedShape : ℕ → ℕ → Bool
-gradedShape k d = gradedLimits (juryOfOne k d)
+use Rattle.urn_chains.specs.Chains.{Entry}
+use Rattle.basics.specs.Lists.{member}
+use Rattle.urn_chains.specs.Sound.{sound, entriesOf, freeOf}
 
 unfoldable pub isEmpty : List ℕ → Bool
 isEmpty [] = true
@@ -24,12 +20,23 @@ isEmpty (i ∷ is) = false
 unfoldable pub jurorsOf : List Entry → List ℕ
 jurorsOf es = map (λ e. e .juror) es
 
--- Of a sound urn: how many ballots are in, whether this juror's is among them, and whether no slot is free. Of any other urn these are not asked.
+-- Of a sound urn: how many ballots are in, whether this juror's is among them, and whether no slot is free. Of any
+-- other urn these are not asked.
 unfoldable pub factsOf : ℕ → ℕ → List ℕ → ℕ → Facts
 factsOf k d urn juror =
     cond (sound k d urn)
-    (record { sound = true; ballots = length (ballotChain (urnSlots k d urn)); present = member juror (jurorsOf (ballotChain (urnSlots k d urn))); full = isEmpty (freeChain (urnSlots k d urn)) })
+    (record {
+      sound = true;
+      ballots = length (entriesOf k d urn);
+      present = member juror (jurorsOf (entriesOf k d urn));
+      full = isEmpty (freeOf k d urn);
+    })
     (record { sound = false; ballots = 0; present = false; full = false })
+
+-- What a call leaves: its answer, and the urn.
+pub record UrnResult : Type 0 where
+  pub answer : Outcome ℕ
+  pub urn : List ℕ
 
 -- The urn after a call: as it was where there is a reason to turn the call away.
 unfoldable pub afterwards : Option Reason → List ℕ → List ℕ → List ℕ
@@ -37,6 +44,6 @@ afterwards (some r) new old = old
 afterwards none new old = new
 
 -- The number and the values for each case of the program's enum.
-unfoldable pub countedBy : Answer → Said ℕ
+unfoldable pub countedBy : Answer → Outcome ℕ
 countedBy (Accepted ballots) = accepted ballots
 countedBy (Refused r) = refused (reasonOf r)

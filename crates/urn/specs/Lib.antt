@@ -1,8 +1,9 @@
-pub mod Inner
 pub mod Facts
 pub mod Admit
 pub mod Withdraw
 pub mod Empty
 pub mod Theorems
+pub mod Previews
 pub mod Memory
 pub mod Examples
+pub mod inner

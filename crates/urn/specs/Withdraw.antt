@@ -6,12 +6,12 @@ use Prim.Native.Nat.{ℕ, _-_, _*_}
 use lib.Dec.{eqb}
 use lib.ListN.{length}
 use Rattle.jury.specs.Reason.{Reason, unless, firstOf}
-use Rattle.tally.specs.Answer.{Said, said}
+use Rattle.tally.specs.Answer.{Outcome, outcome}
 use Rattle.urn.specs.declared.facts.Facts.{Facts}
-use Rattle.chains.specs.Slots.{Slot, bytesOf}
-use Rattle.chains.specs.Chains.{Entry, ballotChain, freeChain, layout}
-use Rattle.chains.specs.Sound.{goodJuror, urnSlots}
-use Rattle.urn.specs.Facts.{gradedShape, factsOf, afterwards}
+use Rattle.urn_chains.specs.Slots.{Slot, bytesOf}
+use Rattle.urn_chains.specs.Chains.{Entry, ballotChain, freeChain, layout}
+use Rattle.urn_chains.specs.Sound.{gradedShape, goodJuror, urnSlots}
+use Rattle.urn.specs.Facts.{factsOf, UrnResult, afterwards}
 
 -- The tests in checking order: 1, 13, 14.
 unfoldable pub withdrawReasons : ℕ → ℕ → Facts → ℕ → List (Option Reason)
@@ -21,9 +21,12 @@ withdrawReasons k d facts juror =
     ∷ unless (goodJuror juror && facts .present) 14
     ∷ []
 
--- The answer: a reason, or the new number of ballots.
-unfoldable pub withdrawSaid : ℕ → ℕ → Facts → ℕ → Said ℕ
-withdrawSaid k d facts juror = said (firstOf (withdrawReasons k d facts juror)) (facts .ballots - 1)
+-- The answer by the facts of an urn: a reason, or the new number of ballots.
+unfoldable pub withdrawAnswer : ℕ → ℕ → Facts → ℕ → Outcome ℕ
+withdrawAnswer k d facts juror = outcome (firstOf (withdrawReasons k d facts juror)) (facts .ballots - 1)
+
+abbrev pub withdrawOutcome : ℕ → ℕ → List ℕ → ℕ → Outcome ℕ
+withdrawOutcome k d urn juror = withdrawAnswer k d (factsOf k d urn juror) juror
 
 -- The ballots without that of this juror, who has one at most.
 unfoldable pub without : ℕ → List Entry → List Entry
@@ -38,9 +41,15 @@ slotOfJuror juror (e ∷ es) = cond (eqb (e .juror) juror) (e .slot) (slotOfJuro
 -- The juror's ballot is gone, and its slot is the first free one.
 unfoldable pub withoutBallot : ℕ → List Slot → ℕ → List Slot
 withoutBallot b slots juror =
-    layout (length slots) b (without juror (ballotChain slots)) (slotOfJuror juror (ballotChain slots) ∷ freeChain slots)
+    layout (length slots) b (without juror (ballotChain slots))
+    (slotOfJuror juror (ballotChain slots) ∷ freeChain slots)
 
 -- The urn after a withdrawal.
 unfoldable pub withdrawn : ℕ → ℕ → List ℕ → ℕ → List ℕ
 withdrawn k d urn juror =
-    afterwards (firstOf (withdrawReasons k d (factsOf k d urn juror) juror)) (bytesOf (withoutBallot (k * d) (urnSlots k d urn) juror)) urn
+    afterwards (firstOf (withdrawReasons k d (factsOf k d urn juror) juror))
+    (bytesOf (withoutBallot (k * d) (urnSlots k d urn) juror)) urn
+
+-- What a withdrawal leaves.
+abbrev pub withdrawal : ℕ → ℕ → List ℕ → ℕ → UrnResult
+withdrawal k d urn juror = record { answer = withdrawOutcome k d urn juror; urn = withdrawn k d urn juror }

@@ -3,20 +3,17 @@ use crate::answer::Answer;
 use crate::facts;
 use crate::facts::Facts;
 use crate::put;
-use jury::byte::wide;
+use basics::byte::wide;
 use jury::reason::Refusal;
 use jury::reason::Verdict;
 use jury::shape::Shape;
 ghost use mathlib.Core.Path.{_≡_};
-ghost use mathlib.Core.Bool.{true, false, _&&_};
-ghost use Prim.Native.Nat.{_*_, _≤_};
-ghost use lib.Dec.{T};
-ghost use lib.ListN.{length};
-ghost use Rattle.chains.specs.Slots.{bytesOf};
-ghost use Rattle.chains.specs.Chains.{freeChain};
-ghost use Rattle.chains.specs.Sound.{goodJuror, urnSlots, sound};
-ghost use Rattle.urn.specs.Facts.{gradedShape, isEmpty, factsOf, countedBy};
-ghost use Rattle.urn.specs.Admit.{admitSaid, withBallot, admitted};
+ghost use Prim.Native.Nat.{_*_};
+ghost use Rattle.urn_chains.specs.Slots.{bytesOf};
+ghost use Rattle.urn_chains.specs.Sound.{gradedShape, goodJuror, urnSlots};
+ghost use Rattle.urn.specs.Facts.{countedBy};
+ghost use Rattle.urn.specs.Admit.{admitAnswer, admitOutcome, withBallot, admission};
+ghost use Rattle.urn.specs.inner.Ready.{Countable, Admissible};
 
 // The most that a juror's number can be: it is kept in a byte.
 pub const MOST_JURORS: usize = 255;
@@ -42,9 +39,8 @@ pub(crate) fn is_juror(juror: usize) -> bool
 
 // The answer to an admission, by what is asked of the urn alone.
 fn decide(k: usize, d: usize, facts: Facts, juror: usize, ballot: &[u8]) -> Answer
-    requires { ⌜ T (gradedShape k d) ⌝ }
-    requires { ⌜ facts .ballots ≤ 256 ⌝ }
-    ensures { λ r. ⌜ countedBy r ≡ admitSaid k d facts juror (now (ballot .entry)) ⌝ }
+    requires { ⌜ Countable k d facts ⌝ }
+    ensures { λ r. ⌜ countedBy r ≡ admitAnswer k d facts juror (now (ballot .entry)) ⌝ }
 {
     if !facts.sound {
         return Answer::Refused(Refusal::Urn);
@@ -73,7 +69,7 @@ fn decide(k: usize, d: usize, facts: Facts, juror: usize, ballot: &[u8]) -> Answ
 
 // What an admission would answer. The urn is lent for reading alone.
 pub fn preview(k: usize, d: usize, urn: &[u8], juror: usize, ballot: &[u8]) -> Answer
-    ensures { λ r. ⌜ countedBy r ≡ admitSaid k d (factsOf k d (now (urn .entry)) juror) juror (now (ballot .entry)) ⌝ }
+    ensures { λ r. ⌜ countedBy r ≡ admitOutcome k d (now (urn .entry)) juror (now (ballot .entry)) ⌝ }
 {
     if !is_graded(k, d) {
         return Answer::Refused(Refusal::Shape);
@@ -84,12 +80,9 @@ pub fn preview(k: usize, d: usize, urn: &[u8], juror: usize, ballot: &[u8]) -> A
 
 // Puts a ballot in the first free slot, and that slot first in the ballot chain.
 fn put_ballot(k: usize, d: usize, urn: &mut [u8], juror: usize, ballot: &[u8])
-    requires { ⌜ sound k d (now urn) ≡ true ⌝ }
-    requires { ⌜ isEmpty (freeChain (urnSlots k d (now urn))) ≡ false ⌝ }
-    requires { ⌜ goodJuror juror ≡ true ⌝ }
-    requires { ⌜ length (now ballot) ≡ k * d ⌝ }
-    requires { ⌜ T (gradedShape k d) ⌝ }
-    ensures { λ _. ⌜ now (urn .exit) ≡ bytesOf (withBallot (k * d) (urnSlots k d (now (urn .entry))) juror (now (ballot .entry))) ⌝ }
+    requires { ⌜ Admissible k d (now urn) juror (now ballot) ⌝ }
+    ensures { λ _. ⌜ now (urn .exit)
+        ≡ bytesOf (withBallot (k * d) (urnSlots k d (now (urn .entry))) juror (now (ballot .entry))) ⌝ }
 {
     let size = 2 + k * d;
     let first = urn[0];
@@ -103,8 +96,8 @@ fn put_ballot(k: usize, d: usize, urn: &mut [u8], juror: usize, ballot: &[u8])
 
 // Admits the ballot of a juror.
 pub fn admit(k: usize, d: usize, urn: &mut [u8], juror: usize, ballot: &[u8]) -> Answer
-    ensures { λ r. ⌜ countedBy r ≡ admitSaid k d (factsOf k d (now (urn .entry)) juror) juror (now (ballot .entry)) ⌝ }
-    ensures { λ _. ⌜ now (urn .exit) ≡ admitted k d (now (urn .entry)) juror (now (ballot .entry)) ⌝ }
+    ensures { λ r. ⌜ record { answer = countedBy r; urn = now (urn .exit) }
+        ≡ admission k d (now (urn .entry)) juror (now (ballot .entry)) ⌝ }
 {
     let answer = preview(k, d, urn, juror, ballot);
     if let Answer::Accepted { ballots: _ } = answer {

@@ -1,13 +1,13 @@
 // The entry point that makes a lent table an empty urn.
 use crate::admit::is_graded;
 use crate::answer::Answer;
-use chains::sound;
 use jury::reason::Refusal;
+use urn_chains::sound;
 ghost use mathlib.Core.Path.{_≡_};
-ghost use Rattle.chains.specs.Slots.{bytesOf};
-ghost use Rattle.chains.specs.Inner.{SlotTable};
+ghost use Rattle.urn_chains.specs.Slots.{bytesOf};
+ghost use Rattle.urn_chains.specs.inner.Table.{SlotTable};
 ghost use Rattle.urn.specs.Facts.{countedBy};
-ghost use Rattle.urn.specs.Empty.{emptySaid, allFree, emptied};
+ghost use Rattle.urn.specs.Empty.{allFree, emptying};
 
 // Frees all slots from 1 on of a table of slots for ballots of `bytes` bytes. Each becomes the first free one, the last
 // slot before the others, so that they are free in order.
@@ -15,7 +15,7 @@ fn free_all(urn: &mut [u8], bytes: usize, slots: usize)
     requires { ⌜ SlotTable bytes slots (now urn) ⌝ }
     ensures { λ _. ⌜ now (urn .exit) ≡ bytesOf (allFree slots bytes) ⌝ }
 {
-    tally::empty::empty(urn);
+    basics::table::empty(urn);
     let size = 2 + bytes;
     // The slot number `left` starts at byte `at`. Both are counted down, without a product in the loop.
     let mut left = slots - 1;
@@ -32,8 +32,7 @@ fn free_all(urn: &mut [u8], bytes: usize, slots: usize)
 
 // Makes a table of the length of an urn an empty one, whatever its bytes were.
 pub fn empty(k: usize, d: usize, urn: &mut [u8]) -> Answer
-    ensures { λ r. ⌜ countedBy r ≡ emptySaid k d (now (urn .entry)) ⌝ }
-    ensures { λ _. ⌜ now (urn .exit) ≡ emptied k d (now (urn .entry)) ⌝ }
+    ensures { λ r. ⌜ record { answer = countedBy r; urn = now (urn .exit) } ≡ emptying k d (now (urn .entry)) ⌝ }
 {
     if !is_graded(k, d) {
         return Answer::Refused(Refusal::Shape);

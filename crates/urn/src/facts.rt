@@ -1,16 +1,11 @@
 // What is asked of an urn before a ballot goes in or out.
-use chains::find;
-use chains::find::Link;
-use chains::sound;
-use chains::sound::Soundness;
-ghost use mathlib.Core.Path.{_≡_};
-ghost use mathlib.Core.Bool.{true};
-ghost use Prim.Native.Nat.{_≤_};
+use urn_chains::find;
+use urn_chains::find::ChainPosition;
+use urn_chains::sound;
+use urn_chains::sound::Soundness;
 ghost use lib.Dec.{T};
-ghost use Rattle.jury.specs.Shape.{gradedLimits};
-ghost use Rattle.chains.specs.Sound.{juryOfOne};
-ghost use Rattle.urn.specs.Inner.{linkIn};
-ghost use Rattle.urn.specs.Facts.{factsOf};
+ghost use Rattle.urn_chains.specs.Sound.{gradedShape};
+ghost use Rattle.urn.specs.inner.Ready.{Looked};
 
 // Of a sound urn the number of ballots, whether a juror's is among them, and whether no slot is free. Of any other
 // nothing but that.
@@ -22,49 +17,47 @@ pub struct Facts {
 }
 
 // The facts, and where the juror's ballot lies in a sound urn.
-pub(crate) struct Looked {
+pub(crate) struct UrnCheck {
     pub(crate) facts: Facts,
-    pub(crate) link: Link,
+    pub(crate) position: ChainPosition,
 }
 
-pub(crate) fn look(k: usize, d: usize, urn: &[u8], juror: usize) -> Looked
-    requires { ⌜ T (gradedLimits (juryOfOne k d)) ⌝ }
-    ensures { λ r. ⌜ r .facts ≡ factsOf k d (now (urn .entry)) juror ⌝ }
-    ensures { λ r. ⌜ r .facts .ballots ≤ 256 ⌝ }
-    ensures { λ r. ⌜ (r .facts .sound ≡ true → r .link ≡ linkIn k d (now (urn .entry)) juror) ⌝ }
+pub(crate) fn look(k: usize, d: usize, urn: &[u8], juror: usize) -> UrnCheck
+    requires { ⌜ T (gradedShape k d) ⌝ }
+    ensures { λ r. ⌜ Looked k d (now (urn .entry)) juror r ⌝ }
 {
     let Soundness::Sound { ballots } = sound::test(k, d, urn) else {
-        return Looked {
+        return UrnCheck {
             facts: Facts {
                 sound: false,
                 ballots: 0,
                 present: false,
                 full: false,
             },
-            link: Link::Absent,
+            position: ChainPosition::Absent,
         };
     };
     let bytes = k * d;
     let slots = urn.len() / (2 + bytes);
     let full = urn[1] == 0;
     match find::find(urn, bytes, slots, juror) {
-        Link::Found { before, slot } => Looked {
+        ChainPosition::Found { before, slot } => UrnCheck {
             facts: Facts {
                 sound: true,
                 ballots,
                 present: true,
                 full,
             },
-            link: Link::Found { before, slot },
+            position: ChainPosition::Found { before, slot },
         },
-        Link::Absent => Looked {
+        ChainPosition::Absent => UrnCheck {
             facts: Facts {
                 sound: true,
                 ballots,
                 present: false,
                 full,
             },
-            link: Link::Absent,
+            position: ChainPosition::Absent,
         },
     }
 }

@@ -7,7 +7,8 @@ ghost use lib.ListN.{length, take, drop};
 // Writes a whole slot, whose first byte stands at place `at`.
 pub(crate) fn put_slot(urn: &mut [u8], at: usize, next: u8, juror: u8, ballot: &[u8])
     requires { ⌜ at + 2 + length (now ballot) ≤ length (now urn) ⌝ }
-    ensures { λ _. ⌜ now (urn .exit) ≡ take at (now (urn .entry)) ++ (next ∷ juror ∷ now (ballot .entry)) ++ drop (at + 2 + length (now (ballot .entry))) (now (urn .entry)) ⌝ }
+    ensures { λ _. ⌜ now (urn .exit) ≡ take at (now (urn .entry)) ++ (next ∷ juror ∷ now (ballot .entry))
+        ++ drop (at + 2 + length (now (ballot .entry))) (now (urn .entry)) ⌝ }
 {
     urn[at] = next;
     urn[at + 1] = juror;

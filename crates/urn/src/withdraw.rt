@@ -5,23 +5,21 @@ use crate::answer::Answer;
 use crate::facts;
 use crate::facts::Facts;
 use crate::put;
-use chains::find::Link;
 use jury::reason::Refusal;
+use urn_chains::find::ChainPosition;
 ghost use mathlib.Core.Path.{_≡_};
-ghost use mathlib.Core.Bool.{true};
 ghost use Prim.Native.Nat.{_*_};
 ghost use lib.Dec.{T};
-ghost use Rattle.chains.specs.Slots.{bytesOf, slotAt};
-ghost use Rattle.chains.specs.Sound.{urnSlots, sound};
-ghost use Rattle.chains.specs.declared.find.Link.the-variants.{Found};
-ghost use Rattle.urn.specs.Inner.{linkIn};
-ghost use Rattle.urn.specs.Facts.{gradedShape, factsOf, countedBy};
-ghost use Rattle.urn.specs.Withdraw.{withdrawSaid, withoutBallot, withdrawn};
+ghost use Rattle.urn_chains.specs.Slots.{bytesOf, slotAt};
+ghost use Rattle.urn_chains.specs.Sound.{gradedShape, urnSlots};
+ghost use Rattle.urn.specs.Facts.{countedBy};
+ghost use Rattle.urn.specs.Withdraw.{withdrawAnswer, withdrawOutcome, withoutBallot, withdrawal};
+ghost use Rattle.urn.specs.inner.Ready.{Present};
 
 // The answer to a withdrawal, by what is asked of the urn alone.
 fn decide(k: usize, d: usize, facts: Facts, juror: usize) -> Answer
     requires { ⌜ T (gradedShape k d) ⌝ }
-    ensures { λ r. ⌜ countedBy r ≡ withdrawSaid k d facts juror ⌝ }
+    ensures { λ r. ⌜ countedBy r ≡ withdrawAnswer k d facts juror ⌝ }
 {
     if !facts.sound {
         return Answer::Refused(Refusal::Urn);
@@ -43,7 +41,7 @@ fn decide(k: usize, d: usize, facts: Facts, juror: usize) -> Answer
 
 // What a withdrawal would answer. The urn is lent for reading alone.
 pub fn preview(k: usize, d: usize, urn: &[u8], juror: usize) -> Answer
-    ensures { λ r. ⌜ countedBy r ≡ withdrawSaid k d (factsOf k d (now (urn .entry)) juror) juror ⌝ }
+    ensures { λ r. ⌜ countedBy r ≡ withdrawOutcome k d (now (urn .entry)) juror ⌝ }
 {
     if !is_graded(k, d) {
         return Answer::Refused(Refusal::Shape);
@@ -52,12 +50,12 @@ pub fn preview(k: usize, d: usize, urn: &[u8], juror: usize) -> Answer
     decide(k, d, looked.facts, juror)
 }
 
-// Takes out the ballot in this slot, which follows slot `before` in the ballot chain, and puts its slot first in the free chain.
+// Takes out the ballot in this slot, which follows slot `before` in the ballot chain, and puts its slot first in the
+// free chain.
 fn take_ballot(k: usize, d: usize, urn: &mut [u8], before: usize, slot: usize)
-    requires { ⌜ sound k d (now urn) ≡ true ⌝ }
-    requires { ⌜ linkIn k d (now urn) (slotAt (urnSlots k d (now urn)) slot .juror) ≡ Found before slot ⌝ }
-    requires { ⌜ T (gradedShape k d) ⌝ }
-    ensures { λ _. ⌜ now (urn .exit) ≡ bytesOf (withoutBallot (k * d) (urnSlots k d (now (urn .entry))) (slotAt (urnSlots k d (now (urn .entry))) slot .juror)) ⌝ }
+    requires { ⌜ Present k d (now urn) before slot ⌝ }
+    ensures { λ _. ⌜ now (urn .exit) ≡ bytesOf (withoutBallot (k * d) (urnSlots k d (now (urn .entry)))
+        (slotAt (urnSlots k d (now (urn .entry))) slot .juror)) ⌝ }
 {
     let bytes = k * d;
     let size = 2 + bytes;
@@ -72,17 +70,17 @@ fn take_ballot(k: usize, d: usize, urn: &mut [u8], before: usize, slot: usize)
 
 // Withdraws the ballot of a juror.
 pub fn withdraw(k: usize, d: usize, urn: &mut [u8], juror: usize) -> Answer
-    ensures { λ r. ⌜ countedBy r ≡ withdrawSaid k d (factsOf k d (now (urn .entry)) juror) juror ⌝ }
-    ensures { λ _. ⌜ now (urn .exit) ≡ withdrawn k d (now (urn .entry)) juror ⌝ }
+    ensures { λ r. ⌜ record { answer = countedBy r; urn = now (urn .exit) }
+        ≡ withdrawal k d (now (urn .entry)) juror ⌝ }
 {
     if !is_graded(k, d) {
         return Answer::Refused(Refusal::Shape);
     }
     let looked = facts::look(k, d, urn, juror);
-    let link = looked.link;
+    let position = looked.position;
     let answer = decide(k, d, looked.facts, juror);
     if let Answer::Accepted { ballots: _ } = answer {
-        if let Link::Found { before, slot } = link {
+        if let ChainPosition::Found { before, slot } = position {
             take_ballot(k, d, urn, before, slot);
         }
     }

@@ -1,5 +1,6 @@
 -- Laws that the proofs of functions rest on.
-pub mod Joined
-pub mod Loading
+pub mod JoinedBallots
+pub mod LoadedWires
 pub mod Reasons
 pub mod Theorems
+pub mod Examples

@@ -5,7 +5,7 @@ use mathlib.Core.Logic.{⊎-elim, _≢_}
 use mathlib.Core.Bool.{Bool, true, false}
 use mathlib.Core.Option.{Option, none, some}
 use mathlib.Core.List.{List, [], _∷_, _++_, map}
-use Prim.Native.Nat.{ℕ, zero, suc, _+_, _*_, _-_, _≤_, _<_}
+use Prim.Native.Nat.{ℕ, _+_, _*_, _-_, _≤_, _<_}
 use native.Mathlib.Nat.{mul-assoc, mul-pos, eq-of-mul-eq-mul-right}
 use native.Mathlib.Omega.{arith}
 use lib.Dec.{T, eqb}
@@ -14,38 +14,33 @@ use lib.Seq.{take-at}
 use borrow.Author.Tests.{eq-eqb, ne-eqb, eqb-true, eqb-false}
 use Rattle.gates.specs.Gate.{gatesOf}
 use Rattle.gates.specs.Test.{firstAboveOne, firstBad, tested}
-use Rattle.gates.specs.Step.{FinishReady}
+use Rattle.gates.specs.inner.Step.{FinishReady}
 use Rattle.jury.specs.declared.shape.Shape.{Shape}
 use Rattle.jury.specs.Shape.{gradedLimits, withinLimits, ballotBytes}
-use Rattle.jury.specs.Reason.{Reason, reasonAt, unless, foundAt, listReason, firstOf}
+use Rattle.jury.specs.Reason.{Reason, reasonAt, unless, listReason, firstOf}
 use Rattle.jury.specs.Ballots.{ballotReasons}
 use Rattle.jury.specs.Accepted.{AcceptedBallots}
-use Rattle.jury.proofs.Flags.{true-T}
-use Rattle.jury.proofs.Limits.{Within, within, within-back, graded-within, bytes-are}
+use Rattle.basics.proofs.Flags.{never-true, true-T}
+use Rattle.jury.proofs.Limits.{within, within-back, graded-within, bytes-are}
 use Rattle.jury.proofs.BallotLaws.{judged, judged-by, kindReason}
 use Rattle.jury.proofs.AcceptedLaws as ballots-laws
-use Rattle.tally.specs.Answer.{refused, accepted, said, Size, sizeOf}
-use Rattle.tally.specs.Test.{testReasons, testSaid}
-use Rattle.tally.specs.Run.{Ran, lentReasons, runReasons, ranAfter, ran}
-use Rattle.tally.proofs.TestReasons.{orElse, never}
-use Rattle.tally.proofs.RunReasons.{firstOfThree, run-first, said-refused, RunPassed, run-passed, run-ready, ran-by}
-use Rattle.chains.specs.Chains.{Entry, entryAt, ballotSlots, ballotChain}
-use Rattle.chains.specs.Sound.{juryOfOne, urnSlots, sound}
-use Rattle.chains.proofs.Marks.{true-or-false}
-use Rattle.urn.proofs.FactLaws.{its-parts}
-use Rattle.urn_run.specs.Run.{joined, chainBallots, ballotsIn, urnRunReasons, ranOnUrn}
-use Rattle.urn_run.proofs.Joined.{Good, good-along, good-accepted}
+use Rattle.tally.specs.Answer.{refused, Size, sizeOf}
+use Rattle.tally.specs.Test.{testReasons, testOutcome}
+use Rattle.tally.specs.Run.{bufferReasons, runReasons, runResultAfter, runResult}
+use Rattle.tally.proofs.TestReasons.{orElse}
+use Rattle.tally.proofs.RunReasons.{firstOfThree, run-first, outcome-refused, RunPassed, run-passed, run-ready, ran-by}
+use Rattle.urn_chains.specs.Chains.{entryAt, ballotSlots, ballotChain}
+use Rattle.urn_chains.specs.Sound.{juryOfOne, urnSlots, sound}
+use Rattle.urn_chains.proofs.Marks.{true-or-false}
+use Rattle.urn_chains.proofs.SoundLayouts.{its-parts}
+use Rattle.urn_run.specs.Run.{joined, chainBallots, ballotsIn, urnRunReasons, urnRunResult}
+use Rattle.urn_run.proofs.JoinedBallots.{Good, good-along, good-accepted}
 
 -- the first reason of tests one after the other
 first-cons : (x : Option Reason) (xs : List (Option Reason)) → firstOf (x ∷ xs) ≡ orElse x (firstOf xs)
 unfolding firstOf orElse
 first-cons none xs = refl
 first-cons (some r) xs = refl
-
-or-none : (x : Option Reason) → orElse x none ≡ x
-unfolding orElse
-or-none none = refl
-or-none (some r) = refl
 
 or-assoc : (x y z : Option Reason) → orElse x (orElse y z) ≡ orElse (orElse x y) z
 unfolding orElse
@@ -90,7 +85,7 @@ module _ (s : Shape) (g : gradedLimits s ≡ true) where
         let d = s .grades in
         let S = urnSlots k d urn in
         subst (λ (m : ℕ). Good k d m (joined (map (entryAt S) (ballotSlots S)))) (sym (length-map (ballotSlots S) (entryAt S)))
-        (good-along k d S (ballotSlots S) one-within (its-parts k d urn one-T e .ballots))
+        (good-along k d S (ballotSlots S) one-within (its-parts k d urn e .ballots))
 
     pub chain-accepted : ballotsIn (s .candidates) (s .grades) urn ≡ s .ballots → AcceptedBallots s (chainBallots (s .candidates) (s .grades) urn)
     chain-accepted n =
@@ -127,7 +122,7 @@ module _ (s : Shape) (table urn tape wires board : List ℕ) where
   pub urn-first : firstOf (urnRunReasons s table urn tape wires board)
       ≡ firstOnUrn (gradedLimits s) (sound (s .candidates) (s .grades) urn) (listReason (tested (ballotBytes s) (s .candidates) table))
       (unless (eqb (ballotsIn (s .candidates) (s .grades) urn) (s .ballots)) 4)
-      (firstOf (lentReasons (ballotBytes s) (s .candidates) (sizeOf (gatesOf table)) tape wires board))
+      (firstOf (bufferReasons (ballotBytes s) (s .candidates) (sizeOf (gatesOf table)) tape wires board))
   unfolding urnRunReasons firstOnUrn
   urn-first = simp first-cons
 
@@ -142,10 +137,10 @@ module _ (s : Shape) (table urn tape wires board : List ℕ) where
     by-13 e = urn-first ∙ rw (g, e)
 
     module _ (e : sound (s .candidates) (s .grades) urn ≡ true) where
-      pub by-list : (r : Reason) → testSaid s table ≡ refused r → firstOf (urnRunReasons s table urn tape wires board) ≡ some r
-      unfolding firstOnUrn orElse unless testSaid
+      pub by-list : (r : Reason) → testOutcome s table ≡ refused r → firstOf (urnRunReasons s table urn tape wires board) ≡ some r
+      unfolding firstOnUrn orElse unless testOutcome
       by-list r q =
-          let t : listReason (tested (ballotBytes s) (s .candidates) table) ≡ some r = sym (list-first s g table) ∙ said-refused (firstOf (testReasons s table)) (sizeOf (gatesOf table)) r q in
+          let t : listReason (tested (ballotBytes s) (s .candidates) table) ≡ some r = sym (list-first s g table) ∙ outcome-refused (firstOf (testReasons s table)) (sizeOf (gatesOf table)) r q in
           urn-first ∙ rw (g, e, t)
 
       module _ (p : firstOf (testReasons s table) ≡ none) where
@@ -156,17 +151,17 @@ module _ (s : Shape) (table urn tape wires board : List ℕ) where
             urn-first ∙ rw (g, e, t, ne-eqb (ballotsIn (s .candidates) (s .grades) urn) (s .ballots) n)
 
         pub by-lent : (size : Size) (o : Option Reason) → size ≡ sizeOf (gatesOf table) → ballotsIn (s .candidates) (s .grades) urn ≡ s .ballots
-            → firstOf (lentReasons (ballotBytes s) (s .candidates) size tape wires board) ≡ o → firstOf (urnRunReasons s table urn tape wires board) ≡ o
+            → firstOf (bufferReasons (ballotBytes s) (s .candidates) size tape wires board) ≡ o → firstOf (urnRunReasons s table urn tape wires board) ≡ o
         unfolding firstOnUrn orElse unless
         by-lent size o f n q =
             let t : listReason (tested (ballotBytes s) (s .candidates) table) ≡ none = sym (list-first s g table) ∙ p in
             urn-first ∙ rw (g, e, t, eq-eqb (ballotsIn (s .candidates) (s .grades) urn) (s .ballots) n)
-            (ap (λ (z : Size). firstOf (lentReasons (ballotBytes s) (s .candidates) z tape wires board)) (sym f) ∙ q)
+            (ap (λ (z : Size). firstOf (bufferReasons (ballotBytes s) (s .candidates) z tape wires board)) (sym f) ∙ q)
 
       -- the reasons are those of the run on the ballots of the chain
       pub same-reasons : firstOf (urnRunReasons s table urn tape wires board) ≡ firstOf (runReasons s table (chainBallots (s .candidates) (s .grades) urn) tape wires board)
       same-reasons =
-          let lent = firstOf (lentReasons (ballotBytes s) (s .candidates) (sizeOf (gatesOf table)) tape wires board) in
+          let lent = firstOf (bufferReasons (ballotBytes s) (s .candidates) (sizeOf (gatesOf table)) tape wires board) in
           urn-first ∙ opened (listReason (tested (ballotBytes s) (s .candidates) table)) _ lent
           ∙ ap (λ (o : Option Reason). firstOfThree o (unless (eqb (ballotsIn (s .candidates) (s .grades) urn) (s .ballots)) 4) lent) (sym (list-first s g table))
           ∙ ap (λ (o : Option Reason). firstOfThree (firstOf (testReasons s table)) o lent) (sym (ballots-first s g urn e))
@@ -175,18 +170,18 @@ module _ (s : Shape) (table urn tape wires board : List ℕ) where
           opened : (list number lent : Option Reason) → firstOnUrn (gradedLimits s) (sound (s .candidates) (s .grades) urn) list number lent ≡ firstOfThree list number lent
           opened list number lent = unfold firstOnUrn firstOfThree orElse unless in (rw (g, e) (unfold orElse in or-assoc list number lent))
 
-      pub same-run : ranOnUrn s table urn tape wires board ≡ ran s table (chainBallots (s .candidates) (s .grades) urn) tape wires board
-      unfolding ranOnUrn
+      pub same-run : urnRunResult s table urn tape wires board ≡ runResult s table (chainBallots (s .candidates) (s .grades) urn) tape wires board
+      unfolding urnRunResult
       same-run =
           let xs = chainBallots (s .candidates) (s .grades) urn in
           let o = firstOf (runReasons s table xs tape wires board) in
-          ap (λ (r : Option Reason). ranAfter r s (gatesOf table) xs tape wires board) same-reasons ∙ sym (ran-by s table xs tape wires board o refl)
+          ap (λ (r : Option Reason). runResultAfter r s (gatesOf table) xs tape wires board) same-reasons ∙ sym (ran-by s table xs tape wires board o refl)
 
   -- the whole of a call by its first reason
   pub ran-on-urn-by : (o : Option Reason) → firstOf (urnRunReasons s table urn tape wires board) ≡ o
-      → ranOnUrn s table urn tape wires board ≡ ranAfter o s (gatesOf table) (chainBallots (s .candidates) (s .grades) urn) tape wires board
-  unfolding ranOnUrn
-  ran-on-urn-by o e = ap (λ (r : Option Reason). ranAfter r s (gatesOf table) (chainBallots (s .candidates) (s .grades) urn) tape wires board) e
+      → urnRunResult s table urn tape wires board ≡ runResultAfter o s (gatesOf table) (chainBallots (s .candidates) (s .grades) urn) tape wires board
+  unfolding urnRunResult
+  ran-on-urn-by o e = ap (λ (r : Option Reason). runResultAfter r s (gatesOf table) (chainBallots (s .candidates) (s .grades) urn) tape wires board) e
 
   -- what an accepted run on an urn has passed
   pub record UrnRunPassed : Type 0 where
@@ -239,3 +234,11 @@ module _ (s : Shape) (table urn tape wires board : List ℕ) where
     loaded-length loaded q =
         let xs = chainBallots (s .candidates) (s .grades) urn in
         omega (arith, ap length q, length-append xs (drop (length xs) wires), length-drop (length xs) wires, chain-room)
+
+-- of a shape outside the limits
+pub outside-urn-run : (s : Shape) → withinLimits s ≡ false → (table urn tape wires board : List ℕ)
+    → urnRunResult s table urn tape wires board ≡ record { answer = refused (reasonAt 1 0); wires = wires; board = board }
+unfolding runResultAfter
+outside-urn-run s w table urn tape wires board =
+    let graded : gradedLimits s ≡ false = never-true (gradedLimits s) (λ g. let z : _≡_ {A = Bool} true false = sym (graded-within s g) ∙ w in let y : _≡_ {A = ℕ} 0 1 = cc in omega arith) in
+    ran-on-urn-by s table urn tape wires board (some (reasonAt 1 0)) (by-1 s table urn tape wires board graded)

@@ -1,87 +1,84 @@
 -- A run on an urn is the run on the ballots of its chain, and the three demands hold of it.
 -- Assumes nothing.
 use mathlib.Core.Path.{_≡_, _∙_, refl, sym, ap, subst}
-use mathlib.Core.Logic.{⊎-elim, _≢_, _↔_}
+use mathlib.Core.Logic.{_≢_}
 use mathlib.Core.Bool.{Bool, true, false}
 use mathlib.Core.Option.{Option, none, some}
 use mathlib.Core.List.{List, [], _∷_}
-use Prim.Native.Nat.{ℕ, _+_, _<_}
+use Prim.Native.Nat.{ℕ}
 use native.Mathlib.Omega.{arith}
-use lib.Dec.{T, eqb}
-use lib.ListN.{length, getD, replicate}
+use lib.Dec.{T}
+use lib.ListN.{length, replicate}
 use Rattle.gates.specs.Gate.{Gate, gatesOf}
 use Rattle.gates.specs.Wires.{wiresOf}
-use Rattle.gates.specs.Board.{MaskTape}
 use Rattle.gates.specs.Hiding.{Finished}
-use Rattle.gates.specs.Test.{tested}
 use Rattle.jury.specs.declared.shape.Shape.{Shape}
 use Rattle.jury.specs.Shape.{gradedLimits, ballotBytes}
-use Rattle.jury.specs.Reason.{Reason, reasonAt, unless, listReason, firstOf}
-use Rattle.tally.specs.Answer.{Said, refused, accepted, hasNumberIn, Size, sizeOf}
-use Rattle.tally.specs.Test.{testSaid}
-use Rattle.tally.specs.Write.{writeSaid}
-use Rattle.tally.specs.Run.{Ran, lentReasons, runReasons, ranAfter, ran}
-use Rattle.tally.specs.Hiding.{closingBytes, Hidden}
-use Rattle.tally.specs.Demands.{listIn, Accuracy}
+use Rattle.jury.specs.Reason.{Reason, reasonAt, firstOf}
+use Rattle.tally.specs.Answer.{Outcome, refused, accepted, hasNumberIn, Size, sizeOf}
+use Rattle.tally.specs.Run.{RunResult, bufferReasons, runResultAfter, runResult}
+use Rattle.tally.specs.SaysWhoWins.{SaysWhoWins}
+use Rattle.tally.specs.Memory.{Each}
+use Rattle.tally.specs.Hiding.{closingBytes, BoardsHide, Hidden}
+use Rattle.tally.specs.Demands.{listIn, RunAccuracy}
 use Rattle.tally.proofs.TestReasons.{never, test-passed}
 use Rattle.tally.proofs.Numbering.{Fine, All, FineSaid, first-fine, unless-fine, found-fine, list-fine, refused-fine}
 use Rattle.tally.proofs.Hiding.{board-tells-no-more}
-use Rattle.tally.proofs.Demands.{three-demands}
-use Rattle.chains.specs.Sound.{sound}
-use Rattle.chains.proofs.Marks.{true-or-false}
-use Rattle.urn_run.specs.Run.{chainBallots, ballotsIn, urnRunReasons, ranOnUrn}
-use Rattle.urn_run.specs.Theorems.{SameAsRun, UrnRunMemory, UrnAccuracy, UrnHidden, UrnTellsNoMore, UrnRunHolds}
+use Rattle.tally.proofs.Demands.{run-lengths, three-demands}
+use Rattle.urn_chains.specs.Sound.{sound}
+use Rattle.urn_run.specs.Run.{urnRunReasons, urnRunResult}
+use Rattle.urn_run.specs.Theorems.{ballotsFor, SameAsRun, UrnRunMemory, UrnAccuracy, UrnTellsNoMore, UrnRunHolds}
 use Rattle.urn_run.proofs.Reasons.{by-1, by-13, by-4, same-run, ran-on-urn-by, chain-accepted, urn-run-passed, UrnRunPassed}
 
 -- a call that is refused
 module _ (s : Shape) (table urn tape wires board : List ℕ) where
-  refusal-is : (r : Reason) → firstOf (urnRunReasons s table urn tape wires board) ≡ some r → ranOnUrn s table urn tape wires board .answer ≡ refused r
-  unfolding ranAfter
-  refusal-is r e = ap (λ (z : Ran). z .answer) (ran-on-urn-by s table urn tape wires board (some r) e)
+  refusal-is : (r : Reason) → firstOf (urnRunReasons s table urn tape wires board) ≡ some r → urnRunResult s table urn tape wires board .answer ≡ refused r
+  unfolding runResultAfter
+  refusal-is r e = ap (λ (z : RunResult). z .answer) (ran-on-urn-by s table urn tape wires board (some r) e)
 
   -- a call by its answer
-  after-refusal : (o : Option Reason) (r : Reason) → firstOf (urnRunReasons s table urn tape wires board) ≡ o → ranOnUrn s table urn tape wires board .answer ≡ refused r
-      → (ranOnUrn s table urn tape wires board .wires ≡ wires) × (ranOnUrn s table urn tape wires board .board ≡ board)
-  unfolding ranAfter
-  after-refusal none r e q = never (sizeOf (gatesOf table)) r (sym q ∙ ap (λ (z : Ran). z .answer) (ran-on-urn-by s table urn tape wires board none e))
+  after-refusal : (o : Option Reason) (r : Reason) → firstOf (urnRunReasons s table urn tape wires board) ≡ o → urnRunResult s table urn tape wires board .answer ≡ refused r
+      → (urnRunResult s table urn tape wires board .wires ≡ wires) × (urnRunResult s table urn tape wires board .board ≡ board)
+  unfolding runResultAfter
+  after-refusal none r e q = never (sizeOf (gatesOf table)) r (sym q ∙ ap (λ (z : RunResult). z .answer) (ran-on-urn-by s table urn tape wires board none e))
   after-refusal (some r′) r e q =
       let f = ran-on-urn-by s table urn tape wires board (some r′) e in
-      (ap (λ (z : Ran). z .wires) f, ap (λ (z : Ran). z .board) f)
+      (ap (λ (z : RunResult). z .wires) f, ap (λ (z : RunResult). z .board) f)
 
-  answered : (o : Option Reason) (size : Size) → firstOf (urnRunReasons s table urn tape wires board) ≡ o → ranOnUrn s table urn tape wires board .answer ≡ accepted size
+  answered : (o : Option Reason) (size : Size) → firstOf (urnRunReasons s table urn tape wires board) ≡ o → urnRunResult s table urn tape wires board .answer ≡ accepted size
       → firstOf (urnRunReasons s table urn tape wires board) ≡ none
-  unfolding ranAfter
+  unfolding runResultAfter
   answered none size e q = e
-  answered (some r) size e q = never size r (sym (ap (λ (z : Ran). z .answer) (ran-on-urn-by s table urn tape wires board (some r) e)) ∙ q)
+  answered (some r) size e q = never size r (sym (ap (λ (z : RunResult). z .answer) (ran-on-urn-by s table urn tape wires board (some r) e)) ∙ q)
 
   -- an accepted run on an urn has passed its tests
-  passed : (size : Size) → ranOnUrn s table urn tape wires board .answer ≡ accepted size → UrnRunPassed s table urn tape wires board
+  passed : (size : Size) → urnRunResult s table urn tape wires board .answer ≡ accepted size → UrnRunPassed s table urn tape wires board
   passed size q = urn-run-passed s table urn tape wires board (answered (firstOf (urnRunReasons s table urn tape wires board)) size refl q)
 
-  emptied : (o : Option Reason) (size : Size) → firstOf (urnRunReasons s table urn tape wires board) ≡ o → ranOnUrn s table urn tape wires board .answer ≡ accepted size
-      → ranOnUrn s table urn tape wires board .wires ≡ replicate (length wires) 0
-  unfolding ranAfter
-  emptied none size e q = ap (λ (z : Ran). z .wires) (ran-on-urn-by s table urn tape wires board none e)
-  emptied (some r) size e q = never size r (sym (ap (λ (z : Ran). z .answer) (ran-on-urn-by s table urn tape wires board (some r) e)) ∙ q)
+  emptied : (o : Option Reason) (size : Size) → firstOf (urnRunReasons s table urn tape wires board) ≡ o → urnRunResult s table urn tape wires board .answer ≡ accepted size
+      → urnRunResult s table urn tape wires board .wires ≡ replicate (length wires) 0
+  unfolding runResultAfter
+  emptied none size e q = ap (λ (z : RunResult). z .wires) (ran-on-urn-by s table urn tape wires board none e)
+  emptied (some r) size e q = never size r (sym (ap (λ (z : RunResult). z .answer) (ran-on-urn-by s table urn tape wires board (some r) e)) ∙ q)
 
   same-lengths : (o : Option Reason) → firstOf (urnRunReasons s table urn tape wires board) ≡ o
-      → (length (ranOnUrn s table urn tape wires board .wires) ≡ length wires) × (length (ranOnUrn s table urn tape wires board .board) ≡ length board)
-  unfolding ranAfter
+      → (length (urnRunResult s table urn tape wires board .wires) ≡ length wires) × (length (urnRunResult s table urn tape wires board .board) ≡ length board)
+  unfolding runResultAfter
   same-lengths (some r) e =
       let f = ran-on-urn-by s table urn tape wires board (some r) e in
-      (ap (λ (z : Ran). length (z .wires)) f, ap (λ (z : Ran). length (z .board)) f)
+      (ap (λ (z : RunResult). length (z .wires)) f, ap (λ (z : RunResult). length (z .board)) f)
   same-lengths none e =
       let p = urn-run-passed s table urn tape wires board e in
       let f = same-run s table urn tape wires board (p .graded) (p .isSound) in
-      let l = three-demands .memory .run-length s table (chainBallots (s .candidates) (s .grades) urn) tape wires board in
-      (ap (λ (z : Ran). length (z .wires)) f ∙ l .0, ap (λ (z : Ran). length (z .board)) f ∙ l .1)
+      let l = run-lengths s table (ballotsFor s urn) tape wires board in
+      (ap (λ (z : RunResult). length (z .wires)) f ∙ l .0, ap (λ (z : RunResult). length (z .board)) f ∙ l .1)
 
 -- every reason of a run on an urn
 numbers : List ℕ
 numbers = 1 ∷ 13 ∷ 2 ∷ 3 ∷ 4 ∷ 7 ∷ 8 ∷ 9 ∷ 10 ∷ []
 
-lent-all : (i k : ℕ) (size : Size) (tape wires board : List ℕ) → All numbers (lentReasons i k size tape wires board)
-unfolding All lentReasons hasNumberIn reasonAt numbers
+lent-all : (i k : ℕ) (size : Size) (tape wires board : List ℕ) → All numbers (bufferReasons i k size tape wires board)
+unfolding All bufferReasons hasNumberIn reasonAt numbers
 lent-all i k size tape wires board =
     (unless-fine numbers _ 7 tt, (found-fine numbers 8 _ (λ i. tt), (unless-fine numbers _ 9 tt, (unless-fine numbers _ 10 tt, tt))))
 
@@ -90,39 +87,42 @@ unfolding All urnRunReasons hasNumberIn reasonAt numbers
 urn-run-all s table urn tape wires board =
     (unless-fine numbers _ 1 tt, (unless-fine numbers _ 13 tt, (list-fine numbers _ tt (λ g. tt), (unless-fine numbers _ 4 tt, lent-all (ballotBytes s) (s .candidates) (sizeOf (gatesOf table)) tape wires board))))
 
-ran-fine : (o : Option Reason) (s : Shape) (gs : List Gate) (ballots tape wires board : List ℕ) → Fine numbers o → FineSaid numbers (ranAfter o s gs ballots tape wires board .answer)
-unfolding Fine FineSaid ranAfter
+ran-fine : (o : Option Reason) (s : Shape) (gs : List Gate) (ballots tape wires board : List ℕ) → Fine numbers o → FineSaid numbers (runResultAfter o s gs ballots tape wires board .answer)
+unfolding Fine FineSaid runResultAfter
 ran-fine none s gs ballots tape wires board f = tt
 ran-fine (some r) s gs ballots tape wires board f = f
 
-has-number : (s : Shape) (table urn tape wires board : List ℕ) (r : Reason) → ranOnUrn s table urn tape wires board .answer ≡ refused r
+has-number : (s : Shape) (table urn tape wires board : List ℕ) (r : Reason) → urnRunResult s table urn tape wires board .answer ≡ refused r
     → T (hasNumberIn (1 ∷ 13 ∷ 2 ∷ 3 ∷ 4 ∷ 7 ∷ 8 ∷ 9 ∷ 10 ∷ []) r)
-unfolding ranOnUrn numbers
+unfolding urnRunResult numbers
 has-number s table urn tape wires board r e =
-    refused-fine numbers (ranOnUrn s table urn tape wires board .answer) r
-    (ran-fine _ s (gatesOf table) (chainBallots (s .candidates) (s .grades) urn) tape wires board (first-fine numbers (urnRunReasons s table urn tape wires board) (urn-run-all s table urn tape wires board))) e
+    refused-fine numbers (urnRunResult s table urn tape wires board .answer) r
+    (ran-fine _ s (gatesOf table) (ballotsFor s urn) tape wires board (first-fine numbers (urnRunReasons s table urn tape wires board) (urn-run-all s table urn tape wires board))) e
 
 same-as-run : SameAsRun
 same-as-run =
     record {
       on-chain = λ s table urn tape wires board g e. same-run s table urn tape wires board g e;
-      good-ballots = λ s urn g e n. chain-accepted s g urn e n;
+      good-ballots = λ s urn u. chain-accepted s (u .graded) urn (u .isSound) (u .number);
       other-number = λ s table urn tape wires board size g e t n. refusal-is s table urn tape wires board (reasonAt 4 0) (by-4 s table urn tape wires board g e (test-passed s table size t .reasons) n);
       unsound = λ s table urn tape wires board g e. refusal-is s table urn tape wires board (reasonAt 13 0) (by-13 s table urn tape wires board g e);
       other-shape = λ s table urn tape wires board g. refusal-is s table urn tape wires board (reasonAt 1 0) (by-1 s table urn tape wires board g);
     }
 
 memory : UrnRunMemory
-memory =
+unfolding Each
+memory s table urn tape wires board =
+    let o = firstOf (urnRunReasons s table urn tape wires board) in
+    let lengths = same-lengths s table urn tape wires board o refl in
     record {
-      number = has-number;
-      refusal = λ s table urn tape wires board r e. after-refusal s table urn tape wires board (firstOf (urnRunReasons s table urn tape wires board)) r refl e;
-      empties = λ s table urn tape wires board size e. emptied s table urn tape wires board (firstOf (urnRunReasons s table urn tape wires board)) size refl e;
-      lengths = λ s table urn tape wires board. same-lengths s table urn tape wires board (firstOf (urnRunReasons s table urn tape wires board)) refl;
+      number = has-number s table urn tape wires board;
+      refusal = λ r e. let kept = after-refusal s table urn tape wires board o r refl e in (kept .0, (kept .1, tt));
+      empties = λ size e. (emptied s table urn tape wires board o size refl e, tt);
+      lengths = (lengths .0, (lengths .1, tt));
     }
 
 -- demand 2, from that of the run
-module _ (s : Shape) (table : List ℕ) (size : Size) (a : Accuracy s table size) where
+module _ (s : Shape) (table : List ℕ) (size : Size) (a : RunAccuracy s table size) where
   list : List ℕ
   list = listIn s size table
 
@@ -130,15 +130,15 @@ module _ (s : Shape) (table : List ℕ) (size : Size) (a : Accuracy s table size
   unfolding reasonAt
   other-reason n r e two three = let q : r .number ≡ n = ap (λ (z : Reason). z .number) e in (λ h. two (sym q ∙ h), λ h. three (sym q ∙ h))
 
-  same-reason : (r r′ : Reason) (urn tape wires board : List ℕ) → ranOnUrn s list urn tape wires board .answer ≡ refused r → ranOnUrn s list urn tape wires board .answer ≡ refused r′ → r ≡ r′
-  same-reason r r′ urn tape wires board e f = let q : _≡_ {A = Said Size} (refused r) (refused r′) = sym e ∙ f in cc
+  same-reason : (r r′ : Reason) (urn tape wires board : List ℕ) → urnRunResult s list urn tape wires board .answer ≡ refused r → urnRunResult s list urn tape wires board .answer ≡ refused r′ → r ≡ r′
+  same-reason r r′ urn tape wires board e f = let q : _≡_ {A = Outcome Size} (refused r) (refused r′) = sym e ∙ f in cc
 
-  not-2-or-3 : (urn tape wires board : List ℕ) (r : Reason) → ranOnUrn s list urn tape wires board .answer ≡ refused r → (r .number ≢ 2) × (r .number ≢ 3)
+  not-2-or-3 : (urn tape wires board : List ℕ) (r : Reason) → urnRunResult s list urn tape wires board .answer ≡ refused r → (r .number ≢ 2) × (r .number ≢ 3)
   unfolding list
   not-2-or-3 urn tape wires board r e = shape (gradedLimits s) refl
     where
       inside : gradedLimits s ≡ true → (b : Bool) → sound (s .candidates) (s .grades) urn ≡ b → (r .number ≢ 2) × (r .number ≢ 3)
-      inside g true f = a .never-2-or-3 (chainBallots (s .candidates) (s .grades) urn) tape wires board r (sym (ap (λ (z : Ran). z .answer) (same-run s list urn tape wires board g f)) ∙ e)
+      inside g true f = a .never-2-or-3 (ballotsFor s urn) tape wires board r (sym (ap (λ (z : RunResult). z .answer) (same-run s list urn tape wires board g f)) ∙ e)
       inside g false f =
           other-reason 13 r (same-reason r (reasonAt 13 0) urn tape wires board e (refusal-is s list urn tape wires board (reasonAt 13 0) (by-13 s list urn tape wires board g f))) (λ h. omega arith) (λ h. omega arith)
 
@@ -147,58 +147,53 @@ module _ (s : Shape) (table : List ℕ) (size : Size) (a : Accuracy s table size
       shape false g =
           other-reason 1 r (same-reason r (reasonAt 1 0) urn tape wires board e (refusal-is s list urn tape wires board (reasonAt 1 0) (by-1 s list urn tape wires board g))) (λ h. omega arith) (λ h. omega arith)
 
-  module _ (urn tape wires board : List ℕ) (answer : Size) (e : ranOnUrn s list urn tape wires board .answer ≡ accepted answer) where
+  module _ (urn tape wires board : List ℕ) (answer : Size) (e : urnRunResult s list urn tape wires board .answer ≡ accepted answer) where
     xs : List ℕ
-    xs = chainBallots (s .candidates) (s .grades) urn
+    xs = ballotsFor s urn
 
-    is-run : ranOnUrn s list urn tape wires board ≡ ran s list xs tape wires board
+    is-run : urnRunResult s list urn tape wires board ≡ runResult s list xs tape wires board
     unfolding xs
     is-run = let p = passed s list urn tape wires board answer e in same-run s list urn tape wires board (p .graded) (p .isSound)
 
-    run-answers : ran s list xs tape wires board .answer ≡ accepted answer
-    run-answers = sym (ap (λ (z : Ran). z .answer) is-run) ∙ e
+    run-answers : runResult s list xs tape wires board .answer ≡ accepted answer
+    run-answers = sym (ap (λ (z : RunResult). z .answer) is-run) ∙ e
 
-    same-closing : closingBytes s (ranOnUrn s list urn tape wires board .board) ≡ closingBytes s (ran s list xs tape wires board .board)
-    same-closing = ap (λ (z : Ran). closingBytes s (z .board)) is-run
+    same-closing : closingBytes s (urnRunResult s list urn tape wires board .board) ≡ closingBytes s (runResult s list xs tape wires board .board)
+    same-closing = ap (λ (z : RunResult). closingBytes s (z .board)) is-run
 
   urn-accuracy : UrnAccuracy s table size
   unfolding list xs
   urn-accuracy =
       record {
         never-2-or-3 = not-2-or-3;
-        runs = λ urn tape wires board g e n m w b.
-            ap (λ (z : Ran). z .answer) (same-run s (listIn s size table) urn tape wires board g e)
-            ∙ a .runs (chainBallots (s .candidates) (s .grades) urn) tape wires board (chain-accepted s g urn e n) m w b;
+        runs = λ urn tape wires board u m w b.
+            ap (λ (z : RunResult). z .answer) (same-run s (listIn s size table) urn tape wires board (u .graded) (u .isSound))
+            ∙ a .runs (ballotsFor s urn) tape wires board (chain-accepted s (u .graded) urn (u .isSound) (u .number)) m w b;
         plain = λ urn tape wires board answer e.
-            same-closing urn tape wires board answer e ∙ a .plain (chainBallots (s .candidates) (s .grades) urn) tape wires board answer (run-answers urn tape wires board answer e);
-        winners = λ urn tape wires board answer e i h.
-            let q = ap (λ (bytes : List ℕ). getD bytes i 0) (same-closing urn tape wires board answer e) in
-            let w = a .winners (chainBallots (s .candidates) (s .grades) urn) tape wires board answer (run-answers urn tape wires board answer e) i h in
-            (λ one. w .0 (sym q ∙ one), λ wins. q ∙ w .1 wins);
-        losers = λ urn tape wires board answer e i h.
-            let q = ap (λ (bytes : List ℕ). getD bytes i 0) (same-closing urn tape wires board answer e) in
-            let w = a .losers (chainBallots (s .candidates) (s .grades) urn) tape wires board answer (run-answers urn tape wires board answer e) i h in
-            (λ zero. w .0 (sym q ∙ zero), λ loses. q ∙ w .1 loses);
+            same-closing urn tape wires board answer e ∙ a .plain (ballotsFor s urn) tape wires board answer (run-answers urn tape wires board answer e);
+        says-who-wins = λ urn tape wires board answer e.
+            subst (SaysWhoWins s (ballotsFor s urn)) (sym (same-closing urn tape wires board answer e))
+            (a .says-who-wins (ballotsFor s urn) tape wires board answer (run-answers urn tape wires board answer e));
       }
 
 -- demand 3, from that of the run
 module _ (s : Shape) (table one other vs ws bs ds : List ℕ)
-    (first-is : (t v b : List ℕ) → ranOnUrn s table one t v b ≡ ran s table (chainBallots (s .candidates) (s .grades) one) t v b)
-    (second-is : (t v b : List ℕ) → ranOnUrn s table other t v b ≡ ran s table (chainBallots (s .candidates) (s .grades) other) t v b)
-    (h : Hidden s table (chainBallots (s .candidates) (s .grades) one) (chainBallots (s .candidates) (s .grades) other) vs ws bs ds) where
-  board-one : (t v b : List ℕ) → ranOnUrn s table one t v b .board ≡ ran s table (chainBallots (s .candidates) (s .grades) one) t v b .board
-  board-one t v b = ap (λ (z : Ran). z .board) (first-is t v b)
+    (first-is : (t v b : List ℕ) → urnRunResult s table one t v b ≡ runResult s table (ballotsFor s one) t v b)
+    (second-is : (t v b : List ℕ) → urnRunResult s table other t v b ≡ runResult s table (ballotsFor s other) t v b)
+    (h : Hidden s table (ballotsFor s one) (ballotsFor s other) vs ws bs ds) where
+  board-one : (t v b : List ℕ) → urnRunResult s table one t v b .board ≡ runResult s table (ballotsFor s one) t v b .board
+  board-one t v b = ap (λ (z : RunResult). z .board) (first-is t v b)
 
-  board-other : (t v b : List ℕ) → ranOnUrn s table other t v b .board ≡ ran s table (chainBallots (s .candidates) (s .grades) other) t v b .board
-  board-other t v b = ap (λ (z : Ran). z .board) (second-is t v b)
+  board-other : (t v b : List ℕ) → urnRunResult s table other t v b .board ≡ runResult s table (ballotsFor s other) t v b .board
+  board-other t v b = ap (λ (z : RunResult). z .board) (second-is t v b)
 
-  urn-hidden : UrnHidden s table one other vs ws bs ds
+  urn-hidden : BoardsHide s table (ballotsFor s one) (ballotsFor s other) (urnRunResult s table one) (urnRunResult s table other) vs ws bs ds
   urn-hidden =
       record {
-        first-answer = λ t m. ap (λ (z : Ran). z .answer) (first-is t vs bs) ∙ h .first-answer t m;
-        first-board = λ t m. subst (Finished (wiresOf (chainBallots (s .candidates) (s .grades) one) (gatesOf table)) (gatesOf table) (s .candidates) t) (sym (board-one t vs bs)) (h .first-board t m);
-        second-answer = λ t m. ap (λ (z : Ran). z .answer) (second-is t ws ds) ∙ h .second-answer t m;
-        second-board = λ t m. subst (Finished (wiresOf (chainBallots (s .candidates) (s .grades) other) (gatesOf table)) (gatesOf table) (s .candidates) t) (sym (board-other t ws ds)) (h .second-board t m);
+        first-answer = λ t m. ap (λ (z : RunResult). z .answer) (first-is t vs bs) ∙ h .first-answer t m;
+        first-board = λ t m. subst (Finished (wiresOf (ballotsFor s one) (gatesOf table)) (gatesOf table) (s .candidates) t) (sym (board-one t vs bs)) (h .first-board t m);
+        second-answer = λ t m. ap (λ (z : RunResult). z .answer) (second-is t ws ds) ∙ h .second-answer t m;
+        second-board = λ t m. subst (Finished (wiresOf (ballotsFor s other) (gatesOf table)) (gatesOf table) (s .candidates) t) (sym (board-other t ws ds)) (h .second-board t m);
         same-board = λ (t : List ℕ) m.
             let o = h .same-board t m in (
               o .0,
@@ -215,12 +210,12 @@ tells-no-more : UrnTellsNoMore
 tells-no-more s table one other t u vs ws bs ds first second e f closing =
     let p = passed s table one t vs bs first e in
     let q = passed s table other u ws ds second f in
-    let first-is : (t v b : List ℕ) → ranOnUrn s table one t v b ≡ ran s table (chainBallots (s .candidates) (s .grades) one) t v b = λ t v b. same-run s table one t v b (p .graded) (p .isSound) in
-    let second-is : (t v b : List ℕ) → ranOnUrn s table other t v b ≡ ran s table (chainBallots (s .candidates) (s .grades) other) t v b = λ t v b. same-run s table other t v b (q .graded) (q .isSound) in
-    let h = board-tells-no-more s table (chainBallots (s .candidates) (s .grades) one) (chainBallots (s .candidates) (s .grades) other) t u vs ws bs ds first second
-    (sym (ap (λ (z : Ran). z .answer) (first-is t vs bs)) ∙ e)
-    (sym (ap (λ (z : Ran). z .answer) (second-is u ws ds)) ∙ f)
-    (sym (ap (λ (z : Ran). closingBytes s (z .board)) (first-is t vs bs)) ∙ closing ∙ ap (λ (z : Ran). closingBytes s (z .board)) (second-is u ws ds)) in
+    let first-is : (t v b : List ℕ) → urnRunResult s table one t v b ≡ runResult s table (ballotsFor s one) t v b = λ t v b. same-run s table one t v b (p .graded) (p .isSound) in
+    let second-is : (t v b : List ℕ) → urnRunResult s table other t v b ≡ runResult s table (ballotsFor s other) t v b = λ t v b. same-run s table other t v b (q .graded) (q .isSound) in
+    let h = board-tells-no-more s table (ballotsFor s one) (ballotsFor s other) t u vs ws bs ds first second
+    (sym (ap (λ (z : RunResult). z .answer) (first-is t vs bs)) ∙ e)
+    (sym (ap (λ (z : RunResult). z .answer) (second-is u ws ds)) ∙ f)
+    (sym (ap (λ (z : RunResult). closingBytes s (z .board)) (first-is t vs bs)) ∙ closing ∙ ap (λ (z : RunResult). closingBytes s (z .board)) (second-is u ws ds)) in
     (h .0, h .1, urn-hidden s table one other vs ws bs ds first-is second-is (h .2))
 
 pub urn-run-holds : UrnRunHolds

@@ -1,20 +1,44 @@
--- One candidate, two grades, two ballots: slot 2 comes first in the chain, slot 1 second. The ballots follow the chain, not the slots.
+-- One candidate, two grades. The ballots of an urn follow the chain, not the slots; and demand 3 on two concrete urns.
 use mathlib.Core.Path.{_≡_, refl}
-use mathlib.Core.Bool.{true}
 use mathlib.Core.List.{List, [], _∷_}
 use Prim.Native.Nat.{ℕ}
-use Rattle.chains.specs.Slots.{slotBytes, slotOf, slotsOf, slotAt}
-use Rattle.chains.specs.Chains.{chain, entryAt, ballotSlots, ballotChain}
-use Rattle.chains.specs.Sound.{slotCount, urnSlots}
-use Rattle.urn_run.specs.Run.{joined, chainBallots, ballotsIn}
+use Rattle.gates.specs.HidingExample.{oneGate}
+use Rattle.tally.specs.Answer.{accepted}
+use Rattle.tally.specs.Examples.{oneBallot}
+use Rattle.urn_chains.specs.Slots.{slotBytes, slotOf, slotsOf, slotAt}
+use Rattle.urn_chains.specs.Chains.{chain, entryAt, ballotSlots, ballotChain}
+use Rattle.urn_chains.specs.Sound.{slotCount, urnSlots}
+use Rattle.urn_run.specs.Run.{joined, chainBallots, ballotsIn, urnRunResult}
 
+-- Two ballots: slot 2 comes first in the chain, slot 1 second.
 unfoldable pub backwards : List ℕ
 backwards = 2 ∷ 0 ∷ 0 ∷ 0 ∷ 0 ∷ 7 ∷ 1 ∷ 0 ∷ 1 ∷ 9 ∷ 0 ∷ 1 ∷ []
 
 pub chain-order : chainBallots 1 2 backwards ≡ 0 ∷ 1 ∷ 1 ∷ 0 ∷ []
-unfolding backwards joined chainBallots slotBytes slotOf slotsOf slotAt chain entryAt ballotSlots ballotChain slotCount urnSlots
+unfolding backwards joined chainBallots slotBytes slotOf slotsOf slotAt chain entryAt ballotSlots ballotChain
+    slotCount urnSlots
 chain-order = refl
 
 pub both : ballotsIn 1 2 backwards ≡ 2
 unfolding backwards ballotsIn slotBytes slotOf slotsOf slotAt chain entryAt ballotSlots ballotChain slotCount urnSlots
 both = refl
+
+-- Juror 9 gave the better grade, and lies in the one slot there is; juror 7 gave the worse one, and lies in the
+-- second of two slots, the first being free.
+unfoldable pub better : List ℕ
+better = 1 ∷ 0 ∷ 0 ∷ 0 ∷ 0 ∷ 9 ∷ 1 ∷ 0 ∷ []
+
+unfoldable pub worse : List ℕ
+worse = 2 ∷ 1 ∷ 0 ∷ 0 ∷ 0 ∷ 0 ∷ 0 ∷ 0 ∷ 0 ∷ 7 ∷ 0 ∷ 1 ∷ []
+
+-- Two urns of other lengths, jurors, slots and ballots, equal closing bytes, two tapes, one board. The list is a
+-- stranger's, one gate that says whether wire 0 and wire 1 are both 1.
+pub record PairOfUrns : Type 0 where
+  -- the better grade under the mask 0
+  pub first-run : urnRunResult oneBallot oneGate better (0 ∷ []) (9 ∷ 9 ∷ 9 ∷ []) (9 ∷ 9 ∷ [])
+      ≡ record { answer = accepted (record { gates = 1; conditional = 1 }); wires = 0 ∷ 0 ∷ 0 ∷ []; board = 1 ∷ 0 ∷ [] }
+  -- the worse grade under the mask 1, over other old bytes: the same board
+  pub second-run : urnRunResult oneBallot oneGate worse (1 ∷ []) (7 ∷ 7 ∷ 7 ∷ []) (7 ∷ 7 ∷ [])
+      ≡ record { answer = accepted (record { gates = 1; conditional = 1 }); wires = 0 ∷ 0 ∷ 0 ∷ []; board = 1 ∷ 0 ∷ [] }
+  -- the worse grade under the mask 0: another board
+  pub other-tape : urnRunResult oneBallot oneGate worse (0 ∷ []) (7 ∷ 7 ∷ 7 ∷ []) (7 ∷ 7 ∷ []) .board ≡ 0 ∷ 0 ∷ []

@@ -1,21 +1,16 @@
 // The way of the ballots from an urn into the wire table.
-use jury::byte::wide;
+use basics::byte::wide;
 ghost use mathlib.Core.Path.{_≡_};
-ghost use mathlib.Core.Bool.{true};
 ghost use mathlib.Core.List.{_++_};
-ghost use Prim.Native.Nat.{_≤_};
-ghost use lib.Dec.{T};
 ghost use lib.ListN.{length, drop};
-ghost use Rattle.jury.specs.Shape.{gradedLimits};
-ghost use Rattle.chains.specs.Sound.{juryOfOne, sound};
 ghost use Rattle.urn_run.specs.Run.{chainBallots};
+ghost use Rattle.urn_run.specs.inner.Load.{Loadable};
 
 // Copies the ballots of a sound urn, slot after slot along its ballot chain, to the front of the wire table.
 pub(crate) fn load(k: usize, d: usize, urn: &[u8], wires: &mut [u8])
-    requires { ⌜ T (gradedLimits (juryOfOne k d)) ⌝ }
-    requires { ⌜ sound k d (now urn) ≡ true ⌝ }
-    requires { ⌜ length (chainBallots k d (now urn)) ≤ length (now wires) ⌝ }
-    ensures { λ _. ⌜ now (wires .exit) ≡ chainBallots k d (now (urn .entry)) ++ drop (length (chainBallots k d (now (urn .entry)))) (now (wires .entry)) ⌝ }
+    requires { ⌜ Loadable k d (now urn) (now wires) ⌝ }
+    ensures { λ _. ⌜ now (wires .exit) ≡ chainBallots k d (now (urn .entry))
+        ++ drop (length (chainBallots k d (now (urn .entry)))) (now (wires .entry)) ⌝ }
 {
     let bytes = k * d;
     let size = 2 + bytes;

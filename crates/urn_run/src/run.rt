@@ -1,15 +1,15 @@
 // The entry point [urn-run].
 use crate::load;
-use chains::sound::Soundness;
 use jury::reason::Refusal;
 use jury::reason::Verdict;
 use jury::shape::Shape;
 use tally::answer::Answer;
+use urn_chains::sound::Soundness;
 ghost use mathlib.Core.Path.{_≡_};
 ghost use Rattle.gates.specs.Gate.{gatesOf};
 ghost use Rattle.jury.specs.Reason.{firstOf};
-ghost use Rattle.tally.specs.Answer.{saidBy, said, sizeOf};
-ghost use Rattle.urn_run.specs.Run.{urnRunReasons, ranOnUrn};
+ghost use Rattle.tally.specs.Answer.{outcomeOf, outcome, sizeOf};
+ghost use Rattle.urn_run.specs.Run.{urnRunReasons, urnRunResult};
 
 // Reasons 1, 13, 2, 3, 4, 7, 8, 9 and 10, in this order.
 fn test_run(
@@ -20,12 +20,15 @@ fn test_run(
     wires: &[u8],
     board: &[u8],
 ) -> Answer
-    ensures { λ r. ⌜ saidBy r ≡ said (firstOf (urnRunReasons shape (now (table .entry)) (now (urn .entry)) (now (tape .entry)) (now (wires .entry)) (now (board .entry)))) (sizeOf (gatesOf (now (table .entry)))) ⌝ }
+    ensures { λ r. ⌜ outcomeOf r ≡ outcome
+        (firstOf (urnRunReasons shape (now (table .entry)) (now (urn .entry)) (now (tape .entry))
+        (now (wires .entry)) (now (board .entry))))
+        (sizeOf (gatesOf (now (table .entry)))) ⌝ }
 {
     if !shape.is_within_graded_limits() {
         return Answer::Refused(Refusal::Shape);
     }
-    let Soundness::Sound { ballots } = chains::sound::test(shape.candidates, shape.grades, urn)
+    let Soundness::Sound { ballots } = urn_chains::sound::test(shape.candidates, shape.grades, urn)
     else {
         return Answer::Refused(Refusal::Urn);
     };
@@ -37,7 +40,7 @@ fn test_run(
         return Answer::Refused(Refusal::BallotsLength);
     }
     let inputs = shape.ballot_bytes();
-    match tally::run::test_lent(
+    match tally::run::test_buffers(
         inputs,
         shape.candidates,
         gates,
@@ -61,9 +64,9 @@ pub fn run_on_urn(
     wires: &mut [u8],
     board: &mut [u8],
 ) -> Answer
-    ensures { λ r. ⌜ saidBy r ≡ (ranOnUrn shape (now (table .entry)) (now (urn .entry)) (now (tape .entry)) (now (wires .entry)) (now (board .entry))) .answer ⌝ }
-    ensures { λ _. ⌜ now (wires .exit) ≡ (ranOnUrn shape (now (table .entry)) (now (urn .entry)) (now (tape .entry)) (now (wires .entry)) (now (board .entry))) .wires ⌝ }
-    ensures { λ _. ⌜ now (board .exit) ≡ (ranOnUrn shape (now (table .entry)) (now (urn .entry)) (now (tape .entry)) (now (wires .entry)) (now (board .entry))) .board ⌝ }
+    ensures { λ r. ⌜ record { answer = outcomeOf r; wires = now (wires .exit); board = now (board .exit) }
+        ≡ urnRunResult shape (now (table .entry)) (now (urn .entry)) (now (tape .entry))
+        (now (wires .entry)) (now (board .entry)) ⌝ }
 {
     let answer = test_run(shape, table, urn, tape, wires, board);
     if let Answer::Accepted {
@@ -79,7 +82,7 @@ pub fn run_on_urn(
             wires,
             board,
         );
-        tally::empty::empty(wires);
+        basics::table::empty(wires);
     }
     answer
 }

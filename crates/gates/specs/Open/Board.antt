@@ -17,7 +17,8 @@ conditionals (g ∷ gs) = cond (conditionalOf (g .kind)) (g ∷ conditionals gs)
 unfoldable pub conditionalCount : List Gate → ℕ
 conditionalCount gs = length (conditionals gs)
 
--- What a conditional gate shows: its wire a under the mask m, the sum modulo 2. A wire keeps the one value that it gets, so ws may be the wires of the whole list.
+-- What a conditional gate shows: its wire a under the mask m, the sum modulo 2. A wire keeps the one value that it
+-- gets, so ws may be the wires of the whole list.
 unfoldable pub shownBit : List ℕ → Gate → ℕ → ℕ
 shownBit ws g m = (wire ws (g .a) + m) % 2
 

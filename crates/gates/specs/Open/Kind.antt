@@ -4,8 +4,8 @@ use mathlib.Core.List.{List, [], _∷_}
 use Prim.Native.Nat.{ℕ, _-_, min, max}
 use lib.Dec.{ltb, eqb}
 use lib.ListN.{getD}
-use Rattle.gates.specs.declared.kind.Applied.{Applied}
-use Rattle.gates.specs.declared.kind.Applied.the-variants.{Value, NoSuchKind}
+use Rattle.gates.specs.declared.kind.GateValue.{GateValue}
+use Rattle.gates.specs.declared.kind.GateValue.the-variants.{Value, NoSuchKind}
 
 -- The columns of operand counts and of conditional marks, as the program's constant arrays have them.
 abbrev pub operandCounts : List ℕ
@@ -30,11 +30,12 @@ differ a b = cond (eqb a b) 0 1
 unfoldable pub choose : ℕ → ℕ → ℕ → ℕ
 choose a b c = cond (eqb a 0) c b
 
--- The value of a kind from the values of its operands. The conjunction of two bits is the smaller, their disjunction the larger. There is no value of a number that is no kind; where one must stand it is 0.
+-- The value of a kind from the values of its operands. The conjunction of two bits is the smaller, their
+-- disjunction the larger. There is no value of a number that is no kind; where one must stand it is 0.
 unfoldable pub valueOf : ℕ → ℕ → ℕ → ℕ → ℕ
 valueOf kind a b c =
     getD (0 ∷ 1 ∷ a ∷ (1 - a) ∷ min a b ∷ max a b ∷ differ a b ∷ choose a b c ∷ []) kind 0
 
 -- The value where there is such a kind, and else its refusal.
-unfoldable pub applied : ℕ → ℕ → ℕ → ℕ → Applied
+unfoldable pub applied : ℕ → ℕ → ℕ → ℕ → GateValue
 applied kind a b c = cond (ltb kind 8) (Value (valueOf kind a b c)) NoSuchKind

@@ -15,8 +15,10 @@ use Rattle.gates.specs.declared.place.Place.the-variants.{Nowhere}
 unfoldable pub rangeOf : List ℕ → ℕ → ℕ → List Gate
 rangeOf table from to = take (to - from) (drop from (gatesOf table))
 
--- What the step asks of its caller: a range of good gates, room for their wires, and a tape and a board that reach as far as their shown bits.
-pub record StepReady (inputs : ℕ) (table : List ℕ) (from to : ℕ) (tape : List ℕ) (shown : ℕ) (ws board : List ℕ) : Type 0 where
+-- What the step asks of its caller: a range of good gates, room for their wires, and a tape and a board that reach
+-- as far as their shown bits.
+pub record StepReady (inputs : ℕ) (table : List ℕ) (from to : ℕ) (tape : List ℕ) (shown : ℕ) (ws board : List ℕ) : Type
+    0 where
   pub order : from ≤ to
   pub inTable : to ≤ length (gatesOf table)
   pub good : firstBad inputs from (rangeOf table from to) ≡ Nowhere
@@ -33,7 +35,8 @@ unfoldable pub stepBoard : ℕ → List ℕ → ℕ → ℕ → List ℕ → ℕ
 stepBoard inputs table from to tape shown ws board =
     sets board shown (shownBits (stepWires inputs table from to ws) (rangeOf table from to) (drop shown tape))
 
--- What the evaluation of a whole list asks of its caller, once so many inputs stand at the front of the wire table: what the tests of the list, the tape, the wire table and the board establish.
+-- What the evaluation of a whole list asks of its caller, once so many inputs stand at the front of the wire table:
+-- what the tests of the list, the tape, the wire table and the board establish.
 pub record FinishReady (inputs : ℕ) (table : List ℕ) (k : ℕ) (tape ws board : List ℕ) : Type 0 where
   pub enough : k ≤ length (gatesOf table)
   pub good : firstBad inputs 0 (gatesOf table) ≡ Nowhere
@@ -48,9 +51,16 @@ RunReady inputs table k tape ws board = FinishReady (length inputs) table k tape
 -- Gate g of a table, by the places of its four numbers.
 unfoldable pub gateAt : List ℕ → ℕ → Gate
 gateAt table g =
-    record { kind = getD table (4 * g) 0; a = getD table (4 * g + 1) 0; b = getD table (4 * g + 2) 0; c = getD table (4 * g + 3) 0 }
+    record {
+      kind =
+          getD table (4 * g) 0;
+      a = getD table (4 * g + 1) 0;
+      b = getD table (4 * g + 2) 0;
+      c = getD table (4 * g + 3) 0;
+    }
 
--- What one gate of the step asks: it is in the table and good for its own wire, and its wire, tape byte and board byte are there.
+-- What one gate of the step asks: it is in the table and good for its own wire, and its wire, tape byte and board
+-- byte are there.
 pub record GateReady (table : List ℕ) (g own : ℕ) (tape : List ℕ) (shown : ℕ) (ws board : List ℕ) : Type 0 where
   pub inTable : 4 * g + 3 < length table
   pub good : T (goodGate own (gateAt table g))

@@ -9,8 +9,8 @@ use Rattle.gates.specs.Open.Gate.{Gate, gatesOf}
 use Rattle.gates.specs.Open.Board.{conditionalCount}
 use Rattle.gates.specs.declared.place.Place.{Place}
 use Rattle.gates.specs.declared.place.Place.the-variants.{At, Nowhere}
-use Rattle.gates.specs.declared.list.Tested.{Tested}
-use Rattle.gates.specs.declared.list.Tested.the-variants.{Accepted, PartOfAGate, TooFewGates, TooManyGates, BadGate}
+use Rattle.gates.specs.declared.list.ListCheck.{ListCheck}
+use Rattle.gates.specs.declared.list.ListCheck.the-variants.{Accepted, PartOfAGate, TooFewGates, TooManyGates, BadGate}
 
 -- An operand that its kind uses has to point to an earlier wire; any other has to be 0.
 unfoldable pub goodOperand : Bool → ℕ → ℕ → Bool
@@ -29,13 +29,14 @@ unfoldable pub firstBad : ℕ → ℕ → List Gate → Place
 firstBad inputs g [] = Nowhere
 firstBad inputs g (x ∷ xs) = cond (goodGate (inputs + g) x) (firstBad inputs (suc g) xs) (At g)
 
--- The answer for a list of the right length, by its first bad gate: that gate, or that the list is accepted with its G and C.
-unfoldable pub judged : Place → ℕ → ℕ → Tested
+-- The answer for a list of the right length, by its first bad gate: that gate, or that the list is accepted with
+-- its G and C.
+unfoldable pub judged : Place → ℕ → ℕ → ListCheck
 judged (At g) gates conditional = BadGate g
 judged Nowhere gates conditional = Accepted gates conditional
 
 -- First the length: whole gates, at least one for each of the k outputs, and at most 2 ^ 20 of them. Then the gates.
-unfoldable pub tested : ℕ → ℕ → List ℕ → Tested
+unfoldable pub tested : ℕ → ℕ → List ℕ → ListCheck
 tested inputs k table =
     cond (not (eqb (length table % 4) 0)) PartOfAGate
     (cond (ltb (length table / 4) k) TooFewGates

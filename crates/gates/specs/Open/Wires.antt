@@ -13,7 +13,8 @@ wire ws i = getD ws i 0
 unfoldable pub value : List ℕ → Gate → ℕ
 value ws g = valueOf (g .kind) (wire ws (g .a)) (wire ws (g .b)) (wire ws (g .c))
 
--- Each gate in turn adds one wire behind those that are there; the first wires are the inputs. So gate g of the list has wire inputs + g.
+-- Each gate in turn adds one wire behind those that are there; the first wires are the inputs. So gate g of the
+-- list has wire inputs + g.
 unfoldable pub wiresOf : List ℕ → List Gate → List ℕ
 wiresOf ws [] = ws
 wiresOf ws (g ∷ gs) = wiresOf (ws ++ (value ws g ∷ [])) gs

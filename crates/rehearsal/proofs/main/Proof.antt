@@ -1,11 +1,11 @@
 -- `rehearsal::main` is safe: the buffers are as long as the rehearsal asks, and the closing bytes lie on the board.
 -- Assumes nothing.
-use mathlib.Core.Path.{_≡_, ap}
-use Prim.Native.Nat.{ℕ, _+_, _≤_}
+use mathlib.Core.Path.{ap}
+use Prim.Native.Nat.{_+_, _≤_}
 use native.Mathlib.Omega.{arith}
 use lib.ListN.{length}
 use borrow.Author.Needs.{needs}
-use Rattle.rehearsal.specs.Rehearsal.{endOn}
+use Rattle.rehearsal.specs.inner.Rehearses.{endOn}
 use Rattle.rehearsal.proofs.main.Statement.{statement}
 use Rattle.rehearsal.proofs.main.Tie as tie
 
@@ -27,7 +27,7 @@ ends : (c : tie.After-known-told2) → c .before .shape .given .0 .1 .0 + c .bef
 unfolding endOn
 ends c =
     let r = c .before .before .before .before .before .before in
-    omega (arith, r .rehearse .ensures .1, ap endOn (c .before .shape .given .1))
+    omega (arith, r .rehearse .ensures .on-board, ap endOn (c .before .shape .given .1))
 
 slice-aggregate-read-full : tie.Need-slice-aggregate-read-full
 slice-aggregate-read-full c = search needs
@@ -58,6 +58,12 @@ rehearse-requires c κs = search needs
 
 enum-known-reason : tie.Need-enum-known-reason
 enum-known-reason c = search needs
+
+number-requires : tie.Need-number-requires
+number-requires c κs = search needs
+
+place-requires : tie.Need-place-requires
+place-requires c κs = search needs
 
 print-refused-requires : tie.Need-print-refused-requires
 print-refused-requires c κs = search needs
@@ -113,6 +119,8 @@ main-spec =
     slice-aggregate-rehearse-5
     rehearse-requires
     enum-known-reason
+    number-requires
+    place-requires
     print-refused-requires
     enum-known-shape
     print-jury-requires

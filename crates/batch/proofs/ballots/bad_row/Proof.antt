@@ -7,8 +7,8 @@ use native.Mathlib.Omega.{arith}
 use lib.Bits.{bitAnd, bitOr}
 use lib.ListN.{length, getD, drop-of-length-le}
 use Rattle.jury.specs.Ballots.{ones}
-use Rattle.lanes.specs.Lane.{laneCount, laneOf}
-use Rattle.lanes.proofs.ListLaws.{lanes-length}
+use Rattle.batch_lanes.specs.Lane.{laneCount, laneOf}
+use Rattle.batch_lanes.proofs.ListLaws.{lanes-length}
 use Rattle.batch.proofs.RowLaws.{RowLane, row-start, row-turn, row-end}
 use Rattle.batch.proofs.ballots.bad_row.Statement.{statement}
 use Rattle.batch.proofs.ballots.bad_row.Tie as tie

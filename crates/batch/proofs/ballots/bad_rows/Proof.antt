@@ -14,14 +14,15 @@ use lib.Seq.{drop-drop}
 use borrow.Author.Needs.{needs}
 use Rattle.gates.specs.declared.place.Place.{Place}
 use Rattle.jury.specs.Ballots.{ones, rowsOf, firstBadRow}
-use Rattle.jury.proofs.BallotLaws.{row-within, bad-end}
-use Rattle.lanes.specs.Lane.{laneCount, lane, laneOf}
-use Rattle.lanes.proofs.LaneLaws.{lane-none}
-use Rattle.lanes.proofs.ListLaws.{lanes-take, lanes-drop}
-use Rattle.batch.specs.Ballots.{foundBit}
+use Rattle.jury.proofs.BallotLaws.{bad-end}
+use Rattle.batch_lanes.specs.Lane.{laneCount, lane, laneOf}
+use Rattle.batch_lanes.proofs.LaneLaws.{lane-none}
+use Rattle.batch_lanes.proofs.ListLaws.{lanes-take, lanes-drop}
+use Rattle.batch.specs.inner.Found.{foundBit}
 use Rattle.batch.proofs.RowLaws.{rows-turn}
 use Rattle.batch.proofs.ballots.bad_rows.Statement.{statement}
 use Rattle.batch.proofs.ballots.bad_rows.Tie as tie
+use Rattle.basics.proofs.Arithmetic.{row-within}
 
 abbrev Inv-loop : tie.InvT-loop
 Inv-loop words d rows faults₀ row₀ at₀ faults row at =

@@ -7,7 +7,7 @@ use borrow.Author.Needs.{needs}
 use borrow.Author.Tests.{eq-eqb, ne-eqb}
 use Rattle.jury.specs.Shape.{isRanking, gradedLimits, withinLimits, ballotBytes}
 use Rattle.jury.specs.Reason.{reasonOf, refusedFor, unless, firstOf}
-use Rattle.jury.proofs.Flags.{T-true, true-T}
+use Rattle.basics.proofs.Flags.{T-true, true-T}
 use Rattle.jury.proofs.Limits as limits
 use Rattle.batch.specs.Ballots.{wordBallotReasons}
 use Rattle.batch.proofs.Reasons.{ballotsFound, wordKind, found-kind, graded-kind, ranked-kind, ballots-by}

@@ -7,7 +7,7 @@ use borrow.Author.Needs.{needs}
 use Rattle.gates.specs.declared.place.Place.{Place}
 use Rattle.jury.specs.Reason.{reasonOf, refusedFor, foundAt, firstOf}
 use Rattle.jury.proofs.Limits.{within-T, rows-bound}
-use Rattle.lanes.specs.Lane.{laneOf}
+use Rattle.batch_lanes.specs.Lane.{laneOf}
 use Rattle.batch.specs.Ballots.{firstJury, wordGradedReasons}
 use Rattle.batch.proofs.JuryLaws.{first-by-bits}
 use Rattle.batch.proofs.Reasons.{badRow}

@@ -8,33 +8,59 @@ use Rattle.gates.specs.Gate.{gatesOf}
 use Rattle.jury.specs.Shape.{withinLimits}
 use Rattle.jury.specs.Reason.{Reason, reasonOf, refusedFor, firstOf}
 use Rattle.batch.specs.Ballots.{wordBallotReasons}
-use Rattle.jury.proofs.Flags.{true-T}
-use Rattle.tally.specs.Answer.{Size, refused, said, saidBy, sizeOf}
-use Rattle.tally.specs.Test.{testSaid}
-use Rattle.batch.specs.Run.{wordLentReasons, batchReasons}
+use Rattle.basics.proofs.Flags.{true-T}
+use Rattle.tally.specs.Answer.{Size, refused, outcome, outcomeOf, sizeOf}
+use Rattle.tally.specs.Test.{testOutcome}
+use Rattle.batch.specs.Call.{Call}
+use Rattle.batch.specs.Run.{wordBufferReasons, batchReasons}
 use Rattle.tally.proofs.TestReasons.{TestPassed, test-passed}
 use Rattle.batch.proofs.Reasons.{by-test, by-ballots, by-lent}
 use Rattle.batch.proofs.run.test_run.Statement.{statement}
 use Rattle.batch.proofs.run.test_run.Tie as tie
 
+-- The call that this is, from where the function starts.
+abbrev call : tie.Start → Call
+call s =
+    let a = s .args in
+    record {
+      shape = a .shape;
+      table = a .table .now;
+      ballots = a .ballots .now;
+      tape = a .tape .now;
+      wires = a .wires .now;
+      board = a .board .now;
+    }
+
+-- The stages: the list passes its test; the ballots pass theirs; the buffers are tested.
+abbrev started : tie.After-known-told → tie.Start
+started c = let lending = c .before .before .before .before in lending .before .before .before .before .before
+
+abbrev list-passed : tie.After-enum-told2 → tie.After-known-told
+list-passed c = c .before .before .before
+
+abbrev ballots-passed : tie.After-test-buffers → tie.After-enum-told2
+ballots-passed c = c .before .before
+
 -- the first reason decides of the answer
-refuses : (c : tie.Start) (r : Reason) → let a = c .args in firstOf (batchReasons (a .shape) (a .table .now) (a .ballots .now) (a .tape .now) (a .wires .now) (a .board .now)) ≡ some r
-    → refused r ≡ said (firstOf (batchReasons (a .shape) (a .table .now) (a .ballots .now) (a .tape .now) (a .wires .now) (a .board .now))) (sizeOf (gatesOf (a .table .now)))
-unfolding said
-refuses c r e = sym (ap (λ (o : Option Reason). said o (sizeOf (gatesOf (c .args .table .now)))) e)
+refuses : (s : tie.Start) (r : Reason) → firstOf (batchReasons (call s)) ≡ some r
+    → refused r ≡ outcome (firstOf (batchReasons (call s))) (sizeOf (gatesOf (call s .table)))
+unfolding outcome
+refuses s r e = sym (ap (λ (o : Option Reason). outcome o (sizeOf (gatesOf (call s .table)))) e)
 
 -- past the test of the list
 size : tie.After-known-told → Size
 size c = let g = c .before .answer .given in record { gates = g .0 .0; conditional = g .0 .1 .0 }
 
-passed : (c : tie.After-known-told) → let a = c .before .before .before .before .before .before .before .before .before .args in TestPassed (a .shape) (a .table .now) (size c)
-unfolding saidBy size
+passed : (c : tie.After-known-told) → TestPassed (call (started c) .shape) (call (started c) .table) (size c)
+unfolding outcomeOf size
 passed c =
-    let a = c .before .before .before .before .before .before .before .before .before .args in
-    test-passed (a .shape) (a .table .now) (size c) (sym (c .before .before .before .test .ensures) ∙ ap saidBy (c .before .answer .given .1))
+    let of = call (started c) in
+    test-passed (of .shape) (of .table) (size c)
+    (sym (c .before .before .before .test .ensures) ∙ ap outcomeOf (c .before .answer .given .1))
 
 -- past the test of the ballots
-no-reason : (c : tie.After-enum-told2) → let a = c .before .before .before .before .before .before .before .before .before .before .before .before .args in firstOf (wordBallotReasons (a .shape) (a .ballots .now)) ≡ none
+no-reason : (c : tie.After-enum-told2)
+    → let of = call (started (list-passed c)) in firstOf (wordBallotReasons (of .shape) (of .ballots)) ≡ none
 unfolding refusedFor
 no-reason c = sym (c .before .before .test2 .ensures) ∙ ap refusedFor (c .enum-told2 .given .1)
 
@@ -48,29 +74,26 @@ enum-told : tie.Need-enum-told
 enum-told c = search needs
 
 returns : tie.Need-returns
-unfolding saidBy
+unfolding outcomeOf
 returns c =
     let start = c .before .before .before .before .before .before .before .before in
-    let a = start .args in
     let r = reasonOf (c .enum-told .given .0 .0) in
-    let e = ap saidBy (c .enum-told .given .1) in
-    e ∙ refuses start r (by-test (a .shape) (a .table .now) (a .ballots .now) (a .tape .now) (a .wires .now) (a .board .now) r (sym (c .before .before .test .ensures) ∙ e))
+    let e = ap outcomeOf (c .enum-told .given .1) in
+    e ∙ refuses start r (by-test (call start) r (sym (c .before .before .test .ensures) ∙ e))
 
 test-requires-2 : tie.Need-test-requires-2
-test-requires-2 c κs = true-T (withinLimits (c .before .before .before .before .before .before .before .before .before .args .shape)) (passed c .within)
+test-requires-2 c κs = true-T (withinLimits (call (started c) .shape)) (passed c .within)
 
 enum-known-reason : tie.Need-enum-known-reason
 enum-known-reason c = search needs
 
 returns-2 : tie.Need-returns-2
-unfolding saidBy refusedFor
+unfolding outcomeOf refusedFor
 returns-2 c =
     let told = c .before .before .before .before in
-    let start = told .before .before .before .before .before .before .before .before .before in
-    let a = start .args in
     let r = reasonOf (c .before .reason .given .0 .0) in
-    refuses start r
-    (by-ballots (a .shape) (a .table .now) (a .ballots .now) (a .tape .now) (a .wires .now) (a .board .now) (passed told .reasons) r
+    refuses (started told) r
+    (by-ballots (call (started told)) (passed told .reasons) r
     (sym (c .before .before .before .test2 .ensures) ∙ ap refusedFor (c .before .reason .given .1)))
 
 enum-told-2 : tie.Need-enum-told-2
@@ -78,11 +101,11 @@ enum-told-2 c = search needs
 
 ballot-bytes-requires : tie.Need-ballot-bytes-requires
 ballot-bytes-requires c κs =
-    let told = c .before .before .before in
-    true-T (withinLimits (told .before .before .before .before .before .before .before .before .before .args .shape)) (passed told .within)
+    let told = list-passed c in
+    true-T (withinLimits (call (started told) .shape)) (passed told .within)
 
-test-lent-requires : tie.Need-test-lent-requires
-test-lent-requires c κs = search needs
+test-buffers-requires : tie.Need-test-buffers-requires
+test-buffers-requires c κs = search needs
 
 enum-known-reason-2 : tie.Need-enum-known-reason-2
 enum-known-reason-2 c = search needs
@@ -91,33 +114,33 @@ enum-told-3 : tie.Need-enum-told-3
 enum-told-3 c = search needs
 
 -- what the tests 7, 9 and 10 answer is what the whole answers
-lent-answer : (c : tie.After-test-lent) → let a = c .before .before .before .before .before .before .before .before .before .before .before .before .before .before .args in
-    firstOf (batchReasons (a .shape) (a .table .now) (a .ballots .now) (a .tape .now) (a .wires .now) (a .board .now)) ≡ refusedFor (c .test-lent .result)
+lent-answer : (c : tie.After-test-buffers)
+    → firstOf (batchReasons (call (started (list-passed (ballots-passed c))))) ≡ refusedFor (c .test-buffers .result)
 unfolding size
 lent-answer c =
-    let passes = c .before .before in
-    let told = passes .before .before .before in
-    let a = told .before .before .before .before .before .before .before .before .before .args in
-    by-lent (a .shape) (a .table .now) (a .ballots .now) (a .tape .now) (a .wires .now) (a .board .now) (passed told .reasons) (size told) (refusedFor (c .test-lent .result)) (passed told .size) (no-reason passes)
-    (sym (c .test-lent .ensures ∙ ap (λ (i : ℕ). firstOf (wordLentReasons i (a .shape .candidates) (size told) (a .tape .now) (a .wires .now) (a .board .now))) (c .before .ballot-bytes .ensures)))
+    let passes = ballots-passed c in
+    let told = list-passed passes in
+    let of = call (started told) in
+    by-lent of (passed told .reasons) (size told) (refusedFor (c .test-buffers .result)) (passed told .size) (no-reason passes)
+    (sym (c .test-buffers .ensures
+    ∙ ap (λ (i : ℕ). firstOf (wordBufferReasons i (of .shape .candidates) (size told) (of .tape) (of .wires) (of .board)))
+    (c .before .ballot-bytes .ensures)))
 
 returns-3 : tie.Need-returns-3
-unfolding saidBy refusedFor
+unfolding outcomeOf refusedFor
 returns-3 c =
     let lent = c .before .before .before in
-    let start = lent .before .before .before .before .before .before .before .before .before .before .before .before .before .before in
     let r = reasonOf (c .before .reason2 .given .0 .0) in
-    refuses start r (lent-answer lent ∙ ap refusedFor (c .before .reason2 .given .1))
+    refuses (started (list-passed (ballots-passed lent))) r (lent-answer lent ∙ ap refusedFor (c .before .reason2 .given .1))
 
 returns-4 : tie.Need-returns-4
-unfolding testSaid refusedFor
+unfolding testOutcome refusedFor
 returns-4 c =
     let lent = c .before .before in
-    let told = lent .before .before .before .before .before in
-    let a = told .before .before .before .before .before .before .before .before .before .args in
+    let told = list-passed (ballots-passed lent) in
     let none-applies = lent-answer lent ∙ ap refusedFor (c .enum-told3 .given .1) in
-    sym (ap saidBy (told .before .answer .given .1)) ∙ told .before .before .before .test .ensures
-    ∙ ap (λ (o : Option Reason). said o (sizeOf (gatesOf (a .table .now)))) (passed told .reasons ∙ sym none-applies)
+    sym (ap outcomeOf (told .before .answer .given .1)) ∙ told .before .before .before .test .ensures
+    ∙ ap (λ (o : Option Reason). outcome o (sizeOf (gatesOf (call (started told) .table)))) (passed told .reasons ∙ sym none-applies)
 
 pub test-run-spec : {M : Type 1} → statement M
 test-run-spec =
@@ -132,7 +155,7 @@ test-run-spec =
     returns-2
     enum-told-2
     ballot-bytes-requires
-    test-lent-requires
+    test-buffers-requires
     enum-known-reason-2
     enum-told-3
     returns-3

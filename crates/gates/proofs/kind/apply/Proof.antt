@@ -1,21 +1,15 @@
 -- `gates::kind::apply` meets its contract: each arm's value is its kind's entry in the list of values.
 -- Assumes nothing.
 use mathlib.Core.Path.{ap}
-use mathlib.Core.Logic.{_≢_}
-use Prim.Native.Nat.{ℕ, _≤_}
+use Prim.Native.Nat.{_≤_}
 use native.Mathlib.Omega.{arith}
 use borrow.Author.Tests.{eq-eqb, ne-eqb, le-ltb}
 use Rattle.gates.specs.Open.Kind.{applied, valueOf, differ, choose}
-use Rattle.gates.specs.declared.kind.Applied.the-variants.{Value}
+use Rattle.gates.specs.declared.kind.GateValue.the-variants.{Value}
 use Rattle.gates.proofs.kind.apply.Statement.{statement}
 use Rattle.gates.proofs.kind.apply.Tie as tie
-
--- a number that is none of 0 to 7 is at least 8, in two steps, since `omega` splits at most six times
-above-3 : (k : ℕ) → k ≢ 0 → k ≢ 1 → k ≢ 2 → k ≢ 3 → 4 ≤ k
-above-3 k h₀ h₁ h₂ h₃ = omega arith
-
-above-7 : (k : ℕ) → 4 ≤ k → k ≢ 4 → k ≢ 5 → k ≢ 6 → k ≢ 7 → 8 ≤ k
-above-7 k l h₄ h₅ h₆ h₇ = omega arith
+use Rattle.basics.proofs.Arithmetic.{above-3}
+use Rattle.basics.proofs.Arithmetic.{above-7}
 
 returns : tie.Need-returns
 unfolding applied valueOf

@@ -2,7 +2,7 @@
 -- Assumes nothing.
 use mathlib.Core.Bool.{Bool, false}
 use mathlib.Core.List.{List}
-use mathlib.Core.Path.{_≡_, sym, ap}
+use mathlib.Core.Path.{sym, ap}
 use lib.ListN.{getD, List·getD-eq-default}
 use Rattle.gates.specs.Open.Kind.{conditionalMarks, conditionalOf}
 use borrow.Author.Needs.{needs}

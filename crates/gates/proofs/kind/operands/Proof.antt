@@ -1,7 +1,7 @@
 -- `gates::kind::operands` meets its contract: the table at hand is the definition's.
 -- Assumes nothing.
 use mathlib.Core.List.{List}
-use mathlib.Core.Path.{_≡_, sym, ap}
+use mathlib.Core.Path.{sym, ap}
 use Prim.Native.Nat.{ℕ}
 use lib.ListN.{getD, List·getD-eq-default}
 use Rattle.gates.specs.Open.Kind.{operandCounts, operandsOf}

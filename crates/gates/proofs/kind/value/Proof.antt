@@ -8,14 +8,14 @@ use lib.Dec.{ltb}
 use lib.ListN.{List·getD-eq-default}
 use borrow.Author.Tests.{ltb-false}
 use Rattle.gates.specs.Open.Kind.{applied, valueOf, differ, choose}
-use Rattle.gates.specs.declared.kind.Applied.{Applied}
-use Rattle.gates.specs.declared.kind.Applied.the-variants.{Value, NoSuchKind}
+use Rattle.gates.specs.declared.kind.GateValue.{GateValue}
+use Rattle.gates.specs.declared.kind.GateValue.the-variants.{Value, NoSuchKind}
 use borrow.Author.Needs.{needs}
 use Rattle.gates.proofs.kind.value.Statement.{statement}
 use Rattle.gates.proofs.kind.value.Tie as tie
 
 -- the number in an answer, 0 where there is none
-taken : Applied → ℕ
+taken : GateValue → ℕ
 taken (Value v) = v
 taken NoSuchKind = 0
 

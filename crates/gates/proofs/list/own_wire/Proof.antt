@@ -1,7 +1,7 @@
 -- `gates::list::own_wire` meets its contract: below 2 ^ 32 every number is below inputs past it.
 -- Assumes nothing.
-use mathlib.Core.Path.{_≡_, _∙_, refl, sym}
-use Prim.Native.Nat.{ℕ, _+_}
+use mathlib.Core.Path.{_∙_, refl, sym}
+use Prim.Native.Nat.{_+_}
 use native.Mathlib.Omega.{arith}
 use borrow.Author.Tests.{lt-ltb}
 use Rattle.gates.proofs.list.own_wire.Statement.{statement}

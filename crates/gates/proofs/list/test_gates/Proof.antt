@@ -11,17 +11,16 @@ use Rattle.gates.specs.Open.Gate.{gatesOf}
 use Rattle.gates.specs.Open.Board.{conditionalCount}
 use Rattle.gates.specs.Open.Test.{judged, firstBad}
 use Rattle.gates.specs.Open.Step.{gateAt}
-use Rattle.gates.specs.declared.list.Tested.{Tested}
+use Rattle.gates.specs.declared.list.ListCheck.{ListCheck}
 use Rattle.gates.proofs.Table.{length-gates}
 use Rattle.gates.proofs.Counting.{mark-at-most-one}
 use Rattle.gates.proofs.Judging.{Judges, judges-bad, judges-good, judges-all}
 use native.Mathlib.Omega.{arith}
-use borrow.Author.Needs.{needs}
 use Rattle.gates.proofs.list.test_gates.Statement.{statement}
 use Rattle.gates.proofs.list.test_gates.Tie as tie
 
 -- the answer for the whole table
-abbrev answer : ℕ → List ℕ → Tested
+abbrev answer : ℕ → List ℕ → ListCheck
 answer inputs table = judged (firstBad inputs 0 (gatesOf table)) (length (gatesOf table)) (conditionalCount (gatesOf table))
 
 abbrev Inv-loop : tie.InvT-loop

@@ -9,9 +9,10 @@ use native.Mathlib.Omega.{arith}
 use lib.ListN.{length, take, drop}
 use lib.Seq.{drop-drop}
 use Rattle.jury.specs.Ballots.{ones, rowsOf, firstBadRow}
-use Rattle.jury.proofs.BallotLaws.{part-bits, row-within, bad-here, bad-later, bad-end}
+use Rattle.jury.proofs.BallotLaws.{part-bits, bad-here, bad-later, bad-end}
 use Rattle.jury.proofs.ballots.first_bad_row.Statement.{statement}
 use Rattle.jury.proofs.ballots.first_bad_row.Tie as tie
+use Rattle.basics.proofs.Arithmetic.{row-within}
 
 abbrev Inv-loop : tie.InvT-loop
 Inv-loop bytes d rows row₀ at₀ row at =

@@ -2,7 +2,6 @@
 -- Assumes nothing.
 use mathlib.Core.Path.{_≡_, _∙_, refl, sym}
 use mathlib.Core.Bool.{true, false}
-use Prim.Native.Nat.{_*_}
 use lib.ListN.{length}
 use borrow.Author.Tests.{eq-eqb, ne-eqb}
 use borrow.Author.Needs.{needs}
@@ -11,8 +10,8 @@ use Rattle.gates.specs.Test.{firstAboveOne}
 use Rattle.gates.proofs.Hiding.{all-bits}
 use Rattle.jury.specs.Shape.{isRanking, gradedLimits, withinLimits, ballotBytes}
 use Rattle.jury.specs.Reason.{reasonOf, refusedFor, unless, foundAt, firstOf}
-use Rattle.jury.specs.Ballots.{gradedReasons, rankedReasons, ballotReasons}
-use Rattle.jury.proofs.Flags.{T-true, true-T}
+use Rattle.jury.specs.Ballots.{ballotReasons}
+use Rattle.basics.proofs.Flags.{T-true, true-T}
 use Rattle.jury.proofs.Limits.{grades-columns, ranked-bytes, graded-kind}
 use Rattle.jury.proofs.BallotLaws.{judged, kindReason, judged-by, judged-kind, graded-reason, ranked-reason}
 use Rattle.jury.proofs.ballots.test.Statement.{statement}

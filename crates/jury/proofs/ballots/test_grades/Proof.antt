@@ -5,8 +5,7 @@ use mathlib.Core.List.{[], _∷_}
 use native.Mathlib.Omega.{arith}
 use borrow.Author.Needs.{needs}
 use Rattle.gates.specs.declared.place.Place.{Place}
-use Rattle.gates.specs.declared.place.Place.the-variants.{At, Nowhere}
-use Rattle.jury.specs.Reason.{reasonOf, reasonAt, refusedFor, foundAt, firstOf}
+use Rattle.jury.specs.Reason.{reasonOf, refusedFor, foundAt, firstOf}
 use Rattle.jury.specs.Ballots.{gradedReasons}
 use Rattle.jury.proofs.Limits.{within-T, rows-bound}
 use Rattle.jury.proofs.ballots.test_grades.Statement.{statement}

@@ -7,12 +7,12 @@ use native.Mathlib.Nat.{add-sub-cancel-left, zero-mul, suc-mul}
 use native.Mathlib.Numerals.{add-one}
 use native.Mathlib.Omega.{arith}
 use lib.ListN.{length, getD, set, take, drop, length-take}
-use Rattle.jury.specs.Counts.{tabulate}
-use Rattle.jury.specs.Inner.{plusRow, plusBallot}
-use Rattle.jury.proofs.BallotLaws.{row-within}
-use Rattle.jury.proofs.Tabulate.{upTo, tabulate-getD, fill-start, fill-at, fill-step}
+use Rattle.basics.specs.Lists.{tabulate}
+use Rattle.jury.specs.inner.Counts.{plusRow, plusBallot}
+use Rattle.basics.proofs.Tabulate.{upTo, tabulate-getD, fill-start, fill-at, fill-step}
 use Rattle.jury.proofs.counts.add_ballot.Statement.{statement}
 use Rattle.jury.proofs.counts.add_ballot.Tie as tie
+use Rattle.basics.proofs.Arithmetic.{row-within}
 
 abbrev old : List (List ℕ) → ℕ → List ℕ
 old counts c = getD counts c []

@@ -6,9 +6,9 @@ use Prim.Native.Nat.{ℕ, _+_, _-_, _≤_}
 use native.Mathlib.Numerals.{add-one}
 use native.Mathlib.Omega.{arith}
 use lib.ListN.{length, getD, set, List·getD-eq-default}
-use Rattle.jury.specs.Counts.{tabulate}
-use Rattle.jury.specs.Inner.{plusRow}
-use Rattle.jury.proofs.Tabulate.{upTo, tabulate-getD, fill-start, fill-at, fill-step, fill-end}
+use Rattle.basics.specs.Lists.{tabulate}
+use Rattle.jury.specs.inner.Counts.{plusRow}
+use Rattle.basics.proofs.Tabulate.{upTo, tabulate-getD, fill-start, fill-at, fill-step, fill-end}
 use Rattle.jury.proofs.counts.add_row.Statement.{statement}
 use Rattle.jury.proofs.counts.add_row.Tie as tie
 

@@ -8,14 +8,14 @@ use native.Mathlib.Numerals.{add-one}
 use native.Mathlib.Omega.{arith}
 use lib.ListN.{length, getD, take, drop, length-take, length-drop}
 use Rattle.jury.specs.declared.shape.Shape.{Shape}
-use Rattle.jury.specs.Counts.{sum, tabulate}
-use Rattle.jury.specs.Inner.{rowsIn, plusBallot}
+use Rattle.basics.specs.Lists.{sum, tabulate}
+use Rattle.jury.specs.inner.Counts.{rowsIn, plusBallot}
 use Rattle.jury.proofs.Limits.{within, bytes-are}
-use Rattle.jury.proofs.BallotLaws.{row-within}
 use Rattle.jury.proofs.CountLaws.{arrayAfter, array-eight-by-seven, array-start, array-step, array-end}
 use Rattle.jury.proofs.CountFacts.{array-sum}
 use Rattle.jury.proofs.counts.counts.Statement.{statement}
 use Rattle.jury.proofs.counts.counts.Tie as tie
+use Rattle.basics.proofs.Arithmetic.{row-within}
 
 abbrev shape : ℕ → ℕ → ℕ → Shape
 shape k d n = record { candidates = k; grades = d; ballots = n }

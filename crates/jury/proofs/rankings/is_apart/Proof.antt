@@ -7,8 +7,9 @@ use mathlib.Core.List.{List}
 use Prim.Native.Nat.{ℕ, _-_, _≤_}
 use native.Mathlib.Omega.{arith}
 use borrow.Author.Needs.{needs}
-use Rattle.jury.proofs.Flags.{and-both, and-first-fails, and-second-fails}
-use Rattle.jury.specs.Rankings.{before, someBelow, apart}
+use Rattle.basics.proofs.Flags.{and-both, and-first-fails, and-second-fails}
+use Rattle.jury.specs.Rankings.{before, neitherAfterNorBefore}
+use Rattle.basics.specs.Below.{someBelow}
 use Rattle.jury.proofs.Searches.{some-later, some-here}
 use Rattle.jury.proofs.rankings.is_apart.Statement.{statement}
 use Rattle.jury.proofs.rankings.is_apart.Tie as tie
@@ -34,7 +35,7 @@ is-before-requires-2 : tie.Need-is-before-requires-2 Inv-loop μ-loop
 is-before-requires-2 c κs = search needs
 
 returns : tie.Need-returns Inv-loop μ-loop
-unfolding apart
+unfolding neitherAfterNorBefore
 returns c =
     let again = c .before in
     let asked = again .before .before in
@@ -75,7 +76,7 @@ loop-again c =
     )
 
 returns-2 : tie.Need-returns-2 Inv-loop μ-loop
-unfolding apart
+unfolding neitherAfterNorBefore
 returns-2 c =
     let at = c .before in
     let start = at .before .before in

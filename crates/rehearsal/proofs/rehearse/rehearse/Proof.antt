@@ -4,9 +4,9 @@ use mathlib.Core.Path.{_∙_, sym}
 use native.Mathlib.Omega.{arith}
 use borrow.Author.Needs.{needs}
 use Rattle.jury.specs.Shape.{withinLimits}
-use Rattle.jury.specs.Reason.{reasonOf}
 use Rattle.jury.proofs.Constructed.{shape-is, outside-is}
-use Rattle.rehearsal.specs.Rehearsal.{shapeIn, saidOn, endOn}
+use Rattle.rehearsal.specs.Rehearsal.{shapeIn, outcomeOn}
+use Rattle.rehearsal.specs.inner.Rehearses.{endOn}
 use Rattle.rehearsal.proofs.Rehearsing.{by-the-limits}
 use Rattle.rehearsal.proofs.rehearse.rehearse.Statement.{statement}
 use Rattle.rehearsal.proofs.rehearse.rehearse.Tie as tie
@@ -26,15 +26,22 @@ rehearse-shape-requires c κs =
     let made = known .before .before in
     let start = made .before .before .before .before .before .before in
     let s = shapeIn (start .args .input .now) in
-    (shape-is (withinLimits s) s (known .shape2 .given .0 .0) (sym (made .shape .ensures) ∙ known .shape2 .given .1), start .pre)
+    record {
+      shape-is = shape-is (withinLimits s) s (known .shape2 .given .0 .0) (sym (made .shape .ensures) ∙ known .shape2 .given .1);
+      buffers = start .pre;
+    }
 
 returns : tie.Need-returns
-unfolding saidOn endOn
+unfolding outcomeOn endOn
 returns c =
     let made = c .before .before in
     let start = made .before .before .before .before .before .before in
     let s = shapeIn (start .args .input .now) in
-    (by-the-limits (start .args .input .now) (start .args .table .now) (outside-is (withinLimits s) s (sym (made .shape .ensures) ∙ c .enum-told .given .1)), omega arith)
+    record {
+      answers = by-the-limits (start .args .input .now) (start .args .table .now)
+          (outside-is (withinLimits s) s (sym (made .shape .ensures) ∙ c .enum-told .given .1));
+      on-board = omega arith;
+    }
 
 same-length : tie.Need-same-length
 same-length c = search needs

@@ -1,15 +1,17 @@
 -- `rehearsal::rehearse::rehearse_shape` meets its contract: a refused write decides, and else the run of what was written.
 -- Assumes nothing.
-use mathlib.Core.Path.{_≡_, _∙_, refl, sym, ap}
+use mathlib.Core.Path.{_≡_, _∙_, sym, ap}
 use mathlib.Core.List.{List, []}
-use Prim.Native.Nat.{ℕ, _+_, _*_, _-_, _≤_}
+use Prim.Native.Nat.{ℕ, _*_, _-_, _≤_}
 use native.Mathlib.Omega.{arith}
 use lib.ListN.{length, take, drop}
 use borrow.Author.Needs.{needs}
-use Rattle.tally.specs.Answer.{Said, saidBy}
+use Rattle.tally.specs.Answer.{outcomeOf}
 use Rattle.tally.specs.declared.answer.Answer.the-variants as answer
-use Rattle.tally.specs.Write.{writeSaid, written}
-use Rattle.rehearsal.specs.Rehearsal.{Cut, shapeIn, ballotsIn, rehearsalSaid, runSaid, saidOn, endOn}
+use Rattle.tally.specs.Write.{writeOutcome}
+use Rattle.rehearsal.specs.Rehearsal.{ballotsIn, rehearsalOutcome, outcomeOn}
+use Rattle.rehearsal.specs.inner.Buffers.{Cut}
+use Rattle.rehearsal.specs.inner.Rehearses.{runOutcome, endOn}
 use Rattle.rehearsal.proofs.Rehearsing.{cut-long, gates-few, list-fits, write-cut, by-the-run, by-the-write, no-ballots, some-ballots}
 use Rattle.rehearsal.proofs.rehearse.rehearse_shape.Statement.{statement}
 use Rattle.rehearsal.proofs.rehearse.rehearse_shape.Tie as tie
@@ -21,28 +23,28 @@ gates-of c = c .before .gates .given .0 .0
 conditional-of : tie.After-known-told2 → ℕ
 conditional-of c = c .before .gates .given .0 .1 .0
 
-said-accepted : (c : tie.After-known-told2) →
+outcome-accepted : (c : tie.After-known-told2) →
     let w = c .before .before .before .before .before in
     let start = w .before .before .before .before .before .before .before in
-    saidBy (answer.Accepted (gates-of c) (conditional-of c)) ≡ writeSaid (start .args .shape) (start .args .table .now)
+    outcomeOf (answer.Accepted (gates-of c) (conditional-of c)) ≡ writeOutcome (start .args .shape) (start .args .table .now)
 unfolding gates-of conditional-of
-said-accepted c =
+outcome-accepted c =
     let w = c .before .before .before .before .before in
-    sym (ap saidBy (c .before .gates .given .1)) ∙ w .write .ensures .0
+    sym (ap outcomeOf (c .before .gates .given .1)) ∙ w .write .ensures .answers
 
 few : (c : tie.After-known-told2) → gates-of c ≤ 4000
 few c =
     let w = c .before .before .before .before .before in
     let start = w .before .before .before .before .before .before .before in
     let a = start .args in
-    gates-few (start .args .shape) (a .table .now) (a .tape .now) (a .wires .now) (a .board .now) (start .pre .1) (gates-of c) (conditional-of c) (said-accepted c)
+    gates-few (start .args .shape) (a .table .now) (a .tape .now) (a .wires .now) (a .board .now) (start .pre .buffers) (gates-of c) (conditional-of c) (outcome-accepted c)
 
 fits : (c : tie.After-known-told2) → 4 * gates-of c ≤ length (c .before .before .before .before .before .write .last .1 .0)
 fits c =
     let w = c .before .before .before .before .before in
     let start = w .before .before .before .before .before .before .before in
     let a = start .args in
-    omega (arith, ap length (w .write .ensures .1 .0), list-fits (start .args .shape) (a .table .now) (a .tape .now) (a .wires .now) (a .board .now) (start .pre .1) (gates-of c) (conditional-of c) (said-accepted c))
+    omega (arith, ap length (w .write .ensures .leaves), list-fits (start .args .shape) (a .table .now) (a .tape .now) (a .wires .now) (a .board .now) (start .pre .buffers) (gates-of c) (conditional-of c) (outcome-accepted c))
 
 write-requires : tie.Need-write-requires
 write-requires c κs = search needs
@@ -78,8 +80,8 @@ cut c =
     let w = c .before .before .before .before .before in
     let start = w .before .before .before .before .before .before .before in
     let a = start .args in
-    write-cut (start .args .shape) (a .table .now) (a .tape .now) (a .wires .now) (a .board .now) (start .pre .1) (gates-of c) (conditional-of c) (said-accepted c) _
-    (ap (take (4 * gates-of c)) (w .write .ensures .1 .0))
+    write-cut (start .args .shape) (a .table .now) (a .tape .now) (a .wires .now) (a .board .now) (start .pre .buffers) (gates-of c) (conditional-of c) (outcome-accepted c) _
+    (ap (take (4 * gates-of c)) (w .write .ensures .leaves))
 
 run-list-requires : tie.Need-run-list-requires
 unfolding gates-of conditional-of
@@ -102,25 +104,29 @@ same-length : tie.Need-same-length
 same-length c = search needs
 
 returns : tie.Need-returns
-unfolding saidOn endOn
+unfolding outcomeOn endOn
 returns c =
     let w = c .before .before .before .before .before in
     let start = w .before .before .before .before .before .before .before in
     let a = start .args in
-    (by-the-write (a .input .now) (a .table .now) (start .args .shape) (c .before .reason .given .0 .0) (start .pre .0) (sym (ap saidBy (c .before .reason .given .1)) ∙ w .write .ensures .0), omega arith)
+    record {
+      answers = by-the-write (a .input .now) (a .table .now) (start .args .shape) (c .before .reason .given .0 .0) (start .pre .shape-is)
+          (sym (ap outcomeOf (c .before .reason .given .1)) ∙ w .write .ensures .answers);
+      on-board = omega arith;
+    }
 
 -- the run's answer is the rehearsal's
 same-answer : (c : tie.After-known-told2) (ballots : List ℕ) →
     let w = c .before .before .before .before .before in
     let start = w .before .before .before .before .before .before .before in
     let a = start .args in
-    ballots ≡ ballotsIn (a .input .now) → runSaid (start .args .shape) ballots ≡ rehearsalSaid (a .input .now) (a .table .now)
+    ballots ≡ ballotsIn (a .input .now) → runOutcome (start .args .shape) ballots ≡ rehearsalOutcome (a .input .now) (a .table .now)
 same-answer c ballots e =
     let w = c .before .before .before .before .before in
     let start = w .before .before .before .before .before .before .before in
     let a = start .args in
-    ap (runSaid (start .args .shape)) e
-    ∙ by-the-run (start .args .shape) (a .table .now) (a .tape .now) (a .wires .now) (a .board .now) (start .pre .1) (gates-of c) (conditional-of c) (said-accepted c) (a .input .now) (start .pre .0)
+    ap (runOutcome (start .args .shape)) e
+    ∙ by-the-run (start .args .shape) (a .table .now) (a .tape .now) (a .wires .now) (a .board .now) (start .pre .buffers) (gates-of c) (conditional-of c) (outcome-accepted c) (a .input .now) (start .pre .shape-is)
 
 same-length-2 : tie.Need-same-length-2
 same-length-2 c = search needs
@@ -138,10 +144,11 @@ returns-2 c =
     let told = short .before .before in
     let w = told .before .before .before .before .before in
     let start = w .before .before .before .before .before .before .before in
-    let a = start .args in (
-      run .run-list .ensures .0 ∙ same-answer told [] (sym (no-ballots (a .input .now) (short .if1 .taken))),
-      run .run-list .ensures .1,
-    )
+    let a = start .args in
+    record {
+      answers = run .run-list .ensures .answers ∙ same-answer told [] (sym (no-ballots (a .input .now) (short .if1 .taken)));
+      on-board = run .run-list .ensures .on-board;
+    }
 
 same-length-5 : tie.Need-same-length-5
 same-length-5 c = search needs
@@ -159,10 +166,11 @@ returns-3 c =
     let told = long .before .before in
     let w = told .before .before .before .before .before in
     let start = w .before .before .before .before .before .before .before in
-    let a = start .args in (
-      run .run-list2 .ensures .0 ∙ same-answer told (take (length (a .input .now) - 3) (drop 3 (a .input .now))) (some-ballots (a .input .now)),
-      run .run-list2 .ensures .1,
-    )
+    let a = start .args in
+    record {
+      answers = run .run-list2 .ensures .answers ∙ same-answer told (take (length (a .input .now) - 3) (drop 3 (a .input .now))) (some-ballots (a .input .now));
+      on-board = run .run-list2 .ensures .on-board;
+    }
 
 pub rehearse-shape-spec : {M : Type 1} → statement M
 rehearse-shape-spec =

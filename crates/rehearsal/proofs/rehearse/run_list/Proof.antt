@@ -1,14 +1,15 @@
 -- `rehearsal::rehearse::run_list` meets its contract: the buffers are long enough to be cut, and the run answers by the ballots alone.
 -- Assumes nothing.
-use mathlib.Core.Path.{_≡_, _∙_, refl, sym, ap}
-use Prim.Native.Nat.{ℕ, _+_, _≤_}
+use mathlib.Core.Path.{_∙_, sym, ap}
+use Prim.Native.Nat.{_+_, _≤_}
 use native.Mathlib.Omega.{arith}
-use lib.ListN.{length, take}
+use lib.ListN.{length}
 use borrow.Author.Needs.{needs}
-use Rattle.jury.specs.Shape.{withinLimits}
-use Rattle.tally.specs.Answer.{saidBy}
-use Rattle.rehearsal.specs.Rehearsal.{saidOn, endOn}
-use Rattle.rehearsal.proofs.Rehearsing.{cut-long, inputs-most, tape-fits, wires-fit, board-fits, board-most, refusal-said, winners-said, winners-end}
+use Rattle.tally.specs.Answer.{outcomeOf}
+use Rattle.tally.specs.Run.{RunResult}
+use Rattle.rehearsal.specs.Rehearsal.{outcomeOn}
+use Rattle.rehearsal.specs.inner.Rehearses.{endOn}
+use Rattle.rehearsal.proofs.Rehearsing.{cut-long, inputs-most, tape-fits, wires-fit, board-fits, board-most, refusal-outcome, winners-outcome, winners-end}
 use Rattle.rehearsal.proofs.rehearse.run_list.Statement.{statement}
 use Rattle.rehearsal.proofs.rehearse.run_list.Tie as tie
 
@@ -78,16 +79,17 @@ same-length-2 : tie.Need-same-length-2
 same-length-2 c = search needs
 
 returns : tie.Need-returns
-unfolding saidOn endOn
+unfolding outcomeOn endOn
 returns c =
     let done = c .before .before .before .before .before .before .before in
     let sized = done .before .before .before .before in
     let start = sized .before .before .before .before .before .before .before in
-    let a = start .args in (
-      refusal-said (a .shape) (a .list .now) (a .gates) (a .conditional) (a .tape .now) (a .wires .now) (a .board .now) (start .pre) (a .ballots .now) (sized .ballot-bytes .result) (sized .ballot-bytes .ensures)
-          (c .before .answer .given .0 .0) (sym (ap saidBy (c .before .answer .given .1)) ∙ done .run .ensures .0),
-      omega arith,
-    )
+    let a = start .args in
+    record {
+      answers = refusal-outcome (a .shape) (a .list .now) (a .gates) (a .conditional) (a .tape .now) (a .wires .now) (a .board .now) (start .pre) (a .ballots .now) (sized .ballot-bytes .result) (sized .ballot-bytes .ensures)
+          (c .before .answer .given .0 .0) (sym (ap outcomeOf (c .before .answer .given .1)) ∙ ap (λ (z : RunResult). z .answer) (done .run .ensures));
+      on-board = omega arith;
+    }
 
 same-length-3 : tie.Need-same-length-3
 same-length-3 c = search needs
@@ -96,18 +98,19 @@ same-length-4 : tie.Need-same-length-4
 same-length-4 c = search needs
 
 returns-2 : tie.Need-returns-2
-unfolding saidOn endOn
+unfolding outcomeOn endOn
 returns-2 c =
     let done = c .before .before .before .before .before .before .before in
     let sized = done .before .before .before .before in
     let start = sized .before .before .before .before .before .before .before in
     let a = start .args in
-    let g = c .before .answer2 .given in (
-      winners-said (a .shape) (a .list .now) (a .gates) (a .conditional) (a .tape .now) (a .wires .now) (a .board .now) (start .pre) (a .ballots .now) (sized .ballot-bytes .result) (sized .ballot-bytes .ensures)
-          (g .0 .0) (g .0 .1 .0) _ _ (sym (ap saidBy (g .1)) ∙ done .run .ensures .0) (done .run .ensures .1 .1),
-      winners-end (a .shape) (a .list .now) (a .gates) (a .conditional) (a .tape .now) (a .wires .now) (a .board .now) (start .pre) (a .ballots .now) (sized .ballot-bytes .result) (sized .ballot-bytes .ensures)
-          (g .0 .0) (g .0 .1 .0) _ _ (sym (ap saidBy (g .1)) ∙ done .run .ensures .0) (done .run .ensures .1 .1),
-    )
+    let g = c .before .answer2 .given in
+    record {
+      answers = winners-outcome (a .shape) (a .list .now) (a .gates) (a .conditional) (a .tape .now) (a .wires .now) (a .board .now) (start .pre) (a .ballots .now) (sized .ballot-bytes .result) (sized .ballot-bytes .ensures)
+          (g .0 .0) (g .0 .1 .0) _ _ (sym (ap outcomeOf (g .1)) ∙ ap (λ (z : RunResult). z .answer) (done .run .ensures)) (ap (λ (z : RunResult). z .board) (done .run .ensures));
+      on-board = winners-end (a .shape) (a .list .now) (a .gates) (a .conditional) (a .tape .now) (a .wires .now) (a .board .now) (start .pre) (a .ballots .now) (sized .ballot-bytes .result) (sized .ballot-bytes .ensures)
+          (g .0 .0) (g .0 .1 .0) _ _ (sym (ap outcomeOf (g .1)) ∙ ap (λ (z : RunResult). z .answer) (done .run .ensures)) (ap (λ (z : RunResult). z .board) (done .run .ensures));
+    }
 
 pub run-list-spec : {M : Type 1} → statement M
 run-list-spec =

@@ -1,12 +1,7 @@
 -- `rehearsal::rehearse::shape` meets its contract: the constructor answers for the shape of the first three bytes.
 -- Assumes nothing.
-use mathlib.Core.Path.{_∙_, ap}
-use mathlib.Core.Bool.{cond}
-use Prim.Native.Nat.{ℕ}
+use mathlib.Core.Path.{_∙_}
 use borrow.Author.Needs.{needs}
-use Rattle.jury.specs.declared.shape.Shape.{Shape}
-use Rattle.jury.specs.declared.shape.Shaped.the-variants.{Within, Outside}
-use Rattle.jury.specs.Shape.{withinLimits}
 use Rattle.rehearsal.specs.Rehearsal.{shapeIn}
 use Rattle.rehearsal.proofs.rehearse.shape.Statement.{statement}
 use Rattle.rehearsal.proofs.rehearse.shape.Tie as tie

@@ -6,7 +6,7 @@ use native.Mathlib.Nat.{sub-zero}
 use native.Mathlib.Omega.{arith}
 use lib.ListN.{length, drop}
 use Rattle.season.specs.Season.{runBytes, firstRuns, totalsOf}
-use Rattle.season.specs.Inner.{SumsOf}
+use Rattle.season.specs.inner.Sums.{SumsOf}
 use Rattle.season.proofs.RunLaws.{part-long}
 use Rattle.season.proofs.SumLaws.{plus, plus-start, sums-turn, sums-end, sums-most, sums-grow}
 use Rattle.season.proofs.sheet.sums.Statement.{statement}

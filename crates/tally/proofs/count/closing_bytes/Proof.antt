@@ -9,14 +9,14 @@ use borrow.Author.Needs.{needs}
 use Rattle.jury.specs.Shape.{isRanking, gradedLimits}
 use Rattle.jury.specs.Accepted.{GradedBallots}
 use Rattle.jury.specs.ClosingBytes.{eightBytes}
-use Rattle.jury.specs.Inner.{rowsIn}
+use Rattle.jury.specs.inner.Counts.{rowsIn}
 use Rattle.jury.proofs.AcceptedLaws as ballots-laws
-use Rattle.jury.proofs.Flags.{true-T}
+use Rattle.basics.proofs.Flags.{true-T}
 use Rattle.jury.proofs.Limits.{within, bounds, ranked-bytes, graded-kind}
 use Rattle.jury.proofs.Matrix.{array-rows, array-columns}
-use Rattle.judgment.specs.Judgment.{judgmentOf}
-use Rattle.judgment.specs.Theorems.{EachGets}
-use Rattle.judgment.proofs.Theorems.{array-gets}
+use Rattle.rule_judgment.specs.Judgment.{judgmentOf}
+use Rattle.rule_judgment.specs.Theorems.{EachGets}
+use Rattle.rule_judgment.proofs.Theorems.{array-gets}
 use Rattle.tally.proofs.Rules.{closing-graded, closing-ranked}
 use Rattle.tally.proofs.count.closing_bytes.Statement.{statement}
 use Rattle.tally.proofs.count.closing_bytes.Tie as tie

@@ -10,7 +10,7 @@ use Rattle.jury.specs.Ballots.{ballotReasons}
 use Rattle.jury.specs.ClosingBytes.{eightBytes}
 use Rattle.tally.specs.Rule.{closingFor}
 use Rattle.tally.specs.Count.{countReason, closingAfter, plainClosing}
-use Rattle.jury.proofs.Flags.{true-T}
+use Rattle.basics.proofs.Flags.{true-T}
 use Rattle.jury.proofs.AcceptedLaws.{accepted}
 use Rattle.tally.proofs.CountReason.{outside-reason, within-reason}
 use borrow.Author.Needs.{needs}
@@ -27,7 +27,7 @@ returns c =
     let s = start .args .shape in
     let xs = start .args .ballots .now in
     let e = outside-reason s xs (sym (c .before .is-within-limits .ensures) ∙ not-true (c .before .is-within-limits .result) (c .if1 .taken)) in
-    (sym e, sym (ap (λ (r : Option Reason). closingAfter r (closingFor s xs)) e))
+    record { verdict = sym e; closing = sym (ap (λ (r : Option Reason). closingAfter r (closingFor s xs)) e) }
 
 -- the shape is within its limits
 limits : (c : tie.Else1) → withinLimits (c .before .before .before .args .shape) ≡ true
@@ -62,7 +62,7 @@ returns-2 c =
     let xs = start .args .ballots .now in
     let e : countReason s xs ≡ some (reasonOf (c .before .reason .given .0 .0)) =
     within-reason s xs (limits passed) ∙ sym (c .before .before .before .test .ensures) ∙ ap refusedFor (c .before .reason .given .1) in
-    (sym e, sym (ap (λ (r : Option Reason). closingAfter r (closingFor s xs)) e))
+    record { verdict = sym e; closing = sym (ap (λ (r : Option Reason). closingAfter r (closingFor s xs)) e) }
 
 returns-3 : tie.Need-returns-3
 unfolding refusedFor plainClosing closingAfter
@@ -73,7 +73,10 @@ returns-3 c =
     let s = start .args .shape in
     let xs = start .args .ballots .now in
     let e : countReason s xs ≡ none = within-reason s xs (limits passed) ∙ no-reason told in
-    (sym e, c .closing-bytes .ensures ∙ sym (ap (λ (r : Option Reason). closingAfter r (closingFor s xs)) e))
+    record {
+      verdict = sym e;
+      closing = c .closing-bytes .ensures ∙ sym (ap (λ (r : Option Reason). closingAfter r (closingFor s xs)) e);
+    }
 
 pub count-spec : {M : Type 1} → statement M
 count-spec =

@@ -1,6 +1,6 @@
--- `tally::measure::measure` meets its contract: `writer` measures the own list of a shape within its limits.
+-- `tally::measure::measure` meets its contract: `graded_writer` measures the own list of a shape within its limits.
 -- Assumes nothing.
-use mathlib.Core.Path.{_≡_, _∙_, refl, sym, ap}
+use mathlib.Core.Path.{_≡_, _∙_, sym, ap}
 use mathlib.Core.Bool.{Bool, true, false}
 use mathlib.Core.List.{[], _∷_}
 use Prim.Native.Nat.{ℕ}
@@ -11,20 +11,20 @@ use Rattle.gates.specs.Board.{conditionalCount}
 use Rattle.jury.specs.declared.shape.Shape.{Shape}
 use Rattle.jury.specs.Shape.{withinLimits, ballotBytes}
 use Rattle.jury.specs.Reason.{reasonOf, reasonAt, unless, firstOf}
-use Rattle.jury.proofs.Flags.{true-T}
+use Rattle.basics.proofs.Flags.{true-T}
 use Rattle.tally.specs.OwnList.{ownList}
-use Rattle.tally.specs.Answer.{refused, accepted, said}
-use Rattle.tally.specs.Measure.{Measures, measuresOf, measureSaid, measuredBy}
+use Rattle.tally.specs.Answer.{refused, accepted, outcome}
+use Rattle.tally.specs.Measure.{Measures, measuresOf, measureOutcome, measuredBy}
 use Rattle.tally.proofs.measure.measure.Statement.{statement}
 use Rattle.tally.proofs.measure.measure.Tie as tie
 
-outside : (s : Shape) → withinLimits s ≡ false → measureSaid s ≡ refused (reasonAt 1 0)
-unfolding measureSaid said unless firstOf
-outside s e = ap (λ (b : Bool). said (firstOf (unless b 1 ∷ [])) (measuresOf s)) e
+outside : (s : Shape) → withinLimits s ≡ false → measureOutcome s ≡ refused (reasonAt 1 0)
+unfolding measureOutcome outcome unless firstOf
+outside s e = ap (λ (b : Bool). outcome (firstOf (unless b 1 ∷ [])) (measuresOf s)) e
 
-inside : (s : Shape) → withinLimits s ≡ true → measureSaid s ≡ accepted (measuresOf s)
-unfolding measureSaid said unless firstOf
-inside s e = ap (λ (b : Bool). said (firstOf (unless b 1 ∷ [])) (measuresOf s)) e
+inside : (s : Shape) → withinLimits s ≡ true → measureOutcome s ≡ accepted (measuresOf s)
+unfolding measureOutcome outcome unless firstOf
+inside s e = ap (λ (b : Bool). outcome (firstOf (unless b 1 ∷ [])) (measuresOf s)) e
 
 -- G and C of the own list, and I
 measured : (s : Shape) (gates conditional inputs : ℕ) → gates ≡ length (ownList s) → conditional ≡ conditionalCount (ownList s) → inputs ≡ ballotBytes s

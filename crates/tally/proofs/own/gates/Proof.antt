@@ -7,7 +7,7 @@ use borrow.Author.Needs.{needs}
 use lib.ListN.{length}
 use Rattle.gates.specs.Gate.{Gate}
 use Rattle.jury.specs.Shape.{isRanking, gradedLimits, withinLimits}
-use Rattle.jury.proofs.Flags.{T-true, true-T}
+use Rattle.basics.proofs.Flags.{T-true, true-T}
 use Rattle.jury.proofs.Limits.{graded-kind}
 use Rattle.tally.proofs.OwnList.{own-graded}
 use Rattle.tally.proofs.own.gates.Statement.{statement}

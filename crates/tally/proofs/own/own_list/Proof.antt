@@ -1,19 +1,18 @@
 -- `tally::own::own_list` meets its contract: the writer of the shape's kind writes its list.
 -- Assumes nothing.
-use mathlib.Core.Path.{_≡_, _∙_, sym, ap, subst}
+use mathlib.Core.Path.{_≡_, _∙_, sym, subst}
 use mathlib.Core.Bool.{true, false}
 use mathlib.Core.List.{List}
 use Prim.Native.Nat.{ℕ}
 use native.Mathlib.Omega.{arith}
 use borrow.Author.Needs.{needs}
 use Rattle.gates.specs.Gate.{Gate}
-use Rattle.words.specs.Writing.{Wrote}
-use Rattle.words.specs.declared.writer.Writer.{Writer}
+use Rattle.gate_words.specs.Writing.{Wrote}
+use Rattle.gate_words.specs.declared.writer.Writer.{Writer}
 use Rattle.jury.specs.Shape.{isRanking, gradedLimits, withinLimits, ballotBytes}
-use Rattle.jury.proofs.Flags.{T-true, true-T}
+use Rattle.basics.proofs.Flags.{T-true, true-T}
 use Rattle.jury.proofs.Limits.{Ranked, ranked, ranked-bytes, graded-kind, ranked-kind}
-use Rattle.ranking.specs.OwnRanking.{ownRanking}
-use Rattle.tally.specs.OwnList.{ownList}
+use Rattle.ranked_circuit.specs.OwnRanking.{ownRanking}
 use Rattle.tally.proofs.OwnList.{own-graded, own-ranked}
 use Rattle.tally.proofs.own.own_list.Statement.{statement}
 use Rattle.tally.proofs.own.own_list.Tie as tie

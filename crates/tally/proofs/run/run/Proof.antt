@@ -1,16 +1,15 @@
 -- `tally::run::run` meets its contract: where the tests pass, the evaluation fills the wire table and the board and the wire table is emptied, and else nothing is touched.
 -- Assumes nothing.
-use mathlib.Core.Path.{_≡_, _∙_, sym, ap}
+use mathlib.Core.Path.{_≡_, _∙_, refl, sym, ap}
 use mathlib.Core.Option.{Option, none, some}
-use mathlib.Core.List.{List}
 use Prim.Native.Nat.{ℕ}
 use lib.ListN.{replicate}
 use borrow.Author.Needs.{needs}
 use Rattle.gates.specs.Gate.{gatesOf}
 use Rattle.jury.specs.Reason.{Reason, reasonOf, firstOf}
-use Rattle.tally.specs.Answer.{Size, said, saidBy, sizeOf}
-use Rattle.tally.specs.Run.{Ran, runReasons, ranAfter, ran}
-use Rattle.tally.proofs.RunReasons.{said-refused, said-accepted, run-passed, run-ready, ran-by}
+use Rattle.tally.specs.Answer.{outcome, outcomeOf, sizeOf}
+use Rattle.tally.specs.Run.{runReasons, runResultAfter}
+use Rattle.tally.proofs.RunReasons.{same-result, outcome-refused, outcome-accepted, run-passed, run-ready, ran-by}
 use Rattle.tally.proofs.run.run.Statement.{statement}
 use Rattle.tally.proofs.run.run.Tie as tie
 
@@ -20,19 +19,24 @@ test-run-requires c κs = search needs
 enum-told : tie.Need-enum-told
 enum-told c = search needs
 
--- where the tests pass, no reason applies
-no-reason : (c : tie.After-enum-told) → let a = c .before .before .before .before .before .before .before .before .before .before .args in
+-- where the tests pass
+start-of : tie.After-enum-told → tie.Start
+start-of c = c .before .before .before .before .before .before .before .before .before .before
+
+-- no reason applies
+no-reason : (c : tie.After-enum-told) → let a = start-of c .args in
     firstOf (runReasons (a .shape) (a .table .now) (a .ballots .now) (a .tape .now) (a .wires .now) (a .board .now)) ≡ none
-unfolding saidBy
+unfolding outcomeOf start-of
 no-reason c =
-    let a = c .before .before .before .before .before .before .before .before .before .before .args in
+    let a = start-of c .args in
     let o = firstOf (runReasons (a .shape) (a .table .now) (a .ballots .now) (a .tape .now) (a .wires .now) (a .board .now)) in
-    said-accepted o (sizeOf (gatesOf (a .table .now))) _ (sym (c .before .before .test-run .ensures) ∙ ap saidBy (c .enum-told .given .1))
+    outcome-accepted o (sizeOf (gatesOf (a .table .now))) _ (sym (c .before .before .test-run .ensures) ∙ ap outcomeOf (c .enum-told .given .1))
 
 run-requires : tie.Need-run-requires
+unfolding start-of
 run-requires c κs =
     let told = c .before .before in
-    let a = told .before .before .before .before .before .before .before .before .before .before .args in
+    let a = start-of told .args in
     run-ready (a .shape) (a .table .now) (a .ballots .now) (a .tape .now) (a .wires .now) (a .board .now)
     (run-passed (a .shape) (a .table .now) (a .ballots .now) (a .tape .now) (a .wires .now) (a .board .now) (no-reason told))
 
@@ -48,18 +52,19 @@ same-length c = search needs
 same-length-2 : tie.Need-same-length-2
 same-length-2 c = search needs
 
+-- the run is done, then the wire table is emptied
 returns : tie.Need-returns
-unfolding said ranAfter
+unfolding outcome runResultAfter start-of
 returns c =
     let emptied = c .before .before in
     let done = emptied .before .before .before .before .before .before in
     let told = done .before .before .before in
-    let a = told .before .before .before .before .before .before .before .before .before .before .args in
+    let a = start-of told .args in
     let e = ran-by (a .shape) (a .table .now) (a .ballots .now) (a .tape .now) (a .wires .now) (a .board .now) none (no-reason told) in
-    let same = done .run .kept .1 .1 .1 .1 .0 in (
-      told .before .before .test-run .ensures ∙ ap (λ (o : Option Reason). said o (sizeOf (gatesOf (a .table .now)))) (no-reason told) ∙ sym (ap (λ (r : Ran). r .answer) e),
-      (emptied .empty .ensures ∙ ap (λ (n : ℕ). replicate n 0) same ∙ sym (ap (λ (r : Ran). r .wires) e), done .run .ensures .1 ∙ sym (ap (λ (r : Ran). r .board) e)),
-    )
+    let kept = done .run .kept .1 .1 .1 .1 .0 in
+    same-result (told .before .before .test-run .ensures ∙ ap (λ (o : Option Reason). outcome o (sizeOf (gatesOf (a .table .now)))) (no-reason told))
+    (emptied .empty .ensures ∙ ap (λ (n : ℕ). replicate n 0) kept) (done .run .ensures .1)
+    ∙ sym e
 
 same-length-3 : tie.Need-same-length-3
 same-length-3 c = search needs
@@ -68,16 +73,15 @@ same-length-4 : tie.Need-same-length-4
 same-length-4 c = search needs
 
 returns-2 : tie.Need-returns-2
-unfolding saidBy ranAfter
+unfolding outcomeOf runResultAfter
 returns-2 c =
     let a = c .before .before .before .before .before .before .before .before .before .before .args in
     let o = firstOf (runReasons (a .shape) (a .table .now) (a .ballots .now) (a .tape .now) (a .wires .now) (a .board .now)) in
     let r = reasonOf (c .enum-told2 .given .0 .0) in
-    let told = ap saidBy (c .enum-told2 .given .1) in
-    let e = ran-by (a .shape) (a .table .now) (a .ballots .now) (a .tape .now) (a .wires .now) (a .board .now) (some r) (said-refused o (sizeOf (gatesOf (a .table .now))) r (sym (c .before .before .test-run .ensures) ∙ told)) in (
-      told ∙ sym (ap (λ (q : Ran). q .answer) e),
-      (sym (ap (λ (q : Ran). q .wires) e), sym (ap (λ (q : Ran). q .board) e)),
-    )
+    let told = ap outcomeOf (c .enum-told2 .given .1) in
+    same-result told refl refl
+    ∙ sym (ran-by (a .shape) (a .table .now) (a .ballots .now) (a .tape .now) (a .wires .now) (a .board .now) (some r)
+    (outcome-refused o (sizeOf (gatesOf (a .table .now))) r (sym (c .before .before .test-run .ensures) ∙ told)))
 
 pub run-spec : {M : Type 1} → statement M
 run-spec =

@@ -1,7 +1,6 @@
 -- `tally::run::test_run` meets its contract: the list is tested first, then the ballots, then what else is lent.
 -- Assumes nothing.
 use mathlib.Core.Path.{_≡_, _∙_, sym, ap}
-use mathlib.Core.Bool.{true}
 use mathlib.Core.Option.{Option, none, some}
 use Prim.Native.Nat.{ℕ}
 use borrow.Author.Needs.{needs}
@@ -9,10 +8,10 @@ use Rattle.gates.specs.Gate.{gatesOf}
 use Rattle.jury.specs.Shape.{withinLimits}
 use Rattle.jury.specs.Reason.{Reason, reasonOf, refusedFor, firstOf}
 use Rattle.jury.specs.Ballots.{ballotReasons}
-use Rattle.jury.proofs.Flags.{true-T}
-use Rattle.tally.specs.Answer.{Size, refused, said, saidBy, sizeOf}
-use Rattle.tally.specs.Test.{testReasons, testSaid}
-use Rattle.tally.specs.Run.{lentReasons, runReasons}
+use Rattle.basics.proofs.Flags.{true-T}
+use Rattle.tally.specs.Answer.{Size, refused, outcome, outcomeOf, sizeOf}
+use Rattle.tally.specs.Test.{testOutcome}
+use Rattle.tally.specs.Run.{bufferReasons, runReasons}
 use Rattle.tally.proofs.TestReasons.{TestPassed, test-passed}
 use Rattle.tally.proofs.RunReasons.{by-test, by-ballots, by-lent}
 use Rattle.tally.proofs.run.test_run.Statement.{statement}
@@ -20,19 +19,19 @@ use Rattle.tally.proofs.run.test_run.Tie as tie
 
 -- the first reason decides of the answer
 refuses : (c : tie.Start) (r : Reason) → let a = c .args in firstOf (runReasons (a .shape) (a .table .now) (a .ballots .now) (a .tape .now) (a .wires .now) (a .board .now)) ≡ some r
-    → refused r ≡ said (firstOf (runReasons (a .shape) (a .table .now) (a .ballots .now) (a .tape .now) (a .wires .now) (a .board .now))) (sizeOf (gatesOf (a .table .now)))
-unfolding said
-refuses c r e = sym (ap (λ (o : Option Reason). said o (sizeOf (gatesOf (c .args .table .now)))) e)
+    → refused r ≡ outcome (firstOf (runReasons (a .shape) (a .table .now) (a .ballots .now) (a .tape .now) (a .wires .now) (a .board .now))) (sizeOf (gatesOf (a .table .now)))
+unfolding outcome
+refuses c r e = sym (ap (λ (o : Option Reason). outcome o (sizeOf (gatesOf (c .args .table .now)))) e)
 
 -- past the test of the list
 size : tie.After-known-told → Size
 size c = let g = c .before .answer .given in record { gates = g .0 .0; conditional = g .0 .1 .0 }
 
 passed : (c : tie.After-known-told) → let a = c .before .before .before .before .before .before .before .before .before .args in TestPassed (a .shape) (a .table .now) (size c)
-unfolding saidBy size
+unfolding outcomeOf size
 passed c =
     let a = c .before .before .before .before .before .before .before .before .before .args in
-    test-passed (a .shape) (a .table .now) (size c) (sym (c .before .before .before .test .ensures) ∙ ap saidBy (c .before .answer .given .1))
+    test-passed (a .shape) (a .table .now) (size c) (sym (c .before .before .before .test .ensures) ∙ ap outcomeOf (c .before .answer .given .1))
 
 -- past the test of the ballots
 no-reason : (c : tie.After-enum-told2) → let a = c .before .before .before .before .before .before .before .before .before .before .before .before .args in firstOf (ballotReasons (a .shape) (a .ballots .now)) ≡ none
@@ -49,12 +48,12 @@ enum-told : tie.Need-enum-told
 enum-told c = search needs
 
 returns : tie.Need-returns
-unfolding saidBy
+unfolding outcomeOf
 returns c =
     let start = c .before .before .before .before .before .before .before .before in
     let a = start .args in
     let r = reasonOf (c .enum-told .given .0 .0) in
-    let e = ap saidBy (c .enum-told .given .1) in
+    let e = ap outcomeOf (c .enum-told .given .1) in
     e ∙ refuses start r (by-test (a .shape) (a .table .now) (a .ballots .now) (a .tape .now) (a .wires .now) (a .board .now) r (sym (c .before .before .test .ensures) ∙ e))
 
 test-requires-2 : tie.Need-test-requires-2
@@ -64,7 +63,7 @@ enum-known-reason : tie.Need-enum-known-reason
 enum-known-reason c = search needs
 
 returns-2 : tie.Need-returns-2
-unfolding saidBy refusedFor
+unfolding outcomeOf refusedFor
 returns-2 c =
     let told = c .before .before .before .before in
     let start = told .before .before .before .before .before .before .before .before .before in
@@ -82,8 +81,8 @@ ballot-bytes-requires c κs =
     let told = c .before .before .before in
     true-T (withinLimits (told .before .before .before .before .before .before .before .before .before .args .shape)) (passed told .within)
 
-test-lent-requires : tie.Need-test-lent-requires
-test-lent-requires c κs = search needs
+test-buffers-requires : tie.Need-test-buffers-requires
+test-buffers-requires c κs = search needs
 
 enum-known-reason-2 : tie.Need-enum-known-reason-2
 enum-known-reason-2 c = search needs
@@ -92,18 +91,18 @@ enum-told-3 : tie.Need-enum-told-3
 enum-told-3 c = search needs
 
 -- what the tests 7 to 10 answer is what the whole answers
-lent-answer : (c : tie.After-test-lent) → let a = c .before .before .before .before .before .before .before .before .before .before .before .before .before .before .args in
-    firstOf (runReasons (a .shape) (a .table .now) (a .ballots .now) (a .tape .now) (a .wires .now) (a .board .now)) ≡ refusedFor (c .test-lent .result)
+lent-answer : (c : tie.After-test-buffers) → let a = c .before .before .before .before .before .before .before .before .before .before .before .before .before .before .args in
+    firstOf (runReasons (a .shape) (a .table .now) (a .ballots .now) (a .tape .now) (a .wires .now) (a .board .now)) ≡ refusedFor (c .test-buffers .result)
 unfolding size
 lent-answer c =
     let passes = c .before .before in
     let told = passes .before .before .before in
     let a = told .before .before .before .before .before .before .before .before .before .args in
-    by-lent (a .shape) (a .table .now) (a .ballots .now) (a .tape .now) (a .wires .now) (a .board .now) (passed told .reasons) (size told) (refusedFor (c .test-lent .result)) (passed told .size) (no-reason passes)
-    (sym (c .test-lent .ensures ∙ ap (λ (i : ℕ). firstOf (lentReasons i (a .shape .candidates) (size told) (a .tape .now) (a .wires .now) (a .board .now))) (c .before .ballot-bytes .ensures)))
+    by-lent (a .shape) (a .table .now) (a .ballots .now) (a .tape .now) (a .wires .now) (a .board .now) (passed told .reasons) (size told) (refusedFor (c .test-buffers .result)) (passed told .size) (no-reason passes)
+    (sym (c .test-buffers .ensures ∙ ap (λ (i : ℕ). firstOf (bufferReasons i (a .shape .candidates) (size told) (a .tape .now) (a .wires .now) (a .board .now))) (c .before .ballot-bytes .ensures)))
 
 returns-3 : tie.Need-returns-3
-unfolding saidBy refusedFor
+unfolding outcomeOf refusedFor
 returns-3 c =
     let lent = c .before .before .before in
     let start = lent .before .before .before .before .before .before .before .before .before .before .before .before .before .before in
@@ -111,14 +110,14 @@ returns-3 c =
     refuses start r (lent-answer lent ∙ ap refusedFor (c .before .reason2 .given .1))
 
 returns-4 : tie.Need-returns-4
-unfolding testSaid refusedFor
+unfolding testOutcome refusedFor
 returns-4 c =
     let lent = c .before .before in
     let told = lent .before .before .before .before .before in
     let a = told .before .before .before .before .before .before .before .before .before .args in
     let none-applies = lent-answer lent ∙ ap refusedFor (c .enum-told3 .given .1) in
-    sym (ap saidBy (told .before .answer .given .1)) ∙ told .before .before .before .test .ensures
-    ∙ ap (λ (o : Option Reason). said o (sizeOf (gatesOf (a .table .now)))) (passed told .reasons ∙ sym none-applies)
+    sym (ap outcomeOf (told .before .answer .given .1)) ∙ told .before .before .before .test .ensures
+    ∙ ap (λ (o : Option Reason). outcome o (sizeOf (gatesOf (a .table .now)))) (passed told .reasons ∙ sym none-applies)
 
 pub test-run-spec : {M : Type 1} → statement M
 test-run-spec =
@@ -133,7 +132,7 @@ test-run-spec =
     returns-2
     enum-told-2
     ballot-bytes-requires
-    test-lent-requires
+    test-buffers-requires
     enum-known-reason-2
     enum-told-3
     returns-3

@@ -8,8 +8,8 @@ use borrow.Author.Tests.{not-true, not-false}
 use Rattle.gates.specs.Test.{tested}
 use Rattle.jury.specs.Shape.{withinLimits, ballotBytes}
 use Rattle.jury.specs.Reason.{reasonOf, reasonAt, listReason}
-use Rattle.jury.proofs.Flags.{true-T}
-use Rattle.tally.specs.Answer.{saidBy}
+use Rattle.basics.proofs.Flags.{true-T}
+use Rattle.tally.specs.Answer.{outcomeOf}
 use Rattle.tally.specs.Test.{}
 use Rattle.tally.proofs.TestReasons.{outside-list, list-refused, list-accepted}
 use Rattle.tally.proofs.test.test.Statement.{statement}
@@ -19,7 +19,7 @@ is-within-limits-requires : tie.Need-is-within-limits-requires
 is-within-limits-requires c κs = search needs
 
 returns : tie.Need-returns
-unfolding saidBy reasonOf
+unfolding outcomeOf reasonOf
 returns c =
     let a = c .before .before .before .args in
     sym (outside-list (a .shape) (a .table .now) (sym (c .before .is-within-limits .ensures) ∙ not-true (c .before .is-within-limits .result) (c .if1 .taken)))
@@ -56,7 +56,7 @@ enum-known-g : tie.Need-enum-known-g
 enum-known-g c = search needs
 
 returns-2 : tie.Need-returns-2
-unfolding saidBy
+unfolding outcomeOf
 returns-2 c =
     let t = c .before .before .before in
     let a = t .before .before .before .before .before .args in
@@ -64,28 +64,28 @@ returns-2 c =
     sym (list-accepted (a .shape) (a .table .now) (limits (t .before .before)) (g .0 .0) (g .0 .1 .0) (answer t ∙ g .1))
 
 returns-3 : tie.Need-returns-3
-unfolding saidBy reasonOf listReason
+unfolding outcomeOf reasonOf listReason
 returns-3 c =
     let t = c .before .before in
     let a = t .before .before .before .before .before .args in
     sym (list-refused (a .shape) (a .table .now) (limits (t .before .before)) _ (reasonAt 2 0) (answer t ∙ c .enum-told .given .1) refl)
 
 returns-4 : tie.Need-returns-4
-unfolding saidBy reasonOf listReason
+unfolding outcomeOf reasonOf listReason
 returns-4 c =
     let t = c .before .before in
     let a = t .before .before .before .before .before .args in
     sym (list-refused (a .shape) (a .table .now) (limits (t .before .before)) _ (reasonAt 2 0) (answer t ∙ c .enum-told2 .given .1) refl)
 
 returns-5 : tie.Need-returns-5
-unfolding saidBy reasonOf listReason
+unfolding outcomeOf reasonOf listReason
 returns-5 c =
     let t = c .before .before in
     let a = t .before .before .before .before .before .args in
     sym (list-refused (a .shape) (a .table .now) (limits (t .before .before)) _ (reasonAt 2 0) (answer t ∙ c .enum-told3 .given .1) refl)
 
 returns-6 : tie.Need-returns-6
-unfolding saidBy reasonOf listReason
+unfolding outcomeOf reasonOf listReason
 returns-6 c =
     let t = c .before .before .before in
     let a = t .before .before .before .before .before .args in

@@ -1,10 +1,10 @@
--- `tally::write::write` meets its contract: `writer` writes the own list where the table has room for it.
+-- `tally::write::write` meets its contract: `graded_writer` writes the own list where the table has room for it.
 -- Assumes nothing.
-use mathlib.Core.Path.{_≡_, _∙_, refl, sym, ap}
-use mathlib.Core.Bool.{Bool, true, false}
-use Prim.Native.Nat.{ℕ, _+_, _*_, _/_, _≤_}
+use mathlib.Core.Path.{_≡_, _∙_, sym, ap}
+use mathlib.Core.Bool.{true}
+use Prim.Native.Nat.{ℕ, _+_, _*_, _≤_}
 use native.Mathlib.Omega.{arith}
-use lib.Dec.{T, leb}
+use lib.Dec.{T}
 use lib.ListN.{length}
 use borrow.Author.Needs.{needs}
 use borrow.Author.Tests.{not-true, not-false, le-leb, lt-leb}
@@ -12,9 +12,9 @@ use Rattle.gates.specs.Board.{conditionalCount}
 use Rattle.jury.specs.declared.shape.Shape.{Shape}
 use Rattle.jury.specs.Shape.{withinLimits}
 use Rattle.jury.specs.Reason.{reasonOf, reasonAt}
-use Rattle.jury.proofs.Flags.{true-T, T-true}
+use Rattle.basics.proofs.Flags.{true-T, T-true}
 use Rattle.tally.specs.OwnList.{ownList}
-use Rattle.tally.specs.Answer.{accepted, saidBy, sizeOf}
+use Rattle.tally.specs.Answer.{accepted, outcomeOf, sizeOf}
 use Rattle.tally.specs.Write.{OwnListHolds}
 use Rattle.tally.proofs.OwnList.{own-list-holds}
 use Rattle.tally.proofs.Writing.{write-refused, outside, too-short, fits, write-accepted, stored}
@@ -37,12 +37,12 @@ is-within-limits-requires : tie.Need-is-within-limits-requires
 is-within-limits-requires c κs = search needs
 
 returns : tie.Need-returns
-unfolding saidBy reasonOf
+unfolding outcomeOf reasonOf
 returns c =
     let a = c .before .before .before .args in
     let r = write-refused (a .shape) (a .table .now) (reasonAt 1 0)
     (outside (a .shape) (a .table .now) (sym (c .before .is-within-limits .ensures) ∙ not-true (c .before .is-within-limits .result) (c .if1 .taken))) in
-    (sym (r .0), (sym (r .1), holds (a .shape)))
+    record { answers = sym (r .0); leaves = sym (r .1); own-list = holds (a .shape) }
 
 -- the shape is within its limits
 limits : (c : tie.Else1) → withinLimits (c .before .before .before .args .shape) ≡ true
@@ -52,14 +52,14 @@ gates-requires : tie.Need-gates-requires
 gates-requires c κs = true-T (withinLimits (c .before .before .before .args .shape)) (limits c)
 
 returns-2 : tie.Need-returns-2
-unfolding saidBy reasonOf
+unfolding outcomeOf reasonOf
 returns-2 c =
     let measured = c .before in
     let within = measured .before in
     let a = within .before .before .before .args in
     let short = lt-leb (4 * length (ownList (a .shape))) (length (a .table .now)) (omega (arith, c .if2 .taken, measured .gates .ensures)) in
     let r = write-refused (a .shape) (a .table .now) (reasonAt 2 0) (too-short (a .shape) (a .table .now) (limits within) short) in
-    (sym (r .0), (sym (r .1), holds (a .shape)))
+    record { answers = sym (r .0); leaves = sym (r .1); own-list = holds (a .shape) }
 
 -- the table has room
 room : (c : tie.Else2) → let a = c .before .before .before .before .before .args in 4 * length (ownList (a .shape)) ≤ length (a .table .now)
@@ -77,7 +77,7 @@ same-length : tie.Need-same-length
 same-length c = search needs
 
 returns-3 : tie.Need-returns-3
-unfolding saidBy
+unfolding outcomeOf
 returns-3 c =
     let done = c .before .before in
     let test = done .before .before in
@@ -85,10 +85,12 @@ returns-3 c =
     let a = within .before .before .before .args in
     let h = room test in
     let r = write-accepted (a .shape) (a .table .now) (fits (a .shape) (a .table .now) (limits within) (le-leb (4 * length (ownList (a .shape))) (length (a .table .now)) h)) in
-    let w = done .own-list in (
-      sized (a .shape) (w .result .gate) (w .result .conditional) (w .ensures .gates) (w .ensures .conditionals) ∙ sym (r .0),
-      (w .ensures .numbers (omega (arith, h)) ∙ stored (a .shape) (a .table .now) h ∙ sym (r .1), holds (a .shape)),
-    )
+    let w = done .own-list in
+    record {
+      answers = sized (a .shape) (w .result .gate) (w .result .conditional) (w .ensures .gates) (w .ensures .conditionals) ∙ sym (r .0);
+      leaves = w .ensures .numbers (omega (arith, h)) ∙ stored (a .shape) (a .table .now) h ∙ sym (r .1);
+      own-list = holds (a .shape);
+    }
 
 pub write-spec : {M : Type 1} → statement M
 write-spec =

@@ -7,7 +7,7 @@ use lib.ListN.{length, drop}
 use borrow.Author.Tests.{not-true, not-false}
 use Rattle.gates.specs.Test.{firstBad}
 use Rattle.gates.specs.declared.place.Place.the-variants.{Nowhere}
-use Rattle.text.specs.Text.{linesOf, firstOther, gatesIn}
+use Rattle.text.specs.Text.{linesOf, firstMalformed, gatesIn}
 use Rattle.text.proofs.Scanning.{next-within, next-later, later-other, good-here, later-good, here-bad, here-other, bad-end, not-both, nowhere-any}
 use native.Mathlib.Omega.{arith}
 use borrow.Author.Needs.{needs}
@@ -16,7 +16,7 @@ use Rattle.text.proofs.scan.first_bad.Tie as tie
 
 abbrev Inv-loop : tie.InvT-loop
 Inv-loop inputs text at₀ i₀ at i =
-    (at ≤ length text) × (i ≤ at) × (firstOther 0 (linesOf (drop at text)) ≡ Nowhere) × (firstBad inputs i (gatesIn (linesOf (drop at text))) ≡ firstBad inputs 0 (gatesIn (linesOf text)))
+    (at ≤ length text) × (i ≤ at) × (firstMalformed 0 (linesOf (drop at text)) ≡ Nowhere) × (firstBad inputs i (gatesIn (linesOf (drop at text))) ≡ firstBad inputs 0 (gatesIn (linesOf text)))
 
 abbrev μ-loop : tie.MeasureT-loop
 μ-loop inputs text at₀ i₀ at i = length text - at
@@ -38,7 +38,7 @@ returns c =
     let l = c .before .before .before .before .loop in
     let text = c .before .before .before .before .before .before .args .text .now in
     let r = c .before .before .gate-at in
-    not-both (firstOther 0 (linesOf (drop (l .at) text))) 0 (here-other text (l .at) (r .result) (r .ensures .0) (r .ensures .1) (c .enum-told .given .1) (c .before .before .before .loop-test .taken) 0) (l .inv .2)
+    not-both (firstMalformed 0 (linesOf (drop (l .at) text))) 0 (here-other text (l .at) (r .result) (r .ensures .0) (r .ensures .1) (c .enum-told .given .1) (c .before .before .before .loop-test .taken) 0) (l .inv .2)
 
 add-are-below : tie.Need-add-are-below Inv-loop μ-loop
 add-are-below c = omega arith

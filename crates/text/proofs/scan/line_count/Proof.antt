@@ -1,13 +1,12 @@
 -- `text::scan::line_count` meets its contract.
 -- Assumes nothing.
-use mathlib.Core.Path.{_≡_, _∙_, refl, sym, ap}
+use mathlib.Core.Path.{_≡_, sym, ap}
 use mathlib.Core.Logic.{⊎-elim}
-use Prim.Native.Nat.{ℕ, suc, _+_, _-_, _≤_}
+use Prim.Native.Nat.{ℕ, _+_, _-_, _≤_}
 use native.Mathlib.Numerals.{add-one}
 use lib.ListN.{length, drop}
 use Rattle.text.proofs.Scanning.{feeds-of, feed-here, no-feed-here, feeds-end, no-lines, closed-lines, open-lines}
 use native.Mathlib.Omega.{arith}
-use borrow.Author.Needs.{needs}
 use Rattle.text.proofs.scan.line_count.Statement.{statement}
 use Rattle.text.proofs.scan.line_count.Tie as tie
 

@@ -1,15 +1,14 @@
 -- `text::scan::put_gates` meets its contract.
 -- Assumes nothing.
 use mathlib.Core.Path.{_≡_, _∙_, refl, sym, ap}
-use mathlib.Core.List.{List}
-use Prim.Native.Nat.{ℕ, _+_, _-_, _*_, _≤_}
-use lib.ListN.{length, drop, set, length-set}
+use Prim.Native.Nat.{_+_, _-_, _*_, _≤_}
+use lib.ListN.{length, drop, length-set}
 use lib.Seq.{sets}
-use Rattle.gates.specs.Gate.{Gate, numbersOf}
+use Rattle.gates.specs.Gate.{numbersOf}
 use Rattle.gates.specs.declared.place.Place.the-variants.{Nowhere}
 use Rattle.gates.proofs.Reading.{numbers-cons}
 use Rattle.gates.proofs.Laws.{numbers-nil}
-use Rattle.text.specs.Text.{linesOf, firstOther, gatesIn}
+use Rattle.text.specs.Text.{linesOf, firstMalformed, gatesIn}
 use Rattle.text.proofs.Scanning.{next-within, next-later, later-other, later-gates, later-lines, here-other, gates-end, not-both, nowhere-any}
 use Rattle.text.proofs.Storing.{put-four, long-four}
 use native.Mathlib.Omega.{arith}
@@ -19,7 +18,7 @@ use Rattle.text.proofs.scan.put_gates.Tie as tie
 
 abbrev Inv-loop : tie.InvT-loop
 Inv-loop text output₀ at₀ i₀ output at i =
-    (at ≤ length text) × (firstOther 0 (linesOf (drop at text)) ≡ Nowhere) × (i + 4 * length (linesOf (drop at text)) ≤ length output)
+    (at ≤ length text) × (firstMalformed 0 (linesOf (drop at text)) ≡ Nowhere) × (i + 4 * length (linesOf (drop at text)) ≤ length output)
     × (length output ≡ length output₀) × (sets output i (numbersOf (gatesIn (linesOf (drop at text)))) ≡ sets output₀ 0 (numbersOf (gatesIn (linesOf text))))
 
 abbrev μ-loop : tie.MeasureT-loop
@@ -45,7 +44,7 @@ returns c =
     let l = c .before .before .before .before .loop in
     let text = c .before .before .before .before .before .before .before .args .text .now in
     let r = c .before .before .gate-at in
-    not-both (firstOther 0 (linesOf (drop (l .at) text))) 0 (here-other text (l .at) (r .result) (r .ensures .0) (r .ensures .1) (c .enum-told .given .1) (c .before .before .before .loop-test .taken) 0) (l .inv .1)
+    not-both (firstMalformed 0 (linesOf (drop (l .at) text))) 0 (here-other text (l .at) (r .result) (r .ensures .0) (r .ensures .1) (c .enum-told .given .1) (c .before .before .before .loop-test .taken) 0) (l .inv .1)
 
 -- there is room for one more gate
 room : (c : tie.After-known-told Inv-loop μ-loop) → c .before .before .before .before .before .loop .i + 4 ≤ length (c .before .before .before .before .before .loop .output)

@@ -1,19 +1,18 @@
 -- `text::write::put_text` meets its contract.
 -- Assumes nothing.
 use mathlib.Core.Path.{_≡_, _∙_, refl, sym, ap}
-use mathlib.Core.List.{List, _++_}
+use mathlib.Core.List.{List}
 use Prim.Native.Nat.{ℕ, suc, _+_, _-_, _*_, _≤_}
 use native.Mathlib.Numerals.{add-one}
 use lib.ListN.{length, getD, drop, length-append}
 use lib.Seq.{sets, length-sets}
 use Rattle.gates.specs.Gate.{gatesOf}
 use Rattle.gates.proofs.Table.{length-gates}
-use Rattle.lines.specs.Line.{lineOf}
+use Rattle.text_lines.specs.Line.{lineOf}
 use Rattle.text.specs.Text.{textOf}
-use Rattle.lines.proofs.Storing.{sets-append}
+use Rattle.text_lines.proofs.Storing.{sets-append}
 use Rattle.text.proofs.Storing.{text-from, text-end}
 use native.Mathlib.Omega.{arith}
-use borrow.Author.Needs.{needs}
 use Rattle.text.proofs.write.put_text.Statement.{statement}
 use Rattle.text.proofs.write.put_text.Tie as tie
 

@@ -1,12 +1,12 @@
 -- `text::write::text_length` meets its contract.
 -- Assumes nothing.
-use mathlib.Core.Path.{_≡_, _∙_, refl, sym, ap}
+use mathlib.Core.Path.{_≡_, ap}
 use Prim.Native.Nat.{ℕ, suc, _+_, _-_, _*_, _≤_}
 use native.Mathlib.Numerals.{add-one}
 use lib.ListN.{length, getD, drop, length-append}
 use Rattle.gates.specs.Gate.{gatesOf}
 use Rattle.gates.proofs.Table.{length-gates}
-use Rattle.lines.specs.Line.{lineOf}
+use Rattle.text_lines.specs.Line.{lineOf}
 use Rattle.text.specs.Text.{textOf}
 use Rattle.text.proofs.Storing.{text-from, text-end}
 use native.Mathlib.Omega.{arith}

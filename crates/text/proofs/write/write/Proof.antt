@@ -1,23 +1,20 @@
 -- `text::write::write` meets its contract.
 -- Assumes nothing.
-use mathlib.Core.Path.{_≡_, _∙_, refl, sym, ap}
-use mathlib.Core.Option.{none, some}
-use Prim.Native.Nat.{ℕ, _<_, _≤_}
+use mathlib.Core.Path.{_∙_, sym, ap}
+use Prim.Native.Nat.{ℕ, _≤_}
 use native.Mathlib.Omega.{arith}
 use lib.ListN.{length}
 use lib.Seq.{length-sets}
 use Rattle.gates.specs.Gate.{gatesOf}
 use Rattle.gates.proofs.Evaluating.{accepted-list}
 use Rattle.jury.specs.Shape.{ballotBytes}
-use Rattle.jury.specs.Reason.{reasonOf, reasonAt, firstOf}
-use Rattle.tally.specs.Answer.{refused, accepted, saidBy}
-use Rattle.tally.specs.Test.{testReasons, testSaid}
+use Rattle.jury.specs.Reason.{reasonOf, reasonAt}
+use Rattle.tally.specs.Answer.{accepted, outcomeOf}
 use Rattle.tally.proofs.TestReasons.{TestPassed, test-passed}
 use Rattle.text.specs.Text.{textOf}
-use Rattle.text.specs.Answer.{textReasonOf, lengthSaid}
+use Rattle.text.specs.Answer.{textReasonOf, lengthOutcome}
 use Rattle.text.proofs.Storing.{sets-front}
-use Rattle.text.proofs.Reasons.{text-of-list, text-short, text-good, text-refused, text-accepted}
-use native.Mathlib.Omega.{arith}
+use Rattle.text.proofs.Reasons.{same-text, text-of-list, text-short, text-good, text-refused, text-accepted}
 use borrow.Author.Needs.{needs}
 use Rattle.text.proofs.write.write.Statement.{statement}
 use Rattle.text.proofs.write.write.Tie as tie
@@ -29,20 +26,20 @@ enum-known-tested : tie.Need-enum-known-tested
 enum-known-tested c = search needs
 
 returns : tie.Need-returns
-unfolding lengthSaid textReasonOf saidBy
+unfolding lengthOutcome textReasonOf outcomeOf
 returns c =
     let a = c .before .before .before .before .before .before .args in
     let g = c .before .tested .given in
-    text-refused (a .shape) (a .table .now) (a .output .now) (reasonOf (g .0 .0))
-    (text-of-list (a .shape) (a .table .now) (a .output .now) (reasonOf (g .0 .0)) (sym (c .before .before .before .test .ensures) ∙ ap saidBy (g .1)))
+    same-text (text-refused (a .shape) (a .table .now) (a .output .now) (reasonOf (g .0 .0))
+    (text-of-list (a .shape) (a .table .now) (a .output .now) (reasonOf (g .0 .0)) (sym (c .before .before .before .test .ensures) ∙ ap outcomeOf (g .1))))
 
 enum-told : tie.Need-enum-told
 enum-told c = search needs
 
 -- the list passes its test
 passed : (c : tie.After-enum-told) → TestPassed (c .before .before .before .before .before .args .shape) (c .before .before .before .before .before .args .table .now) (record { gates = c .enum-told .given .0 .0; conditional = c .enum-told .given .0 .1 .0 })
-unfolding saidBy
-passed c = test-passed (c .before .before .before .before .before .args .shape) (c .before .before .before .before .before .args .table .now) _ (sym (c .before .before .test .ensures) ∙ ap saidBy (c .enum-told .given .1))
+unfolding outcomeOf
+passed c = test-passed (c .before .before .before .before .before .args .shape) (c .before .before .before .before .before .args .table .now) _ (sym (c .before .before .test .ensures) ∙ ap outcomeOf (c .enum-told .given .1))
 
 text-length-requires : tie.Need-text-length-requires
 text-length-requires c κs =
@@ -50,11 +47,11 @@ text-length-requires c κs =
     accepted-list (ballotBytes (a .shape)) (a .shape .candidates) (a .table .now) _ _ (passed c .tests) .few
 
 returns-2 : tie.Need-returns-2
-unfolding lengthSaid textReasonOf
+unfolding lengthOutcome textReasonOf
 returns-2 c =
     let a = c .before .before .before .before .before .before .before .args in
-    text-refused (a .shape) (a .table .now) (a .output .now) (reasonAt 24 0)
-    (text-short (a .shape) (a .table .now) (a .output .now) (passed (c .before .before) .reasons) (omega (arith, c .if1 .taken, c .before .text-length .ensures)))
+    same-text (text-refused (a .shape) (a .table .now) (a .output .now) (reasonAt 24 0)
+    (text-short (a .shape) (a .table .now) (a .output .now) (passed (c .before .before) .reasons) (omega (arith, c .if1 .taken, c .before .text-length .ensures))))
 
 -- the text has room
 fits : (c : tie.Else1) → length (textOf (gatesOf (c .before .before .before .before .before .before .before .args .table .now))) ≤ length (c .before .before .before .before .before .before .before .args .output .now)
@@ -67,12 +64,12 @@ same-length : tie.Need-same-length
 same-length c = ap length (c .before .before .put-text .ensures) ∙ length-sets (c .before .before .before .before .before .before .before .before .before .before .before .args .output .now) 0 (textOf (gatesOf (c .before .before .before .before .before .before .before .before .before .before .before .args .table .now)))
 
 returns-3 : tie.Need-returns-3
-unfolding lengthSaid
+unfolding lengthOutcome
 returns-3 c =
     let a = c .before .before .before .before .before .before .before .before .before .before .before .args in
     let text = textOf (gatesOf (a .table .now)) in
     let e = text-accepted (a .shape) (a .table .now) (a .output .now) (text-good (a .shape) (a .table .now) (a .output .now) (passed (c .before .before .before .before .before .before) .reasons) (fits (c .before .before .before .before))) in
-    (ap (λ (n : ℕ). accepted n) (c .before .before .before .before .before .text-length .ensures) ∙ e .0, c .before .before .put-text .ensures ∙ sets-front (a .output .now) text (fits (c .before .before .before .before)) ∙ e .1)
+    same-text (ap (λ (n : ℕ). accepted n) (c .before .before .before .before .before .text-length .ensures) ∙ e .0, c .before .before .put-text .ensures ∙ sets-front (a .output .now) text (fits (c .before .before .before .before)) ∙ e .1)
 
 pub write-spec : {M : Type 1} → statement M
 write-spec =

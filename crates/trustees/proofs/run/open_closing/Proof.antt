@@ -6,10 +6,10 @@ use Prim.Native.Nat.{ℕ, _+_, _-_, _≤_}
 use native.Mathlib.Numerals.{add-one}
 use native.Mathlib.Omega.{arith}
 use lib.ListN.{set}
-use Rattle.jury.specs.Counts.{tabulate}
-use Rattle.jury.proofs.Tabulate.{upTo, fill-start, fill-step}
-use Rattle.shares.specs.Shares.{opened, part}
-use Rattle.shares.specs.Views.{piece}
+use Rattle.basics.specs.Lists.{tabulate}
+use Rattle.basics.proofs.Tabulate.{upTo, fill-start, fill-step}
+use Rattle.trustee_shares.specs.Shares.{opened, part}
+use Rattle.trustee_shares.specs.Views.{piece}
 use Rattle.trustees.proofs.Sums.{eight-tabulated}
 use Rattle.trustees.proofs.run.open_closing.Statement.{statement}
 use Rattle.trustees.proofs.run.open_closing.Tie as tie
@@ -32,7 +32,7 @@ add-open : tie.Need-add-open Inv-loop μ-loop
 add-open c = omega (arith, c .before .before .before .pre)
 
 open-requires : tie.Need-open-requires Inv-loop μ-loop
-open-requires c κs = let s = c .before .before .before in (omega (arith, s .pre), s .pre .2)
+open-requires c κs = let s = c .before .before .before in (omega (arith, s .pre .closing-in), s .pre .published-length)
 
 array-write-closing : tie.Need-array-write-closing Inv-loop μ-loop
 array-write-closing c = omega (arith, c .before .before .before .before .pre)

@@ -1,4 +1,5 @@
--- `trustees::run::run` meets its contract: where the tests pass, the evaluation fills both tables, the closing bits are opened and the wire parts emptied, and else nothing is touched.
+-- `trustees::run::run` meets its contract: where the tests pass, the evaluation fills both tables, the closing bits are
+-- opened and the wire parts emptied, and else nothing is touched.
 -- Assumes nothing.
 use borrow.Author.Needs.{needs}
 use mathlib.Core.Path.{_≡_, _∙_, sym, ap}
@@ -9,44 +10,66 @@ use lib.ListN.{replicate}
 use Rattle.gates.specs.Gate.{gatesOf}
 use Rattle.jury.specs.Reason.{Reason, reasonOf, firstOf}
 use Rattle.jury.specs.ClosingBytes.{eightBytes}
-use Rattle.tally.specs.Answer.{Size, accepted, said, saidBy, sizeOf}
-use Rattle.tally.proofs.RunReasons.{said-refused, said-accepted}
-use Rattle.shares.specs.Views.{Dealing}
-use Rattle.trustees.specs.Shared.{Shared, sharedReasons, sharedAfter}
-use Rattle.trustees.proofs.Reasons.{call-passed, shared-by}
+use Rattle.tally.specs.Answer.{Size, accepted, outcome, outcomeOf, sizeOf}
+use Rattle.tally.proofs.RunReasons.{outcome-refused, outcome-accepted}
+use Rattle.trustees.specs.Call.{Call}
+use Rattle.trustees.specs.Reasons.{trusteesReasons}
+use Rattle.trustees.specs.Result.{TrusteesResult, trusteesResultAfter}
+use Rattle.trustees.proofs.Reasons.{call-passed, result-by, same-result}
 use Rattle.trustees.proofs.Sums.{Ready, call-ready, opened-closing}
 use Rattle.trustees.proofs.run.run.Statement.{statement}
 use Rattle.trustees.proofs.run.run.Tie as tie
 
-abbrev dealing : tie.Start → Dealing
-dealing s = record { ballotParts = s .args .parts .now; dealerParts = s .args .dealt .now }
+-- The call that this is, from where the function starts.
+abbrev call : tie.Start → Call
+call s =
+    let a = s .args in
+    record {
+      shape = a .shape;
+      table = a .table .now;
+      ballots = a .ballots .now;
+      trustees = a .t;
+      lent = record {
+        dealing = record { ballotParts = a .shares .now; dealerParts = a .triples .now };
+        wireParts = a .wires .now;
+        published = a .published .now;
+      };
+    }
+
+-- The stages, by what has happened so far: the tests refuse; they pass; the gates are evaluated; the closing bits are
+-- opened; the wire parts are emptied.
+abbrev started : tie.After-known-told → tie.Start
+started c = let lending = c .before .before .before .before in lending .before .before .before .before .before .before .before .before
+
+abbrev evaluated : tie.After-open-closing → tie.After-evaluate
+evaluated c = c .before .before .before .before .before .before
+
+abbrev passed : tie.After-evaluate → tie.After-known-told
+passed c = c .before .before .before
 
 abbrev size : tie.After-known-told → Size
 size c = let g = c .before .answer .given in record { gates = g .0 .0; conditional = g .0 .1 .0 }
 
 -- where the tests pass, no reason applies
-no-reason : (c : tie.After-known-told) → let start = c .before .before .before .before .before .before .before .before .before .before .before .before in let a = start .args in firstOf (sharedReasons (a .shape) (a .table .now) (a .ballots .now) (a .t) (dealing start) (a .wires .now) (a .published .now)) ≡ none
-unfolding saidBy
+no-reason : (c : tie.After-known-told) → firstOf (trusteesReasons (call (started c))) ≡ none
+unfolding outcomeOf
 no-reason c =
-    let start = c .before .before .before .before .before .before .before .before .before .before .before .before in
-    let a = start .args in
-    said-accepted (firstOf (sharedReasons (a .shape) (a .table .now) (a .ballots .now) (a .t) (dealing start) (a .wires .now) (a .published .now))) (sizeOf (gatesOf (a .table .now))) (size c) (sym (c .before .before .before .test .ensures) ∙ ap saidBy (c .before .answer .given .1))
+    let of = call (started c) in
+    outcome-accepted (firstOf (trusteesReasons of)) (sizeOf (gatesOf (of .table))) (size c)
+    (sym (c .before .before .before .test .ensures) ∙ ap outcomeOf (c .before .answer .given .1))
 
 -- and the answer is the list's own size
-is-size : (c : tie.After-known-told) → let start = c .before .before .before .before .before .before .before .before .before .before .before .before in size c ≡ sizeOf (gatesOf (start .args .table .now))
-unfolding saidBy said
+is-size : (c : tie.After-known-told) → size c ≡ sizeOf (gatesOf (call (started c) .table))
+unfolding outcomeOf outcome
 is-size c =
-    let start = c .before .before .before .before .before .before .before .before .before .before .before .before in
-    let a = start .args in
-    let e : accepted (size c) ≡ accepted (sizeOf (gatesOf (a .table .now))) =
-    sym (ap saidBy (c .before .answer .given .1)) ∙ c .before .before .before .test .ensures ∙ ap (λ (o : Option Reason). said o (sizeOf (gatesOf (a .table .now)))) (no-reason c) in
+    let own = sizeOf (gatesOf (call (started c) .table)) in
+    let e : accepted (size c) ≡ accepted own =
+    sym (ap outcomeOf (c .before .answer .given .1)) ∙ c .before .before .before .test .ensures
+    ∙ ap (λ (o : Option Reason). outcome o own) (no-reason c) in
     cc
 
-ready : (c : tie.After-known-told) → let start = c .before .before .before .before .before .before .before .before .before .before .before .before in let a = start .args in Ready (a .shape) (a .table .now) (a .ballots .now) (a .t) (dealing start) (a .wires .now) (a .published .now) (size c)
-ready c =
-    let start = c .before .before .before .before .before .before .before .before .before .before .before .before in
-    let a = start .args in
-    call-ready (a .shape) (a .table .now) (a .ballots .now) (a .t) (dealing start) (a .wires .now) (a .published .now) (size c) (is-size c) (call-passed (a .shape) (a .table .now) (a .ballots .now) (a .t) (dealing start) (a .wires .now) (a .published .now) (no-reason c))
+ready : (c : tie.After-known-told) → Ready (call (started c)) (size c)
+ready c = call-ready (call (started c)) (size c) (is-size c) (call-passed (call (started c)) (no-reason c))
 
 test-requires : tie.Need-test-requires
 test-requires c κs = search needs
@@ -64,17 +87,17 @@ same-length-2 : tie.Need-same-length-2
 same-length-2 c = search needs
 
 returns : tie.Need-returns
-unfolding saidBy sharedAfter eightBytes
+unfolding outcomeOf trusteesResultAfter eightBytes
 returns c =
-    let start = c .before .before .before .before .before .before .before .before .before .before .before in
-    let a = start .args in
-    let o = firstOf (sharedReasons (a .shape) (a .table .now) (a .ballots .now) (a .t) (dealing start) (a .wires .now) (a .published .now)) in
+    let lending = c .before .before .before in
+    let start = lending .before .before .before .before .before .before .before .before in
     let r = reasonOf (c .enum-told .given .0 .0) in
-    let told = ap saidBy (c .enum-told .given .1) in
-    let e = shared-by (a .shape) (a .table .now) (a .ballots .now) (a .t) (dealing start) (a .wires .now) (a .published .now) (some r) (said-refused o (sizeOf (gatesOf (a .table .now))) r (sym (c .before .before .test .ensures) ∙ told)) in (
-      told ∙ sym (ap (λ (q : Shared). q .answer) e),
-      (sym (ap (λ (q : Shared). q .closing) e), (sym (ap (λ (q : Shared). q .wireParts) e), sym (ap (λ (q : Shared). q .published) e))),
-    )
+    let told = ap outcomeOf (c .enum-told .given .1) in
+    let e = result-by (call start) (some r)
+    (outcome-refused (firstOf (trusteesReasons (call start))) (sizeOf (gatesOf (call start .table))) r
+    (sym (c .before .before .test .ensures) ∙ told)) in
+    same-result _ _ (told ∙ sym (ap (λ (q : TrusteesResult). q .answer) e)) (sym (ap (λ (q : TrusteesResult). q .closing) e))
+    (sym (ap (λ (q : TrusteesResult). q .wireParts) e)) (sym (ap (λ (q : TrusteesResult). q .published) e))
 
 mul-factors : tie.Need-mul-factors
 mul-factors c = omega (arith, ready c .small)
@@ -88,10 +111,12 @@ add-open-closing c = omega (arith, ready (c .before .before .before .before .bef
 open-closing-requires : tie.Need-open-closing-requires
 open-closing-requires c κs =
     let done = c .before .before .before .before .before in
-    let told = done .before .before .before in
-    let start = told .before .before .before .before .before .before .before .before .before .before .before .before in
-    let a = start .args in
-    (ready told .k-most, omega arith, done .evaluate .kept .1 .1 .1 .1 .1 .1 .1 .1 .0 ∙ ready told .published-length)
+    let known = ready (passed done) in
+    record {
+      k-most = known .k-most;
+      closing-in = omega arith;
+      published-length = done .evaluate .kept .1 .1 .1 .1 .1 .1 .1 .1 .0 ∙ known .published-length;
+    }
 
 empty-requires : tie.Need-empty-requires
 empty-requires c κs = search needs
@@ -103,22 +128,23 @@ same-length-4 : tie.Need-same-length-4
 same-length-4 c = search needs
 
 returns-2 : tie.Need-returns-2
-unfolding said sharedAfter
+unfolding outcome trusteesResultAfter
 returns-2 c =
     let emptied = c .before .before in
     let opened = emptied .before .before in
-    let done = opened .before .before .before .before .before .before in
-    let told = done .before .before .before in
-    let start = told .before .before .before .before .before .before .before .before .before .before .before .before in
-    let a = start .args in
-    let e = shared-by (a .shape) (a .table .now) (a .ballots .now) (a .t) (dealing start) (a .wires .now) (a .published .now) none (no-reason told) in
-    let same = done .evaluate .kept .1 .1 .1 .1 .1 .1 .1 .0 in (
-      sym (ap saidBy (told .before .answer .given .1)) ∙ told .before .before .before .test .ensures ∙ ap (λ (o : Option Reason). said o (sizeOf (gatesOf (a .table .now)))) (no-reason told) ∙ sym (ap (λ (q : Shared). q .answer) e),
-      (
-        opened .open-closing .ensures ∙ opened-closing (a .shape) (a .table .now) (a .ballots .now) (a .t) (dealing start) (a .wires .now) (a .published .now) (size told) (ready told) _ (done .evaluate .ensures .1) ∙ sym (ap (λ (q : Shared). q .closing) e),
-        (emptied .empty .ensures ∙ ap (λ (n : ℕ). replicate n 0) same ∙ sym (ap (λ (q : Shared). q .wireParts) e), done .evaluate .ensures .1 ∙ sym (ap (λ (q : Shared). q .published) e)),
-      ),
-    )
+    let done = evaluated opened in
+    let told = passed done in
+    let of = call (started told) in
+    let e = result-by of none (no-reason told) in
+    same-result _ _
+    (sym (ap outcomeOf (told .before .answer .given .1)) ∙ told .before .before .before .test .ensures
+    ∙ ap (λ (o : Option Reason). outcome o (sizeOf (gatesOf (of .table)))) (no-reason told)
+    ∙ sym (ap (λ (q : TrusteesResult). q .answer) e))
+    (opened .open-closing .ensures ∙ opened-closing of (size told) (ready told) _ (done .evaluate .ensures .1)
+    ∙ sym (ap (λ (q : TrusteesResult). q .closing) e))
+    (emptied .empty .ensures ∙ ap (λ (n : ℕ). replicate n 0) (done .evaluate .kept .1 .1 .1 .1 .1 .1 .1 .0)
+    ∙ sym (ap (λ (q : TrusteesResult). q .wireParts) e))
+    (done .evaluate .ensures .1 ∙ sym (ap (λ (q : TrusteesResult). q .published) e))
 
 pub run-spec : {M : Type 1} → statement M
 run-spec =

@@ -5,14 +5,14 @@ use mathlib.Core.Path.{_≡_, _∙_, sym}
 use mathlib.Core.Bool.{true}
 use native.Mathlib.Omega.{arith}
 use borrow.Author.Tests.{not-true, not-false}
-use Rattle.sharing.specs.Dealing.{onlyBits, dealtWell}
+use Rattle.trustee_gates.specs.Dealing.{onlyBits, dealtWell}
 use Rattle.trustees.proofs.test.is_dealt_well.Statement.{statement}
 use Rattle.trustees.proofs.test.is_dealt_well.Tie as tie
 
-passed : (c : tie.Else1) → onlyBits (c .before .before .before .before .before .args .parts .now) ≡ true
+passed : (c : tie.Else1) → onlyBits (c .before .before .before .before .before .args .shares .now) ≡ true
 passed c = sym (c .before .only-bits .ensures) ∙ not-false (c .before .only-bits .result) (c .if1 .left)
 
-passed2 : (c : tie.Else2) → onlyBits (c .before .before .before .before .before .before .before .args .dealt .now) ≡ true
+passed2 : (c : tie.Else2) → onlyBits (c .before .before .before .before .before .before .before .args .triples .now) ≡ true
 passed2 c = sym (c .before .only-bits2 .ensures) ∙ not-false (c .before .only-bits2 .result) (c .if2 .left)
 
 only-bits-requires : tie.Need-only-bits-requires
@@ -32,7 +32,7 @@ returns-2 c =
     rw (passed first, sym (c .before .only-bits2 .ensures), not-true (c .before .only-bits2 .result) (c .if2 .taken))
 
 adds-up-requires : tie.Need-adds-up-requires
-adds-up-requires c κs = c .before .before .before .before .before .before .before .pre .parts-length
+adds-up-requires c κs = c .before .before .before .before .before .before .before .pre .ballot-length
 
 returns-3 : tie.Need-returns-3
 unfolding dealtWell
@@ -42,8 +42,9 @@ returns-3 c =
 
 products-add-up-requires : tie.Need-products-add-up-requires
 products-add-up-requires c κs =
-    let s = c .before .before .before .before .before .before .before .before .before in
-    (omega (arith, s .pre .conditional-most), s .pre .dealt-length)
+    let lending = c .before .before .before .before in
+    let s = lending .before .before .before .before .before in
+    (omega (arith, s .pre .conditional-most), s .pre .dealer-length)
 
 returns-4 : tie.Need-returns-4
 unfolding dealtWell

@@ -1,12 +1,10 @@
 -- `urn::admit::is_juror` meets its contract: both tests are the definition's.
 -- Assumes nothing.
-use mathlib.Core.Path.{_≡_, refl}
+use mathlib.Core.Path.{refl}
 use lib.Dec.{leb}
 use borrow.Author.Tests.{le-leb, lt-leb}
-use Rattle.jury.proofs.Flags.{and-taken, and-left}
-use Rattle.chains.specs.Sound.{goodJuror}
-use native.Mathlib.Omega.{arith}
-use borrow.Author.Needs.{needs}
+use Rattle.basics.proofs.Flags.{and-taken, and-left}
+use Rattle.urn_chains.specs.Sound.{goodJuror}
 use Rattle.urn.proofs.admit.is_juror.Statement.{statement}
 use Rattle.urn.proofs.admit.is_juror.Tie as tie
 

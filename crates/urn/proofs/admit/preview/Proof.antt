@@ -1,16 +1,13 @@
 -- `urn::admit::preview` meets its contract: reason 1, or the answer by the facts of the urn.
 -- Assumes nothing.
-use mathlib.Core.Path.{_≡_, _∙_, refl, sym, ap}
-use Prim.Native.Nat.{_≤_}
+use mathlib.Core.Path.{_∙_, sym, ap}
 use borrow.Author.Tests.{not-true, not-false}
 use Rattle.jury.specs.Reason.{reasonOf}
-use Rattle.jury.proofs.Flags.{true-T}
+use Rattle.basics.proofs.Flags.{true-T}
 use Rattle.urn.specs.declared.facts.Facts.{Facts}
-use Rattle.urn.specs.Facts.{gradedShape, factsOf, countedBy}
-use Rattle.urn.specs.Admit.{admitSaid}
-use Rattle.urn.proofs.Deciding.{admit-first, admit-1, said-refused, graded-within}
-use native.Mathlib.Omega.{arith}
-use borrow.Author.Needs.{needs}
+use Rattle.urn.specs.Facts.{factsOf, countedBy}
+use Rattle.urn.specs.Admit.{admitAnswer}
+use Rattle.urn.proofs.Outcomes.{admit-first, admit-1, outcome-refused}
 use Rattle.urn.proofs.admit.preview.Statement.{statement}
 use Rattle.urn.proofs.admit.preview.Tie as tie
 
@@ -19,26 +16,26 @@ is-graded-requires c κs =
     tt
 
 returns : tie.Need-returns
-unfolding admitSaid countedBy reasonOf
+unfolding admitAnswer countedBy reasonOf
 returns c =
     let a = c .before .before .before .before .args in
-    said-refused _ _ _ (admit-first (a .k) (a .d) (factsOf (a .k) (a .d) (a .urn .now) (a .juror)) (a .juror) (a .ballot .now) ∙ admit-1 _ _ _ _ _ (sym (c .before .is-graded .ensures) ∙ not-true _ (c .if1 .taken)))
+    outcome-refused _ _ _ (admit-first (a .k) (a .d) (factsOf (a .k) (a .d) (a .urn .now) (a .juror)) (a .juror) (a .ballot .now) ∙ admit-1 _ _ _ _ _ (sym (c .before .is-graded .ensures) ∙ not-true _ (c .if1 .taken)))
 
 look-requires : tie.Need-look-requires
 look-requires c κs =
     let a = c .before .before .before .before .args in
-    graded-within (a .k) (a .d) (true-T _ (sym (c .before .is-graded .ensures) ∙ not-false _ (c .if1 .left)))
+    (true-T _ (sym (c .before .is-graded .ensures) ∙ not-false _ (c .if1 .left)))
 
 decide-requires : tie.Need-decide-requires
 decide-requires c κs =
     let e = c .before in
-    (true-T _ (sym (e .before .is-graded .ensures) ∙ not-false _ (e .if1 .left)), c .look .ensures .1 .0)
+    record { graded = true-T _ (sym (e .before .is-graded .ensures) ∙ not-false _ (e .if1 .left)); few = c .look .ensures .few }
 
 returns-2 : tie.Need-returns-2
 returns-2 c =
     let f = c .before in
     let a = f .before .before .before .before .before .args in
-    c .decide .ensures ∙ ap (λ (x : Facts). admitSaid (a .k) (a .d) x (a .juror) (a .ballot .now)) (f .look .ensures .0)
+    c .decide .ensures ∙ ap (λ (x : Facts). admitAnswer (a .k) (a .d) x (a .juror) (a .ballot .now)) (f .look .ensures .told)
 
 pub preview-spec : {M : Type 1} → statement M
 preview-spec =

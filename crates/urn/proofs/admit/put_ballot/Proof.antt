@@ -1,17 +1,15 @@
 -- `urn::admit::put_ballot` meets its contract: the stores leave the slots that are written from the new chains.
 -- Assumes nothing.
-use mathlib.Core.Path.{_≡_, _∙_, refl, sym, ap, subst}
+use mathlib.Core.Path.{_≡_, _∙_, ap}
 use Prim.Native.Nat.{ℕ, _+_, _*_, _≤_, _<_}
-use mathlib.Core.List.{List, _∷_, _++_}
+use mathlib.Core.List.{_∷_, _++_}
 use lib.ListN.{length, getD, set, take, drop, length-set}
-use Rattle.chains.specs.Slots.{slotBytes}
-use Rattle.chains.specs.Sound.{slotCount}
-use Rattle.chains.proofs.SlotLaws.{size-least}
-use Rattle.chains.proofs.Holding.{juror-most}
-use Rattle.chains.proofs.Judging.{few-bytes}
-use Rattle.urn.proofs.Deciding.{graded-within}
+use Rattle.urn_chains.specs.Sound.{slotCount}
+use Rattle.urn_chains.proofs.SlotLaws.{size-least}
+use Rattle.urn_chains.proofs.GoodBallots.{juror-most}
+use Rattle.urn_chains.proofs.SlotTests.{few-bytes}
 use Rattle.urn.proofs.FactLaws.{its-table}
-use Rattle.urn.proofs.Admitting.{free-inside, admit-bytes, splice-length}
+use Rattle.urn.proofs.AdmittedBytes.{free-inside, admit-bytes}
 use native.Mathlib.Omega.{arith}
 use borrow.Author.Needs.{needs}
 use Rattle.urn.proofs.admit.put_ballot.Statement.{statement}
@@ -21,19 +19,25 @@ use Rattle.urn.proofs.admit.put_ballot.Tie as tie
 long : (s : tie.Start) → 4 ≤ length (s .args .urn .now)
 long s =
     let a = s .args in
-    let t = its-table (a .k) (a .d) (a .urn .now) (graded-within (a .k) (a .d) (s .pre .1 .1 .1 .1)) (s .pre .0) in
+    let t = its-table (a .k) (a .d) (a .urn .now) ((s .pre .graded)) (s .pre .isSound) in
     omega (arith, t .size, size-least (a .k * a .d) (slotCount (a .k * a .d) (length (a .urn .now))) (t .least))
 
 inside : (s : tie.Start) → getD (s .args .urn .now) 1 0 * (2 + s .args .k * s .args .d) + (2 + s .args .k * s .args .d) ≤ length (s .args .urn .now)
 inside s =
     let a = s .args in
-    free-inside (a .k) (a .d) (a .urn .now) (graded-within (a .k) (a .d) (s .pre .1 .1 .1 .1)) (s .pre .0) (s .pre .1 .0)
+    free-inside (a .k) (a .d) (a .urn .now) ((s .pre .graded)) (s .pre .isSound) (s .pre .room)
 
 small : (s : tie.Start) → s .args .k * s .args .d ≤ 56
-small s = few-bytes (s .args .k) (s .args .d) (graded-within (s .args .k) (s .args .d) (s .pre .1 .1 .1 .1))
+small s = few-bytes (s .args .k) (s .args .d) ((s .pre .graded))
+
+-- The start of the call, from behind the reading of the slot's number.
+abbrev from-wide : tie.After-wide → tie.Start
+from-wide c = c .before .before .before .before .before
 
 -- the slot's place, by the byte that names it
-placed : (c : tie.After-wide) → c .wide .result * (2 + c .before .before .before .before .before .args .k * c .before .before .before .before .before .args .d) ≡ getD (c .before .before .before .before .before .args .urn .now) 1 0 * (2 + c .before .before .before .before .before .args .k * c .before .before .before .before .before .args .d)
+placed : (c : tie.After-wide) →
+    let a = c .before .before .before .before .before .args in
+    c .wide .result * (2 + a .k * a .d) ≡ getD (a .urn .now) 1 0 * (2 + a .k * a .d)
 placed c = let a = c .before .before .before .before .before .args in ap (λ (m : ℕ). m * (2 + a .k * a .d)) (c .wide .ensures)
 
 mul-size : tie.Need-mul-size
@@ -68,16 +72,16 @@ slice-read-next c =
 cast-put-slot : tie.Need-cast-put-slot
 cast-put-slot c =
     let s = c .before .before .before .before .before .before .before in
-    omega (arith, juror-most (s .args .juror) (s .pre .1 .1 .0))
+    omega (arith, juror-most (s .args .juror) (s .pre .numbered))
 
 put-slot-requires : tie.Need-put-slot-requires
 put-slot-requires c κs =
     let s = c .before .before .before .before .before .before .before in
-    omega (arith, placed (c .before .before), inside s, s .pre .1 .1 .1 .0)
+    omega (arith, placed (c .before .before), inside s, s .pre .size)
 
 slice-write-urn : tie.Need-slice-write-urn
 slice-write-urn c =
-    let s = c .before .before .before .before .before .before .before .before .before .before in
+    let s = from-wide (c .before .before .before .before .before) in
     let l = long s in
     let q : length (c .before .before .put-slot .last .0) ≡ length (s .args .urn .now) = c .before .before .put-slot .kept .0 in
     let r : 0 < length (c .before .before .put-slot .last .0) = omega arith in
@@ -85,7 +89,7 @@ slice-write-urn c =
 
 slice-write-urn-2 : tie.Need-slice-write-urn-2
 slice-write-urn-2 c =
-    let s = c .before .before .before .before .before .before .before .before .before .before in
+    let s = from-wide (c .before .before .before .before .before) in
     let l = long s in
     let q : length (c .before .before .put-slot .last .0) ≡ length (s .args .urn .now) = c .before .before .put-slot .kept .0 in
     let r : 1 < length (set (c .before .before .put-slot .last .0) 0 (getD (s .args .urn .now) 1 0)) = omega (arith, length-set (c .before .before .put-slot .last .0) 0 (getD (s .args .urn .now) 1 0)) in
@@ -93,7 +97,7 @@ slice-write-urn-2 c =
 
 same-length : tie.Need-same-length
 same-length c =
-    let s = c .before .before .before .before .before .before .before .before .before .before in
+    let s = from-wide (c .before .before .before .before .before) in
     length-set (set (c .before .before .put-slot .last .0) 0 (getD (s .args .urn .now) 1 0)) 1 _ ∙ length-set (c .before .before .put-slot .last .0) 0 (getD (s .args .urn .now) 1 0) ∙ c .before .before .put-slot .kept .0
 
 returns : tie.Need-returns
@@ -105,7 +109,7 @@ returns c =
     let u = a .urn .now in
     let last = c .before .before .put-slot .last .0 in
     ap (λ (m : ℕ). set (set last 0 (getD u 1 0)) 1 (getD u (m * z) 0)) (h .wide .ensures)
-    ∙ admit-bytes (a .k) (a .d) u (graded-within (a .k) (a .d) (s .pre .1 .1 .1 .1)) (s .pre .0) (s .pre .1 .0) (a .juror) (a .ballot .now) last (s .pre .1 .1 .1 .0)
+    ∙ admit-bytes (a .k) (a .d) u ((s .pre .graded)) (s .pre .isSound) (s .pre .room) (a .juror) (a .ballot .now) last (s .pre .size)
     (c .before .before .put-slot .ensures ∙ ap (λ (m : ℕ). take (m * z) u ++ (getD u 0 0 ∷ a .juror ∷ a .ballot .now) ++ drop (m * z + 2 + length (a .ballot .now)) u) (h .wide .ensures))
 
 pub put-ballot-spec : {M : Type 1} → statement M

@@ -2,13 +2,12 @@
 -- Assumes nothing.
 use mathlib.Core.Path.{_≡_, _∙_, refl, sym, ap, subst}
 use Prim.Native.Nat.{ℕ, suc, _+_, _-_, _*_, _≤_, _<_}
-use lib.ListN.{length, set, replicate, length-set, length-replicate}
-use Rattle.chains.specs.Slots.{slotBytes}
-use Rattle.chains.proofs.SlotLaws.{slot-within, size-least}
-use Rattle.urn.proofs.Emptying.{Freed, freed-start, freed-go, freed-done}
+use lib.ListN.{length, set, replicate, length-set}
+use Rattle.urn_chains.specs.Slots.{slotBytes}
+use Rattle.urn_chains.proofs.SlotLaws.{slot-within, size-least}
+use Rattle.urn.proofs.EmptyUrn.{Freed, freed-start, freed-go, freed-done}
 use native.Mathlib.Nat.{suc-mul}
 use native.Mathlib.Omega.{arith}
-use borrow.Author.Needs.{needs}
 use Rattle.urn.proofs.empty.free_all.Statement.{statement}
 use Rattle.urn.proofs.empty.free_all.Tie as tie
 

@@ -1,18 +1,15 @@
 -- `urn::facts::look` meets its contract: the facts are those of the definition, by the outcomes of test and search, and the search finds the ballot.
 -- Assumes nothing.
-use mathlib.Core.Path.{_≡_, _∙_, refl, sym, ap}
-use mathlib.Core.Bool.{Bool, true, false}
-use mathlib.Core.List.{List}
-use Prim.Native.Nat.{ℕ, _+_, _*_, _≤_, _<_}
+use mathlib.Core.Path.{_≡_, _∙_, sym, ap}
+use mathlib.Core.Bool.{true}
+use Prim.Native.Nat.{ℕ, _*_, _<_}
 use lib.ListN.{length}
-use Rattle.chains.specs.Slots.{slotBytes}
-use Rattle.chains.specs.Chains.{ballotChain}
-use Rattle.chains.specs.Sound.{member, slotCount, urnSlots, sound}
-use Rattle.urn.specs.Inner.{linkIn}
-use Rattle.urn.specs.Facts.{jurorsOf}
-use Rattle.chains.proofs.SlotLaws.{size-least}
-use Rattle.chains.proofs.Walking.{not-walked}
-use Rattle.chains.proofs.Judging.{few-bytes, soundness-sound, soundness-unsound}
+use Rattle.urn_chains.specs.Slots.{slotBytes}
+use Rattle.urn_chains.specs.Sound.{entriesOf, slotCount, urnSlots, sound}
+use Rattle.basics.specs.Lists.{member}
+use Rattle.urn.specs.inner.Position.{positionIn}
+use Rattle.urn_chains.proofs.SlotLaws.{size-least}
+use Rattle.urn_chains.proofs.SlotTests.{few-bytes, soundness-sound, soundness-unsound}
 use Rattle.urn.proofs.FactLaws.{link-found, link-absent, its-table, can-find, jurors-are, full-is, few-ballots, facts-are, no-facts, same-facts}
 use native.Mathlib.Omega.{arith}
 use borrow.Author.Needs.{needs}
@@ -20,7 +17,9 @@ use Rattle.urn.proofs.facts.look.Statement.{statement}
 use Rattle.urn.proofs.facts.look.Tie as tie
 
 -- the test found the urn sound
-sound-told : (c : tie.After-known-told) → (sound (c .before .before .before .before .before .args .k) (c .before .before .before .before .before .args .d) (c .before .before .before .before .before .args .urn .now) ≡ true) × (c .before .ballots .given .0 .0 ≡ length (ballotChain (urnSlots (c .before .before .before .before .before .args .k) (c .before .before .before .before .before .args .d) (c .before .before .before .before .before .args .urn .now))))
+sound-told : (c : tie.After-known-told) →
+    let a = c .before .before .before .before .before .args in
+    (sound (a .k) (a .d) (a .urn .now) ≡ true) × (c .before .ballots .given .0 .0 ≡ length (entriesOf (a .k) (a .d) (a .urn .now)))
 sound-told c = soundness-sound _ _ _ (sym (c .before .before .before .test .ensures) ∙ c .before .ballots .given .1)
 
 test-requires : tie.Need-test-requires
@@ -37,7 +36,11 @@ returns : tie.Need-returns
 returns c =
     let s = c .before .before .before .before in
     let a = s .args in
-    (sym (no-facts (a .k) (a .d) (a .urn .now) (a .juror) (soundness-unsound _ _ (sym (c .before .before .test .ensures) ∙ c .enum-told .given .1))), (omega arith, λ h. not-walked h))
+    record {
+      told = sym (no-facts (a .k) (a .d) (a .urn .now) (a .juror) (soundness-unsound _ _ (sym (c .before .before .test .ensures) ∙ c .enum-told .given .1)));
+      few = omega arith;
+      placed = λ h. let z : _≡_ {A = ℕ} 0 1 = cc in absurd (omega arith);
+    }
 
 mul-bytes : tie.Need-mul-bytes
 mul-bytes c =
@@ -67,7 +70,10 @@ find-requires c κs =
     let k = c .before in
     let s = k .before .before .before .before .before in
     let a = s .args in
-    (its-table (a .k) (a .d) (a .urn .now) (s .pre) (sound-told k .0), can-find (a .k) (a .d) (a .urn .now) (s .pre) (sound-told k .0))
+    record {
+      table = its-table (a .k) (a .d) (a .urn .now) (s .pre) (sound-told k .0);
+      inside = can-find (a .k) (a .d) (a .urn .now) (s .pre) (sound-told k .0);
+    }
 
 enum-known-before : tie.Need-enum-known-before
 enum-known-before c = search needs
@@ -76,34 +82,40 @@ enum-told-2 : tie.Need-enum-told-2
 enum-told-2 c = search needs
 
 returns-2 : tie.Need-returns-2
-unfolding linkIn urnSlots slotCount slotBytes
+unfolding positionIn urnSlots slotCount slotBytes
 returns-2 c =
     let f = c .before .before .before in
     let k = f .before .before in
     let s = k .before .before .before .before .before in
     let a = s .args in
-    let e = sound-told k .0 in (
-      same-facts _ _ _ _ _ _ (sound-told k .1)
+    let e = sound-told k .0 in
+    record {
+      told =
+          same-facts _ _ _ _ _ _ (sound-told k .1)
           (sym (ap (member (a .juror)) (jurors-are (a .k) (a .d) (a .urn .now) (s .pre) e) ∙ link-found _ _ _ _ _ _ (sym (f .find .ensures) ∙ c .before .before2 .given .1)))
           (sym (full-is (a .k) (a .d) (a .urn .now) (s .pre) e))
-          ∙ sym (facts-are (a .k) (a .d) (a .urn .now) (s .pre) e (a .juror)),
-      (omega (arith, sound-told k .1, few-ballots (a .k) (a .d) (a .urn .now) (s .pre) e), λ h. sym (c .before .before2 .given .1) ∙ f .find .ensures),
-    )
+          ∙ sym (facts-are (a .k) (a .d) (a .urn .now) (s .pre) e (a .juror));
+      few = omega (arith, sound-told k .1, few-ballots (a .k) (a .d) (a .urn .now) (s .pre) e);
+      placed = λ h. sym (c .before .before2 .given .1) ∙ f .find .ensures;
+    }
 
 returns-3 : tie.Need-returns-3
-unfolding linkIn urnSlots slotCount slotBytes
+unfolding positionIn urnSlots slotCount slotBytes
 returns-3 c =
     let f = c .before .before in
     let k = f .before .before in
     let s = k .before .before .before .before .before in
     let a = s .args in
-    let e = sound-told k .0 in (
-      same-facts _ _ _ _ _ _ (sound-told k .1)
+    let e = sound-told k .0 in
+    record {
+      told =
+          same-facts _ _ _ _ _ _ (sound-told k .1)
           (sym (ap (member (a .juror)) (jurors-are (a .k) (a .d) (a .urn .now) (s .pre) e) ∙ link-absent _ _ _ _ (sym (f .find .ensures) ∙ c .enum-told2 .given .1)))
           (sym (full-is (a .k) (a .d) (a .urn .now) (s .pre) e))
-          ∙ sym (facts-are (a .k) (a .d) (a .urn .now) (s .pre) e (a .juror)),
-      (omega (arith, sound-told k .1, few-ballots (a .k) (a .d) (a .urn .now) (s .pre) e), λ h. sym (c .enum-told2 .given .1) ∙ f .find .ensures),
-    )
+          ∙ sym (facts-are (a .k) (a .d) (a .urn .now) (s .pre) e (a .juror));
+      few = omega (arith, sound-told k .1, few-ballots (a .k) (a .d) (a .urn .now) (s .pre) e);
+      placed = λ h. sym (c .enum-told2 .given .1) ∙ f .find .ensures;
+    }
 
 pub look-spec : {M : Type 1} → statement M
 look-spec =

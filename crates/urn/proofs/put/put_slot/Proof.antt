@@ -1,10 +1,10 @@
 -- `urn::put::put_slot` meets its contract: two stores and a copy behind them.
 -- Assumes nothing.
-use mathlib.Core.Path.{_≡_, _∙_, sym}
+use mathlib.Core.Path.{_∙_}
 use borrow.Rule.Slice.PartMut.{same-len-mid}
 use Prim.Native.Nat.{_+_, _-_}
-use lib.ListN.{length, length-set, set, take, drop, length-take, length-drop}
-use Rattle.urn.proofs.Putting.{put-done, stored-length}
+use lib.ListN.{length, length-set, set, drop, length-take, length-drop}
+use Rattle.urn.proofs.SlotBytes.{put-done, stored-length}
 use native.Mathlib.Omega.{arith}
 use borrow.Author.Needs.{needs}
 use Rattle.urn.proofs.put.put_slot.Statement.{statement}

@@ -1,70 +1,70 @@
 -- `urn::withdraw::decide` meets its contract: each answer is the definition's at the outcomes of the tests that led there.
 -- Assumes nothing.
-use mathlib.Core.Path.{_≡_, _∙_, refl, sym, ap}
-use mathlib.Core.Bool.{Bool, true, false, not, _&&_}
-use Prim.Native.Nat.{ℕ, _-_}
+use mathlib.Core.Path.{_∙_, sym, ap}
+use Prim.Native.Nat.{_-_}
 use borrow.Author.Tests.{not-true, not-false}
 use Rattle.jury.specs.Reason.{reasonOf}
-use Rattle.jury.proofs.Flags.{T-true, and-both}
-use Rattle.tally.specs.Answer.{Said, accepted}
-use Rattle.chains.specs.Sound.{goodJuror}
-use Rattle.urn.specs.Facts.{gradedShape, countedBy}
-use Rattle.urn.specs.Withdraw.{withdrawSaid}
-use Rattle.urn.proofs.Deciding.{withdraw-first, withdraw-13, withdraw-14, withdraw-none, said-refused, said-accepted, juror-bad, juror-gone}
+use Rattle.basics.proofs.Flags.{T-true, and-both}
+use Rattle.tally.specs.Answer.{accepted}
+use Rattle.urn_chains.specs.Sound.{goodJuror}
+use Rattle.urn.specs.Facts.{countedBy}
+use Rattle.urn.specs.Withdraw.{withdrawAnswer}
+use Rattle.urn.proofs.Outcomes.{withdraw-first, withdraw-13, withdraw-14, withdraw-none, outcome-refused, outcome-accepted, juror-gone}
 use native.Mathlib.Omega.{arith}
 use borrow.Author.Needs.{needs}
 use Rattle.urn.proofs.withdraw.decide.Statement.{statement}
 use Rattle.urn.proofs.withdraw.decide.Tie as tie
+use Rattle.basics.proofs.Flags.{and-first-fails}
 
 returns : tie.Need-returns
-unfolding withdrawSaid countedBy reasonOf
+unfolding withdrawAnswer countedBy reasonOf
 returns c =
     let s = c .before .before in
     let a = s .args in
-    said-refused _ _ _ (withdraw-first (a .k) (a .d) (a .facts) (a .juror) ∙ withdraw-13 _ _ _ (T-true _ (s .pre)) (not-true _ (c .if1 .taken)))
+    outcome-refused _ _ _ (withdraw-first (a .k) (a .d) (a .facts) (a .juror) ∙ withdraw-13 _ _ _ (T-true _ (s .pre)) (not-true _ (c .if1 .taken)))
 
 is-juror-requires : tie.Need-is-juror-requires
 is-juror-requires c κs = search needs
 
 returns-2 : tie.Need-returns-2
-unfolding withdrawSaid countedBy reasonOf
+unfolding withdrawAnswer countedBy reasonOf
 returns-2 c =
     let e = c .before .before in
     let s = e .before .before in
     let a = s .args in
-    said-refused _ _ _ (withdraw-first (a .k) (a .d) (a .facts) (a .juror) ∙ withdraw-14 _ _ _ (T-true _ (s .pre)) (not-false _ (e .if1 .left)) (juror-bad (goodJuror (a .juror)) (a .facts .present) (sym (c .before .is-juror .ensures) ∙ not-true _ (c .if2 .taken))))
+    outcome-refused _ _ _ (withdraw-first (a .k) (a .d) (a .facts) (a .juror) ∙ withdraw-14 _ _ _ (T-true _ (s .pre)) (not-false _ (e .if1 .left)) (and-first-fails (goodJuror (a .juror)) (a .facts .present) (sym (c .before .is-juror .ensures) ∙ not-true _ (c .if2 .taken))))
 
 returns-3 : tie.Need-returns-3
-unfolding withdrawSaid countedBy reasonOf
+unfolding withdrawAnswer countedBy reasonOf
 returns-3 c =
     let i = c .before .before .before in
     let e = i .before in
     let s = e .before .before in
     let a = s .args in
-    said-refused _ _ _ (withdraw-first (a .k) (a .d) (a .facts) (a .juror) ∙ withdraw-14 _ _ _ (T-true _ (s .pre)) (not-false _ (e .if1 .left)) (juror-gone (goodJuror (a .juror)) (a .facts .present) (sym (i .is-juror .ensures) ∙ not-false _ (c .before .before .if2 .left)) (not-true _ (c .if3 .taken))))
+    outcome-refused _ _ _ (withdraw-first (a .k) (a .d) (a .facts) (a .juror) ∙ withdraw-14 _ _ _ (T-true _ (s .pre)) (not-false _ (e .if1 .left)) (juror-gone (goodJuror (a .juror)) (a .facts .present) (sym (i .is-juror .ensures) ∙ not-false _ (c .before .before .if2 .left)) (not-true _ (c .if3 .taken))))
 
 returns-4 : tie.Need-returns-4
-unfolding withdrawSaid countedBy
+unfolding withdrawAnswer countedBy
 returns-4 c =
     let q = c .before in
     let i = q .before .before .before in
     let e = i .before in
     let s = e .before .before in
     let a = s .args in
-    ap accepted {x = 0} {y = a .facts .ballots - 1} (omega (arith, c .if4 .taken)) ∙ said-accepted _ _ (withdraw-first (a .k) (a .d) (a .facts) (a .juror) ∙ withdraw-none _ _ _ (T-true _ (s .pre)) (not-false _ (e .if1 .left)) (and-both (goodJuror (a .juror)) (a .facts .present) (sym (i .is-juror .ensures) ∙ not-false _ (q .before .before .if2 .left)) (not-false _ (q .if3 .left))))
+    ap accepted {x = 0} {y = a .facts .ballots - 1} (omega (arith, c .if4 .taken)) ∙ outcome-accepted _ _ (withdraw-first (a .k) (a .d) (a .facts) (a .juror) ∙ withdraw-none _ _ _ (T-true _ (s .pre)) (not-false _ (e .if1 .left)) (and-both (goodJuror (a .juror)) (a .facts .present) (sym (i .is-juror .ensures) ∙ not-false _ (q .before .before .if2 .left)) (not-false _ (q .if3 .left))))
 
 sub-t11 : tie.Need-sub-t11
 sub-t11 c = search needs
 
 returns-5 : tie.Need-returns-5
-unfolding withdrawSaid countedBy
+unfolding withdrawAnswer countedBy
 returns-5 c =
     let q = c .before in
     let i = q .before .before .before in
     let e = i .before in
     let s = e .before .before in
     let a = s .args in
-    said-accepted _ _ (withdraw-first (a .k) (a .d) (a .facts) (a .juror) ∙ withdraw-none _ _ _ (T-true _ (s .pre)) (not-false _ (e .if1 .left)) (and-both (goodJuror (a .juror)) (a .facts .present) (sym (i .is-juror .ensures) ∙ not-false _ (q .before .before .if2 .left)) (not-false _ (q .if3 .left))))
+    outcome-accepted _ _ (withdraw-first (a .k) (a .d) (a .facts) (a .juror) ∙ withdraw-none _ _ _ (T-true _ (s .pre)) (not-false _ (e .if1 .left)) (and-both (goodJuror (a .juror)) (a .facts .present) (sym (i .is-juror .ensures) ∙ not-false _ (q .before .before .if2 .left)) (not-false _ (q .if3 .left))))
 
 pub decide-spec : {M : Type 1} → statement M
 decide-spec =

@@ -1,16 +1,13 @@
 -- `urn::withdraw::preview` meets its contract: reason 1, or the answer by the facts of the urn.
 -- Assumes nothing.
-use mathlib.Core.Path.{_≡_, _∙_, refl, sym, ap}
-use Prim.Native.Nat.{_≤_}
+use mathlib.Core.Path.{_∙_, sym, ap}
 use borrow.Author.Tests.{not-true, not-false}
 use Rattle.jury.specs.Reason.{reasonOf}
-use Rattle.jury.proofs.Flags.{true-T}
+use Rattle.basics.proofs.Flags.{true-T}
 use Rattle.urn.specs.declared.facts.Facts.{Facts}
-use Rattle.urn.specs.Facts.{gradedShape, factsOf, countedBy}
-use Rattle.urn.specs.Withdraw.{withdrawSaid}
-use Rattle.urn.proofs.Deciding.{withdraw-first, withdraw-1, said-refused, graded-within}
-use native.Mathlib.Omega.{arith}
-use borrow.Author.Needs.{needs}
+use Rattle.urn.specs.Facts.{factsOf, countedBy}
+use Rattle.urn.specs.Withdraw.{withdrawAnswer}
+use Rattle.urn.proofs.Outcomes.{withdraw-first, withdraw-1, outcome-refused}
 use Rattle.urn.proofs.withdraw.preview.Statement.{statement}
 use Rattle.urn.proofs.withdraw.preview.Tie as tie
 
@@ -19,15 +16,15 @@ is-graded-requires c κs =
     tt
 
 returns : tie.Need-returns
-unfolding withdrawSaid countedBy reasonOf
+unfolding withdrawAnswer countedBy reasonOf
 returns c =
     let a = c .before .before .before .args in
-    said-refused _ _ _ (withdraw-first (a .k) (a .d) (factsOf (a .k) (a .d) (a .urn .now) (a .juror)) (a .juror) ∙ withdraw-1 _ _ _ (sym (c .before .is-graded .ensures) ∙ not-true _ (c .if1 .taken)))
+    outcome-refused _ _ _ (withdraw-first (a .k) (a .d) (factsOf (a .k) (a .d) (a .urn .now) (a .juror)) (a .juror) ∙ withdraw-1 _ _ _ (sym (c .before .is-graded .ensures) ∙ not-true _ (c .if1 .taken)))
 
 look-requires : tie.Need-look-requires
 look-requires c κs =
     let a = c .before .before .before .args in
-    graded-within (a .k) (a .d) (true-T _ (sym (c .before .is-graded .ensures) ∙ not-false _ (c .if1 .left)))
+    (true-T _ (sym (c .before .is-graded .ensures) ∙ not-false _ (c .if1 .left)))
 
 decide-requires : tie.Need-decide-requires
 decide-requires c κs =
@@ -38,7 +35,7 @@ returns-2 : tie.Need-returns-2
 returns-2 c =
     let f = c .before in
     let a = f .before .before .before .before .args in
-    c .decide .ensures ∙ ap (λ (x : Facts). withdrawSaid (a .k) (a .d) x (a .juror)) (f .look .ensures .0)
+    c .decide .ensures ∙ ap (λ (x : Facts). withdrawAnswer (a .k) (a .d) x (a .juror)) (f .look .ensures .told)
 
 pub preview-spec : {M : Type 1} → statement M
 preview-spec =

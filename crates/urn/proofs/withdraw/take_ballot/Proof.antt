@@ -1,37 +1,34 @@
 -- `urn::withdraw::take_ballot` meets its contract: the stores leave the slots that are written from the new chains.
 -- Assumes nothing.
-use mathlib.Core.Path.{_≡_, _∙_, refl, sym, ap}
-use mathlib.Core.Bool.{Bool, true, false}
-use mathlib.Core.List.{List, _∷_, _++_}
+use mathlib.Core.Path.{_≡_, _∙_, ap}
 use Prim.Native.Nat.{ℕ, _+_, _-_, _*_, _≤_, _<_}
 use native.Mathlib.Nat.{sub-zero}
 use lib.Dec.{T}
-use lib.ListN.{length, getD, set, take, drop, replicate, length-set, length-take}
+use lib.ListN.{length, getD, set, take, replicate, length-set, length-take}
 use Rattle.jury.specs.Shape.{gradedLimits}
-use Rattle.chains.specs.Slots.{slotsOf, slotAt}
-use Rattle.chains.specs.Chains.{chain}
-use Rattle.chains.specs.Sound.{juryOfOne, slotCount, urnSlots}
-use Rattle.urn.specs.Inner.{linkIn}
-use Rattle.chains.specs.declared.find.Link.the-variants.{Found}
-use Rattle.chains.specs.Inner.{linkOf}
-use Rattle.chains.proofs.SlotLaws.{size-least}
-use Rattle.chains.proofs.Judging.{few-bytes}
-use Rattle.urn.proofs.Deciding.{graded-within}
+use Rattle.urn_chains.specs.Slots.{slotsOf, slotAt}
+use Rattle.urn_chains.specs.Chains.{chain}
+use Rattle.urn_chains.specs.Sound.{juryOfOne, slotCount, urnSlots}
+use Rattle.urn.specs.inner.Position.{positionIn}
+use Rattle.urn_chains.specs.declared.find.ChainPosition.the-variants.{Found}
+use Rattle.urn_chains.specs.inner.Position.{positionOf}
+use Rattle.urn_chains.proofs.SlotLaws.{size-least}
+use Rattle.urn_chains.proofs.SlotTests.{few-bytes}
 use Rattle.urn.proofs.FactLaws.{its-table}
-use Rattle.urn.proofs.Taking.{take-zeros, slot-below, slot-inside, link-inside, withdraw-bytes}
+use Rattle.urn.proofs.WithdrawnBytes.{take-zeros, slot-below, slot-inside, link-inside, withdraw-bytes}
 use native.Mathlib.Omega.{arith}
 use borrow.Author.Needs.{needs}
 use Rattle.urn.proofs.withdraw.take_ballot.Statement.{statement}
 use Rattle.urn.proofs.withdraw.take_ballot.Tie as tie
 
 limits : (s : tie.Start) → T (gradedLimits (juryOfOne (s .args .k) (s .args .d)))
-limits s = graded-within (s .args .k) (s .args .d) (s .pre .1 .1)
+limits s = s .pre .graded
 
 -- the urn is not short
 long : (s : tie.Start) → 4 ≤ length (s .args .urn .now)
 long s =
     let a = s .args in
-    let t = its-table (a .k) (a .d) (a .urn .now) (limits s) (s .pre .0) in
+    let t = its-table (a .k) (a .d) (a .urn .now) (limits s) (s .pre .isSound) in
     omega (arith, t .size, size-least (a .k * a .d) (slotCount (a .k * a .d) (length (a .urn .now))) (t .least))
 
 small : (s : tie.Start) → s .args .k * s .args .d ≤ 56
@@ -44,20 +41,20 @@ holder s = slotAt (urnSlots (s .args .k) (s .args .d) (s .args .urn .now)) (s .a
 -- where the ballot lies, and the slot before it
 told : (s : tie.Start) →
     let a = s .args in
-    linkOf (slotsOf (a .k * a .d) (slotCount (a .k * a .d) (length (a .urn .now))) (a .urn .now)) (holder s) 0 (chain (slotCount (a .k * a .d) (length (a .urn .now))) (getD (a .urn .now) 0 0) (slotsOf (a .k * a .d) (slotCount (a .k * a .d) (length (a .urn .now))) (a .urn .now)))
+    positionOf (slotsOf (a .k * a .d) (slotCount (a .k * a .d) (length (a .urn .now))) (a .urn .now)) (holder s) 0 (chain (slotCount (a .k * a .d) (length (a .urn .now))) (getD (a .urn .now) 0 0) (slotsOf (a .k * a .d) (slotCount (a .k * a .d) (length (a .urn .now))) (a .urn .now)))
     ≡ Found (a .before) (a .slot)
-unfolding linkIn urnSlots holder
-told s = s .pre .1 .0
+unfolding positionIn urnSlots holder
+told s = s .pre .placed
 
 at-inside : (s : tie.Start) → s .args .slot * (2 + s .args .k * s .args .d) + (2 + s .args .k * s .args .d) ≤ length (s .args .urn .now)
 at-inside s =
     let a = s .args in
-    slot-inside (a .k) (a .d) (a .urn .now) (limits s) (s .pre .0) (holder s) (a .before) (a .slot) (told s)
+    slot-inside (a .k) (a .d) (a .urn .now) (limits s) (s .pre .isSound) (holder s) (a .before) (a .slot) (told s)
 
 from-inside : (s : tie.Start) → s .args .before * (2 + s .args .k * s .args .d) + (2 + s .args .k * s .args .d) ≤ length (s .args .urn .now)
 from-inside s =
     let a = s .args in
-    link-inside (a .k) (a .d) (a .urn .now) (limits s) (s .pre .0) (holder s) (a .before) (a .slot) (told s)
+    link-inside (a .k) (a .d) (a .urn .now) (limits s) (s .pre .isSound) (holder s) (a .before) (a .slot) (told s)
 
 mul-bytes : tie.Need-mul-bytes
 mul-bytes c =
@@ -113,7 +110,7 @@ cast-urn c =
     let t = c .before .before .before .before .before .before .before .before in
     let s = t .before in
     let a = s .args in
-    omega (arith, slot-below (a .k) (a .d) (a .urn .now) (limits s) (s .pre .0) (holder s) (a .before) (a .slot) (told s), its-table (a .k) (a .d) (a .urn .now) (limits s) (s .pre .0) .most)
+    omega (arith, slot-below (a .k) (a .d) (a .urn .now) (limits s) (s .pre .isSound) (holder s) (a .before) (a .slot) (told s), its-table (a .k) (a .d) (a .urn .now) (limits s) (s .pre .isSound) .most)
 
 slice-write-urn-2 : tie.Need-slice-write-urn-2
 slice-write-urn-2 c =
@@ -138,7 +135,7 @@ returns c =
     let t = c .before .before .before .before .before .before .before .before in
     let s = t .before in
     let a = s .args in
-    withdraw-bytes (a .k) (a .d) (a .urn .now) (limits s) (s .pre .0) (holder s) (a .before) (a .slot) (told s) (take (a .k * a .d - 0) (replicate 56 0)) (c .before .before .put-slot .last .0)
+    withdraw-bytes (a .k) (a .d) (a .urn .now) (limits s) (s .pre .isSound) (holder s) (a .before) (a .slot) (told s) (take (a .k * a .d - 0) (replicate 56 0)) (c .before .before .put-slot .last .0)
     (ap (λ (m : ℕ). take {A = ℕ} m (replicate 56 0)) (sub-zero (a .k * a .d)) ∙ take-zeros (a .k * a .d) 56 (small s))
     (c .before .before .put-slot .ensures)
 

@@ -1,19 +1,17 @@
 -- `urn_run::load::load` meets its contract: after each turn, writing the rest of the chain's ballots behind those that are written is writing all of them.
 -- Assumes nothing.
-use mathlib.Core.Path.{_≡_, _∙_, refl, sym, ap}
-use mathlib.Core.List.{List}
-use Prim.Native.Nat.{ℕ, _+_, _-_, _*_, _≤_, _<_}
+use Prim.Native.Nat.{_+_, _-_, _*_, _≤_, _<_}
 use native.Mathlib.Omega.{arith}
 use lib.ListN.{length, getD}
 use lib.Seq.{sets}
 use borrow.Author.Needs.{needs}
-use Rattle.chains.specs.Slots.{slotsOf}
-use Rattle.chains.specs.Chains.{chain}
-use Rattle.chains.specs.Sound.{slotCount}
-use Rattle.chains.proofs.SlotLaws.{size-least}
-use Rattle.chains.proofs.Judging.{few-bytes}
+use Rattle.urn_chains.specs.Slots.{slotsOf}
+use Rattle.urn_chains.specs.Chains.{chain}
+use Rattle.urn_chains.specs.Sound.{slotCount}
+use Rattle.urn_chains.proofs.SlotLaws.{size-least}
+use Rattle.urn_chains.proofs.SlotTests.{few-bytes}
 use Rattle.urn.proofs.FactLaws.{its-table}
-use Rattle.urn_run.proofs.Loading.{OnLoad, along, load-begin, load-end, loaded, turn-more, turn-inside, turn-room, turn-on, copy-fits}
+use Rattle.urn_run.proofs.LoadedWires.{OnLoad, along, load-begin, load-end, loaded, turn-more, turn-inside, turn-room, turn-on, copy-fits}
 use Rattle.urn_run.proofs.load.load.Statement.{statement}
 use Rattle.urn_run.proofs.load.load.Tie as tie
 
@@ -27,16 +25,16 @@ abbrev μ-loop : tie.MeasureT-loop
 μ-loop k d urn wires₀ bytes size count₀ slot₀ wires count slot = slotCount (k * d) (length urn) - count
 
 mul-bytes : tie.Need-mul-bytes Inv-loop μ-loop
-mul-bytes c = let s = c .before .before in omega (arith, few-bytes (s .args .k) (s .args .d) (s .pre .0))
+mul-bytes c = let s = c .before .before in omega (arith, few-bytes (s .args .k) (s .args .d) (s .pre .graded))
 
 add-size : tie.Need-add-size Inv-loop μ-loop
-add-size c = let s = c .before .before in omega (arith, few-bytes (s .args .k) (s .args .d) (s .pre .0))
+add-size c = let s = c .before .before in omega (arith, few-bytes (s .args .k) (s .args .d) (s .pre .graded))
 
 shared-slice-read-wide : tie.Need-shared-slice-read-wide Inv-loop μ-loop
 shared-slice-read-wide c =
     let s = c .before .before .before in
     let a = s .args in
-    let t = its-table (a .k) (a .d) (a .urn .now) (s .pre .0) (s .pre .1 .0) in
+    let t = its-table (a .k) (a .d) (a .urn .now) (s .pre .graded) (s .pre .isSound) in
     let l : 0 < length (a .urn .now) = omega (arith, t .size, size-least (a .k * a .d) (slotCount (a .k * a .d) (length (a .urn .now))) (t .least)) in
     l
 
@@ -47,32 +45,42 @@ loop-holds : tie.Need-loop-holds Inv-loop μ-loop
 loop-holds c =
     let s = c .before .before .before .before in
     let a = s .args in
-    load-begin (a .k) (a .d) (a .urn .now) (s .pre .0) (s .pre .1 .0) (a .wires .now) (c .wide .result) (s .pre .1 .1) (c .wide .ensures)
+    load-begin (a .k) (a .d) (a .urn .now) (s .pre .graded) (s .pre .isSound) (a .wires .now) (c .wide .result) (s .pre .room) (c .wide .ensures)
+
+-- The start of the call, from within a turn.
+abbrev from-turn : tie.In-loop Inv-loop μ-loop → tie.Start Inv-loop μ-loop
+from-turn c = c .before .before .before .before .before .before
 
 -- the chain goes on
 goes-on : (c : tie.In-loop Inv-loop μ-loop) → 0 < c .before .loop .slot
 goes-on c = omega (arith, c .loop-test .taken)
 
-inside : (c : tie.In-loop Inv-loop μ-loop) → c .before .loop .slot * (2 + c .before .before .before .before .before .before .args .k * c .before .before .before .before .before .before .args .d) + (2 + c .before .before .before .before .before .before .args .k * c .before .before .before .before .before .before .args .d) ≤ length (c .before .before .before .before .before .before .args .urn .now)
+inside : (c : tie.In-loop Inv-loop μ-loop) →
+    let a = from-turn c .args in
+    c .before .loop .slot * (2 + a .k * a .d) + (2 + a .k * a .d) ≤ length (a .urn .now)
 inside c =
-    let s = c .before .before .before .before .before .before in
+    let s = from-turn c in
     let a = s .args in
     let l = c .before .loop in
-    turn-inside (a .k) (a .d) (a .urn .now) (s .pre .0) (s .pre .1 .0) _ _ (l .wires) (l .count) (l .slot) (l .inv) (goes-on c)
+    turn-inside (a .k) (a .d) (a .urn .now) (s .pre .graded) (s .pre .isSound) _ _ (l .wires) (l .count) (l .slot) (l .inv) (goes-on c)
 
-room : (c : tie.In-loop Inv-loop μ-loop) → c .before .loop .count * (c .before .before .before .before .before .before .args .k * c .before .before .before .before .before .before .args .d) + c .before .before .before .before .before .before .args .k * c .before .before .before .before .before .before .args .d ≤ length (c .before .loop .wires)
+room : (c : tie.In-loop Inv-loop μ-loop) →
+    let a = from-turn c .args in
+    c .before .loop .count * (a .k * a .d) + a .k * a .d ≤ length (c .before .loop .wires)
 room c =
-    let s = c .before .before .before .before .before .before in
+    let s = from-turn c in
     let a = s .args in
     let l = c .before .loop in
-    turn-room (a .k) (a .d) (a .urn .now) (s .pre .0) (s .pre .1 .0) _ _ (l .wires) (l .count) (l .slot) (l .inv) (goes-on c)
+    turn-room (a .k) (a .d) (a .urn .now) (s .pre .graded) (s .pre .isSound) _ _ (l .wires) (l .count) (l .slot) (l .inv) (goes-on c)
 
-not-all : (c : tie.In-loop Inv-loop μ-loop) → c .before .loop .count < slotCount (c .before .before .before .before .before .before .args .k * c .before .before .before .before .before .before .args .d) (length (c .before .before .before .before .before .before .args .urn .now))
+not-all : (c : tie.In-loop Inv-loop μ-loop) →
+    let a = from-turn c .args in
+    c .before .loop .count < slotCount (a .k * a .d) (length (a .urn .now))
 not-all c =
-    let s = c .before .before .before .before .before .before in
+    let s = from-turn c in
     let a = s .args in
     let l = c .before .loop in
-    turn-more (a .k) (a .d) (a .urn .now) (s .pre .0) (s .pre .1 .0) _ _ (l .wires) (l .count) (l .slot) (l .inv) (goes-on c)
+    turn-more (a .k) (a .d) (a .urn .now) (s .pre .graded) (s .pre .isSound) _ _ (l .wires) (l .count) (l .slot) (l .inv) (goes-on c)
 
 mul-at : tie.Need-mul-at Inv-loop μ-loop
 mul-at c = omega (arith, inside c)
@@ -106,10 +114,10 @@ part-copy-end-2 c = search needs
 
 copy-requires : tie.Need-copy-requires Inv-loop μ-loop
 copy-requires c κs =
-    let s = c .before .before .before .before .before .before .before .before in
+    let s = from-turn (c .before .before) in
     let a = s .args in
     let l = c .before .before .before .loop in
-    copy-fits (a .k) (a .d) (a .urn .now) (s .pre .0) (s .pre .1 .0) _ _ (l .wires) (l .count) (l .slot) (l .inv) (goes-on (c .before .before))
+    copy-fits (a .k) (a .d) (a .urn .now) (s .pre .graded) (s .pre .isSound) _ _ (l .wires) (l .count) (l .slot) (l .inv) (goes-on (c .before .before))
 
 shared-slice-read-wide-2 : tie.Need-shared-slice-read-wide-2 Inv-loop μ-loop
 shared-slice-read-wide-2 c = omega (arith, inside (c .before .before .before .before .before .before))
@@ -119,19 +127,21 @@ wide-requires-2 c κs = tt
 
 add-count : tie.Need-add-count Inv-loop μ-loop
 add-count c =
-    let s = c .before .before .before .before .before .before .before .before .before .before .before .before .before in
+    let turn = c .before .before .before .before .before .before .before in
+    let s = from-turn turn in
     let a = s .args in
-    omega (arith, not-all (c .before .before .before .before .before .before .before), its-table (a .k) (a .d) (a .urn .now) (s .pre .0) (s .pre .1 .0) .most)
+    omega (arith, not-all (c .before .before .before .before .before .before .before), its-table (a .k) (a .d) (a .urn .now) (s .pre .graded) (s .pre .isSound) .most)
 
 loop-less : tie.Need-loop-less Inv-loop μ-loop
 loop-less c = omega (arith, not-all (c .before .before .before .before .before .before .before))
 
 loop-again : tie.Need-loop-again Inv-loop μ-loop
 loop-again c =
-    let s = c .before .before .before .before .before .before .before .before .before .before .before .before .before in
+    let turn = c .before .before .before .before .before .before .before in
+    let s = from-turn turn in
     let a = s .args in
-    let l = c .before .before .before .before .before .before .before .before .loop in
-    turn-on (a .k) (a .d) (a .urn .now) (s .pre .0) (s .pre .1 .0) _ _ (l .wires) (l .count) (l .slot) (l .inv) (goes-on (c .before .before .before .before .before .before .before)) (c .before .before .before .before .copy .last .1 .0) (c .wide2 .result) (c .before .before .before .before .copy .ensures .1) (c .wide2 .ensures)
+    let l = turn .before .loop in
+    turn-on (a .k) (a .d) (a .urn .now) (s .pre .graded) (s .pre .isSound) _ _ (l .wires) (l .count) (l .slot) (l .inv) (goes-on turn) (c .before .before .before .before .copy .last .1 .0) (c .wide2 .result) (c .before .before .before .before .copy .ensures .1) (c .wide2 .ensures)
 
 same-length : tie.Need-same-length Inv-loop μ-loop
 same-length c = c .before .loop .inv .kept
@@ -141,7 +151,7 @@ returns c =
     let s = c .before .before .before .before .before .before in
     let a = s .args in
     let l = c .before .loop in
-    loaded (a .k) (a .d) (a .urn .now) (s .pre .0) (s .pre .1 .0) (a .wires .now) (l .wires) (s .pre .1 .1) (load-end _ _ _ _ _ (l .wires) (l .count) (l .slot) (l .inv) (c .loop-test .left))
+    loaded (a .k) (a .d) (a .urn .now) (s .pre .graded) (s .pre .isSound) (a .wires .now) (l .wires) (s .pre .room) (load-end _ _ _ _ _ (l .wires) (l .count) (l .slot) (l .inv) (c .loop-test .left))
 
 pub load-spec : {M : Type 1} → statement M
 load-spec =

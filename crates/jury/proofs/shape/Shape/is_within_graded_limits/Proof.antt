@@ -7,7 +7,7 @@ use lib.Dec.{leb}
 use borrow.Author.Tests.{le-leb, lt-leb}
 use Rattle.jury.specs.Shape.{gradedLimits}
 use Rattle.jury.specs.declared.shape.Shape.{Shape}
-use Rattle.jury.proofs.Flags.{and-taken, and-left}
+use Rattle.basics.proofs.Flags.{and-taken, and-left}
 use Rattle.jury.proofs.shape.Shape.is_within_graded_limits.Statement.{statement}
 use Rattle.jury.proofs.shape.Shape.is_within_graded_limits.Tie as tie
 

@@ -3,7 +3,7 @@
 use mathlib.Core.Path.{_∙_, sym}
 use borrow.Author.Needs.{needs}
 use Rattle.jury.specs.Shape.{gradedLimits, rankedLimits, withinLimits}
-use Rattle.jury.proofs.Flags.{or-taken, or-left}
+use Rattle.basics.proofs.Flags.{or-taken, or-left}
 use Rattle.jury.proofs.shape.Shape.is_within_limits.Statement.{statement}
 use Rattle.jury.proofs.shape.Shape.is_within_limits.Tie as tie
 

@@ -4,7 +4,7 @@ use mathlib.Core.Path.{_∙_, sym, ap}
 use mathlib.Core.Bool.{Bool, cond}
 use Rattle.jury.specs.Reason.{shapedFor, unless}
 use Rattle.jury.specs.declared.shape.Shape.{Shape}
-use Rattle.jury.specs.declared.shape.Shaped.the-variants.{Within, Outside}
+use Rattle.jury.specs.declared.shape.ShapeResult.the-variants.{Within, Outside}
 use borrow.Author.Needs.{needs}
 use Rattle.jury.proofs.shape.Shape.new.Statement.{statement}
 use Rattle.jury.proofs.shape.Shape.new.Tie as tie

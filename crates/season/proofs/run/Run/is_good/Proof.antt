@@ -1,7 +1,7 @@
 -- `season::run::Run::is_good` meets its contract: the shape is tested, and then the mask.
 -- Assumes nothing.
 use mathlib.Core.Path.{_∙_, sym}
-use Rattle.jury.proofs.Flags.{and-taken, and-left}
+use Rattle.basics.proofs.Flags.{and-taken, and-left}
 use Rattle.season.specs.Season.{goodRun}
 use borrow.Author.Needs.{needs}
 use Rattle.season.proofs.run.Run.is_good.Statement.{statement}

@@ -5,7 +5,7 @@ use mathlib.Core.Logic.{⊎-elim}
 use Prim.Native.Nat.{_+_}
 use native.Mathlib.Omega.{arith}
 use Rattle.season.specs.Season.{sharedOf}
-use Rattle.season.specs.Inner.{plusRun}
+use Rattle.season.specs.inner.Sums.{plusRun}
 use Rattle.season.proofs.SumLaws.{same-totals, shared-one, shared-none}
 use borrow.Author.Needs.{needs}
 use Rattle.season.proofs.sheet.Totals.plus.Statement.{statement}

@@ -1,4 +1,0 @@
-pub mod Copying
-pub mod Answering
-pub mod Lengths
-pub mod Statuses

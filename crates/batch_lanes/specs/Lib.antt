@@ -1,0 +1,4 @@
+pub mod Lane
+pub mod Run
+pub mod inner
+pub mod Examples

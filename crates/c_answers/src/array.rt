@@ -1,0 +1,59 @@
+// The lent array that a call leaves its answer in.
+ghost use mathlib.Core.Path.{_≡_};
+ghost use mathlib.Core.List.{[], _∷_, _++_};
+ghost use Prim.Native.Nat.{_≤_};
+ghost use lib.ListN.{length, drop};
+ghost use Rattle.c_answers.specs.Numbers.{oneAnswer, countAnswer};
+ghost use Rattle.c_answers.specs.inner.Puts.{Puts};
+
+// The status of a call whose answer array is too short: none of the reasons' numbers. Such a call alters nothing.
+pub const SHORT_ANSWER: usize = 255;
+
+// How many numbers an answer has that tells one, or eight: reason, place, and what it tells.
+pub const ONE_ANSWER: usize = 3;
+
+pub const COUNT_ANSWER: usize = 10;
+
+// The numbers of an answer, at the start of the lent array.
+pub fn put(numbers: &[usize], answer: &mut [usize])
+    requires { ⌜ length (now numbers) ≤ length (now answer) ⌝ }
+    ensures { λ _.
+        ⌜ now (answer .exit)
+        ≡ now (numbers .entry) ++ drop (length (now (numbers .entry))) (now (answer .entry)) ⌝ }
+{
+    let mut i = 0;
+    while i < numbers.len() {
+        answer[i] = numbers[i];
+        i += 1;
+    }
+}
+
+// The answer of a call that tells one number, as the length of a text or the ballots of an urn, and its status.
+pub fn put_one(reason: usize, place: usize, told: usize, answer: &mut [usize]) -> usize
+    requires { ⌜ oneAnswer ≤ length (now answer) ⌝ }
+    ensures { λ r. ⌜ Puts oneAnswer (reason ∷ place ∷ told ∷ []) (now (answer .entry)) (now (answer .exit)) r ⌝ }
+{
+    put(&[reason, place, told], answer);
+    reason
+}
+
+// The answer of a call that tells eight numbers, as the closing bytes of a count, and its status.
+pub fn put_eight(reason: usize, place: usize, told: [usize; 8], answer: &mut [usize]) -> usize
+    requires { ⌜ countAnswer ≤ length (now answer) ⌝ }
+    ensures { λ r. ⌜ Puts countAnswer (reason ∷ place ∷ told) (now (answer .entry)) (now (answer .exit)) r ⌝ }
+{
+    let numbers = [
+        reason,
+        place,
+        told[0],
+        told[1],
+        told[2],
+        told[3],
+        told[4],
+        told[5],
+        told[6],
+        told[7],
+    ];
+    put(&numbers, answer);
+    reason
+}

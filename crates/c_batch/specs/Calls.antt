@@ -1,0 +1,12 @@
+-- What a run for 64 juries leaves that a C program calls: the entry point's own result, where the answer array has room
+-- for it.
+use mathlib.Core.List.{List, [], _∷_}
+use Prim.Native.Nat.{ℕ}
+use Rattle.c_answers.specs.Numbers.{sizeAnswer, sizeNumbers, CallResult, callResult}
+use Rattle.batch.specs.Call.{Call}
+use Rattle.batch.specs.Run.{batchResult}
+
+abbrev pub batchCall : Call → (answer : List ℕ) → CallResult
+batchCall c answer =
+    let r = batchResult c in
+    callResult sizeAnswer (sizeNumbers (r .answer)) answer (c .wires ∷ c .board ∷ []) (r .wires ∷ r .board ∷ [])

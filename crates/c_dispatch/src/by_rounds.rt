@@ -1,0 +1,140 @@
+// The dispatcher, as a C program calls it.
+use c_answers::array::SHORT_ANSWER;
+use c_answers::array::put;
+use dispatch::dispatch::Dispatched;
+use dispatch::verdict::JuriesVerdict;
+use dispatch_rounds::header::JuryHeader;
+ghost use mathlib.Core.Path.{_≡_};
+ghost use mathlib.Core.List.{[], _∷_};
+ghost use Prim.Native.Nat.{_≤_, _<_};
+ghost use lib.ListN.{length, getD};
+ghost use Rattle.dispatch_rounds.specs.Tables.{lent};
+ghost use Rattle.dispatch.specs.Reasons.{verdictReason};
+ghost use Rattle.c_answers.specs.Numbers.{answerNumbers};
+ghost use Rattle.c_answers.specs.inner.Puts.{Puts};
+ghost use Rattle.c_dispatch.specs.Numbers.{headerAt, headersIn, dispatchAnswer, dispatchCall};
+
+// How many numbers the answer has: reason, place and eight numbers of rounds.
+const DISPATCH_ANSWER: usize = 10;
+
+// Number i of an array, 0 where it has none.
+fn number_at(numbers: &[usize], i: usize) -> usize
+    ensures { λ r. ⌜ r ≡ getD (now (numbers .entry)) i 0 ⌝ }
+{
+    if i < numbers.len() { numbers[i] } else { 0 }
+}
+
+// What jury j states.
+fn header_at(numbers: &[usize], j: usize) -> JuryHeader
+    requires { ⌜ j < 8 ⌝ }
+    ensures { λ r. ⌜ r ≡ headerAt (now (numbers .entry)) j ⌝ }
+{
+    let at = 4 * j;
+    JuryHeader {
+        candidates: number_at(numbers, at),
+        grades: number_at(numbers, at + 1),
+        ballots: number_at(numbers, at + 2),
+        gates: number_at(numbers, at + 3),
+    }
+}
+
+// The eight headers, four numbers each. Those that the array does not hold are zeros, which no jury may state.
+fn headers_in(numbers: &[usize]) -> [JuryHeader; 8]
+    ensures { λ r. ⌜ r ≡ headersIn (now (numbers .entry)) ⌝ }
+{
+    [
+        header_at(numbers, 0),
+        header_at(numbers, 1),
+        header_at(numbers, 2),
+        header_at(numbers, 3),
+        header_at(numbers, 4),
+        header_at(numbers, 5),
+        header_at(numbers, 6),
+        header_at(numbers, 7),
+    ]
+}
+
+// Reason and place, and the eight numbers of rounds.
+fn ten(reason: usize, place: usize, rounds: [usize; 8]) -> [usize; 10]
+    ensures { λ r. ⌜ r ≡ reason ∷ place ∷ rounds ⌝ }
+{
+    [
+        reason,
+        place,
+        rounds[0],
+        rounds[1],
+        rounds[2],
+        rounds[3],
+        rounds[4],
+        rounds[5],
+        rounds[6],
+        rounds[7],
+    ]
+}
+
+// The answer of the dispatcher, and its status.
+fn put_rounds(outcome: Dispatched, answer: &mut [usize]) -> usize
+    requires { ⌜ dispatchAnswer ≤ length (now answer) ⌝ }
+    ensures { λ r.
+        ⌜ Puts dispatchAnswer (answerNumbers (verdictReason (outcome .verdict)) (outcome .rounds))
+        (now (answer .entry)) (now (answer .exit)) r ⌝ }
+{
+    let verdict = outcome.verdict;
+    let rounds = outcome.rounds;
+    match verdict {
+        JuriesVerdict::Accepted => {
+            let numbers = ten(0, 0, rounds);
+            put(&numbers, answer);
+            0
+        }
+        JuriesVerdict::Refused { reason, jury } => {
+            let number = reason.number();
+            let numbers = ten(number, jury, rounds);
+            put(&numbers, answer);
+            number
+        }
+    }
+}
+
+// Runs up to eight juries in rounds: reason, place and eight numbers of rounds.
+#[no_mangle]
+pub extern "C" fn jugy_dispatch(
+    count: usize,
+    quantum: usize,
+    headers: &[usize],
+    lists: &[u32],
+    ballots: &[u8],
+    tapes: &[u8],
+    wires: &mut [u8],
+    boards: &mut [u8],
+    answer: &mut [usize],
+) -> usize
+    ensures { λ r.
+        ⌜ record {
+          returned = r;
+          answer = now (answer .exit);
+          lent = now (wires .exit) ∷ now (boards .exit) ∷ [];
+        } ≡ dispatchCall (record {
+          count = count;
+          headers = headersIn (now (headers .entry));
+          quantum = quantum;
+          tables = lent (now (lists .entry)) (now (ballots .entry)) (now (tapes .entry)) (now (wires .entry))
+              (now (boards .entry));
+        }) (now (answer .entry)) ⌝ }
+{
+    if answer.len() < DISPATCH_ANSWER {
+        return SHORT_ANSWER;
+    }
+    let stated = headers_in(headers);
+    let outcome = dispatch::dispatch::dispatch(
+        count,
+        stated,
+        quantum,
+        lists,
+        ballots,
+        tapes,
+        wires,
+        boards,
+    );
+    put_rounds(outcome, answer)
+}

@@ -1,0 +1,19 @@
+-- What the status of the call [levels] means, whatever is handed and lent: its reasons end at 200.
+use mathlib.Core.List.{List}
+use Prim.Native.Nat.{ℕ}
+use Rattle.jury.specs.declared.shape.Shape.{Shape}
+use Rattle.tally.specs.Answer.{Outcome}
+use Rattle.levels.specs.Answer.{Depths}
+use Rattle.levels.specs.Levels.{levelsOutcome}
+use Rattle.c_answers.specs.Status.{isAccepted, StatusReads}
+use Rattle.c_levels.specs.Numbers.{depthAnswer, depthNumbers}
+
+abbrev pub lastReason : ℕ
+lastReason = 200
+
+-- Of an answer that tells G, C and R.
+abbrev pub DepthStatus : (last : ℕ) (answer : List ℕ) → Outcome Depths → Type 0
+DepthStatus last answer o = StatusReads last depthAnswer (depthNumbers o) answer (isAccepted o)
+
+pub record StatusMeans : Type 0 where
+  pub levels : (s : Shape) (table ls answer : List ℕ) → DepthStatus lastReason answer (levelsOutcome s table ls)

@@ -1,0 +1,34 @@
+-- What each exported call leaves, by the shape, what is lent, and the answer array.
+use mathlib.Core.List.{List, [], _∷_}
+use Prim.Native.Nat.{ℕ}
+use Rattle.jury.specs.declared.shape.Shape.{Shape}
+use Rattle.tally.specs.Count.{countReason, plainClosing}
+use Rattle.tally.specs.Measure.{measureOutcome}
+use Rattle.tally.specs.Run.{RunResult, runResult}
+use Rattle.tally.specs.Test.{testOutcome}
+use Rattle.tally.specs.Write.{writeOutcome, written}
+use Rattle.c_answers.specs.Numbers.{sizeAnswer, measureAnswer, countAnswer, sizeNumbers, measureNumbers, answerNumbers}
+use Rattle.c_answers.specs.Numbers.{CallResult, callResult}
+
+abbrev pub measureCall : (s : Shape) (answer : List ℕ) → CallResult
+measureCall s answer = callResult measureAnswer (measureNumbers (measureOutcome s)) answer [] []
+
+abbrev pub writeCall : (s : Shape) (table answer : List ℕ) → CallResult
+writeCall s table answer =
+    callResult sizeAnswer (sizeNumbers (writeOutcome s table)) answer (table ∷ []) (written s table ∷ [])
+
+abbrev pub testCall : (s : Shape) (table answer : List ℕ) → CallResult
+testCall s table answer = callResult sizeAnswer (sizeNumbers (testOutcome s table)) answer [] []
+
+-- By what a run leaves.
+abbrev pub boardCall : (r : RunResult) (wires board answer : List ℕ) → CallResult
+boardCall r wires board answer =
+    callResult sizeAnswer (sizeNumbers (r .answer)) answer (wires ∷ board ∷ []) (r .wires ∷ r .board ∷ [])
+
+abbrev pub runCall : (s : Shape) (table ballots tape wires board answer : List ℕ) → CallResult
+runCall s table ballots tape wires board answer =
+    boardCall (runResult s table ballots tape wires board) wires board answer
+
+abbrev pub countCall : (s : Shape) (ballots answer : List ℕ) → CallResult
+countCall s ballots answer =
+    callResult countAnswer (answerNumbers (countReason s ballots) (plainClosing s ballots)) answer [] []

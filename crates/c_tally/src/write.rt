@@ -1,0 +1,37 @@
+// Writing the list of a shape, as a C program calls it.
+use c_answers::array::SHORT_ANSWER;
+use c_answers::size::SIZE_ANSWER;
+use c_answers::size::put_size;
+use jury::reason::Refusal;
+use jury::shape::Shape;
+use jury::shape::ShapeResult;
+use tally::answer::Answer;
+ghost use mathlib.Core.Path.{_≡_};
+ghost use mathlib.Core.List.{[], _∷_};
+ghost use Rattle.tally.specs.Write.{HoldsWithin};
+ghost use Rattle.c_answers.specs.Numbers.{shapeOf};
+ghost use Rattle.c_tally.specs.Calls.{writeCall};
+
+// Writes the own list of a shape: reason, place, G and C.
+#[no_mangle]
+pub extern "C" fn jugy_write(
+    candidates: usize,
+    grades: usize,
+    ballots: usize,
+    table: &mut [u32],
+    answer: &mut [usize],
+) -> usize
+    ensures leaves { λ r.
+        ⌜ record { returned = r; answer = now (answer .exit); lent = now (table .exit) ∷ [] }
+        ≡ writeCall (shapeOf candidates grades ballots) (now (table .entry)) (now (answer .entry)) ⌝ }
+    ensures holds { λ _. ⌜ HoldsWithin (shapeOf candidates grades ballots) ⌝ }
+{
+    if answer.len() < SIZE_ANSWER {
+        return SHORT_ANSWER;
+    }
+    let ShapeResult::Within(shape) = Shape::new(candidates, grades, ballots) else {
+        return put_size(Answer::Refused(Refusal::Shape), answer);
+    };
+    let outcome = tally::write::write(shape, table);
+    put_size(outcome, answer)
+}

@@ -1,0 +1,30 @@
+-- What each exported call leaves, by the shape, what is handed and lent, and the answer array.
+use mathlib.Core.List.{List, [], _∷_}
+use Prim.Native.Nat.{ℕ}
+use Rattle.jury.specs.declared.shape.Shape.{Shape}
+use Rattle.trustee_alone.specs.Start.{startOutcome, startedWires, startedPublished}
+use Rattle.trustee_alone.specs.Rounds.{roundOutcome, roundedWires, roundedPublished}
+use Rattle.trustee_alone.specs.Finish.{finishOutcome, finishedWires}
+use Rattle.c_answers.specs.Numbers.{sizeAnswer, sizeNumbers, CallResult, callResult}
+use Rattle.c_levels.specs.Numbers.{depthAnswer, depthNumbers}
+
+-- Trustee p of t: its start, its round r, and its end.
+abbrev pub startCall : (s : Shape) (table : List ℕ) (t p : ℕ) (parts dealt wires published answer : List ℕ) → CallResult
+startCall s table t p parts dealt wires published answer =
+    callResult sizeAnswer (sizeNumbers (startOutcome s table t p parts dealt wires published)) answer
+    (wires ∷ published ∷ [])
+    (startedWires s table t p parts dealt wires published ∷ startedPublished s table t p parts dealt wires published
+    ∷ [])
+
+abbrev pub roundCall : (s : Shape) (table : List ℕ) (t p r : ℕ) (levels dealt heard wires published answer : List ℕ)
+    → CallResult
+roundCall s table t p r levels dealt heard wires published answer =
+    callResult depthAnswer (depthNumbers (roundOutcome s table t p r levels dealt heard wires published)) answer
+    (wires ∷ published ∷ [])
+    (roundedWires s table t p r levels dealt heard wires published
+    ∷ roundedPublished s table t p r levels dealt heard wires published ∷ [])
+
+abbrev pub finishCall : (s : Shape) (table wires answer : List ℕ) → CallResult
+finishCall s table wires answer =
+    callResult sizeAnswer (sizeNumbers (finishOutcome s table wires)) answer (wires ∷ []) (finishedWires s table wires
+    ∷ [])

@@ -1,0 +1,17 @@
+-- What the status of a trustee's calls means, whatever is handed and lent: the reasons of start and finish end at 18,
+-- those of a round at 202.
+use mathlib.Core.List.{List}
+use Prim.Native.Nat.{ℕ}
+use Rattle.jury.specs.declared.shape.Shape.{Shape}
+use Rattle.trustee_alone.specs.Start.{startOutcome}
+use Rattle.trustee_alone.specs.Rounds.{roundOutcome}
+use Rattle.trustee_alone.specs.Finish.{finishOutcome}
+use Rattle.c_answers.specs.Status.{SizeStatus}
+use Rattle.c_levels.specs.Status.{DepthStatus}
+
+pub record StatusMeans : Type 0 where
+  pub start : (s : Shape) (table : List ℕ) (t p : ℕ) (parts dealt wires published answer : List ℕ)
+      → SizeStatus 18 answer (startOutcome s table t p parts dealt wires published)
+  pub round : (s : Shape) (table : List ℕ) (t p r : ℕ) (levels dealt heard wires published answer : List ℕ)
+      → DepthStatus 202 answer (roundOutcome s table t p r levels dealt heard wires published)
+  pub finish : (s : Shape) (table wires answer : List ℕ) → SizeStatus 18 answer (finishOutcome s table wires)

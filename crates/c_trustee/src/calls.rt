@@ -1,0 +1,131 @@
+// A trustee on a machine of its own, as a C program calls it.
+use c_answers::array::SHORT_ANSWER;
+use c_answers::size::SIZE_ANSWER;
+use c_answers::size::put_size;
+use c_levels::calls::DEPTH_ANSWER;
+use c_levels::calls::put_depths;
+use jury::shape::Shape;
+ghost use mathlib.Core.Path.{_≡_};
+ghost use mathlib.Core.List.{[], _∷_};
+ghost use Rattle.c_answers.specs.Numbers.{shapeOf};
+ghost use Rattle.c_trustee.specs.Calls.{startCall, roundCall, finishCall};
+
+// A trustee starts: reason, place, G and C. Its wire parts are its ballot parts and zeros, and nothing is published.
+#[no_mangle]
+pub extern "C" fn jugy_trustee_start(
+    candidates: usize,
+    grades: usize,
+    ballots: usize,
+    table: &[u32],
+    trustees: usize,
+    trustee: usize,
+    parts: &[u8],
+    dealt: &[u8],
+    wires: &mut [u8],
+    published: &mut [u8],
+    answer: &mut [usize],
+) -> usize
+    ensures { λ r.
+        ⌜ record {
+          returned = r;
+          answer = now (answer .exit);
+          lent = now (wires .exit) ∷ now (published .exit) ∷ [];
+        } ≡ startCall (shapeOf candidates grades ballots) (now (table .entry)) trustees trustee (now (parts .entry))
+        (now (dealt .entry)) (now (wires .entry)) (now (published .entry)) (now (answer .entry)) ⌝ }
+{
+    if answer.len() < SIZE_ANSWER {
+        return SHORT_ANSWER;
+    }
+    let shape = Shape {
+        candidates,
+        grades,
+        ballots,
+    };
+    let outcome = trustee_alone::start::start(
+        shape,
+        table,
+        trustees,
+        trustee,
+        parts,
+        dealt,
+        wires,
+        published,
+    );
+    put_size(outcome, answer)
+}
+
+// A round of a trustee: reason, place, G, C and R. It enters the parts of its level and publishes for the next.
+#[no_mangle]
+pub extern "C" fn jugy_trustee_round(
+    candidates: usize,
+    grades: usize,
+    ballots: usize,
+    table: &[u32],
+    trustees: usize,
+    trustee: usize,
+    round: usize,
+    levels: &[u32],
+    dealt: &[u8],
+    heard: &[u8],
+    wires: &mut [u8],
+    published: &mut [u8],
+    answer: &mut [usize],
+) -> usize
+    ensures { λ r.
+        ⌜ record {
+          returned = r;
+          answer = now (answer .exit);
+          lent = now (wires .exit) ∷ now (published .exit) ∷ [];
+        } ≡ roundCall (shapeOf candidates grades ballots) (now (table .entry)) trustees trustee round
+        (now (levels .entry)) (now (dealt .entry)) (now (heard .entry)) (now (wires .entry)) (now (published .entry))
+        (now (answer .entry)) ⌝ }
+{
+    if answer.len() < DEPTH_ANSWER {
+        return SHORT_ANSWER;
+    }
+    let shape = Shape {
+        candidates,
+        grades,
+        ballots,
+    };
+    let outcome = trustee_alone::round::round(
+        shape,
+        table,
+        trustees,
+        trustee,
+        round,
+        levels,
+        dealt,
+        heard,
+        wires,
+        published,
+    );
+    put_depths(outcome, answer)
+}
+
+// A trustee finishes: reason, place, G and C. Its wire parts are zeros.
+#[no_mangle]
+pub extern "C" fn jugy_trustee_finish(
+    candidates: usize,
+    grades: usize,
+    ballots: usize,
+    table: &[u32],
+    wires: &mut [u8],
+    answer: &mut [usize],
+) -> usize
+    ensures { λ r.
+        ⌜ record { returned = r; answer = now (answer .exit); lent = now (wires .exit) ∷ [] }
+        ≡ finishCall (shapeOf candidates grades ballots) (now (table .entry)) (now (wires .entry))
+        (now (answer .entry)) ⌝ }
+{
+    if answer.len() < SIZE_ANSWER {
+        return SHORT_ANSWER;
+    }
+    let shape = Shape {
+        candidates,
+        grades,
+        ballots,
+    };
+    let outcome = trustee_alone::finish::finish(shape, table, wires);
+    put_size(outcome, answer)
+}

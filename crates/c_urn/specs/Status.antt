@@ -1,0 +1,31 @@
+-- What the status of a call on an urn means, whatever is handed and lent: the reasons of these calls end at 15, those
+-- of a run on an urn at 13. A preview answers what the call itself would.
+use mathlib.Core.List.{List}
+use Prim.Native.Nat.{ℕ}
+use Rattle.jury.specs.declared.shape.Shape.{Shape}
+use Rattle.urn.specs.Empty.{emptyOutcome}
+use Rattle.urn.specs.Admit.{admitOutcome}
+use Rattle.urn.specs.Withdraw.{withdrawOutcome}
+use Rattle.urn_run.specs.Run.{urnRunResult}
+use Rattle.c_answers.specs.Numbers.{oneAnswer, sizeAnswer, oneNumber, sizeNumbers}
+use Rattle.c_answers.specs.Status.{isAccepted, StatusReads}
+
+abbrev pub lastReason : ℕ
+lastReason = 15
+
+abbrev pub lastRunReason : ℕ
+lastRunReason = 13
+
+pub record StatusMeans : Type 0 where
+  pub empty : (k d : ℕ) (table answer : List ℕ)
+      → StatusReads lastReason oneAnswer (oneNumber (emptyOutcome k d table)) answer
+      (isAccepted (emptyOutcome k d table))
+  pub admit : (k d : ℕ) (urn : List ℕ) (juror : ℕ) (ballot answer : List ℕ)
+      → StatusReads lastReason oneAnswer (oneNumber (admitOutcome k d urn juror ballot)) answer
+      (isAccepted (admitOutcome k d urn juror ballot))
+  pub withdraw : (k d : ℕ) (urn : List ℕ) (juror : ℕ) (answer : List ℕ)
+      → StatusReads lastReason oneAnswer (oneNumber (withdrawOutcome k d urn juror)) answer
+      (isAccepted (withdrawOutcome k d urn juror))
+  pub runUrn : (s : Shape) (table urn tape wires board answer : List ℕ)
+      → StatusReads lastRunReason sizeAnswer (sizeNumbers (urnRunResult s table urn tape wires board .answer)) answer
+      (isAccepted (urnRunResult s table urn tape wires board .answer))

@@ -1,0 +1,20 @@
+// The answer of a call on an urn, as numbers in a lent array.
+use c_answers::array::put_one;
+use urn::answer::Answer;
+ghost use Prim.Native.Nat.{_≤_};
+ghost use lib.ListN.{length};
+ghost use Rattle.urn.specs.Facts.{countedBy};
+ghost use Rattle.c_answers.specs.Numbers.{oneAnswer, oneNumber};
+ghost use Rattle.c_answers.specs.inner.Puts.{Puts};
+
+// The answer, and its status.
+pub(crate) fn put_answer(outcome: Answer, answer: &mut [usize]) -> usize
+    requires { ⌜ oneAnswer ≤ length (now answer) ⌝ }
+    ensures { λ r.
+        ⌜ Puts oneAnswer (oneNumber (countedBy outcome)) (now (answer .entry)) (now (answer .exit)) r ⌝ }
+{
+    match outcome {
+        Answer::Accepted { ballots } => put_one(0, 0, ballots, answer),
+        Answer::Refused(reason) => put_one(reason.number(), reason.place(), 0, answer),
+    }
+}

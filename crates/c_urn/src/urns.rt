@@ -1,0 +1,103 @@
+// Empty urns, admission to an urn, withdrawal from it and their previews, as a C program calls them.
+use crate::answer::put_answer;
+use c_answers::array::ONE_ANSWER;
+use c_answers::array::SHORT_ANSWER;
+ghost use mathlib.Core.Path.{_≡_};
+ghost use mathlib.Core.List.{[], _∷_};
+ghost use Rattle.c_urn.specs.Calls.{emptyCall, admitCall, withdrawCall, previewAdmitCall, previewWithdrawCall};
+
+// Makes a table an empty urn: reason, place and the number of ballots, which is 0.
+#[no_mangle]
+pub extern "C" fn jugy_empty_urn(
+    candidates: usize,
+    grades: usize,
+    urn: &mut [u8],
+    answer: &mut [usize],
+) -> usize
+    ensures { λ r. ⌜ record { returned = r; answer = now (answer .exit); lent = now (urn .exit) ∷ [] }
+        ≡ emptyCall candidates grades (now (urn .entry)) (now (answer .entry)) ⌝ }
+{
+    if answer.len() < ONE_ANSWER {
+        return SHORT_ANSWER;
+    }
+    let outcome = urn::empty::empty(candidates, grades, urn);
+    put_answer(outcome, answer)
+}
+
+// Admits the ballot of a juror: reason, place and the new number of ballots.
+#[no_mangle]
+pub extern "C" fn jugy_admit(
+    candidates: usize,
+    grades: usize,
+    urn: &mut [u8],
+    juror: usize,
+    ballot: &[u8],
+    answer: &mut [usize],
+) -> usize
+    ensures { λ r. ⌜ record { returned = r; answer = now (answer .exit); lent = now (urn .exit) ∷ [] }
+        ≡ admitCall candidates grades (now (urn .entry)) juror (now (ballot .entry)) (now (answer .entry)) ⌝ }
+{
+    if answer.len() < ONE_ANSWER {
+        return SHORT_ANSWER;
+    }
+    let outcome = urn::admit::admit(candidates, grades, urn, juror, ballot);
+    put_answer(outcome, answer)
+}
+
+// Withdraws the ballot of a juror: reason, place and the new number of ballots.
+#[no_mangle]
+pub extern "C" fn jugy_withdraw(
+    candidates: usize,
+    grades: usize,
+    urn: &mut [u8],
+    juror: usize,
+    answer: &mut [usize],
+) -> usize
+    ensures { λ r. ⌜ record { returned = r; answer = now (answer .exit); lent = now (urn .exit) ∷ [] }
+        ≡ withdrawCall candidates grades (now (urn .entry)) juror (now (answer .entry)) ⌝ }
+{
+    if answer.len() < ONE_ANSWER {
+        return SHORT_ANSWER;
+    }
+    let outcome = urn::withdraw::withdraw(candidates, grades, urn, juror);
+    put_answer(outcome, answer)
+}
+
+// What an admission would answer. The urn is not altered.
+#[no_mangle]
+pub extern "C" fn jugy_preview_admit(
+    candidates: usize,
+    grades: usize,
+    urn: &[u8],
+    juror: usize,
+    ballot: &[u8],
+    answer: &mut [usize],
+) -> usize
+    ensures { λ r. ⌜ record { returned = r; answer = now (answer .exit); lent = [] }
+        ≡ previewAdmitCall candidates grades (now (urn .entry)) juror (now (ballot .entry)) (now (answer .entry)) ⌝ }
+{
+    if answer.len() < ONE_ANSWER {
+        return SHORT_ANSWER;
+    }
+    let outcome = urn::admit::preview(candidates, grades, urn, juror, ballot);
+    put_answer(outcome, answer)
+}
+
+// What a withdrawal would answer. The urn is not altered.
+#[no_mangle]
+pub extern "C" fn jugy_preview_withdraw(
+    candidates: usize,
+    grades: usize,
+    urn: &[u8],
+    juror: usize,
+    answer: &mut [usize],
+) -> usize
+    ensures { λ r. ⌜ record { returned = r; answer = now (answer .exit); lent = [] }
+        ≡ previewWithdrawCall candidates grades (now (urn .entry)) juror (now (answer .entry)) ⌝ }
+{
+    if answer.len() < ONE_ANSWER {
+        return SHORT_ANSWER;
+    }
+    let outcome = urn::withdraw::preview(candidates, grades, urn, juror);
+    put_answer(outcome, answer)
+}

@@ -1,4 +1,0 @@
-pub mod Slots
-pub mod Chains
-pub mod Sound
-pub mod Inner

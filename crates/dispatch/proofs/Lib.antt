@@ -1,0 +1,3 @@
+pub mod JuryTests
+pub mod Whole
+pub mod Theorems

@@ -1,0 +1,145 @@
+-- What holds of every call of the dispatcher (requests 2.8 and 2.13), over the definition that its contract equates
+-- with the answer and with all that is lent.
+use mathlib.Core.Path.{_≡_}
+use mathlib.Core.Logic.{_↔_, _⊎_}
+use mathlib.Core.Option.{none, some}
+use mathlib.Core.List.{List, [], _∷_}
+use Prim.Native.Nat.{ℕ, zero, suc, _*_, _≤_, _<_, min}
+use lib.ListN.{length, getD, replicate}
+use Rattle.gates.specs.Gate.{gatesOf}
+use Rattle.jury.specs.Reason.{Reason, reasonAt}
+use Rattle.tally.specs.Answer.{refused, accepted, outcome, Size, sizeOf}
+use Rattle.tally.specs.Write.{writeOutcome}
+use Rattle.tally.specs.Run.{RunResult, runResult}
+use Rattle.tally.specs.Hiding.{closingBytes, Hidden}
+use Rattle.tally.specs.SaysWhoWins.{SaysWhoWins}
+use Rattle.tally.specs.Memory.{Lent, KeepsMemory}
+use Rattle.tally.specs.Demands.{listIn}
+use Rattle.dispatch_rounds.specs.declared.header.JuryHeader.{JuryHeader}
+use Rattle.dispatch_rounds.specs.Tables.{Tables, lent, shapeOf, piecesOf, behind}
+use Rattle.dispatch_rounds.specs.Rounds.{roundsFor}
+use Rattle.dispatch.specs.Call.{Call, juriesIn}
+use Rattle.dispatch.specs.Result.{runBoard, dispatchResult}
+use Rattle.dispatch.specs.NoIdleRound.{juryAt}
+
+-- The tables without the pieces of the first j juries.
+unfoldable pub tablesFrom : ℕ → List JuryHeader → Tables → Tables
+tablesFrom zero ss t = t
+tablesFrom (suc j) [] t = t
+tablesFrom (suc j) (s ∷ ss) t = tablesFrom j ss (behind s t)
+
+-- Jury j's pieces.
+abbrev pub piecesAt : ℕ → List JuryHeader → Tables → Tables
+piecesAt j ss t = piecesOf (juryAt j ss) (tablesFrom j ss t)
+
+-- What an undivided run on them answers and leaves.
+abbrev pub runAt : ℕ → List JuryHeader → Tables → RunResult
+runAt j ss t =
+    let p = piecesAt j ss t in
+    runResult (shapeOf (juryAt j ss)) (p .lists) (p .ballots) (p .tapes) (p .wires) (p .boards)
+
+-- Such a run is accepted.
+abbrev pub RunsAt : ℕ → List JuryHeader → Tables → Type 0
+RunsAt j ss t = runAt j ss t .answer ≡ accepted (sizeOf (gatesOf (piecesAt j ss t .lists)))
+
+-- The tables after a call: lists, ballots and tapes are only read.
+abbrev pub tablesAfter : Call → Tables
+tablesAfter c =
+    let t = c .tables in
+    lent (t .lists) (t .ballots) (t .tapes) (dispatchResult c .wires) (dispatchResult c .boards)
+
+-- Of jury j in a call: what it stated, its pieces as they are lent, and its pieces after the call.
+abbrev pub jury : Call → ℕ → JuryHeader
+jury c j = juryAt j (juriesIn c)
+
+abbrev pub pieces : Call → ℕ → Tables
+pieces c j = piecesAt j (juriesIn c) (c .tables)
+
+abbrev pub piecesAfter : Call → ℕ → Tables
+piecesAfter c j = piecesAt j (juriesIn c) (tablesAfter c)
+
+-- The number of rounds: after r of them a jury has all its gates exactly where r is at least that number, and the next
+-- round gives it a gate exactly where r is below it.
+pub record RoundsExact : Type 0 where
+  pub finished : (gates quantum r : ℕ) → 1 ≤ quantum
+      → (min (r * quantum) gates ≡ gates) ↔ (roundsFor gates quantum ≤ r)
+  pub given : (gates quantum r : ℕ) → 1 ≤ quantum
+      → (min (r * quantum) gates < min (suc r * quantum) gates) ↔ (r < roundsFor gates quantum)
+
+-- Jury j of a call is accepted with all others.
+pub record AcceptedJury (c : Call) (j : ℕ) : Type 0 where
+  pub accepts : dispatchResult c .reason ≡ none
+  pub among : j < length (juriesIn c)
+
+-- Such a jury, whatever the other juries are.
+pub record EachJury (c : Call) (j : ℕ) : Type 0 where
+  pub rounds : getD (dispatchResult c .rounds) j 0 ≡ roundsFor (jury c j .gates) (c .quantum)
+  -- an undivided run on its pieces is accepted, and leaves the board that the call leaves it
+  pub runs : RunsAt j (juriesIn c) (c .tables)
+  -- its wires are emptied
+  pub emptied : piecesAfter c j .wires ≡ replicate (length (pieces c j .wires)) 0
+  pub board : piecesAfter c j .boards ≡ runBoard (jury c j) (pieces c j)
+
+-- Jury j of one call and jury i of another.
+pub record SameInputs (c c′ : Call) (j i : ℕ) : Type 0 where
+  pub header : jury c j ≡ jury c′ i
+  pub list : pieces c j .lists ≡ pieces c′ i .lists
+  pub ballots : pieces c j .ballots ≡ pieces c′ i .ballots
+  pub tape : pieces c j .tapes ≡ pieces c′ i .tapes
+
+-- They have the same board, whatever else is lent and whatever the two quanta are; for equal quanta they take as many
+-- rounds.
+pub record SameJury (c c′ : Call) (j i : ℕ) : Type 0 where
+  pub board : piecesAfter c j .boards ≡ piecesAfter c′ i .boards
+  pub rounds : c .quantum ≡ c′ .quantum → getD (dispatchResult c .rounds) j 0 ≡ getD (dispatchResult c′ .rounds) i 0
+
+-- The reason r is that of the first jury that is turned away: its place is one of the juries, runs on the pieces of all
+-- juries before that are accepted, and a run on this jury's is refused with the number of r.
+pub record FirstRefused (ss : List JuryHeader) (t : Tables) (r : Reason) : Type 0 where
+  pub among : r .place < length ss
+  pub before : (j : ℕ) → j < r .place → RunsAt j ss t
+  pub its : Reason
+  pub number : r .number ≡ its .number
+  pub run : runAt (r .place) ss t .answer ≡ refused its
+
+-- A refusal is 19 or 20 at place 0, or the reason of the first jury that is turned away. It answers no rounds.
+pub record Refusals : Type 0 where
+  pub named : (c : Call) (r : Reason) → dispatchResult c .reason ≡ some r
+      → (r ≡ reasonAt 19 0) ⊎ (r ≡ reasonAt 20 0) ⊎ FirstRefused (juriesIn c) (c .tables) r
+  pub no-rounds : (c : Call) (r : Reason) → dispatchResult c .reason ≡ some r → dispatchResult c .rounds ≡ replicate 8 0
+
+-- Demand 1. The call may write to two tables. It empties each jury's piece of the wires (`EachJury`), so none as a
+-- whole.
+abbrev pub DispatchMemory : Call → Type 0
+DispatchMemory c =
+    let wires : Lent = record { before = c .tables .wires; after = dispatchResult c .wires } in
+    let boards : Lent = record { before = c .tables .boards; after = dispatchResult c .boards } in
+    KeepsMemory (19 ∷ 20 ∷ 1 ∷ 2 ∷ 3 ∷ 4 ∷ 5 ∷ 6 ∷ 11 ∷ 12 ∷ 7 ∷ 8 ∷ 9 ∷ 10 ∷ [])
+    (outcome (dispatchResult c .reason) (dispatchResult c .rounds)) (wires ∷ boards ∷ []) []
+
+-- No call, accepted or refused, alters what lies behind the last jury's piece.
+pub record Untouched (c : Call) : Type 0 where
+  pub wires : tablesFrom (length (juriesIn c)) (juriesIn c) (tablesAfter c) .wires
+      ≡ tablesFrom (length (juriesIn c)) (juriesIn c) (c .tables) .wires
+  pub boards : tablesFrom (length (juriesIn c)) (juriesIn c) (tablesAfter c) .boards
+      ≡ tablesFrom (length (juriesIn c)) (juriesIn c) (c .tables) .boards
+
+pub record Dispatching : Type 0 where
+  pub exact : RoundsExact
+  pub memory : (c : Call) → DispatchMemory c
+  pub untouched : (c : Call) → Untouched c
+  pub refusals : Refusals
+  pub each : (c : Call) (j : ℕ) → AcceptedJury c j → EachJury c j
+  pub same : (c c′ : Call) (j i : ℕ) → AcceptedJury c j → AcceptedJury c′ i → SameInputs c c′ j i → SameJury c c′ j i
+  -- demand 2, for a jury whose list is the one that the core writes for its shape, into whatever table
+  pub accuracy : (c : Call) (j : ℕ) (table : List ℕ) (size : Size) → AcceptedJury c j
+      → writeOutcome (shapeOf (jury c j)) table ≡ accepted size
+      → pieces c j .lists ≡ listIn (shapeOf (jury c j)) size table
+      → let s = shapeOf (jury c j) in SaysWhoWins s (pieces c j .ballots) (closingBytes s (piecesAfter c j .boards))
+  -- demand 3, for two juries of one shape and one list whose boards end with the same closing bytes
+  pub hiding : (c c′ : Call) (j i : ℕ) → AcceptedJury c j → AcceptedJury c′ i
+      → jury c j ≡ jury c′ i → pieces c j .lists ≡ pieces c′ i .lists
+      → let s = shapeOf (jury c j) in closingBytes s (piecesAfter c j .boards)
+      ≡ closingBytes s (piecesAfter c′ i .boards)
+      → let p = pieces c j in let q = pieces c′ i in
+      Hidden s (p .lists) (p .ballots) (q .ballots) (p .wires) (q .wires) (p .boards) (q .boards)

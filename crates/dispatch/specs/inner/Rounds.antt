@@ -1,0 +1,73 @@
+-- What the functions inside this crate ask and promise.
+use mathlib.Core.Path.{_≡_}
+use mathlib.Core.Option.{Option, none, some}
+use mathlib.Core.List.{List, [], _∷_}
+use Prim.Native.Nat.{ℕ, _+_, _*_, _≤_, max}
+use lib.ListN.{take}
+use Rattle.gates.specs.Gate.{gatesOf}
+use Rattle.gates.specs.Board.{conditionalCount}
+use Rattle.jury.specs.Shape.{ballotBytes}
+use Rattle.jury.specs.Reason.{Reason, reasonOf, firstOf}
+use Rattle.tally.specs.Answer.{Outcome, outcome, Size, sizeOf}
+use Rattle.tally.specs.declared.answer.Answer.{Answer}
+use Rattle.tally.specs.declared.answer.Answer.the-variants as answer
+use Rattle.dispatch_rounds.specs.declared.header.JuryHeader.{JuryHeader}
+use Rattle.dispatch_rounds.specs.Tables.{Tables, shapeOf, listOf}
+use Rattle.dispatch_rounds.specs.Reasons.{reasonsOf, juryReasons}
+use Rattle.dispatch_rounds.specs.Rounds.{eightOf, RoundState}
+use Rattle.dispatch.specs.declared.verdict.Tests.{Tests}
+use Rattle.dispatch.specs.Call.{Call, juriesIn}
+use Rattle.dispatch.specs.NoIdleRound.{NoIdleRound}
+use Rattle.dispatch.specs.Reasons.{verdictReason}
+
+-- The wires of all juries.
+unfoldable pub wireBytes : List JuryHeader → ℕ
+wireBytes [] = 0
+wireBytes (s ∷ ss) = ballotBytes (shapeOf s) + s .gates + wireBytes ss
+
+-- The most gates of a jury.
+unfoldable pub mostGates : List JuryHeader → ℕ
+mostGates [] = 0
+mostGates (s ∷ ss) = max (s .gates) (mostGates ss)
+
+-- How many conditional gates a jury has, by its piece of the lists.
+abbrev pub conditionalOf : JuryHeader → Tables → ℕ
+conditionalOf s p = conditionalCount (gatesOf (p .lists))
+
+-- What the tests of one jury answer, on what is left of the tables: its first reason, or the size of its list.
+abbrev pub JuryTested : JuryHeader → Tables → Outcome Size → Type 0
+JuryTested s t answer = answer ≡ outcome (firstOf (reasonsOf s t)) (sizeOf (gatesOf (listOf s t)))
+
+-- What the tests of all juries found.
+pub record TestsFound (ss : List JuryHeader) (t : Tables) (r : Tests) : Type 0 where
+  pub reason : verdictReason (r .verdict) ≡ firstOf (juryReasons 0 ss t)
+  pub conditional : verdictReason (r .verdict) ≡ none → r .conditional ≡ eightOf conditionalOf ss t
+  pub wires : verdictReason (r .verdict) ≡ none → r .wires ≡ wireBytes ss
+
+-- The reason that is the answer of a jury's tests, if any.
+unfoldable pub refusalIn : Answer → Option Reason
+refusalIn (answer.Accepted gates conditional) = none
+refusalIn (answer.Refused r) = some (reasonOf r)
+
+-- What the rounds ask: juries that are not turned away.
+pub record Ready (c : Call) (conditional : List ℕ) : Type 0 where
+  pub few : c .count ≤ 8
+  pub quantum-least : 1 ≤ c .quantum
+  pub quantum-most : c .quantum ≤ 65536
+  pub accepted : firstOf (juryReasons 0 (juriesIn c) (c .tables)) ≡ none
+  pub conditionalAre : conditional ≡ eightOf conditionalOf (juriesIn c) (c .tables)
+
+-- What the numbers of rounds ask: none of the sums wraps.
+pub record RoundsSmall (count : ℕ) (headers : List JuryHeader) (quantum : ℕ) : Type 0 where
+  pub few : count ≤ 8
+  pub quantum-least : 1 ≤ quantum
+  pub quantum-most : quantum ≤ 65536
+  pub gates-most : mostGates (take count headers) ≤ 1048576
+
+-- What they leave: so many rounds are done that every jury has done all its gates, and none of them was idle.
+pub record Finished (c : Call) (conditional wires boards : List ℕ) : Type 0 where
+  pub done : ℕ
+  pub shown : List ℕ
+  pub all : mostGates (juriesIn c) ≤ done * c .quantum
+  pub none-idle : NoIdleRound (c .quantum) done (juriesIn c)
+  pub state : RoundState (done * c .quantum) (juriesIn c) (c .tables) conditional wires boards shown

@@ -1,0 +1,201 @@
+// The entry point of the dispatcher.
+use crate::tests::test_juries;
+use crate::verdict::JuriesVerdict;
+use dispatch_rounds::header::JuryHeader;
+use dispatch_rounds::round::round;
+use jury::reason::Refusal;
+ghost use mathlib.Core.Path.{_≡_};
+ghost use mathlib.Core.Bool.{_&&_};
+ghost use Prim.Native.Nat.{_≤_, max};
+ghost use lib.Dec.{leb};
+ghost use lib.ListN.{take};
+ghost use Rattle.dispatch_rounds.specs.Tables.{Tables, lent};
+ghost use Rattle.dispatch.specs.Reasons.{verdictReason};
+ghost use Rattle.dispatch_rounds.specs.Rounds.{eightOf, roundsFor};
+ghost use Rattle.dispatch.specs.Result.{DispatchResult, dispatchResult};
+ghost use Rattle.dispatch.specs.inner.Rounds.{Ready, RoundsSmall, Finished, mostGates};
+
+pub const LEAST_JURIES: usize = 1;
+
+pub const MOST_JURIES: usize = 8;
+
+pub const LEAST_QUANTUM: usize = 1;
+
+pub const MOST_QUANTUM: usize = 65536;
+
+// The answer of a call: its verdict, and how many rounds each jury took; 0 where there is no jury, and all 0 on a
+// refusal.
+pub struct Dispatched {
+    pub verdict: JuriesVerdict,
+    pub rounds: [usize; 8],
+}
+
+// Whether a number lies between two others.
+fn is_between(least: usize, n: usize, most: usize) -> bool
+    ensures { λ r. ⌜ r ≡ (leb least n && leb n most) ⌝ }
+{
+    least <= n && n <= most
+}
+
+// The larger of two numbers.
+fn larger(a: usize, b: usize) -> usize
+    ensures { λ r. ⌜ r ≡ max a b ⌝ }
+{
+    if a <= b { b } else { a }
+}
+
+// The number of gates of the longest jury.
+fn most_gates(count: usize, headers: [JuryHeader; 8]) -> usize
+    requires { ⌜ count ≤ 8 ⌝ }
+    ensures { λ r. ⌜ r ≡ mostGates (take count headers) ⌝ }
+{
+    let mut most = 0;
+    let mut j = 0;
+    while j < count {
+        let header = headers[j];
+        most = larger(most, header.gates);
+        j += 1;
+    }
+    most
+}
+
+// How many rounds each jury takes, which no other jury changes.
+fn rounds_of(count: usize, headers: [JuryHeader; 8], quantum: usize) -> [usize; 8]
+    requires { ⌜ RoundsSmall count headers quantum ⌝ }
+    ensures { λ r.
+        ⌜ ((t : Tables)
+        → r ≡ eightOf (λ (s : JuryHeader) (p : Tables). roundsFor (s .gates) quantum) (take count headers) t) ⌝ }
+{
+    let mut rounds = [0usize; 8];
+    let mut j = 0;
+    while j < count {
+        let header = headers[j];
+        rounds[j] = (header.gates + (quantum - 1)) / quantum;
+        j += 1;
+    }
+    rounds
+}
+
+// Round after round, until the longest jury is finished.
+fn run_rounds(
+    count: usize,
+    headers: [JuryHeader; 8],
+    conditional: [usize; 8],
+    quantum: usize,
+    lists: &[u32],
+    ballots: &[u8],
+    tapes: &[u8],
+    wires: &mut [u8],
+    boards: &mut [u8],
+)
+    requires { ⌜ Ready (record {
+      count = count;
+      headers = headers;
+      quantum = quantum;
+      tables = lent (now lists) (now ballots) (now tapes) (now wires) (now boards);
+    }) conditional ⌝ }
+    ensures { λ _.
+        ⌜ Finished (record {
+          count = count;
+          headers = headers;
+          quantum = quantum;
+          tables = lent (now (lists .entry)) (now (ballots .entry)) (now (tapes .entry)) (now (wires .entry))
+              (now (boards .entry));
+        }) conditional (now (wires .exit)) (now (boards .exit)) ⌝ }
+{
+    let most = most_gates(count, headers);
+    let mut shown = [0usize; 8];
+    let mut done = 0;
+    while done * quantum < most {
+        let after = round(
+            count,
+            headers,
+            conditional,
+            done,
+            quantum,
+            shown,
+            lists,
+            ballots,
+            tapes,
+            wires,
+            boards,
+        );
+        shown = after;
+        done += 1;
+    }
+}
+
+// Runs up to eight juries in rounds, in each of which a jury gets a quantum of gates at most. Their pieces lie one
+// behind the other in the five tables, and headers past the number of juries are not looked at. The wires are emptied
+// in the end.
+pub fn dispatch(
+    count: usize,
+    headers: [JuryHeader; 8],
+    quantum: usize,
+    lists: &[u32],
+    ballots: &[u8],
+    tapes: &[u8],
+    wires: &mut [u8],
+    boards: &mut [u8],
+) -> Dispatched
+    ensures { λ r.
+        ⌜ _≡_ {A = DispatchResult}
+        (record {
+          reason = verdictReason (r .verdict);
+          rounds = r .rounds;
+          wires = now (wires .exit);
+          boards = now (boards .exit);
+        })
+        (dispatchResult (record {
+          count = count;
+          headers = headers;
+          quantum = quantum;
+          tables = lent (now (lists .entry)) (now (ballots .entry)) (now (tapes .entry)) (now (wires .entry))
+              (now (boards .entry));
+        })) ⌝ }
+{
+    if !is_between(LEAST_JURIES, count, MOST_JURIES) {
+        return Dispatched {
+            verdict: JuriesVerdict::Refused {
+                reason: Refusal::Juries,
+                jury: 0,
+            },
+            rounds: [0usize; 8],
+        };
+    }
+    if !is_between(LEAST_QUANTUM, quantum, MOST_QUANTUM) {
+        return Dispatched {
+            verdict: JuriesVerdict::Refused {
+                reason: Refusal::GatesPerRound,
+                jury: 0,
+            },
+            rounds: [0usize; 8],
+        };
+    }
+    let tests = test_juries(count, headers, lists, ballots, tapes, wires, boards);
+    let verdict = tests.verdict;
+    let JuriesVerdict::Accepted = verdict else {
+        return Dispatched {
+            verdict,
+            rounds: [0usize; 8],
+        };
+    };
+    let conditional = tests.conditional;
+    let end = tests.wires;
+    run_rounds(
+        count,
+        headers,
+        conditional,
+        quantum,
+        lists,
+        ballots,
+        tapes,
+        wires,
+        boards,
+    );
+    basics::table::empty(&mut wires[..end]);
+    Dispatched {
+        verdict,
+        rounds: rounds_of(count, headers, quantum),
+    }
+}

@@ -1,0 +1,4 @@
+pub mod Pieces
+pub mod Passed
+pub mod JuryStates
+pub mod MidRound

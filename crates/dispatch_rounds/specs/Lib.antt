@@ -1,0 +1,4 @@
+pub mod Tables
+pub mod Reasons
+pub mod Rounds
+pub mod inner

@@ -1,0 +1,72 @@
+-- The five tables that are lent for all juries of a call, and the pieces that a jury has in them (request 2.8).
+use mathlib.Core.Bool.{cond}
+use mathlib.Core.List.{List, [], _∷_, _++_}
+use Prim.Native.Nat.{ℕ, _+_, _*_}
+use lib.Dec.{leb}
+use lib.ListN.{length, take, drop}
+use Rattle.gates.specs.Gate.{gatesOf}
+use Rattle.gates.specs.Board.{conditionalCount}
+use Rattle.jury.specs.declared.shape.Shape.{Shape}
+use Rattle.jury.specs.Shape.{ballotBytes}
+use Rattle.dispatch_rounds.specs.declared.header.JuryHeader.{JuryHeader}
+
+pub record Tables : Type 0 where
+  pub lists : List ℕ
+  pub ballots : List ℕ
+  pub tapes : List ℕ
+  pub wires : List ℕ
+  pub boards : List ℕ
+
+abbrev pub lent : List ℕ → List ℕ → List ℕ → List ℕ → List ℕ → Tables
+lent lists ballots tapes wires boards = record {
+  lists = lists;
+  ballots = ballots;
+  tapes = tapes;
+  wires = wires;
+  boards = boards;
+}
+
+abbrev pub shapeOf : JuryHeader → Shape
+shapeOf s = record { candidates = s .candidates; grades = s .grades; ballots = s .ballots }
+
+-- A piece of n elements, where there are m: all n where they fit, and none where they do not.
+unfoldable pub fitting : ℕ → ℕ → ℕ
+fitting n m = cond (leb n m) n 0
+
+-- The first n elements where there are so many. A piece without room is empty; it is too short then, since no jury has
+-- an empty piece but a tape for no conditional gate, which always fits.
+unfoldable pub pieceOf : ℕ → List ℕ → List ℕ
+pieceOf n xs = take (fitting n (length xs)) xs
+
+-- The numbers of the first jury's list: four a gate.
+unfoldable pub listOf : JuryHeader → Tables → List ℕ
+listOf s t = pieceOf (4 * s .gates) (t .lists)
+
+-- C of the first jury, by the marks of its own list.
+unfoldable pub conditionalIn : JuryHeader → Tables → ℕ
+conditionalIn s t = conditionalCount (gatesOf (listOf s t))
+
+-- The first jury's pieces: 4G numbers, I ballot bytes, C tape bytes, I + G wires and C + k board bytes.
+unfoldable pub piecesOf : JuryHeader → Tables → Tables
+piecesOf s t =
+    lent
+    (listOf s t)
+    (pieceOf (ballotBytes (shapeOf s)) (t .ballots))
+    (pieceOf (conditionalIn s t) (t .tapes))
+    (pieceOf (ballotBytes (shapeOf s) + s .gates) (t .wires))
+    (pieceOf (conditionalIn s t + s .candidates) (t .boards))
+
+-- What is left of the tables behind these pieces, where the next jury's begin.
+unfoldable pub behind : JuryHeader → Tables → Tables
+behind s t =
+    lent
+    (drop (4 * s .gates) (t .lists))
+    (drop (ballotBytes (shapeOf s)) (t .ballots))
+    (drop (conditionalIn s t) (t .tapes))
+    (drop (ballotBytes (shapeOf s) + s .gates) (t .wires))
+    (drop (conditionalIn s t + s .candidates) (t .boards))
+
+-- A table made of a piece for each jury, one after the other, and what lies behind the last.
+unfoldable pub through : (JuryHeader → Tables → List ℕ) → (Tables → List ℕ) → List JuryHeader → Tables → List ℕ
+through piece rest [] t = rest t
+through piece rest (s ∷ ss) t = piece s (piecesOf s t) ++ through piece rest ss (behind s t)

@@ -1,0 +1,65 @@
+-- What the functions inside this crate ask and promise.
+use mathlib.Core.Path.{_≡_}
+use mathlib.Core.List.{List}
+use Prim.Native.Nat.{ℕ, _+_, _*_, _≤_, _<_}
+use lib.Dec.{T}
+use lib.ListN.{length, take}
+use Rattle.gates.specs.Gate.{gatesOf}
+use Rattle.gates.specs.inner.Step.{RunReady}
+use Rattle.jury.specs.Shape.{withinLimits, ballotBytes}
+use Rattle.dispatch_rounds.specs.declared.header.JuryHeader.{JuryHeader}
+use Rattle.dispatch_rounds.specs.declared.header.Places.{Places}
+use Rattle.dispatch_rounds.specs.Tables.{Tables, lent, shapeOf}
+use Rattle.dispatch_rounds.specs.Rounds.{juryWires, juryBoard, juryShown, RoundState}
+
+-- Where the next jury's pieces begin.
+abbrev pub placesAfter : Places → JuryHeader → ℕ → Places
+placesAfter at s c =
+    record {
+      lists = at .lists + 4 * s .gates;
+      ballots = at .ballots + ballotBytes (shapeOf s);
+      tapes = at .tapes + c;
+      wires = at .wires + (ballotBytes (shapeOf s) + s .gates);
+      boards = at .boards + (c + s .candidates);
+    }
+
+-- None of these places wraps.
+pub record PlacesFit (at : Places) (s : JuryHeader) (c : ℕ) : Type 0 where
+  pub within : T (withinLimits (shapeOf s))
+  pub lists : at .lists + 4 * s .gates < 18446744073709551616
+  pub ballots : at .ballots + ballotBytes (shapeOf s) < 18446744073709551616
+  pub tapes : at .tapes + c < 18446744073709551616
+  pub wires : at .wires + (ballotBytes (shapeOf s) + s .gates) < 18446744073709551616
+  pub boards : at .boards + (c + s .candidates) < 18446744073709551616
+
+-- One jury under way on its pieces p, as they were lent.
+pub record JuryState (given : ℕ) (s : JuryHeader) (p : Tables) (wires board : List ℕ) (shown : ℕ) : Type 0 where
+  pub run : RunReady (p .ballots) (p .lists) (s .candidates) (p .tapes) (p .wires) (p .boards)
+  pub some-gate : 1 ≤ s .gates
+  pub gates : length (gatesOf (p .lists)) ≡ s .gates
+  pub wiresAre : wires ≡ juryWires given s p
+  pub boardIs : board ≡ juryBoard given s p
+  pub count : shown ≡ juryShown given s p
+
+-- What a turn asks: a jury under way, for some earlier contents of its wire table and board.
+pub record TurnReady (given quantum : ℕ) (s : JuryHeader) (list ballots tape wires board : List ℕ) (shown : ℕ) : Type
+    0 where
+  pub quantum-least : 1 ≤ quantum
+  pub quantum-most : quantum ≤ 65536
+  pub wires-lent : List ℕ
+  pub board-lent : List ℕ
+  pub state : JuryState given s (lent list ballots tape wires-lent board-lent) wires board shown
+
+-- What a round asks: a call that stands between two rounds. A jury has at most 1,048,576 gates, so no more rounds come
+-- before one.
+pub record RoundReady (count : ℕ) (headers : List JuryHeader) (done quantum : ℕ) (lists ballots tapes : List ℕ)
+    (conditional wires boards shown : List ℕ) : Type 0 where
+  pub few : count ≤ 8
+  pub quantum-least : 1 ≤ quantum
+  pub quantum-most : quantum ≤ 65536
+  pub done-most : done ≤ 1048576
+  pub wires-lent : List ℕ
+  pub boards-lent : List ℕ
+  pub state : RoundState (done * quantum) (take count headers) (lent lists ballots tapes wires-lent boards-lent)
+      conditional
+      wires boards shown

@@ -1,0 +1,132 @@
+// A round: each jury that is not finished gets up to so many gates, in jury order.
+use crate::header::JuryHeader;
+use crate::header::Places;
+ghost use mathlib.Core.Path.{_≡_};
+ghost use mathlib.Core.Bool.{cond};
+ghost use mathlib.Core.List.{List, _++_};
+ghost use Prim.Native.Nat.{ℕ, suc, _+_, _*_, _≤_};
+ghost use lib.Dec.{eqb};
+ghost use lib.ListN.{length, take, drop};
+ghost use Rattle.dispatch_rounds.specs.Tables.{lent};
+ghost use Rattle.dispatch_rounds.specs.Rounds.{RoundState};
+ghost use Rattle.dispatch_rounds.specs.inner.State.{JuryState, TurnReady, RoundReady};
+
+// Puts a jury's ballots in its wire table with its first gate.
+fn load(given: usize, ballots: &[u8], wires: &mut [u8])
+    requires { ⌜ length (now ballots) ≤ length (now wires) ⌝ }
+    ensures { λ _.
+        ⌜ now (wires .exit)
+        ≡ cond (eqb given 0)
+        (take (length (now (ballots .entry))) (now (ballots .entry))
+        ++ drop (length (now (ballots .entry))) (now (wires .entry)))
+        (now (wires .entry)) ⌝ }
+{
+    if given == 0 {
+        bytes::copy(ballots, wires);
+    }
+}
+
+// One jury's part of a round, on its own pieces: its next gates, a quantum of them at most. With the last gate the
+// closing bytes are put on the board. Answers the number of shown bits.
+fn turn(
+    header: JuryHeader,
+    given: usize,
+    quantum: usize,
+    shown: usize,
+    list: &[u32],
+    ballots: &[u8],
+    tape: &[u8],
+    wires: &mut [u8],
+    board: &mut [u8],
+) -> usize
+    requires { ⌜ TurnReady given quantum header (now list) (now ballots) (now tape) (now wires) (now board) shown ⌝ }
+    ensures { λ r.
+        ⌜ ((ws bs : List ℕ) → let p = lent (now (list .entry)) (now (ballots .entry)) (now (tape .entry)) ws bs in
+        JuryState given header p (now (wires .entry)) (now (board .entry)) shown
+        → JuryState (given + quantum) header p (now (wires .exit)) (now (board .exit)) r) ⌝ }
+{
+    let gates = header.gates;
+    if gates <= given {
+        return shown;
+    }
+    load(given, ballots, wires);
+    let inputs = ballots.len();
+    if gates - given <= quantum {
+        let last = gates::step::step(inputs, list, given, gates, tape, shown, wires, board);
+        gates::step::close(header.candidates, wires, last, board);
+        return last;
+    }
+    gates::step::step(
+        inputs,
+        list,
+        given,
+        given + quantum,
+        tape,
+        shown,
+        wires,
+        board,
+    )
+}
+
+// One round more, `done` rounds having been before it. `RoundState` says what stands in the tables between two rounds:
+// of each jury the gates of all rounds so far, and nothing of a later gate. `before` holds how many bytes each jury
+// has shown; the answer holds how many it has shown after the round.
+pub fn round(
+    count: usize,
+    headers: [JuryHeader; 8],
+    conditional: [usize; 8],
+    done: usize,
+    quantum: usize,
+    before: [usize; 8],
+    lists: &[u32],
+    ballots: &[u8],
+    tapes: &[u8],
+    wires: &mut [u8],
+    boards: &mut [u8],
+) -> [usize; 8]
+    requires { ⌜ RoundReady count headers done quantum (now lists) (now ballots) (now tapes) conditional (now wires)
+        (now boards) before ⌝ }
+    ensures { λ r.
+        ⌜ ((ws bs : List ℕ) → let t = lent (now (lists .entry)) (now (ballots .entry)) (now (tapes .entry)) ws bs in
+        RoundState (done * quantum) (take count headers) t conditional (now (wires .entry)) (now (boards .entry)) before
+        → RoundState (suc done * quantum) (take count headers) t conditional (now (wires .exit)) (now (boards .exit))
+        r) ⌝ }
+{
+    let given = done * quantum;
+    let mut shown = before;
+    let mut at = Places {
+        lists: 0,
+        ballots: 0,
+        tapes: 0,
+        wires: 0,
+        boards: 0,
+    };
+    let mut j = 0;
+    while j < count {
+        let header = headers[j];
+        let l = at.lists;
+        let b = at.ballots;
+        let t = at.tapes;
+        let w = at.wires;
+        let o = at.boards;
+        at = at.after(header, conditional[j]);
+        let l_end = at.lists;
+        let b_end = at.ballots;
+        let t_end = at.tapes;
+        let w_end = at.wires;
+        let o_end = at.boards;
+        shown[j] = turn(
+            header,
+            given,
+            quantum,
+            shown[j],
+            &lists[l..l_end],
+            &ballots[b..b_end],
+            &tapes[t..t_end],
+            &mut wires[w..w_end],
+            &mut boards[o..o_end],
+        );
+        j += 1;
+    }
+    shown
+}

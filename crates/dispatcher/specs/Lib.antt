@@ -1,4 +1,0 @@
-pub mod Reasons
-pub mod Dispatch
-pub mod Inner
-pub mod Theorems

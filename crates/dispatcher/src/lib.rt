@@ -1,4 +1,0 @@
-// One unit for up to eight juries: a layer above the run that works in rounds (request 2.8).
-pub mod dispatch;
-pub mod outcome;
-mod tests;

@@ -1,0 +1,34 @@
+-- `gate_adders::counter::counter` meets its contract: the levels, and then the copies of their sums.
+-- Assumes nothing.
+use native.Mathlib.Omega.{arith}
+use borrow.Author.Needs.{needs}
+use Rattle.gate_words.specs.Counter.{counter}
+use Rattle.gate_words.proofs.Writing.{wrote-both, room-after}
+use Rattle.gate_words.proofs.CounterSteps.{length-count}
+use Rattle.gate_adders.proofs.counter.counter.Statement.{statement}
+use Rattle.gate_adders.proofs.counter.counter.Tie as tie
+
+count-levels-requires : tie.Need-count-levels-requires
+count-levels-requires c κs = search needs
+
+count-digits-requires : tie.Need-count-digits-requires
+count-digits-requires c κs =
+    let s = c .before .before .before .before .before .before in
+    let a = s .args in
+    let w = c .before .before .before .count-levels in
+    let n = length-count (a .start .wire) (a .first) (a .stride) (a .count) (a .extra) (a .levels) in (
+      room-after (a .start) (a .table .now) _ (w .last .1 .0) (w .result) _ _ (w .ensures) (omega (arith, n)) (s .pre .0),
+      (omega (arith, n, w .ensures .wires), (s .pre .1 .1 .1, s .pre .1 .1 .2)),
+    )
+
+same-length : tie.Need-same-length
+same-length c = omega arith
+
+returns : tie.Need-returns
+unfolding counter
+returns c =
+    let a = c .before .before .before .before .before .before .before .before .before .args in
+    wrote-both (a .start) (a .table .now) _ _ _ _ _ _ (c .before .before .before .before .before .before .count-levels .ensures) (c .before .before .count-digits .ensures)
+
+pub counter-spec : {M : Type 1} → statement M
+counter-spec = tie.close (tie.spec count-levels-requires count-digits-requires same-length returns)

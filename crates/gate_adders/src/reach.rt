@@ -1,0 +1,111 @@
+// Whether the sum of two words and a public bit has a digit more than they: a carry without the sum.
+use gate_words::choice::chain_end;
+use gate_words::writer::Writer;
+use gates::kind;
+ghost use Prim.Native.Nat.{suc, _+_, _*_, _≤_};
+ghost use Rattle.gate_words.specs.Writing.{Room, Wrote};
+ghost use Rattle.gate_words.specs.Reach.{carryBit, carries, carriesBy, highReach, reachHalves, reach, reachSpan};
+
+// The carry out of one digit and the public bit.
+fn carry_bit(w: Writer, table: &mut [u32], x: u32, y: u32, bit: u32) -> Writer
+    requires { ⌜ Room w 1 ⌝ }
+    ensures { λ r. ⌜ Wrote w (now (table .entry)) (carryBit x y bit) (now (table .exit)) r ⌝ }
+{
+    if bit == 0 {
+        return w.emit(table, kind::AND, x, y, 0);
+    }
+    w.emit(table, kind::OR, x, y, 0)
+}
+
+// The carry out of one digit and the wire `carry`.
+fn carry_next(w: Writer, table: &mut [u32], x: u32, y: u32, carry: u32) -> Writer
+    requires { ⌜ Room w 2 ⌝ }
+    ensures { λ r. ⌜ Wrote w (now (table .entry)) (carries (w .wire) x y carry 1) (now (table .exit)) r ⌝ }
+{
+    let differ = w.emit(table, kind::XOR, x, y, 0);
+    differ.emit(table, kind::CHOICE, w.wire, carry, x)
+}
+
+// The carry out of so many digits.
+fn carries(w: Writer, table: &mut [u32], x: u32, y: u32, carry: u32, digits: u32) -> Writer
+    requires { ⌜ Room w (2 * digits) ⌝ }
+    requires { ⌜ (x + digits ≤ w .wire) × (y + digits ≤ w .wire) ⌝ }
+    ensures { λ r. ⌜ Wrote w (now (table .entry)) (carries (w .wire) x y carry digits) (now (table .exit)) r ⌝ }
+{
+    let mut next = w;
+    let mut last = carry;
+    let mut i: u32 = 0;
+    while i < digits {
+        let n = next.wire;
+        next = carry_next(next, table, x + i, y + i, last);
+        last = n + 1;
+        i += 1;
+    }
+    next
+}
+
+// The same where the wires from f on say in which digits the words differ.
+fn carries_by(w: Writer, table: &mut [u32], f: u32, x: u32, carry: u32, digits: u32) -> Writer
+    requires { ⌜ Room w digits ⌝ }
+    requires { ⌜ (f + digits ≤ w .wire) × (x + digits ≤ w .wire) ⌝ }
+    ensures { λ r. ⌜ Wrote w (now (table .entry)) (carriesBy (w .wire) f x carry digits) (now (table .exit)) r ⌝ }
+{
+    let mut next = w;
+    let mut last = carry;
+    let mut i: u32 = 0;
+    while i < digits {
+        let n = next.wire;
+        next = next.emit(table, kind::CHOICE, f + i, last, x + i);
+        last = n;
+        i += 1;
+    }
+    next
+}
+
+// The high half, of high + 1 digits, into which wire `carry` carries.
+fn high_reach(w: Writer, table: &mut [u32], x: u32, y: u32, carry: u32, high: u32) -> Writer
+    requires { ⌜ Room w (3 * high + 2) ⌝ }
+    requires { ⌜ (x + suc high ≤ w .wire) × (y + suc high ≤ w .wire) ⌝ }
+    ensures { λ r. ⌜ Wrote w (now (table .entry)) (highReach (w .wire) x y carry high) (now (table .exit)) r ⌝ }
+{
+    let n = w.wire;
+    let differ = w.differences(table, x, y, high + 1);
+    let free = carries_by(differ, table, n + 1, x + 1, x, high);
+    let every = free.all_of(table, n, n + 1, 1, high);
+    let all = chain_end(free.wire, n, high);
+    let own = chain_end(differ.wire, x, high);
+    every.emit(table, kind::CHOICE, all, carry, own)
+}
+
+// Both halves, of low + 1 and high + 1 digits.
+fn reach_halves(
+    w: Writer,
+    table: &mut [u32],
+    x: u32,
+    y: u32,
+    bit: u32,
+    low: u32,
+    high: u32,
+) -> Writer
+    requires { ⌜ Room w (2 * low + 3 * high + 3) ⌝ }
+    requires { ⌜ (x + suc (suc (low + high)) ≤ w .wire) × (y + suc (suc (low + high)) ≤ w .wire) ⌝ }
+    ensures { λ r. ⌜ Wrote w (now (table .entry)) (reachHalves (w .wire) x y bit low high) (now (table .exit)) r ⌝ }
+{
+    let n = w.wire;
+    let first = carry_bit(w, table, x, y, bit);
+    let lower = carries(first, table, x + 1, y + 1, n, low);
+    high_reach(lower, table, x + 1 + low, y + 1 + low, n + 2 * low, high)
+}
+
+// The sum of the words of above + 1 digits at x and y and the public bit: the last wire says that it has a digit more.
+pub fn reach(w: Writer, table: &mut [u32], x: u32, y: u32, bit: u32, above: u32) -> Writer
+    requires { ⌜ Room w (reachSpan above) ⌝ }
+    requires { ⌜ (x + suc above ≤ w .wire) × (y + suc above ≤ w .wire) ⌝ }
+    ensures { λ r. ⌜ Wrote w (now (table .entry)) (reach (w .wire) x y bit above) (now (table .exit)) r ⌝ }
+{
+    if above == 0 {
+        return carry_bit(w, table, x, y, bit);
+    }
+    let low = (above - 1) / 2;
+    reach_halves(w, table, x, y, bit, low, above - 1 - low)
+}

@@ -1,0 +1,155 @@
+-- What the layers above use of levels.
+-- Assumes nothing.
+use mathlib.Core.Path.{_≡_, _∙_, refl, sym, subst}
+use mathlib.Core.Bool.{Bool, true, false, cond}
+use mathlib.Core.List.{List, [], _∷_, _++_}
+use Prim.Native.Nat.{ℕ, zero, suc, _+_, _-_, _≤_, _<_, max}
+use native.Mathlib.Nat.{add-zero, add-suc}
+use native.Mathlib.Omega.{arith}
+use lib.Dec.{T, ltb}
+use lib.ListN.{length, getD, length-append, List·getD-append}
+use lib.Seq.{getD-append-seam}
+use borrow.Author.Tests.{ltb-true, ltb-false}
+use Rattle.gates.specs.Kind.{operandsOf, conditionalOf}
+use Rattle.gates.specs.Gate.{Gate}
+use Rattle.gates.specs.Board.{conditionalCount}
+use Rattle.gates.specs.Test.{goodGate}
+use Rattle.gates.proofs.Goodness.{good-gate}
+use Rattle.gates.proofs.Reading.{good-unused}
+use Rattle.gates.proofs.Counting.{count-cons}
+use Rattle.gates.proofs.Laws.{AllGood}
+use Rattle.gate_levels.specs.Levels.{wireLevel, gateLevel, levelsFrom, levelsOf, largest, roundsOf}
+
+-- All operands of a good gate are below its own wire, 0 being below any.
+pub record Below (own : ℕ) (g : Gate) : Type 0 where
+  pub a-below : g .a < own
+  pub b-below : g .b < own
+  pub c-below : g .c < own
+
+below-by : (own x i n : ℕ) → 0 < own → (i < n → x < own) → (ltb i n ≡ false → x ≡ 0) → x < own
+below-by own x i n pos used unused = go (ltb i n) refl
+  where
+    go : (b : Bool) → ltb i n ≡ b → x < own
+    go true e = used (ltb-true i n e)
+    go false e = omega (arith, unused e)
+
+pub operands-below : (own : ℕ) (g : Gate) → 0 < own → T (goodGate own g) → Below own g
+operands-below own g pos good =
+    let f = good-gate own g good in
+    let u = good-unused own g good in
+    record {
+      a-below = below-by own (g .a) 0 (operandsOf (g .kind)) pos (f .a-below) (u .a-zero);
+      b-below = below-by own (g .b) 1 (operandsOf (g .kind)) pos (f .b-below) (u .b-zero);
+      c-below = below-by own (g .c) 2 (operandsOf (g .kind)) pos (f .c-below) (u .c-zero);
+    }
+
+-- Levels that are there stay, and each gate adds one.
+pub levels-keep : (inputs : ℕ) (ls : List ℕ) (gs : List Gate) (i : ℕ) → i < length ls → getD (levelsFrom inputs ls gs) i 0 ≡ getD ls i 0
+unfolding levelsFrom
+levels-keep inputs ls [] i h = refl
+levels-keep inputs ls (g ∷ gs) i h =
+    levels-keep inputs (ls ++ (gateLevel inputs ls g ∷ [])) gs i (omega (arith, length-append ls (gateLevel inputs ls g ∷ [])))
+    ∙ List·getD-append ls (gateLevel inputs ls g ∷ []) 0 i h
+
+pub length-from : (inputs : ℕ) (ls : List ℕ) (gs : List Gate) → length (levelsFrom inputs ls gs) ≡ length ls + length gs
+unfolding levelsFrom
+length-from inputs ls [] = omega arith
+length-from inputs ls (g ∷ gs) =
+    omega (arith, length-from inputs (ls ++ (gateLevel inputs ls g ∷ [])) gs, length-append ls (gateLevel inputs ls g ∷ []))
+
+pub length-levels : (inputs : ℕ) (gs : List Gate) → length (levelsOf inputs gs) ≡ length gs
+unfolding levelsOf
+length-levels inputs gs = omega (arith, length-from inputs [] gs)
+
+-- A wire's level is the same by any levels that agree below it.
+pub wire-level-same : (inputs n : ℕ) (ls ms : List ℕ) (x : ℕ) → x < inputs + n → ((i : ℕ) → i < n → getD ls i 0 ≡ getD ms i 0) → wireLevel inputs ls x ≡ wireLevel inputs ms x
+unfolding wireLevel
+wire-level-same inputs n ls ms x h e = go (ltb x inputs) refl
+  where
+    go : (b : Bool) → ltb x inputs ≡ b → cond b 0 (getD ls (x - inputs) 0) ≡ cond b 0 (getD ms (x - inputs) 0)
+    go true f = refl
+    go false f = e (x - inputs) (omega (arith, ltb-false x inputs f))
+
+pub gate-level-same : (inputs n : ℕ) (ls ms : List ℕ) (g : Gate) → Below (inputs + n) g → ((i : ℕ) → i < n → getD ls i 0 ≡ getD ms i 0) → gateLevel inputs ls g ≡ gateLevel inputs ms g
+unfolding gateLevel
+gate-level-same inputs n ls ms g b e =
+    rw (
+      wire-level-same inputs n ls ms (g .a) (b .a-below) e,
+      wire-level-same inputs n ls ms (g .b) (b .b-below) e,
+      wire-level-same inputs n ls ms (g .c) (b .c-below) e,
+    )
+
+-- From gate n on, each gate's level is that of its operands in the same levels.
+abbrev pub Leveled : ℕ → List ℕ → ℕ → List Gate → Type 0
+Leveled inputs ls n [] = Unit {0}
+Leveled inputs ls n (g ∷ gs) = (getD ls n 0 ≡ gateLevel inputs ls g) × Leveled inputs ls (suc n) gs
+
+pub from-leveled : (inputs : ℕ) (ls : List ℕ) (gs : List Gate) → 1 ≤ inputs → AllGood (inputs + length ls) gs → Leveled inputs (levelsFrom inputs ls gs) (length ls) gs
+unfolding levelsFrom
+from-leveled inputs ls [] pos good = tt
+from-leveled inputs ls (g ∷ gs) pos good =
+    let v = gateLevel inputs ls g in
+    let next = ls ++ (v ∷ []) in
+    let final = levelsFrom inputs next gs in
+    let long : length next ≡ suc (length ls) = omega (arith, length-append ls (v ∷ [])) in
+    let own : inputs + suc (length ls) ≡ inputs + length next = omega arith in (
+      levels-keep inputs next gs (length ls) (omega arith) ∙ getD-append-seam ls v [] 0
+          ∙ gate-level-same inputs (length ls) ls final g (operands-below (inputs + length ls) g (omega arith) (good .0))
+          (λ (i : ℕ) h. sym (levels-keep inputs next gs i (omega arith) ∙ List·getD-append ls (v ∷ []) 0 i h)),
+      subst (λ (m : ℕ). Leveled inputs final m gs) long (from-leveled inputs next gs pos (subst (λ (m : ℕ). AllGood m gs) (sym (add-suc inputs (length ls)) ∙ own) (good .1))),
+    )
+
+pub levels-leveled : (inputs : ℕ) (gs : List Gate) → 1 ≤ inputs → AllGood inputs gs → Leveled inputs (levelsOf inputs gs) 0 gs
+unfolding levelsOf
+levels-leveled inputs gs pos good = from-leveled inputs [] gs pos (subst (λ (m : ℕ). AllGood m gs) (sym (add-zero inputs)) good)
+
+-- An operand's level is at most the gate's, and below it where the gate is conditional.
+pub record OperandLevels (inputs : ℕ) (ls : List ℕ) (g : Gate) : Type 0 where
+  pub a-level : wireLevel inputs ls (g .a) + cond (conditionalOf (g .kind)) 1 0 ≤ gateLevel inputs ls g
+  pub b-level : wireLevel inputs ls (g .b) + cond (conditionalOf (g .kind)) 1 0 ≤ gateLevel inputs ls g
+  pub c-level : wireLevel inputs ls (g .c) + cond (conditionalOf (g .kind)) 1 0 ≤ gateLevel inputs ls g
+
+pub operand-levels : (inputs : ℕ) (ls : List ℕ) (g : Gate) → OperandLevels inputs ls g
+unfolding gateLevel
+operand-levels inputs ls g = record { a-level = omega arith; b-level = omega arith; c-level = omega arith }
+
+-- The largest level is at least each of them, and one of them where there are any.
+pub largest-most : (ls : List ℕ) (i : ℕ) → getD ls i 0 ≤ largest ls
+unfolding largest
+largest-most [] i = omega arith
+largest-most (l ∷ ls) zero = omega arith
+largest-most (l ∷ ls) (suc i) = omega (arith, largest-most ls i)
+
+pub largest-append : (ls ms : List ℕ) → largest (ls ++ ms) ≡ max (largest ls) (largest ms)
+unfolding largest
+largest-append [] ms = omega arith
+largest-append (l ∷ ls) ms = omega (arith, largest-append ls ms)
+
+pub largest-more : (ls : List ℕ) (l : ℕ) → largest (ls ++ (l ∷ [])) ≡ max (largest ls) l
+unfolding largest
+largest-more ls l = omega (arith, largest-append ls (l ∷ []))
+
+-- No wire is deeper than the largest level, so a gate adds at most its mark to it.
+pub wire-most : (inputs : ℕ) (ls : List ℕ) (x : ℕ) → wireLevel inputs ls x ≤ largest ls
+unfolding wireLevel
+wire-most inputs ls x = go (ltb x inputs)
+  where
+    go : (b : Bool) → cond b 0 (getD ls (x - inputs) 0) ≤ largest ls
+    go true = omega arith
+    go false = largest-most ls (x - inputs)
+
+pub gate-most : (inputs : ℕ) (ls : List ℕ) (g : Gate) → gateLevel inputs ls g ≤ largest ls + cond (conditionalOf (g .kind)) 1 0
+unfolding gateLevel
+gate-most inputs ls g = omega (arith, wire-most inputs ls (g .a), wire-most inputs ls (g .b), wire-most inputs ls (g .c))
+
+pub largest-from : (inputs : ℕ) (ls : List ℕ) (gs : List Gate) → largest (levelsFrom inputs ls gs) ≤ largest ls + conditionalCount gs
+unfolding levelsFrom
+largest-from inputs ls [] = omega arith
+largest-from inputs ls (g ∷ gs) =
+    let v = gateLevel inputs ls g in
+    omega (arith, largest-from inputs (ls ++ (v ∷ [])) gs, largest-more ls v, gate-most inputs ls g, count-cons g gs)
+
+-- R is at most C.
+pub rounds-most : (inputs : ℕ) (gs : List Gate) → roundsOf inputs gs ≤ conditionalCount gs
+unfolding roundsOf levelsOf largest
+rounds-most inputs gs = omega (arith, largest-from inputs [] gs)

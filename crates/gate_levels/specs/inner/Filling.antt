@@ -1,0 +1,27 @@
+-- What inner functions ask: no entry point's contract needs it.
+use mathlib.Core.Path.{_≡_}
+use mathlib.Core.List.{List}
+use Prim.Native.Nat.{ℕ, _+_, _*_, _≤_, _<_}
+use lib.ListN.{length, getD}
+use Rattle.gates.specs.Gate.{gatesOf}
+use Rattle.gates.specs.inner.Step.{gateAt}
+use Rattle.gates.specs.Test.{firstBad}
+use Rattle.gates.specs.declared.place.Place.the-variants.{Nowhere}
+
+-- Gate g: its numbers are in the table, its operands name inputs or earlier gates, and no level before it is so large
+-- that one more would not fit.
+pub record LevelReady (inputs : ℕ) (table : List ℕ) (g : ℕ) (levels : List ℕ) : Type 0 where
+  pub in-table : 4 * g + 3 < length table
+  pub in-levels : g < length levels
+  pub a-below : gateAt table g .a < inputs + g
+  pub b-below : gateAt table g .b < inputs + g
+  pub c-below : gateAt table g .c < inputs + g
+  pub small : (h : ℕ) → h < g → getD levels h 0 ≤ g
+  pub few : g < 1048576
+
+-- The whole list: good gates over at least one input, at most 2 ^ 20 of them, and a level for each.
+pub record LevelsReady (inputs : ℕ) (table levels : List ℕ) : Type 0 where
+  pub some-input : 1 ≤ inputs
+  pub few : length (gatesOf table) ≤ 1048576
+  pub good : firstBad inputs 0 (gatesOf table) ≡ Nowhere
+  pub levels-length : length levels ≡ length (gatesOf table)

@@ -1,0 +1,178 @@
+-- The counter's levels, adder by adder, and their lengths.
+-- Assumes nothing.
+use mathlib.Core.Path.{_≡_, _∙_, refl, sym, ap, subst₂}
+use mathlib.Core.List.{[], _∷_, _++_, append-nil}
+use Prim.Native.Nat.{ℕ, zero, suc, _+_, _-_, _*_, _/_, _%_, _<_, _≤_}
+use native.Mathlib.Nat.{suc-mul, zero-mul}
+use native.Mathlib.Omega.{arith}
+use lib.ListN.{length, length-append}
+use borrow.Author.Tests.{eq-eqb, ne-eqb}
+use Rattle.gate_words.specs.Limits.{writerLimit}
+use Rattle.gate_words.specs.Adder.{fullAdder, halfAdder, increment}
+use Rattle.gate_words.specs.Gates.{copyOf}
+use Rattle.gate_words.specs.Word.{Below}
+use Rattle.gate_words.specs.Choice.{parity, chainEnd}
+use Rattle.gate_words.specs.Counter.{level, adders, levelSum, countLevels, countDigits, counter, countSize, Countable, addLevels, addDigits, accumulator, addSize}
+use Rattle.gate_words.proofs.ChoiceSteps.{length-chain}
+use Rattle.gate_words.proofs.WordSteps.{length-full, length-half, length-increment}
+use Rattle.basics.proofs.Arithmetic.{count-down}
+
+pub level-two : (n s at d e m : ℕ) → 1 < m → level n s at d e m ≡ fullAdder n s at (at + d) ++ level (n + 3) (n + 1) (at + d + d) d e (m - 2)
+unfolding level
+level-two n s at d e zero h = absurd (omega arith)
+level-two n s at d e (suc zero) h = absurd (omega arith)
+level-two n s at d e (suc (suc m)) h = let p : suc (suc m) - 2 ≡ m = omega arith in rw p
+
+pub level-one : (n s at d e m : ℕ) → m ≡ 1 → level n s at d e m ≡ halfAdder n s at e ++ []
+level-one n s at d e m h = ap (level n s at d e) h ∙ one ∙ sym (append-nil (halfAdder n s at e))
+  where
+    one : level n s at d e 1 ≡ halfAdder n s at e
+    one = unfold level in refl
+
+pub level-none : (n s at d e m : ℕ) → m ≤ 1 → (m ≡ 1 → ⊥) → e ≡ 0 → level n s at d e m ≡ []
+unfolding level
+level-none n s at d e m l h z = let p : m ≡ 0 = omega arith in rw (p, eq-eqb e 0 z)
+
+pub level-bit : (n s at d e m : ℕ) → m ≤ 1 → (m ≡ 1 → ⊥) → (e ≡ 0 → ⊥) → level n s at d e m ≡ increment n s ++ []
+level-bit n s at d e m l h z = bit (omega arith) ∙ sym (append-nil (increment n s))
+  where
+    bit : m ≡ 0 → level n s at d e m ≡ increment n s
+    bit p = unfold level in (rw (p, ne-eqb e 0 z))
+
+pub length-level : (n s at d e m : ℕ) → e ≤ 1 → length (level n s at d e m) ≡ 3 * adders m e
+unfolding level adders
+length-level n s at d zero zero h = refl
+length-level n s at d (suc zero) zero h = length-increment n s
+length-level n s at d (suc (suc e)) zero h = absurd (omega arith)
+length-level n s at d e (suc zero) h = omega (arith, length-half n s at e)
+length-level n s at d e (suc (suc m)) h =
+    omega (arith, length-append (fullAdder n s at (at + d)) (level (n + 3) (n + 1) (at + d + d) d e m), length-full n s at (at + d), length-level (n + 3) (n + 1) (at + d + d) d e m h)
+
+-- a countdown of levels
+nothing : (r : ℕ) → r ≤ 0 → r ≡ 0
+nothing r h = omega arith
+
+-- the first level of a counter, and the others
+pub count-step : (n at d m x r : ℕ) → 0 < r
+    → countLevels n at d m x r ≡ level n at (at + d) d (x % 2) (m - 1) ++ countLevels (n + 3 * adders (m - 1) (x % 2)) (n + 2) 3 (adders (m - 1) (x % 2)) (x / 2) (r - 1)
+count-step n at d m x r h = ap (countLevels n at d m x) (count-down r h) ∙ first (r - 1)
+  where
+    first : (r : ℕ) → countLevels n at d m x (suc r) ≡ level n at (at + d) d (x % 2) (m - 1) ++ countLevels (n + 3 * adders (m - 1) (x % 2)) (n + 2) 3 (adders (m - 1) (x % 2)) (x / 2) r
+    first r = unfold countLevels in refl
+
+pub count-none : (n at d m x r : ℕ) → r ≤ 0 → countLevels n at d m x r ≡ []
+unfolding countLevels
+count-none n at d m x r h = rw (nothing r h)
+
+pub digits-step : (n at m x r : ℕ) → 0 < r
+    → countDigits n at m x r ≡ (copyOf (levelSum n at (m - 1) (x % 2)) ∷ []) ++ countDigits (n + 3 * adders (m - 1) (x % 2)) (n + 2) (adders (m - 1) (x % 2)) (x / 2) (r - 1)
+digits-step n at m x r h = ap (countDigits n at m x) (count-down r h) ∙ first (r - 1)
+  where
+    first : (r : ℕ) → countDigits n at m x (suc r) ≡ (copyOf (levelSum n at (m - 1) (x % 2)) ∷ []) ++ countDigits (n + 3 * adders (m - 1) (x % 2)) (n + 2) (adders (m - 1) (x % 2)) (x / 2) r
+    first r = unfold countDigits in refl
+
+pub digits-last : (n at m x r : ℕ) → r ≤ 0 → countDigits n at m x r ≡ (copyOf at ∷ []) ++ []
+unfolding countDigits
+digits-last n at m x r h = rw (nothing r h)
+
+pub count-size-step : (m x r : ℕ) → 0 < r → countSize m x r ≡ 3 * adders (m - 1) (x % 2) + countSize (adders (m - 1) (x % 2)) (x / 2) (r - 1)
+count-size-step m x r h = ap (countSize m x) (count-down r h) ∙ first (r - 1)
+  where
+    first : (r : ℕ) → countSize m x (suc r) ≡ 3 * adders (m - 1) (x % 2) + countSize (adders (m - 1) (x % 2)) (x / 2) r
+    first r = unfold countSize in refl
+
+pub countable-step : (m x r : ℕ) → 0 < r → Countable m x r → (0 < m) × Countable (adders (m - 1) (x % 2)) (x / 2) (r - 1)
+countable-step m x zero h c = absurd (omega arith)
+countable-step m x (suc r) h c = let e : suc r - 1 ≡ r = omega arith in (c .0, rw e (c .1))
+
+pub length-count : (n at d m x r : ℕ) → length (countLevels n at d m x r) ≡ countSize m x r
+unfolding countLevels countSize
+length-count n at d m x zero = refl
+length-count n at d m x (suc r) =
+    let t = adders (m - 1) (x % 2) in
+    omega (arith, length-append (level n at (at + d) d (x % 2) (m - 1)) (countLevels (n + 3 * t) (n + 2) 3 t (x / 2) r), length-level n at (at + d) d (x % 2) (m - 1) (omega arith), length-count (n + 3 * t) (n + 2) 3 t (x / 2) r)
+
+pub length-digits : (n at m x r : ℕ) → length (countDigits n at m x r) ≡ r + 1
+unfolding countDigits
+length-digits n at m x zero = refl
+length-digits n at m x (suc r) = omega (arith, length-digits (n + 3 * adders (m - 1) (x % 2)) (n + 2) (adders (m - 1) (x % 2)) (x / 2) r)
+
+-- the first level of an accumulator, and the others
+pub add-levels-step : (n a at d m r : ℕ) → 0 < r
+    → addLevels n a at d m r ≡ level n a at d 0 m ++ addLevels (n + 3 * adders m 0) (a + 1) (n + 2) 3 (adders m 0) (r - 1)
+add-levels-step n a at d m r h = ap (addLevels n a at d m) (count-down r h) ∙ first (r - 1)
+  where
+    first : (r : ℕ) → addLevels n a at d m (suc r) ≡ level n a at d 0 m ++ addLevels (n + 3 * adders m 0) (a + 1) (n + 2) 3 (adders m 0) r
+    first r = unfold addLevels in refl
+
+pub add-levels-last : (n a at d m r : ℕ) → r ≤ 0 → addLevels n a at d m r ≡ parity n a at d m ++ []
+add-levels-last n a at d m r h = last (nothing r h) ∙ sym (append-nil (parity n a at d m))
+  where
+    last : r ≡ 0 → addLevels n a at d m r ≡ parity n a at d m
+    last e = unfold addLevels in (rw e)
+
+pub add-digits-step : (n a m r : ℕ) → 0 < r → addDigits n a m r ≡ (copyOf (levelSum n a m 0) ∷ []) ++ addDigits (n + 3 * adders m 0) (a + 1) (adders m 0) (r - 1)
+add-digits-step n a m r h = ap (addDigits n a m) (count-down r h) ∙ first (r - 1)
+  where
+    first : (r : ℕ) → addDigits n a m (suc r) ≡ (copyOf (levelSum n a m 0) ∷ []) ++ addDigits (n + 3 * adders m 0) (a + 1) (adders m 0) r
+    first r = unfold addDigits in refl
+
+pub add-digits-last : (n a m r : ℕ) → r ≤ 0 → addDigits n a m r ≡ (copyOf (chainEnd n a m) ∷ []) ++ []
+unfolding addDigits
+add-digits-last n a m r h = rw (nothing r h)
+
+pub add-size-step : (m r : ℕ) → 0 < r → addSize m r ≡ 3 * adders m 0 + addSize (adders m 0) (r - 1)
+add-size-step m r h = ap (addSize m) (count-down r h) ∙ first (r - 1)
+  where
+    first : (r : ℕ) → addSize m (suc r) ≡ 3 * adders m 0 + addSize (adders m 0) r
+    first r = unfold addSize in refl
+
+pub add-size-last : (m r : ℕ) → r ≤ 0 → addSize m r ≡ m
+unfolding addSize
+add-size-last m r h = rw (nothing r h)
+
+pub length-add-levels : (n a at d m r : ℕ) → length (addLevels n a at d m r) ≡ addSize m r
+unfolding addLevels addSize
+length-add-levels n a at d m zero = length-chain 6 n a at d m
+length-add-levels n a at d m (suc r) =
+    let t = adders m 0 in
+    omega (arith, length-append (level n a at d 0 m) (addLevels (n + 3 * t) (a + 1) (n + 2) 3 t r), length-level n a at d 0 m (omega arith), length-add-levels (n + 3 * t) (a + 1) (n + 2) 3 t r)
+
+pub length-add-digits : (n a m r : ℕ) → length (addDigits n a m r) ≡ r + 1
+unfolding addDigits
+length-add-digits n a m zero = refl
+length-add-digits n a m (suc r) = omega (arith, length-add-digits (n + 3 * adders m 0) (a + 1) (adders m 0) r)
+
+pub length-counter : (n at d m x r : ℕ) → length (counter n at d m x r) ≡ countSize m x r + (r + 1)
+unfolding counter
+length-counter n at d m x r = omega (arith, length-append (countLevels n at d m x r) (countDigits n at m x r), length-count n at d m x r, length-digits n at m x r)
+
+pub length-accumulator : (n a at d m r : ℕ) → length (accumulator n a at d m r) ≡ addSize m r + (r + 1)
+unfolding accumulator
+length-accumulator n a at d m r = omega (arith, length-append (addLevels n a at d m r) (addDigits n a m r), length-add-levels n a at d m r, length-add-digits n a m r)
+
+-- a level's carries are there once it is written
+pub below-carries : (n t : ℕ) → Below (n + 3 * t) (n + 2) 3 t
+below-carries n zero = tt
+below-carries n (suc t) = (omega arith, subst₂ (λ (x y : ℕ). Below x y 3 t) (omega arith) (omega arith) (below-carries (n + 3) t))
+
+pub few-adders : (m e : ℕ) → e ≤ 1 → adders m e ≤ m + 1
+unfolding adders
+few-adders m e h = omega arith
+
+pub adders-small : (m t : ℕ) → t ≡ adders m 0 → m < writerLimit → t < writerLimit
+unfolding adders
+adders-small m t e h = omega arith
+
+-- a level has at most as many adders as the bits it may have, so each is at most twice as many gates and two
+pub count-size-most : (m x r most : ℕ) → m ≤ most → 0 < most → countSize m x r ≤ r * (2 * most + 2)
+unfolding countSize adders
+count-size-most m x zero most h l = omega arith
+count-size-most m x (suc r) most h l =
+    omega (arith, count-size-most ((m - 1 + x % 2 + 1) / 2) (x / 2) r most (omega arith) l, suc-mul r (2 * most + 2))
+
+pub add-size-most : (m r most : ℕ) → m ≤ most → 0 < most → addSize m r ≤ r * (2 * most + 2) + most
+unfolding addSize adders
+add-size-most m zero most h l = omega (arith, zero-mul (2 * most + 2))
+add-size-most m (suc r) most h l =
+    omega (arith, add-size-most ((m + 0 + 1) / 2) r most (omega arith) l, suc-mul r (2 * most + 2))

@@ -1,0 +1,10 @@
+-- Where a block's answer stands: one of its own wires, or the wire that was handed in where it has no gate.
+-- Assumes nothing.
+use Prim.Native.Nat.{ℕ, zero, suc, _+_, _≤_, _<_}
+use native.Mathlib.Omega.{arith}
+use Rattle.gate_words.specs.Choice.{chainEnd}
+
+pub chain-below : (n s w m : ℕ) → s < m → n + w ≤ m → chainEnd n s w < m
+unfolding chainEnd
+chain-below n s zero m h l = h
+chain-below n s (suc w) m h l = omega arith

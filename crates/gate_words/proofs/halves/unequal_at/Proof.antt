@@ -1,0 +1,29 @@
+-- `gate_words::halves::unequal_at` meets its contract: it is the end of a chain.
+-- Assumes nothing.
+use mathlib.Core.Path.{_≡_, _∙_, ap}
+use Prim.Native.Nat.{ℕ, suc, _+_, _-_}
+use native.Mathlib.Omega.{arith}
+use Rattle.gate_words.specs.Choice.{chainEnd}
+use Rattle.gate_words.proofs.halves.unequal_at.Statement.{statement}
+use Rattle.gate_words.proofs.halves.unequal_at.Tie as tie
+
+add-chain-end : tie.Need-add-chain-end
+add-chain-end c =
+    omega (arith, c .pre)
+
+add-chain-end-2 : tie.Need-add-chain-end-2
+add-chain-end-2 c =
+    omega (arith, c .pre)
+
+chain-end-requires : tie.Need-chain-end-requires
+chain-end-requires c κs =
+    omega (arith, c .pre)
+
+returns : tie.Need-returns
+returns c =
+    let a = (c .before) .args in
+    let e : a .n + a .above + 1 ≡ a .n + suc (a .above) = omega arith in
+    (c .chain-end) .ensures ∙ ap (λ (k : ℕ). chainEnd k (a .n) (a .above)) e
+
+pub unequal-at-spec : {M : Type 1} → statement M
+unequal-at-spec = tie.close (tie.spec add-chain-end add-chain-end-2 chain-end-requires returns)

@@ -1,0 +1,50 @@
+-- Blocks of one gate a wire: constants, copies, complements, one of two words, a word or 0; whether one of some wires
+-- is 1, and their sum modulo 2.
+use mathlib.Core.List.{List, [], _∷_}
+use Prim.Native.Nat.{ℕ, zero, suc, _+_}
+use Rattle.gates.specs.Gate.{Gate}
+use Rattle.gate_words.specs.Gates.{gate, andOf, muxOf}
+
+-- A gate of a kind with one operand for each of w digits, the word's first wire being x.
+unfoldable pub each : ℕ → ℕ → ℕ → List Gate
+each kind x zero = []
+each kind x (suc w) = gate kind x 0 0 ∷ each kind (x + 1) w
+
+abbrev pub copies : ℕ → ℕ → List Gate
+copies x w = each 2 x w
+
+abbrev pub complements : ℕ → ℕ → List Gate
+complements x w = each 3 x w
+
+-- The word at x where wire f is 1, the word at y where it is 0.
+unfoldable pub choose : ℕ → ℕ → ℕ → ℕ → List Gate
+choose f x y zero = []
+choose f x y (suc w) = muxOf f x y ∷ choose f (x + 1) (y + 1) w
+
+-- The word at x where wire f is 1, 0 where it is 0.
+unfoldable pub masked : ℕ → ℕ → ℕ → List Gate
+masked f x zero = []
+masked f x (suc w) = andOf f x ∷ masked f (x + 1) w
+
+-- A chain of m gates of a kind with two operands, the first making wire n: it takes the wires s and `at`, and each
+-- next one the wire made before it and the next of the wires a stride d apart.
+unfoldable pub chain : ℕ → ℕ → ℕ → ℕ → ℕ → ℕ → List Gate
+chain kind n s at d zero = []
+chain kind n s at d (suc m) = gate kind s at 0 ∷ chain kind (n + 1) n (at + d) d m
+
+-- The last wire of a chain: s itself where it has no gate.
+unfoldable pub chainEnd : ℕ → ℕ → ℕ → ℕ
+chainEnd n s zero = s
+chainEnd n s (suc m) = n + m
+
+-- Whether the wire s or one of m wires is 1.
+abbrev pub anyOf : ℕ → ℕ → ℕ → ℕ → ℕ → List Gate
+anyOf n s at d m = chain 5 n s at d m
+
+-- Whether the wire s and all of m wires are 1.
+abbrev pub allOf : ℕ → ℕ → ℕ → ℕ → ℕ → List Gate
+allOf n s at d m = chain 4 n s at d m
+
+-- The sum modulo 2 of the wire s and m wires.
+abbrev pub parity : ℕ → ℕ → ℕ → ℕ → ℕ → List Gate
+parity n s at d m = chain 6 n s at d m

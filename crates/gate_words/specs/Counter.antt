@@ -1,0 +1,73 @@
+-- Counting bits, by levels of adders (carry-save).
+use mathlib.Core.Path.{_≡_}
+use mathlib.Core.Bool.{cond}
+use mathlib.Core.List.{List, [], _∷_, _++_}
+use Prim.Native.Nat.{ℕ, zero, suc, _+_, _-_, _*_, _/_, _%_, _<_}
+use lib.Dec.{eqb}
+use Rattle.gates.specs.Gate.{Gate}
+use Rattle.gate_words.specs.Gates.{copyOf}
+use Rattle.gate_words.specs.Adder.{fullAdder, halfAdder, increment}
+use Rattle.gate_words.specs.Choice.{parity, chainEnd}
+
+-- One level: adds to the wire s the m bits at `at`, at + d, and so on, two at a time, and at the end the public bit
+-- e. Each adder hands its sum on to the next.
+unfoldable pub level : ℕ → ℕ → ℕ → ℕ → ℕ → ℕ → List Gate
+level n s at d e zero = cond (eqb e 0) [] (increment n s)
+level n s at d e (suc zero) = halfAdder n s at e
+level n s at d e (suc (suc m)) = fullAdder n s at (at + d) ++ level (n + 3) (n + 1) (at + d + d) d e m
+
+-- The number of a level's adders. Its carries stand at n + 2, n + 5, and so on: they are the next level's bits.
+unfoldable pub adders : ℕ → ℕ → ℕ
+adders m e = (m + e + 1) / 2
+
+-- The wire of a level's sum: the last adder's, or s itself where there is none.
+unfoldable pub levelSum : ℕ → ℕ → ℕ → ℕ → ℕ
+levelSum n s m e = cond (eqb (adders m e) 0) s (n + 3 * adders m e - 2)
+
+-- r levels that count m bits and the public number `extra`: a level's sum starts at its first bit.
+unfoldable pub countLevels : ℕ → ℕ → ℕ → ℕ → ℕ → ℕ → List Gate
+countLevels n at d m extra zero = []
+countLevels n at d m extra (suc r) =
+    level n at (at + d) d (extra % 2) (m - 1)
+    ++ countLevels (n + 3 * adders (m - 1) (extra % 2)) (n + 2) 3 (adders (m - 1) (extra % 2)) (extra / 2) r
+
+-- Copies of the levels' sums, and of the one bit that is left: the digits of the count, side by side. The levels
+-- start at wire n.
+unfoldable pub countDigits : ℕ → ℕ → ℕ → ℕ → ℕ → List Gate
+countDigits n at m extra zero = copyOf at ∷ []
+countDigits n at m extra (suc r) =
+    copyOf (levelSum n at (m - 1) (extra % 2))
+    ∷ countDigits (n + 3 * adders (m - 1) (extra % 2)) (n + 2) (adders (m - 1) (extra % 2)) (extra / 2) r
+
+-- Counts m bits and the public number `extra` in r + 1 digits, which are the last r + 1 gates.
+unfoldable pub counter : ℕ → ℕ → ℕ → ℕ → ℕ → ℕ → List Gate
+counter n at d m extra r = countLevels n at d m extra r ++ countDigits n at m extra r
+
+-- Adds m bits to the word of r + 1 digits at a: each level starts from a digit, and the top digit, which hands no
+-- carry on, is a sum modulo 2.
+unfoldable pub addLevels : ℕ → ℕ → ℕ → ℕ → ℕ → ℕ → List Gate
+addLevels n a at d m zero = parity n a at d m
+addLevels n a at d m (suc r) = level n a at d 0 m ++ addLevels (n + 3 * adders m 0) (a + 1) (n + 2) 3 (adders m 0) r
+
+unfoldable pub addDigits : ℕ → ℕ → ℕ → ℕ → List Gate
+addDigits n a m zero = copyOf (chainEnd n a m) ∷ []
+addDigits n a m (suc r) = copyOf (levelSum n a m 0) ∷ addDigits (n + 3 * adders m 0) (a + 1) (adders m 0) r
+
+-- Adds m bits to a word of r + 1 digits. The digits of the sum are the last r + 1 gates.
+unfoldable pub accumulator : ℕ → ℕ → ℕ → ℕ → ℕ → ℕ → List Gate
+accumulator n a at d m r = addLevels n a at d m r ++ addDigits n a m r
+
+-- The numbers of gates of the levels.
+unfoldable pub countSize : ℕ → ℕ → ℕ → ℕ
+countSize m extra zero = 0
+countSize m extra (suc r) = 3 * adders (m - 1) (extra % 2) + countSize (adders (m - 1) (extra % 2)) (extra / 2) r
+
+unfoldable pub addSize : ℕ → ℕ → ℕ
+addSize m zero = m
+addSize m (suc r) = 3 * adders m 0 + addSize (adders m 0) r
+
+-- m bits and the number `extra` can be counted in r + 1 digits: each of r levels has a bit to start from, and one bit
+-- and nothing else is left for the top digit.
+abbrev pub Countable : ℕ → ℕ → ℕ → Type 0
+Countable m extra zero = (m ≡ 1) × (extra ≡ 0)
+Countable m extra (suc r) = (0 < m) × Countable (adders (m - 1) (extra % 2)) (extra / 2) r

@@ -1,0 +1,11 @@
+pub mod Limits
+pub mod Gates
+pub mod Word
+pub mod Adder
+pub mod Counter
+pub mod Choice
+pub mod Comparison
+pub mod Halves
+pub mod Reach
+pub mod Writing
+pub mod Emitted

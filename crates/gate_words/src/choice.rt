@@ -1,0 +1,149 @@
+// Words made digit by digit.
+use crate::writer::Writer;
+use gates::kind;
+ghost use mathlib.Core.Path.{_≡_};
+ghost use Prim.Native.Nat.{_+_, _≤_, _<_};
+ghost use Rattle.gates.specs.Kind.{operandsOf};
+ghost use Rattle.gate_words.specs.Limits.{writerLimit};
+ghost use Rattle.gate_words.specs.Word.{Below};
+ghost use Rattle.gate_words.specs.Writing.{Room, Wrote};
+ghost use Rattle.gate_words.specs.Choice.{each, copies, complements, choose, masked, chain};
+ghost use Rattle.gate_words.specs.Choice.{chainEnd, anyOf, allOf, parity};
+
+// The last wire of a chain of so many gates.
+pub fn chain_end(n: u32, s: u32, count: u32) -> u32
+    requires { ⌜ n + count < writerLimit ⌝ }
+    ensures { λ r. ⌜ r ≡ chainEnd n s count ⌝ }
+{
+    if count == 0 { s } else { n + count - 1 }
+}
+
+impl Writer {
+    // A gate of a kind with one operand for each digit of a word.
+    fn each(self, table: &mut [u32], kind: u32, x: u32, digits: u32) -> Writer
+        requires { ⌜ Room self digits ⌝ }
+        requires { ⌜ (operandsOf kind ≡ 1) × (x + digits ≤ self .wire) ⌝ }
+        ensures { λ r. ⌜ Wrote self (now (table .entry)) (each kind x digits) (now (table .exit)) r ⌝ }
+    {
+        let mut w = self;
+        let mut i: u32 = 0;
+        while i < digits {
+            w = w.emit(table, kind, x + i, 0, 0);
+            i += 1;
+        }
+        w
+    }
+
+    pub fn copies(self, table: &mut [u32], x: u32, digits: u32) -> Writer
+        requires { ⌜ Room self digits ⌝ }
+        requires { ⌜ x + digits ≤ self .wire ⌝ }
+        ensures { λ r. ⌜ Wrote self (now (table .entry)) (copies x digits) (now (table .exit)) r ⌝ }
+    {
+        self.each(table, kind::COPY, x, digits)
+    }
+
+    pub fn complements(self, table: &mut [u32], x: u32, digits: u32) -> Writer
+        requires { ⌜ Room self digits ⌝ }
+        requires { ⌜ x + digits ≤ self .wire ⌝ }
+        ensures { λ r. ⌜ Wrote self (now (table .entry)) (complements x digits) (now (table .exit)) r ⌝ }
+    {
+        self.each(table, kind::NOT, x, digits)
+    }
+
+    // The word at x where wire f is 1, else the word at y.
+    pub fn choose(self, table: &mut [u32], f: u32, x: u32, y: u32, digits: u32) -> Writer
+        requires { ⌜ Room self digits ⌝ }
+        requires { ⌜ (x + digits ≤ self .wire) × (y + digits ≤ self .wire) ⌝ }
+        ensures { λ r. ⌜ Wrote self (now (table .entry)) (choose f x y digits) (now (table .exit)) r ⌝ }
+    {
+        let mut w = self;
+        let mut i: u32 = 0;
+        while i < digits {
+            w = w.emit(table, kind::CHOICE, f, x + i, y + i);
+            i += 1;
+        }
+        w
+    }
+
+    // The word at x where wire f is 1, else 0.
+    pub fn masked(self, table: &mut [u32], f: u32, x: u32, digits: u32) -> Writer
+        requires { ⌜ Room self digits ⌝ }
+        requires { ⌜ x + digits ≤ self .wire ⌝ }
+        ensures { λ r. ⌜ Wrote self (now (table .entry)) (masked f x digits) (now (table .exit)) r ⌝ }
+    {
+        let mut w = self;
+        let mut i: u32 = 0;
+        while i < digits {
+            w = w.emit(table, kind::AND, f, x + i, 0);
+            i += 1;
+        }
+        w
+    }
+
+    // A chain of gates of a kind with two operands.
+    fn chain(
+        self,
+        table: &mut [u32],
+        kind: u32,
+        s: u32,
+        first: u32,
+        stride: u32,
+        count: u32,
+    ) -> Writer
+        requires { ⌜ Room self count ⌝ }
+        requires { ⌜ Below (self .wire) first stride count ⌝ }
+        requires { ⌜ (stride < writerLimit) × (operandsOf kind ≡ 2) ⌝ }
+        ensures { λ r. ⌜
+            Wrote self (now (table .entry)) (chain kind (self .wire) s first stride count) (now (table .exit)) r
+            ⌝ }
+    {
+        let mut w = self;
+        let mut last = s;
+        let mut at = first;
+        let mut left = count;
+        while 0 < left {
+            let n = w.wire;
+            w = w.emit(table, kind, last, at, 0);
+            last = n;
+            at += stride;
+            left -= 1;
+        }
+        w
+    }
+
+    // Whether wire s or one of so many wires a stride apart is 1.
+    pub fn any_of(self, table: &mut [u32], s: u32, first: u32, stride: u32, count: u32) -> Writer
+        requires { ⌜ Room self count ⌝ }
+        requires { ⌜ Below (self .wire) first stride count ⌝ }
+        requires { ⌜ stride < writerLimit ⌝ }
+        ensures { λ r. ⌜
+            Wrote self (now (table .entry)) (anyOf (self .wire) s first stride count) (now (table .exit)) r
+            ⌝ }
+    {
+        self.chain(table, kind::OR, s, first, stride, count)
+    }
+
+    // Whether wire s and all of so many wires a stride apart are 1.
+    pub fn all_of(self, table: &mut [u32], s: u32, first: u32, stride: u32, count: u32) -> Writer
+        requires { ⌜ Room self count ⌝ }
+        requires { ⌜ Below (self .wire) first stride count ⌝ }
+        requires { ⌜ stride < writerLimit ⌝ }
+        ensures { λ r. ⌜
+            Wrote self (now (table .entry)) (allOf (self .wire) s first stride count) (now (table .exit)) r
+            ⌝ }
+    {
+        self.chain(table, kind::AND, s, first, stride, count)
+    }
+
+    // The sum modulo 2 of wire s and so many wires a stride apart.
+    pub fn parity(self, table: &mut [u32], s: u32, first: u32, stride: u32, count: u32) -> Writer
+        requires { ⌜ Room self count ⌝ }
+        requires { ⌜ Below (self .wire) first stride count ⌝ }
+        requires { ⌜ stride < writerLimit ⌝ }
+        ensures { λ r. ⌜
+            Wrote self (now (table .entry)) (parity (self .wire) s first stride count) (now (table .exit)) r
+            ⌝ }
+    {
+        self.chain(table, kind::XOR, s, first, stride, count)
+    }
+}

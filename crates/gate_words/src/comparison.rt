@@ -1,0 +1,99 @@
+// Comparisons.
+use crate::writer::Writer;
+use gates::kind;
+ghost use Prim.Native.Nat.{_+_, _≤_, _<_};
+ghost use lib.ListN.{length};
+ghost use Rattle.gate_words.specs.Writing.{Room, Wrote};
+ghost use Rattle.gate_words.specs.Comparison.{firstDigit, compareWords, differences, above};
+
+impl Writer {
+    // Two digits compared both ways, with one conditional gate.
+    pub fn first_digit(self, table: &mut [u32], x: u32, y: u32) -> Writer
+        requires { ⌜ Room self 3 ⌝ }
+        ensures { λ r. ⌜ Wrote self (now (table .entry)) (firstDigit (self .wire) x y) (now (table .exit)) r ⌝ }
+    {
+        let n = self.wire;
+        let first = self.emit(table, kind::XOR, x, y, 0);
+        let second = first.emit(table, kind::AND, x, n, 0);
+        second.emit(table, kind::XOR, n, n + 1, 0)
+    }
+
+    // One digit more of a comparison both ways.
+    fn compare_next(self, table: &mut [u32], x: u32, y: u32, up: u32, down: u32) -> Writer
+        requires { ⌜ Room self 3 ⌝ }
+        ensures { λ r. ⌜
+            Wrote self (now (table .entry)) (compareWords (self .wire) x y up down 1) (now (table .exit)) r
+            ⌝ }
+    {
+        let n = self.wire;
+        let first = self.emit(table, kind::XOR, x, y, 0);
+        let second = first.emit(table, kind::CHOICE, n, x, up);
+        second.emit(table, kind::CHOICE, n, y, down)
+    }
+
+    // Two words compared both ways, above what wires up and down say of the digits before.
+    pub fn compare_words(
+        self,
+        table: &mut [u32],
+        x: u32,
+        y: u32,
+        up: u32,
+        down: u32,
+        digits: u32,
+    ) -> Writer
+        requires { ⌜ Room self (length (compareWords (self .wire) x y up down digits)) ⌝ }
+        requires { ⌜ (x + digits ≤ self .wire) × (y + digits ≤ self .wire) ⌝ }
+        ensures { λ r. ⌜
+            Wrote self (now (table .entry)) (compareWords (self .wire) x y up down digits) (now (table .exit)) r
+            ⌝ }
+    {
+        let mut w = self;
+        let mut above = up;
+        let mut below = down;
+        let mut i: u32 = 0;
+        while i < digits {
+            let n = w.wire;
+            w = w.compare_next(table, x + i, y + i, above, below);
+            above = n + 1;
+            below = n + 2;
+            i += 1;
+        }
+        w
+    }
+
+    // Where the words at x and y differ.
+    pub fn differences(self, table: &mut [u32], x: u32, y: u32, digits: u32) -> Writer
+        requires { ⌜ Room self digits ⌝ }
+        requires { ⌜ (x + digits ≤ self .wire) × (y + digits ≤ self .wire) ⌝ }
+        ensures { λ r. ⌜ Wrote self (now (table .entry)) (differences x y digits) (now (table .exit)) r ⌝ }
+    {
+        let mut w = self;
+        let mut i: u32 = 0;
+        while i < digits {
+            w = w.emit(table, kind::XOR, x + i, y + i, 0);
+            i += 1;
+        }
+        w
+    }
+
+    // A word compared one way with another, from which it differs where the wires from `differ` on say so, above what
+    // wire s says of the digits before.
+    pub fn above(self, table: &mut [u32], differ: u32, x: u32, s: u32, digits: u32) -> Writer
+        requires { ⌜ Room self digits ⌝ }
+        requires { ⌜ (differ + digits ≤ self .wire) × (x + digits ≤ self .wire) ⌝ }
+        ensures { λ r. ⌜
+            Wrote self (now (table .entry)) (above (self .wire) differ x s digits) (now (table .exit)) r
+            ⌝ }
+    {
+        let mut w = self;
+        let mut last = s;
+        let mut i: u32 = 0;
+        while i < digits {
+            let n = w.wire;
+            w = w.emit(table, kind::CHOICE, differ + i, x + i, last);
+            last = n;
+            i += 1;
+        }
+        w
+    }
+}

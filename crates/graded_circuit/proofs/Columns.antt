@@ -1,0 +1,49 @@
+-- The bits that a grade's counter counts are the ones of its column.
+-- Assumes nothing.
+use mathlib.Core.Path.{_≡_, _∙_, sym, ap}
+use mathlib.Core.List.{List}
+use Prim.Native.Nat.{ℕ, zero, suc, _+_, _*_, _<_}
+use native.Mathlib.Nat.{zero-mul, suc-mul, add-mul, mul-assoc}
+use native.Mathlib.Omega.{arith}
+use lib.ListN.{getD}
+use Rattle.gates.specs.Wires.{wire, wiresOf}
+use Rattle.gates.specs.Gate.{Gate}
+use Rattle.gates.proofs.Laws.{wires-start}
+use Rattle.jury.specs.declared.shape.Shape.{Shape}
+use Rattle.basics.specs.Lists.{sum, tabulate}
+use Rattle.jury.specs.Counts.{countOf}
+use Rattle.jury.specs.Accepted.{GradedBallots}
+use Rattle.basics.proofs.Sums.{sum-none, sum-first}
+use Rattle.basics.proofs.Tabulate.{tabulate-cong}
+use Rattle.jury.proofs.CountFacts.{column-bytes, byte-within}
+use Rattle.gate_words.specs.Word.{ones}
+use Rattle.gate_words.proofs.Numbers.{ones-none, ones-more}
+
+ones-table : (W : ℕ → ℕ) (at d m : ℕ) → ones W at d m ≡ sum (tabulate m (λ i. W (at + i * d)))
+ones-table W at d zero = ones-none W at d ∙ sym (sum-none (λ i. W (at + i * d)))
+ones-table W at d (suc m) =
+    let here : at + 0 * d ≡ at = omega (arith, zero-mul d) in
+    ones-more W at d m
+    ∙ ap (λ (k : ℕ). W at + k) (ones-table W (at + d) d m ∙ ap sum (tabulate-cong m (λ i. W (at + d + i * d)) (λ i. W (at + suc i * d)) (λ i l. ap W (next i))))
+    ∙ ap (λ (k : ℕ). W k + sum (tabulate m (λ i. W (at + suc i * d)))) (sym here)
+    ∙ sym (sum-first m (λ i. W (at + i * d)))
+  where
+    next : (i : ℕ) → at + d + i * d ≡ at + suc i * d
+    next i = omega (arith, suc-mul i d)
+
+place : (i k c d g : ℕ) → (i * k + c) * d + g ≡ c * d + g + i * (k * d)
+place i k c d g = omega (arith, add-mul (i * k) c d, mul-assoc i k d)
+
+-- for accepted ballots, whatever gates follow them
+pub column : (s : Shape) (xs : List ℕ) (gs : List Gate) → GradedBallots s xs → (c g : ℕ) → c < s .candidates → g < s .grades
+    → ones (wire (wiresOf xs gs)) (c * s .grades + g) (s .candidates * s .grades) (s .ballots) ≡ countOf s xs c g
+column s xs gs a c g hc hg =
+    ones-table (wire (wiresOf xs gs)) (c * s .grades + g) (s .candidates * s .grades) (s .ballots)
+    ∙ ap sum (tabulate-cong (s .ballots) _ _ (λ i l. byte i l))
+    ∙ sym (column-bytes s xs a c g)
+  where
+    byte : (i : ℕ) → i < s .ballots
+        → wire (wiresOf xs gs) (c * s .grades + g + i * (s .candidates * s .grades)) ≡ getD xs ((i * s .candidates + c) * s .grades + g) 0
+    byte i l =
+        let e = place i (s .candidates) c (s .grades) g in
+        ap (wire (wiresOf xs gs)) (sym e) ∙ wires-start xs gs ((i * s .candidates + c) * s .grades + g) (omega (arith, a .size, byte-within s i c g l hc hg))

@@ -1,0 +1,10 @@
+pub mod Plan
+pub mod RunningSums
+pub mod Key
+pub mod Median
+pub mod Nearest
+pub mod Outward
+pub mod Contest
+pub mod Merge
+pub mod OwnList
+pub mod Bound

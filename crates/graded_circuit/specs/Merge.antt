@@ -1,0 +1,56 @@
+-- Two groups of candidates are merged, each with the key of its best candidate and, for more than one, a wire a
+-- candidate that says who is as good as that.
+use mathlib.Core.Bool.{cond}
+use mathlib.Core.List.{List, [], _∷_, _++_}
+use Prim.Native.Nat.{ℕ, zero, suc, _+_, _/_}
+use lib.Dec.{leb}
+use Rattle.gates.specs.Gate.{Gate}
+use Rattle.gate_words.specs.Gates.{copyOf, notOf, andOf, xorOf}
+use Rattle.gate_words.specs.Choice.{choose}
+use Rattle.graded_circuit.specs.declared.plan.Plan.{Plan}
+use Rattle.graded_circuit.specs.Key.{keySpan}
+use Rattle.graded_circuit.specs.Contest.{contest, contestSpan, resultAt}
+
+-- Who of a group's m candidates, whose wires stand at `at`, stays if the wire `stays` says that the group does. A
+-- group of one has no wires.
+unfoldable pub bothOf : ℕ → ℕ → ℕ → List Gate
+bothOf at stays zero = []
+bothOf at stays (suc m) = andOf at stays ∷ bothOf (at + 1) stays m
+
+unfoldable pub stillWon : ℕ → ℕ → ℕ → List Gate
+stillWon at stays zero = []
+stillWon at stays (suc zero) = copyOf stays ∷ []
+stillWon at stays (suc (suc m)) = bothOf at stays (suc (suc m))
+
+unfoldable pub verdict : ℕ → List Gate
+verdict q = andOf q (q + 1) ∷ xorOf q (q + 2) ∷ notOf (q + 3) ∷ notOf (q + 2) ∷ []
+
+abbrev pub leftStays : Plan → ℕ → ℕ
+leftStays p n = resultAt p n + 4
+
+abbrev pub rightStays : Plan → ℕ → ℕ
+rightStays p n = resultAt p n + 5
+
+-- The merge of groups of l and m candidates, whose wires stand at u and v. The wires of both groups together stand at
+-- `wonAt`.
+abbrev pub wonAt : Plan → ℕ → ℕ
+wonAt p n = resultAt p n + 6
+
+-- The digits of two single candidates' words come from the counters one after the other, and are compared as they come;
+-- a word that was chosen has all its digits at once, and is compared in halves.
+unfoldable pub highDigits : Plan → ℕ → ℕ
+highDigits p both = cond (leb both 2) 0 (p .digits / 2)
+
+unfoldable pub merge : Plan → ℕ → ℕ → ℕ → ℕ → ℕ → ℕ → ℕ → List Gate
+merge p n x y u v l m =
+    contest p n x y (highDigits p (l + m))
+    ++ verdict (resultAt p n)
+    ++ stillWon u (leftStays p n) l
+    ++ stillWon v (rightStays p n) m
+
+abbrev pub mergeSpan : Plan → ℕ → ℕ → ℕ
+mergeSpan p l m = contestSpan p + 4 + l + m
+
+-- The better key. Of equal keys either one may be taken.
+unfoldable pub better : Plan → ℕ → ℕ → ℕ → List Gate
+better p n x y = choose (resultAt p n + 1) x y (keySpan p)

@@ -1,0 +1,84 @@
+-- The own list of a shape.
+use mathlib.Core.Bool.{cond}
+use mathlib.Core.List.{List, [], _∷_, _++_}
+use Prim.Native.Nat.{ℕ, zero, suc, _+_, _-_, _*_, _/_}
+use lib.Dec.{eqb, leb}
+use Rattle.gates.specs.Gate.{Gate}
+use Rattle.gate_words.specs.Gates.{constant}
+use Rattle.jury.specs.declared.shape.Shape.{Shape}
+use Rattle.graded_circuit.specs.declared.plan.Plan.{Plan}
+use Rattle.graded_circuit.specs.Plan.{planOf}
+use Rattle.graded_circuit.specs.Key.{candidate, keyOf, keySpan, candidateSpan}
+use Rattle.graded_circuit.specs.Merge.{merge, mergeSpan, wonAt, better}
+
+-- The circuits of m candidates, from candidate c on. They stand first, so that each one's key has its place.
+unfoldable pub candidates : Plan → ℕ → ℕ → ℕ → List Gate
+candidates p n c zero = []
+candidates p n c (suc m) = candidate p n c ++ candidates p (n + candidateSpan p) (c + 1) m
+
+abbrev pub keyAt : Plan → ℕ → ℕ
+keyAt p c = keyOf p (p .inputs + c * candidateSpan p)
+
+-- The best of m candidates from candidate c on, in r levels of merges: the best of the first half and that of the
+-- other half are compared, and the better key is kept. A single candidate is compared with nobody.
+unfoldable pub levelsSpan : Plan → ℕ → ℕ → ℕ
+levelsSpan p zero m = 0
+levelsSpan p (suc r) m =
+    cond (leb m 1) 0
+    (levelsSpan p r (m / 2) + levelsSpan p r (m - m / 2) + mergeSpan p (m / 2) (m - m / 2) + keySpan p)
+
+-- Where the group's key and its candidates' wires stand, the levels being written from wire n on.
+unfoldable pub bestKey : Plan → ℕ → ℕ → ℕ → ℕ → ℕ
+bestKey p zero n c m = keyAt p c
+bestKey p (suc r) n c m =
+    cond (leb m 1) (keyAt p c)
+    (n + levelsSpan p r (m / 2) + levelsSpan p r (m - m / 2) + mergeSpan p (m / 2) (m - m / 2))
+
+unfoldable pub groupWon : Plan → ℕ → ℕ → ℕ → ℕ
+groupWon p zero n m = 0
+groupWon p (suc r) n m = cond (leb m 1) 0 (wonAt p (n + levelsSpan p r (m / 2) + levelsSpan p r (m - m / 2)))
+
+-- Two halves are merged: the first is written from wire n on, the other behind it, and the merge behind both.
+abbrev pub otherAt : Plan → ℕ → ℕ → ℕ → ℕ
+otherAt p r n m = n + levelsSpan p r (m / 2)
+
+abbrev pub mergeAt : Plan → ℕ → ℕ → ℕ → ℕ
+mergeAt p r n m = otherAt p r n m + levelsSpan p r (m - m / 2)
+
+unfoldable pub halvesMerge : Plan → ℕ → ℕ → ℕ → ℕ → List Gate
+halvesMerge p r n c m =
+    merge p (mergeAt p r n m)
+    (bestKey p r n c (m / 2)) (bestKey p r (otherAt p r n m) (c + m / 2) (m - m / 2))
+    (groupWon p r n (m / 2)) (groupWon p r (otherAt p r n m) (m - m / 2))
+    (m / 2) (m - m / 2)
+
+unfoldable pub halvesBetter : Plan → ℕ → ℕ → ℕ → ℕ → List Gate
+halvesBetter p r n c m =
+    better p (mergeAt p r n m) (bestKey p r n c (m / 2)) (bestKey p r (otherAt p r n m) (c + m / 2) (m - m / 2))
+
+unfoldable pub levels : Plan → ℕ → ℕ → ℕ → ℕ → List Gate
+levels p zero n c m = []
+levels p (suc r) n c m =
+    cond (leb m 1) []
+    (levels p r n c (m / 2) ++ levels p r (otherAt p r n m) (c + m / 2) (m - m / 2) ++ halvesMerge p r n c m
+    ++ halvesBetter p r n c m)
+
+-- Eight candidates need three levels. The last one keeps no key, and its wires are the last k gates: they say who has
+-- won.
+abbrev pub lowLevels : ℕ
+lowLevels = 2
+
+abbrev pub levelsAt : Plan → ℕ
+levelsAt p = p .inputs + p .candidates * candidateSpan p
+
+unfoldable pub circuit : Plan → List Gate
+circuit p =
+    candidates p (p .inputs) 0 (p .candidates)
+    ++ levels p lowLevels (levelsAt p) 0 (p .candidates / 2)
+    ++ levels p lowLevels (otherAt p lowLevels (levelsAt p) (p .candidates)) (p .candidates / 2)
+    (p .candidates - p .candidates / 2)
+    ++ halvesMerge p lowLevels (levelsAt p) 0 (p .candidates)
+
+-- A single candidate wins: one gate says so.
+unfoldable pub ownList : Shape → List Gate
+ownList s = cond (eqb (s .candidates) 1) (constant 1 ∷ []) (circuit (planOf s))

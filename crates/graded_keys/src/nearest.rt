@@ -1,0 +1,179 @@
+// The words of two keys at the grades nearest to the median where they differ. Words have `above` digits above the
+// lowest.
+use gate_words::halves::unequal_at;
+use gate_words::writer::Writer;
+use gates::kind;
+ghost use mathlib.Core.Path.{_≡_};
+ghost use Prim.Native.Nat.{suc, _+_, _*_, _≤_, _<_};
+ghost use Rattle.gate_words.specs.Limits.{writerLimit};
+ghost use Rattle.gate_words.specs.Writing.{Room, Wrote};
+ghost use Rattle.graded_circuit.specs.Nearest.{stride, side, sideSpan, sides, either, eitherSpan, lastOf, firstOf};
+ghost use Rattle.graded_circuit.specs.Nearest.{leftEnd, rightEnd};
+
+// Of one grade: whether the words, of which the highest `high` digits are gone through by themselves, differ on either
+// side of the median.
+fn side(w: Writer, table: &mut [u32], x: u32, y: u32, above: u32, high: u32) -> Writer
+    requires { ⌜ Room w (sideSpan above) ⌝ }
+    requires { ⌜ (x + stride above ≤ w .wire) × (y + stride above ≤ w .wire) × (high ≤ above) ⌝ }
+    ensures { λ r. ⌜ Wrote w (now (table .entry)) (side (w .wire) x y above high) (now (table .exit)) r ⌝ }
+{
+    let differ = unequal_at(w.wire, above);
+    let compared = w.unequal_halves(table, x, y, above - high, high);
+    let below = compared.emit(table, kind::AND, differ, x + above + 1, 0);
+    below.emit(table, kind::XOR, differ, compared.wire, 0)
+}
+
+// Of so many grades.
+pub fn sides(
+    w: Writer,
+    table: &mut [u32],
+    x: u32,
+    y: u32,
+    above: u32,
+    high: u32,
+    count: u32,
+) -> Writer
+    requires { ⌜ Room w (count * sideSpan above) ⌝ }
+    requires { ⌜
+        (x + count * stride above ≤ w .wire) × (y + count * stride above ≤ w .wire) × (above ≤ 7) × (high ≤ above)
+        ⌝ }
+    ensures { λ r. ⌜ Wrote w (now (table .entry)) (sides (w .wire) x y above high count) (now (table .exit)) r ⌝ }
+{
+    let mut next = w;
+    let mut left = x;
+    let mut right = y;
+    let mut more = count;
+    while 0 < more {
+        next = side(next, table, left, right, above, high);
+        left += above + 2;
+        right += above + 2;
+        more -= 1;
+    }
+    next
+}
+
+// The words at x and y where wire f is 1, else those at u and v.
+fn either(
+    w: Writer,
+    table: &mut [u32],
+    f: u32,
+    x: u32,
+    y: u32,
+    u: u32,
+    v: u32,
+    above: u32,
+) -> Writer
+    requires { ⌜ Room w (eitherSpan above) ⌝ }
+    requires { ⌜
+        (x + suc above ≤ w .wire) × (y + suc above ≤ w .wire) × (u + suc above ≤ w .wire) × (v + suc above ≤ w .wire)
+        ⌝ }
+    ensures { λ r. ⌜ Wrote w (now (table .entry)) (either f x y u v above) (now (table .exit)) r ⌝ }
+{
+    let left = w.choose(table, f, x, u, above + 1);
+    left.choose(table, f, y, v, above + 1)
+}
+
+// The words of the last of so many grades whose wire, the first being f, is 1; else those at u and v.
+pub fn last_of(
+    w: Writer,
+    table: &mut [u32],
+    f: u32,
+    x: u32,
+    y: u32,
+    u: u32,
+    v: u32,
+    above: u32,
+    count: u32,
+) -> Writer
+    requires { ⌜ Room w (count * eitherSpan above) ⌝ }
+    requires { ⌜
+        (f + count * sideSpan above < w .wire + sideSpan above) × (x + count * stride above ≤ w .wire)
+        × (y + count * stride above ≤ w .wire) × (u + suc above ≤ w .wire) × (v + suc above ≤ w .wire) × (above ≤ 7)
+        ⌝ }
+    ensures { λ r. ⌜ Wrote w (now (table .entry)) (lastOf (w .wire) f x y u v above count) (now (table .exit)) r ⌝ }
+{
+    let mut next = w;
+    let mut flag = f;
+    let mut left = x;
+    let mut right = y;
+    let mut first = u;
+    let mut second = v;
+    let mut more = count;
+    while 0 < more {
+        let n = next.wire;
+        next = either(next, table, flag, left, right, first, second, above);
+        flag += 2 * above + 3;
+        left += above + 2;
+        right += above + 2;
+        first = n;
+        second = n + above + 1;
+        more -= 1;
+    }
+    next
+}
+
+// The words of the first such grade.
+pub fn first_of(
+    w: Writer,
+    table: &mut [u32],
+    f: u32,
+    x: u32,
+    y: u32,
+    u: u32,
+    v: u32,
+    above: u32,
+    count: u32,
+) -> Writer
+    requires { ⌜ Room w (count * eitherSpan above) ⌝ }
+    requires { ⌜
+        (f + count * sideSpan above < w .wire + sideSpan above) × (x + count * stride above ≤ w .wire)
+        × (y + count * stride above ≤ w .wire) × (u + suc above ≤ w .wire) × (v + suc above ≤ w .wire) × (above ≤ 7)
+        × (count ≤ 6)
+        ⌝ }
+    ensures { λ r. ⌜ Wrote w (now (table .entry)) (firstOf (w .wire) f x y u v above count) (now (table .exit)) r ⌝ }
+{
+    let mut next = w;
+    let mut first = u;
+    let mut second = v;
+    let mut more = count;
+    while 0 < more {
+        let n = next.wire;
+        let i = more - 1;
+        let step = i * (above + 2);
+        next = either(
+            next,
+            table,
+            f + i * (2 * above + 3),
+            x + step,
+            y + step,
+            first,
+            second,
+            above,
+        );
+        first = n;
+        second = n + above + 1;
+        more = i;
+    }
+    next
+}
+
+// Where the words chosen stand.
+pub fn left_end(n: u32, u: u32, above: u32, count: u32) -> u32
+    requires { ⌜ (n + count * eitherSpan above < writerLimit) × (above ≤ 7) × (count ≤ 6) ⌝ }
+    ensures { λ r. ⌜ r ≡ leftEnd n u above count ⌝ }
+{
+    if count == 0 {
+        return u;
+    }
+    n + (count - 1) * (2 * above + 2)
+}
+
+pub fn right_end(n: u32, v: u32, above: u32, count: u32) -> u32
+    requires { ⌜ (n + count * eitherSpan above < writerLimit) × (above ≤ 7) × (count ≤ 6) ⌝ }
+    ensures { λ r. ⌜ r ≡ rightEnd n v above count ⌝ }
+{
+    if count == 0 {
+        return v;
+    }
+    n + (count - 1) * (2 * above + 2) + above + 1
+}

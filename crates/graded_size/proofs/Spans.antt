@@ -1,0 +1,132 @@
+-- The spans of the circuit's parts, case by case, as the program computes them.
+-- Assumes nothing.
+use mathlib.Core.Logic.{⊎-elim}
+use mathlib.Core.Path.{_≡_, _∙_, refl, sym, ap, subst}
+use Prim.Native.Nat.{ℕ, zero, suc, _+_, _-_, _*_, _/_, _%_, _≤_, _<_}
+use native.Mathlib.Nat.{mul-add, mul-le-mul}
+use native.Mathlib.Omega.{arith}
+use Rattle.gate_words.specs.Counter.{adders, countSize, Countable}
+use Rattle.gate_words.proofs.CounterSteps.{count-size-step, countable-step}
+use Rattle.gate_words.specs.Reach.{reachSpan}
+use Rattle.graded_circuit.specs.declared.plan.Plan.{Plan}
+use Rattle.graded_circuit.specs.RunningSums.{middleSpan, lastSpan, laterSpan}
+use Rattle.graded_circuit.specs.Median.{Fits, medianSize}
+use Rattle.graded_circuit.proofs.MedianLaws.{fits-half, fits-some}
+use Rattle.graded_circuit.specs.Nearest.{sideSpan, eitherSpan}
+use Rattle.graded_circuit.specs.Plan.{Planned}
+use Rattle.graded_circuit.specs.Key.{keySpan, candidateSpan}
+use Rattle.graded_circuit.specs.Contest.{lowerSpan, contestSpan}
+use Rattle.graded_circuit.specs.OwnList.{levelsSpan}
+use Rattle.graded_circuit.proofs.LevelsLaws.{span-one, span-more}
+use Rattle.graded_circuit.proofs.BoundLaws.{merge-few, candidate-small, middle-small}
+use Rattle.graded_circuit.proofs.CandidateBlocks.{candidate-span}
+use Rattle.basics.proofs.Cases.{below-or-not}
+
+-- the carries of a level are half of its bits, with the public bit
+pub carries : (m e : ℕ) → 0 < m → (m + e) / 2 ≡ adders (m - 1) e
+unfolding adders
+carries m e h = let q : m + e ≡ m - 1 + e + 1 = omega arith in ap (λ (x : ℕ). x / 2) q
+
+-- a level of a counter, and the levels left
+pub size-turn : (m x r : ℕ) → 0 < r → Countable m x r
+    → Countable ((m + x % 2) / 2) (x / 2) (r - 1) × (countSize m x r ≡ 3 * ((m + x % 2) / 2) + countSize ((m + x % 2) / 2) (x / 2) (r - 1)) × ((m + x % 2) / 2 ≤ m)
+size-turn m x r h c =
+    let q = countable-step m x r h c in
+    let e = carries m (x % 2) (q .0) in
+    let a : (m + x % 2) / 2 ≤ m = omega (arith, q .0) in
+    (subst (λ (k : ℕ). Countable k (x / 2) (r - 1)) (sym e) (q .1), count-size-step m x r h ∙ ap (λ (k : ℕ). 3 * k + countSize k (x / 2) (r - 1)) (sym e), a)
+
+pub size-none : (m x r : ℕ) → r ≤ 0 → countSize m x r ≡ 0
+unfolding countSize
+size-none m x r h = let e : r ≡ 0 = omega arith in rw e
+
+-- the later grades
+pub later-none : (p : Plan) (t : ℕ) → t ≡ 0 → laterSpan p t ≡ 0
+unfolding laterSpan
+later-none p t e = rw e
+
+pub later-some : (p : Plan) (t : ℕ) → 0 < t → laterSpan p t ≡ (t - 1) * middleSpan p + lastSpan p
+later-some p zero h = absurd (omega arith)
+later-some p (suc t) h = more ∙ ap (λ (x : ℕ). x * middleSpan p + lastSpan p) {x = t} {y = suc t - 1} (omega arith)
+  where
+    more : laterSpan p (suc t) ≡ t * middleSpan p + lastSpan p
+    more = unfold laterSpan in refl
+
+-- below the medians
+pub lower-none : (r t : ℕ) → r ≡ 0 → lowerSpan r t ≡ 0
+unfolding lowerSpan
+lower-none r t e = rw e
+
+pub lower-single : (r t : ℕ) → (r ≡ 0 → ⊥) → t ≡ 0 → lowerSpan r t ≡ 3 * r - 2
+unfolding lowerSpan
+lower-single zero t h e = absurd (h refl)
+lower-single (suc r) zero h e = omega arith
+lower-single (suc r) (suc t) h e = absurd (omega arith)
+
+pub lower-more : (r t : ℕ) → (r ≡ 0 → ⊥) → 0 < t → lowerSpan r t ≡ (t - 1) * (6 * r + 1) + 6 * r + 2 * reachSpan (r - 1) + 10
+lower-more zero t h z = absurd (h refl)
+lower-more (suc r) zero h z = absurd (omega arith)
+lower-more (suc r) (suc t) h z =
+    let e : sideSpan r + eitherSpan r + eitherSpan r ≡ 6 * suc r + 1 = omega arith in
+    omega (arith, span, ap reachSpan {x = suc r - 1} {y = r} (omega arith), ap (λ (x : ℕ). t * x) e, mul-add t (sideSpan r + eitherSpan r) (eitherSpan r), mul-add t (sideSpan r) (eitherSpan r), ap (λ (x : ℕ). x * (6 * suc r + 1)) {x = suc t - 1} {y = t} (omega arith))
+  where
+    span : lowerSpan (suc r) (suc t) ≡ t * sideSpan r + t * eitherSpan r + t * eitherSpan r + (6 * r + 2 + 2 * reachSpan r) + 14
+    span = unfold lowerSpan in (omega arith)
+
+-- a digit of a median grade's number, and the digits left
+pub median-turn : (m w : ℕ) → 0 < w → Fits m w → Fits (m / 2) (w - 1) × (medianSize m w + w ≡ m + (medianSize (m / 2) (w - 1) + (w - 1)))
+median-turn m zero h f = absurd (omega arith)
+median-turn m (suc w) h f =
+    let e : w ≡ suc w - 1 = omega arith in
+    (subst (Fits (m / 2)) e (fits-half m w f), omega (arith, size, fits-some m w f, ap (medianSize (m / 2)) e))
+  where
+    size : medianSize m (suc w) ≡ m - 1 + medianSize (m / 2) w
+    size = unfold medianSize in refl
+
+pub median-none : (m w : ℕ) → w ≤ 0 → medianSize m w + w ≡ 0
+unfolding medianSize
+median-none m zero h = refl
+median-none m (suc w) h = absurd (omega arith)
+
+-- the levels
+module _ (p : Plan) where
+  pub pair-one : (m : ℕ) → m ≤ 1 → levelsSpan p 1 m ≡ 0
+  pair-one m h = span-one p 0 m h
+
+  pub pair-two : (m : ℕ) → 1 < m → levelsSpan p 1 m ≡ contestSpan p + 4 + m + keySpan p
+  pair-two m h = omega (arith, span-more p 0 m h, nothing (m / 2), nothing (m - m / 2))
+    where
+      nothing : (k : ℕ) → levelsSpan p 0 k ≡ 0
+      nothing k = unfold levelsSpan in refl
+
+  pub four-one : (m : ℕ) → m ≤ 1 → levelsSpan p 2 m ≡ 0
+  four-one m h = span-one p 1 m h
+
+  pub four-more : (m : ℕ) → 1 < m → levelsSpan p 2 m ≡ levelsSpan p 1 (m / 2) + levelsSpan p 1 (m - m / 2) + contestSpan p + 4 + m + keySpan p
+  four-more m h = omega (arith, span-more p 1 m h)
+
+  module _ (f : Planned p) where
+    pub contest-small : contestSpan p + 12 + keySpan p ≤ 500
+    contest-small = omega (arith, merge-few p f 4 4 (omega arith))
+
+    pub pair-small : (m : ℕ) → m ≤ 2 → levelsSpan p 1 m ≤ 500
+    pair-small m h = ⊎-elim
+        (λ (l : 1 < m). omega (arith, pair-two m l, contest-small))
+        (λ (l : m ≤ 1). omega (arith, pair-one m l))
+        (below-or-not 1 m)
+
+    pub four-small : (m : ℕ) → m ≤ 4 → levelsSpan p 2 m ≤ 1500
+    four-small m h = ⊎-elim
+        (λ (l : 1 < m). omega (arith, four-more m l, contest-small, pair-small (m / 2) (omega arith), pair-small (m - m / 2) (omega arith)))
+        (λ (l : m ≤ 1). omega (arith, four-one m l))
+        (below-or-not 1 m)
+
+    -- a candidate's parts
+    pub parts-small : countSize (p .ballots) (p .offset) (p .digits) + laterSpan p (p .grades - 2) + keySpan p ≤ 35000
+    parts-small = omega (arith, candidate-span p, candidate-small p f)
+
+    pub middles-small : (p .grades - 3) * middleSpan p ≤ 4 * 5000
+    middles-small = mul-le-mul {n₁ = p .grades - 3} {m₁ = middleSpan p} {n₂ = 4} {m₂ = 5000} (omega (arith, f .d-most)) (middle-small p f)
+
+    pub all-small : p .candidates * candidateSpan p ≤ 8 * 35000
+    all-small = mul-le-mul {n₁ = p .candidates} {m₁ = candidateSpan p} {n₂ = 8} {m₂ = 35000} (f .k-most) (candidate-small p f)

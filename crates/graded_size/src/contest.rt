@@ -1,0 +1,67 @@
+// The span of a contest.
+use graded_circuit::plan::Plan;
+ghost use mathlib.Core.Path.{_≡_};
+ghost use Prim.Native.Nat.{_+_, _-_, _≤_, _<_};
+ghost use Rattle.gate_words.specs.Reach.{reachSpan};
+ghost use Rattle.graded_circuit.specs.Plan.{Planned};
+ghost use Rattle.graded_circuit.specs.Median.{Fits, medianSize};
+ghost use Rattle.graded_circuit.specs.Contest.{lowerSpan, contestSpan};
+
+// The number of gates that give a median grade's number: of each digit the sum modulo 2 of its wires, and a copy.
+fn median_span(count: u32, digits: u32) -> u32
+    requires { ⌜ Fits count digits × (count ≤ 6) × (digits ≤ 3) ⌝ }
+    ensures { λ r. ⌜ r ≡ medianSize count digits + digits ⌝ }
+{
+    let mut gates: u32 = 0;
+    let mut many = count;
+    let mut left = digits;
+    while 0 < left {
+        gates += many;
+        many /= 2;
+        left -= 1;
+    }
+    gates
+}
+
+// Whether two words of so many digits reach a limit: one gate for one digit. Else the low half takes two gates a digit
+// less one, and the high half three a digit less one.
+fn reach_span(digits: u32) -> u32
+    requires { ⌜ (0 < digits) × (digits ≤ 7) ⌝ }
+    ensures { λ r. ⌜ r ≡ reachSpan (digits - 1) ⌝ }
+{
+    if digits == 1 {
+        return 1;
+    }
+    let low = (digits - 2) / 2;
+    2 * low + 3 * (digits - 2 - low) + 3
+}
+
+// What stands before the result of a contest and behind the medians' comparison. Without a low digit it is nothing.
+// The one sum of two grades is compared as it is, with three gates a digit less two. Else each grade between the
+// first and the last has its side, two gates a digit and one, and two choices of two words, four a digit; the chosen
+// words are compared and told to reach n twice, and fourteen gates come before the two that say the result.
+fn lower_span(digits: u32, grades: u32) -> u32
+    requires { ⌜ (digits ≤ 7) × (2 ≤ grades) × (grades ≤ 7) ⌝ }
+    ensures { λ r. ⌜ r ≡ lowerSpan digits (grades - 2) ⌝ }
+{
+    if digits == 0 {
+        return 0;
+    }
+    if grades == 2 {
+        return 3 * digits - 2;
+    }
+    (grades - 3) * (6 * digits + 1) + 6 * digits + 2 * reach_span(digits) + 10
+}
+
+// The gates that say whether the keys differ, and which comes first.
+const RESULT: u32 = 2;
+
+// Two medians, their comparison, what is below them, and the result.
+pub(crate) fn contest_span(p: Plan) -> u32
+    requires { ⌜ Planned p ⌝ }
+    ensures { λ r. ⌜ r ≡ contestSpan p ⌝ }
+{
+    let median = median_span(p.grades - 1, p.places + 1);
+    let lower = lower_span(p.digits, p.grades);
+    2 * median + 3 * p.places + 1 + lower + RESULT
+}

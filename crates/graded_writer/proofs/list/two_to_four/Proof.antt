@@ -1,0 +1,156 @@
+-- `graded_writer::list::two_to_four` meets its contract: both halves, their merge and the better key.
+-- Assumes nothing.
+use mathlib.Core.Path.{_≡_, _∙_, refl, sym, ap}
+use mathlib.Core.Bool.{cond}
+use Prim.Native.Nat.{ℕ, _+_, _-_, _/_}
+use native.Mathlib.Omega.{arith}
+use lib.Dec.{leb}
+use lib.ListN.{length}
+use Rattle.gate_words.specs.Choice.{choose}
+use Rattle.gate_words.proofs.Writing.{wrote-as, wrote-long, room-less}
+use Rattle.graded_circuit.specs.Key.{keySpan}
+use Rattle.graded_circuit.specs.Contest.{resultAt}
+use Rattle.graded_circuit.specs.Merge.{merge, mergeSpan}
+use Rattle.graded_circuit.specs.OwnList.{keyAt, levelsSpan, mergeAt, halvesMerge, levels}
+use Rattle.graded_circuit.proofs.LevelsLaws.{span-more, levels-more, levels-block, halves-merge-block}
+use Rattle.gate_words.proofs.Standing.{Stands, stands, stands-after, room-of, wrote-then}
+use Rattle.graded_writer.proofs.ListWriters.{span-least, key-below, merge-same, better-same}
+use Rattle.graded_writer.proofs.list.two_to_four.Statement.{statement}
+use Rattle.graded_writer.proofs.list.two_to_four.Tie as tie
+
+sub-second : tie.Need-sub-second
+sub-second c =
+    omega arith
+
+spans : (c : tie.After-slice-known) → levelsSpan ((c .before .args) .p) 2 ((c .before .args) .count) ≡ levelsSpan ((c .before .args) .p) 1 ((c .before .args) .count / 2) + (levelsSpan ((c .before .args) .p) 1 ((c .before .args) .count - (c .before .args) .count / 2) + (mergeSpan ((c .before .args) .p) ((c .before .args) .count / 2) ((c .before .args) .count - (c .before .args) .count / 2) + keySpan ((c .before .args) .p)))
+spans c =
+    omega (arith, span-more ((c .before .args) .p) 1 ((c .before .args) .count) ((c .before) .pre .1 .1 .2))
+
+pair-requires : tie.Need-pair-requires
+pair-requires c κs =
+    let q = (c .before .before) .pre .1 .1 in
+    let t = (c .before .before) .pre .1 .1 .2 in
+    ((c .before .before) .pre .0, (room-less ((c .before .before .args) .w) _ _ (omega (arith, spans (c .before))) ((c .before .before) .pre .1 .0), (q .0, q .1, omega (arith, t), omega (arith, q .3), omega (arith, q .4))))
+
+low : (c : tie.After-pair) → Stands ((c .pair) .result) ((c .before .before .before .args) .w .wire + levelsSpan ((c .before .before .before .args) .p) 1 ((c .before .before .before .args) .count / 2)) (levelsSpan ((c .before .before .before .args) .p) 1 ((c .before .before .before .args) .count - (c .before .before .before .args) .count / 2) + (mergeSpan ((c .before .before .before .args) .p) ((c .before .before .before .args) .count / 2) ((c .before .before .before .args) .count - (c .before .before .before .args) .count / 2) + keySpan ((c .before .before .before .args) .p)))
+low c =
+    let a = (c .before .before .before .args) in
+    let q = (c .before .before .before) .pre .1 .1 in
+    let t = (c .before .before .before) .pre .1 .1 .2 in
+    stands-after (a .w) (a .table .now) _ ((c .pair) .last .1 .0) ((c .pair) .result) _ _ _ ((c .pair) .ensures) (levels-block (a .p) ((c .before .before .before) .pre .0) 1 (a .w .wire) (a .c) (a .count / 2) (q .1) (omega (arith, t)) (omega (arith, q .3)) (omega (arith, q .4)) .long)
+    (stands (a .w) (a .w .wire) _ _ refl (omega (arith, spans (c .before .before))) ((c .before .before .before) .pre .1 .0))
+
+add-pair : tie.Need-add-pair
+add-pair c =
+    omega (arith, (c .before .before .before .before .before .before) .pre .1 .1, (c .before .before .before .before .before .before) .pre .0 .k-most)
+
+pair-requires-2 : tie.Need-pair-requires-2
+pair-requires-2 c κs =
+    let q = (c .before .before .before .before .before .before) .pre .1 .1 in
+    let t = (c .before .before .before .before .before .before) .pre .1 .1 .2 in
+    ((c .before .before .before .before .before .before) .pre .0, (room-of ((c .before .before .before .pair) .result) _ _ _ (low (c .before .before .before)) (omega arith), (q .0, omega (arith, q .1, low (c .before .before .before) .place), omega (arith, t), omega (arith, q .3), omega (arith, q .4))))
+
+high : (c : tie.After-pair2) → Stands ((c .pair2) .result) ((c .before .before .before .before .before .before .before .args) .w .wire + levelsSpan ((c .before .before .before .before .before .before .before .args) .p) 1 ((c .before .before .before .before .before .before .before .args) .count / 2) + levelsSpan ((c .before .before .before .before .before .before .before .args) .p) 1 ((c .before .before .before .before .before .before .before .args) .count - (c .before .before .before .before .before .before .before .args) .count / 2)) (mergeSpan ((c .before .before .before .before .before .before .before .args) .p) ((c .before .before .before .before .before .before .before .args) .count / 2) ((c .before .before .before .before .before .before .before .args) .count - (c .before .before .before .before .before .before .before .args) .count / 2) + keySpan ((c .before .before .before .before .before .before .before .args) .p))
+high c =
+    let a = (c .before .before .before .before .before .before .before .args) in
+    let q = (c .before .before .before .before .before .before .before) .pre .1 .1 in
+    let t = (c .before .before .before .before .before .before .before) .pre .1 .1 .2 in
+    stands-after ((c .before .before .before .before .pair) .result) ((c .before .before .before .before .pair) .last .1 .0) _ ((c .pair2) .last .1 .0) ((c .pair2) .result) _ _ _ ((c .pair2) .ensures)
+    (levels-block (a .p) ((c .before .before .before .before .before .before .before) .pre .0) 1 ((c .before .before .before .before .pair) .result .wire) (a .c + a .count / 2) (a .count - a .count / 2) (omega (arith, q .1, low (c .before .before .before .before) .place)) (omega (arith, t)) (omega (arith, q .3)) (omega (arith, q .4)) .long) (low (c .before .before .before .before))
+
+halves-requires : tie.Need-halves-requires
+halves-requires c κs =
+    let a = (c .before .before .before .before .before .before .before .before .before .before .args) in
+    let q = (c .before .before .before .before .before .before .before .before .before .before) .pre .1 .1 in
+    let t = (c .before .before .before .before .before .before .before .before .before .before) .pre .1 .1 .2 in
+    let e = low (c .before .before .before .before .before .before .before) .place in
+    let e′ = high (c .before .before .before) .place in (
+      (c .before .before .before .before .before .before .before .before .before .before) .pre .0,
+      (
+        room-of ((c .before .before .before .pair2) .result) _ _ _ (high (c .before .before .before)) (omega arith),
+        (
+          (q .0, omega (arith, q .1, e), omega (arith, e, e′), omega (arith, t), omega (arith, t), omega (arith, q .4)),
+          (λ z. omega (arith, q .1, e, span-least (a .p) 0 (a .count / 2) z), λ z. omega (arith, e, e′, span-least (a .p) 0 (a .count - a .count / 2) z)),
+        ),
+      ),
+    )
+
+merge-wrote : (c : tie.After-halves) → halvesMerge ((c .before .before .before .before .before .before .before .before .before .before .before .args) .p) 1 ((c .before .before .before .before .before .before .before .before .before .before .before .args) .w .wire) ((c .before .before .before .before .before .before .before .before .before .before .before .args) .c) ((c .before .before .before .before .before .before .before .before .before .before .before .args) .count) ≡ merge ((c .before .before .before .before .before .before .before .before .before .before .before .args) .p) ((c .before .before .before .before .pair2) .result .wire) (cond (leb ((c .before .before .before .before .before .before .before .before .before .before .before .args) .count / 2) 1) (keyAt ((c .before .before .before .before .before .before .before .before .before .before .before .args) .p) ((c .before .before .before .before .before .before .before .before .before .before .before .args) .c)) ((c .before .before .before .before .before .before .before .before .pair) .result .wire - keySpan ((c .before .before .before .before .before .before .before .before .before .before .before .args) .p))) (cond (leb ((c .before .before .before .before .before .before .before .before .before .before .before .args) .count - (c .before .before .before .before .before .before .before .before .before .before .before .args) .count / 2) 1) (keyAt ((c .before .before .before .before .before .before .before .before .before .before .before .args) .p) ((c .before .before .before .before .before .before .before .before .before .before .before .args) .c + (c .before .before .before .before .before .before .before .before .before .before .before .args) .count / 2)) ((c .before .before .before .before .pair2) .result .wire - keySpan ((c .before .before .before .before .before .before .before .before .before .before .before .args) .p))) (cond (leb ((c .before .before .before .before .before .before .before .before .before .before .before .args) .count / 2) 1) 0 ((c .before .before .before .before .before .before .before .before .pair) .result .wire - keySpan ((c .before .before .before .before .before .before .before .before .before .before .before .args) .p) - (c .before .before .before .before .before .before .before .before .before .before .before .args) .count / 2)) (cond (leb ((c .before .before .before .before .before .before .before .before .before .before .before .args) .count - (c .before .before .before .before .before .before .before .before .before .before .before .args) .count / 2) 1) 0 ((c .before .before .before .before .pair2) .result .wire - keySpan ((c .before .before .before .before .before .before .before .before .before .before .before .args) .p) - ((c .before .before .before .before .before .before .before .before .before .before .before .args) .count - (c .before .before .before .before .before .before .before .before .before .before .before .args) .count / 2))) ((c .before .before .before .before .before .before .before .before .before .before .before .args) .count / 2) ((c .before .before .before .before .before .before .before .before .before .before .before .args) .count - (c .before .before .before .before .before .before .before .before .before .before .before .args) .count / 2)
+merge-wrote c =
+    sym (merge-same ((c .before .before .before .before .before .before .before .before .before .before .before .args) .p) 0 ((c .before .before .before .before .before .before .before .before .before .before .before .args) .w .wire) ((c .before .before .before .before .before .before .before .before .before .before .before .args) .c) ((c .before .before .before .before .before .before .before .before .before .before .before .args) .count) ((c .before .before .before .before .pair2) .result .wire) ((c .before .before .before .before .before .before .before .before .pair) .result .wire) ((c .before .before .before .before .pair2) .result .wire) (high (c .before .before .before .before) .place) (low (c .before .before .before .before .before .before .before .before) .place) (high (c .before .before .before .before) .place))
+
+met : (c : tie.After-halves) → Stands ((c .halves) .result) ((c .before .before .before .before .before .before .before .before .before .before .before .args) .w .wire + levelsSpan ((c .before .before .before .before .before .before .before .before .before .before .before .args) .p) 1 ((c .before .before .before .before .before .before .before .before .before .before .before .args) .count / 2) + levelsSpan ((c .before .before .before .before .before .before .before .before .before .before .before .args) .p) 1 ((c .before .before .before .before .before .before .before .before .before .before .before .args) .count - (c .before .before .before .before .before .before .before .before .before .before .before .args) .count / 2) + mergeSpan ((c .before .before .before .before .before .before .before .before .before .before .before .args) .p) ((c .before .before .before .before .before .before .before .before .before .before .before .args) .count / 2) ((c .before .before .before .before .before .before .before .before .before .before .before .args) .count - (c .before .before .before .before .before .before .before .before .before .before .before .args) .count / 2)) (keySpan ((c .before .before .before .before .before .before .before .before .before .before .before .args) .p))
+met c =
+    let a = (c .before .before .before .before .before .before .before .before .before .before .before .args) in
+    let q = (c .before .before .before .before .before .before .before .before .before .before .before) .pre .1 .1 in
+    stands-after ((c .before .before .before .before .pair2) .result) ((c .before .before .before .before .pair2) .last .1 .0) _ ((c .halves) .last .1 .0) ((c .halves) .result) _ _ _ ((c .halves) .ensures)
+    (sym (ap length (merge-wrote c)) ∙ halves-merge-block (a .p) ((c .before .before .before .before .before .before .before .before .before .before .before) .pre .0) 1 (a .w .wire) (a .c) (a .count) (q .1) ((c .before .before .before .before .before .before .before .before .before .before .before) .pre .1 .1 .2) (q .3) (q .4) .long) (high (c .before .before .before .before))
+
+best-key-requires : tie.Need-best-key-requires
+best-key-requires c κs =
+    let q = (c .before .before .before .before .before .before .before .before .before .before .before .before .before) .pre .1 .1 in
+    let t = (c .before .before .before .before .before .before .before .before .before .before .before .before .before) .pre .1 .1 .2 in
+    ((c .before .before .before .before .before .before .before .before .before .before .before .before .before) .pre .0, (q .0, omega (arith, q .4, t), omega (arith, q .1, (c .before .before .before .before .before .before .before .before .before .before .before .before .before) .pre .1 .0 .small), λ z. omega (arith, low (c .before .before .before .before .before .before .before .before .before .before) .place, span-least ((c .before .before .before .before .before .before .before .before .before .before .before .before .before .args) .p) 0 ((c .before .before .before .before .before .before .before .before .before .before .before .before .before .args) .count / 2) z)))
+
+add-best-key : tie.Need-add-best-key
+add-best-key c =
+    omega (arith, (c .before .before .before .before .before .before .before .before .before .before .before .before .before .before) .pre .1 .1, (c .before .before .before .before .before .before .before .before .before .before .before .before .before .before) .pre .0 .k-most)
+
+best-key-requires-2 : tie.Need-best-key-requires-2
+best-key-requires-2 c κs =
+    let q = (c .before .before .before .before .before .before .before .before .before .before .before .before .before .before) .pre .1 .1 in
+    let t = (c .before .before .before .before .before .before .before .before .before .before .before .before .before .before) .pre .1 .1 .2 in
+    ((c .before .before .before .before .before .before .before .before .before .before .before .before .before .before) .pre .0, (q .0, omega (arith, q .4, t), omega (arith, q .1, (c .before .before .before .before .before .before .before .before .before .before .before .before .before .before) .pre .1 .0 .small), λ z. omega (arith, high (c .before .before .before .before .before .before .before) .place, span-least ((c .before .before .before .before .before .before .before .before .before .before .before .before .before .before .args) .p) 0 ((c .before .before .before .before .before .before .before .before .before .before .before .before .before .before .args) .count - (c .before .before .before .before .before .before .before .before .before .before .before .before .before .before .args) .count / 2) z)))
+
+sub-better : tie.Need-sub-better
+sub-better c =
+    omega (arith, met (c .before .before .before .before .before .before) .place)
+
+sub-better-2 : tie.Need-sub-better-2
+sub-better-2 c =
+    omega (arith, met (c .before .before .before .before .before .before) .place)
+
+better-requires : tie.Need-better-requires
+better-requires c κs =
+    let a = (c .before .before .before .before .before .before .before .before .before .before .before .before .before .before .before .before .before .args) in
+    let f = (c .before .before .before .before .before .before .before .before .before .before .before .before .before .before .before .before .before) .pre .0 in
+    let q = (c .before .before .before .before .before .before .before .before .before .before .before .before .before .before .before .before .before) .pre .1 .1 in
+    let t = (c .before .before .before .before .before .before .before .before .before .before .before .before .before .before .before .before .before) .pre .1 .1 .2 in
+    let e = met (c .before .before .before .before .before .before) .place in
+    let e₁ = low (c .before .before .before .before .before .before .before .before .before .before .before .before .before .before) .place in
+    let e₂ = high (c .before .before .before .before .before .before .before .before .before .before) .place in
+    let n = (c .before .before .before .before .before .before .halves) .result .wire in (
+      f,
+      (
+        met (c .before .before .before .before .before .before) .left,
+        (
+          omega (arith, (c .before .before .before .best-key) .ensures, key-below (a .p) f (a .c) (a .count / 2) ((c .before .before .before .before .before .before .before .before .before .before .before .before .before .before .pair) .result .wire) n (omega (arith, q .4, t)) (omega (arith, q .1, e)) (omega (arith, e, e₁)) (λ z. omega (arith, e₁, span-least (a .p) 0 (a .count / 2) z))),
+          omega (arith, (c .before .before .best-key2) .ensures, key-below (a .p) f (a .c + a .count / 2) (a .count - a .count / 2) ((c .before .before .before .before .before .before .before .before .before .before .pair2) .result .wire) n (omega (arith, q .4, t)) (omega (arith, q .1, e)) (omega (arith, e, e₂)) (λ z. omega (arith, e₂, span-least (a .p) 0 (a .count - a .count / 2) z))),
+          omega (arith, e),
+        ),
+      ),
+    )
+
+returns : tie.Need-returns
+returns c =
+    let a = (c .before .before .before .before .before .before .before .before .before .before .before .before .before .before .before .before .before .before .before .before .args) in
+    let p = a .p in
+    let n = a .w .wire in
+    let m = a .count in
+    let x = cond (leb (m / 2) 1) (keyAt p (a .c)) ((c .before .before .before .before .before .before .before .before .before .before .before .before .before .before .before .before .before .pair) .result .wire - keySpan p) in
+    let e : (c .before .before .before .before .before .before .before .before .before .halves) .result .wire - m - 6 + 1 ≡ resultAt p (mergeAt p 1 n m) + 1 = omega (arith, met (c .before .before .before .before .before .before .before .before .before) .place) in
+    wrote-as (a .w) (a .table .now) _ _ _ _ (sym (levels-more p 1 m n (a .c) ((c .before .before .before .before .before .before .before .before .before .before .before .before .before .before .before .before .before .before .before .before) .pre .1 .1 .2)))
+    (wrote-then (a .w) (a .table .now) _ ((c .before .before .before .before .before .before .before .before .before .halves) .last .1 .0) ((c .before .before .before .before .before .before .before .before .before .halves) .result) _ _ _ _
+    (wrote-then (a .w) (a .table .now) _ ((c .before .before .before .before .before .before .before .before .before .before .before .before .before .pair2) .last .1 .0) ((c .before .before .before .before .before .before .before .before .before .before .before .before .before .pair2) .result) _ _ _ _
+    (wrote-then (a .w) (a .table .now) _ ((c .before .before .before .before .before .before .before .before .before .before .before .before .before .before .before .before .before .pair) .last .1 .0) ((c .before .before .before .before .before .before .before .before .before .before .before .before .before .before .before .before .before .pair) .result) _ _ _ _ ((c .before .before .before .before .before .before .before .before .before .before .before .before .before .before .before .before .before .pair) .ensures) ((c .before .before .before .before .before .before .before .before .before .before .before .before .before .pair2) .ensures) (ap (λ (k : ℕ). levels p 1 k (a .c + m / 2) (m - m / 2)) (low (c .before .before .before .before .before .before .before .before .before .before .before .before .before .before .before .before .before) .place)))
+    ((c .before .before .before .before .before .before .before .before .before .halves) .ensures) (sym (merge-wrote (c .before .before .before .before .before .before .before .before .before))))
+    ((c .before .before .better) .ensures)
+    (ap (λ (k : ℕ). choose ((c .before .before .before .before .before .before .before .before .before .halves) .result .wire - m - 6 + 1) k ((c .before .before .before .before .before .best-key2) .result) (keySpan p)) ((c .before .before .before .before .before .before .best-key) .ensures) ∙ ap (λ (k : ℕ). choose ((c .before .before .before .before .before .before .before .before .before .halves) .result .wire - m - 6 + 1) x k (keySpan p)) ((c .before .before .before .before .before .best-key2) .ensures)
+    ∙ better-same p 0 n (a .c) m ((c .before .before .before .before .before .before .before .before .before .halves) .result .wire - m - 6 + 1) ((c .before .before .before .before .before .before .before .before .before .before .before .before .before .before .before .before .before .pair) .result .wire) ((c .before .before .before .before .before .before .before .before .before .before .before .before .before .pair2) .result .wire) e (low (c .before .before .before .before .before .before .before .before .before .before .before .before .before .before .before .before .before) .place) (high (c .before .before .before .before .before .before .before .before .before .before .before .before .before) .place)))
+
+same-length : tie.Need-same-length
+same-length c =
+    wrote-long ((c .before .before .before .before .before .before .before .before .before .before .before .before .before .before .before .before .before .before .before .before .args) .w) ((c .before .before .before .before .before .before .before .before .before .before .before .before .before .before .before .before .before .before .before .before .args) .table .now) (levels ((c .before .before .before .before .before .before .before .before .before .before .before .before .before .before .before .before .before .before .before .before .args) .p) 2 ((c .before .before .before .before .before .before .before .before .before .before .before .before .before .before .before .before .before .before .before .before .args) .w .wire) ((c .before .before .before .before .before .before .before .before .before .before .before .before .before .before .before .before .before .before .before .before .args) .c) ((c .before .before .before .before .before .before .before .before .before .before .before .before .before .before .before .before .before .before .before .before .args) .count)) ((c .before .before .better) .last .1 .0) ((c .before .before .better) .result) (returns c)
+
+pub two-to-four-spec : {M : Type 1} → statement M
+two-to-four-spec = tie.close (tie.spec sub-second pair-requires add-pair pair-requires-2 halves-requires best-key-requires add-best-key best-key-requires-2 sub-better sub-better-2 better-requires same-length returns)

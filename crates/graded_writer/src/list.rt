@@ -1,0 +1,215 @@
+// The own list of a shape.
+use crate::merge::better;
+use crate::merge::key_span;
+use crate::merge::merge;
+use gate_words::writer::Writer;
+use gates::kind;
+use graded_circuit::plan::Plan;
+use graded_sums::key::candidate;
+use jury::shape::Shape;
+ghost use mathlib.Core.Path.{_≡_};
+ghost use mathlib.Core.Bool.{cond};
+ghost use mathlib.Core.List.{_++_};
+ghost use Prim.Native.Nat.{_+_, _-_, _*_, _/_, _≤_, _<_};
+ghost use lib.Dec.{T, leb};
+ghost use lib.ListN.{length};
+ghost use Rattle.gate_words.specs.Limits.{writerLimit};
+ghost use Rattle.gate_words.specs.Writing.{Room, Wrote};
+ghost use Rattle.jury.specs.Shape.{gradedLimits, ballotBytes};
+ghost use Rattle.graded_circuit.specs.Plan.{Planned};
+ghost use Rattle.graded_circuit.specs.Key.{keySpan, candidateSpan};
+ghost use Rattle.graded_circuit.specs.Merge.{merge, mergeSpan};
+ghost use Rattle.graded_circuit.specs.OwnList.{candidates, keyAt, levelsSpan, levels, otherAt, halvesMerge};
+ghost use Rattle.graded_circuit.specs.OwnList.{lowLevels, levelsAt, circuit, ownList};
+
+// The circuits of all candidates.
+fn candidates(w: Writer, table: &mut [u32], p: Plan) -> Writer
+    requires { ⌜ Planned p ⌝ }
+    requires { ⌜ Room w (p .candidates * candidateSpan p) ⌝ }
+    requires { ⌜ p .inputs ≤ w .wire ⌝ }
+    ensures { λ r. ⌜ Wrote w (now (table .entry)) (candidates p (w .wire) 0 (p .candidates)) (now (table .exit)) r ⌝ }
+{
+    let count = p.candidates;
+    let mut next = w;
+    let mut c: u32 = 0;
+    while c < count {
+        next = candidate(next, table, p, c);
+        c += 1;
+    }
+    next
+}
+
+// Where the key of candidate c stands; a candidate's circuit has `span` gates.
+fn key_at(p: Plan, span: u32, c: u32) -> u32
+    requires { ⌜ Planned p ⌝ }
+    requires { ⌜ (span ≡ candidateSpan p) × (c < p .candidates) × (levelsAt p < writerLimit) ⌝ }
+    ensures { λ r. ⌜ r ≡ keyAt p c ⌝ }
+{
+    p.inputs + (c + 1) * span - key_span(p)
+}
+
+// The key of the best of so many candidates from candidate c on, whose merges end before wire `end`.
+fn best_key(p: Plan, span: u32, c: u32, count: u32, end: u32) -> u32
+    requires { ⌜ Planned p ⌝ }
+    requires { ⌜
+        (span ≡ candidateSpan p) × (c < p .candidates) × (levelsAt p < writerLimit) × (1 < count → keySpan p ≤ end)
+        ⌝ }
+    ensures { λ r. ⌜ r ≡ cond (leb count 1) (keyAt p c) (end - keySpan p) ⌝ }
+{
+    if count <= 1 {
+        return key_at(p, span, c);
+    }
+    end - key_span(p)
+}
+
+// The wires of these candidates.
+fn group_won(p: Plan, count: u32, end: u32) -> u32
+    requires { ⌜ Planned p ⌝ }
+    requires { ⌜ (1 < count → count + keySpan p ≤ end) ⌝ }
+    ensures { λ r. ⌜ r ≡ cond (leb count 1) 0 (end - keySpan p - count) ⌝ }
+{
+    if count <= 1 {
+        return 0;
+    }
+    end - key_span(p) - count
+}
+
+// The best of one or two candidates from candidate c on.
+fn pair(w: Writer, table: &mut [u32], p: Plan, span: u32, c: u32, count: u32) -> Writer
+    requires { ⌜ Planned p ⌝ }
+    requires { ⌜ Room w (levelsSpan p 1 count) ⌝ }
+    requires { ⌜
+        (span ≡ candidateSpan p) × (levelsAt p ≤ w .wire) × (0 < count) × (count ≤ 2) × (c + count ≤ p .candidates)
+        ⌝ }
+    ensures { λ r. ⌜ Wrote w (now (table .entry)) (levels p 1 (w .wire) c count) (now (table .exit)) r ⌝ }
+{
+    if count <= 1 {
+        return w;
+    }
+    let x = key_at(p, span, c);
+    let y = key_at(p, span, c + 1);
+    let met = merge(w, table, p, x, y, 0, 0, 1, 1);
+    better(met, table, p, met.wire - 8, x, y)
+}
+
+// The merge of the best of `first` candidates from candidate c on and of the `second` ones behind them: their own
+// merges end before the wires `middle` and the writer's.
+fn halves(
+    w: Writer,
+    table: &mut [u32],
+    p: Plan,
+    span: u32,
+    c: u32,
+    first: u32,
+    second: u32,
+    middle: u32,
+) -> Writer
+    requires { ⌜ Planned p ⌝ }
+    requires { ⌜ Room w (mergeSpan p first second) ⌝ }
+    requires { ⌜
+        (span ≡ candidateSpan p) × (levelsAt p ≤ middle) × (middle ≤ w .wire) × (0 < first) × (0 < second)
+        × (c + first + second ≤ p .candidates)
+        ⌝ }
+    requires { ⌜
+        (1 < first → levelsAt p + first + keySpan p ≤ middle) × (1 < second → middle + second + keySpan p ≤ w .wire)
+        ⌝ }
+    ensures { λ r. ⌜
+        Wrote w (now (table .entry))
+        (merge p (w .wire) (cond (leb first 1) (keyAt p c) (middle - keySpan p))
+        (cond (leb second 1) (keyAt p (c + first)) (w .wire - keySpan p))
+        (cond (leb first 1) 0 (middle - keySpan p - first)) (cond (leb second 1) 0 (w .wire - keySpan p - second))
+        first second) (now (table .exit)) r
+        ⌝ }
+{
+    let x = best_key(p, span, c, first, middle);
+    let y = best_key(p, span, c + first, second, w.wire);
+    let u = group_won(p, first, middle);
+    let v = group_won(p, second, w.wire);
+    merge(w, table, p, x, y, u, v, first, second)
+}
+
+// The best of two to four candidates from candidate c on.
+fn two_to_four(w: Writer, table: &mut [u32], p: Plan, span: u32, c: u32, count: u32) -> Writer
+    requires { ⌜ Planned p ⌝ }
+    requires { ⌜ Room w (levelsSpan p 2 count) ⌝ }
+    requires { ⌜
+        (span ≡ candidateSpan p) × (levelsAt p ≤ w .wire) × (1 < count) × (count ≤ 4) × (c + count ≤ p .candidates)
+        ⌝ }
+    ensures { λ r. ⌜ Wrote w (now (table .entry)) (levels p 2 (w .wire) c count) (now (table .exit)) r ⌝ }
+{
+    let first = count / 2;
+    let second = count - first;
+    let low = pair(w, table, p, span, c, first);
+    let high = pair(low, table, p, span, c + first, second);
+    let met = halves(high, table, p, span, c, first, second, low.wire);
+    let x = best_key(p, span, c, first, low.wire);
+    let y = best_key(p, span, c + first, second, high.wire);
+    better(met, table, p, met.wire - count - 6, x, y)
+}
+
+// The best of one to four candidates from candidate c on.
+fn four(w: Writer, table: &mut [u32], p: Plan, span: u32, c: u32, count: u32) -> Writer
+    requires { ⌜ Planned p ⌝ }
+    requires { ⌜ Room w (levelsSpan p 2 count) ⌝ }
+    requires { ⌜
+        (span ≡ candidateSpan p) × (levelsAt p ≤ w .wire) × (0 < count) × (count ≤ 4) × (c + count ≤ p .candidates)
+        ⌝ }
+    ensures { λ r. ⌜ Wrote w (now (table .entry)) (levels p 2 (w .wire) c count) (now (table .exit)) r ⌝ }
+{
+    if count <= 1 {
+        return w;
+    }
+    two_to_four(w, table, p, span, c, count)
+}
+
+// Three levels of merges, behind the circuits of all candidates.
+fn all_levels(all: Writer, table: &mut [u32], p: Plan, span: u32) -> Writer
+    requires { ⌜ Planned p ⌝ }
+    requires { ⌜
+        Room all (levelsSpan p lowLevels (p .candidates / 2) +
+        (levelsSpan p lowLevels (p .candidates - p .candidates / 2) + mergeSpan p (p .candidates / 2)
+        (p .candidates - p .candidates / 2)))
+        ⌝ }
+    requires { ⌜ (span ≡ candidateSpan p) × (all .wire ≡ levelsAt p) × (1 < p .candidates) ⌝ }
+    ensures { λ r. ⌜
+        Wrote all (now (table .entry)) (levels p lowLevels (levelsAt p) 0 (p .candidates / 2)
+        ++ levels p lowLevels (otherAt p lowLevels (levelsAt p) (p .candidates)) (p .candidates / 2)
+        (p .candidates - p .candidates / 2)
+        ++ halvesMerge p lowLevels (levelsAt p) 0 (p .candidates)) (now (table .exit)) r
+        ⌝ }
+{
+    let first = p.candidates / 2;
+    let second = p.candidates - first;
+    let low = four(all, table, p, span, 0, first);
+    let high = four(low, table, p, span, first, second);
+    halves(high, table, p, span, 0, first, second, low.wire)
+}
+
+// The candidates, and all levels.
+fn circuit(w: Writer, table: &mut [u32], p: Plan) -> Writer
+    requires { ⌜ Planned p ⌝ }
+    requires { ⌜ Room w (length (circuit p)) ⌝ }
+    requires { ⌜ (w .wire ≡ p .inputs) × (1 < p .candidates) ⌝ }
+    ensures { λ r. ⌜ Wrote w (now (table .entry)) (circuit p) (now (table .exit)) r ⌝ }
+{
+    let all = candidates(w, table, p);
+    let span = (all.wire - p.inputs) / p.candidates;
+    all_levels(all, table, p, span)
+}
+
+// Writes the own list of a shape from the table's first number on, as far as the table goes. The writer says how many
+// gates the list has, and how many of them are conditional, whatever the table.
+pub fn own_list(shape: Shape, table: &mut [u32]) -> Writer
+    requires { ⌜ T (gradedLimits shape) ⌝ }
+    ensures { λ r. ⌜
+        Wrote (record { gate = 0; wire = ballotBytes shape; conditional = 0 }) (now (table .entry)) (ownList shape)
+        (now (table .exit)) r
+        ⌝ }
+{
+    let p = Plan::new(shape);
+    let w = Writer::new(p.inputs);
+    if shape.candidates == 1 {
+        return w.emit(table, kind::ONE, 0, 0, 0);
+    }
+    circuit(w, table, p)
+}

@@ -1,0 +1,105 @@
+// Two groups of candidates are merged.
+use gate_words::writer::Writer;
+use gates::kind;
+use graded_circuit::plan::Plan;
+use graded_contest::contest::contest;
+ghost use mathlib.Core.Path.{_≡_};
+ghost use Prim.Native.Nat.{_+_, _-_, _*_, _≤_, _<_};
+ghost use Rattle.gate_words.specs.Writing.{Room, Wrote};
+ghost use Rattle.graded_circuit.specs.Plan.{Planned};
+ghost use Rattle.graded_circuit.specs.Key.{keySpan};
+ghost use Rattle.gate_words.specs.Choice.{choose};
+ghost use Rattle.graded_circuit.specs.Merge.{bothOf, stillWon, verdict, highDigits, merge, mergeSpan};
+
+// Each of so many wires from `at` on, and the wire `stays`.
+fn both_of(w: Writer, table: &mut [u32], at: u32, stays: u32, count: u32) -> Writer
+    requires { ⌜ Room w count ⌝ }
+    requires { ⌜ at + count ≤ w .wire ⌝ }
+    ensures { λ r. ⌜ Wrote w (now (table .entry)) (bothOf at stays count) (now (table .exit)) r ⌝ }
+{
+    let mut next = w;
+    let mut i: u32 = 0;
+    while i < count {
+        next = next.emit(table, kind::AND, at + i, stays, 0);
+        i += 1;
+    }
+    next
+}
+
+// Who of a group of so many candidates stays.
+fn still_won(w: Writer, table: &mut [u32], at: u32, stays: u32, count: u32) -> Writer
+    requires { ⌜ Room w count ⌝ }
+    requires { ⌜ (0 < count) × (1 < count → at + count ≤ w .wire) ⌝ }
+    ensures { λ r. ⌜ Wrote w (now (table .entry)) (stillWon at stays count) (now (table .exit)) r ⌝ }
+{
+    if count == 1 {
+        return w.emit(table, kind::COPY, stays, 0, 0);
+    }
+    both_of(w, table, at, stays, count)
+}
+
+// Who comes first and which group stays, behind a contest whose result stands at q.
+fn verdict(w: Writer, table: &mut [u32], q: u32) -> Writer
+    requires { ⌜ Room w 4 ⌝ }
+    requires { ⌜ w .wire ≡ q + 2 ⌝ }
+    ensures { λ r. ⌜ Wrote w (now (table .entry)) (verdict q) (now (table .exit)) r ⌝ }
+{
+    let first = w.emit(table, kind::AND, q, q + 1, 0);
+    let second = first.emit(table, kind::XOR, q, q + 2, 0);
+    let left = second.emit(table, kind::NOT, q + 3, 0, 0);
+    left.emit(table, kind::NOT, q + 2, 0, 0)
+}
+
+// How many digits of two keys' words are gone through by themselves: half of them, where a key was chosen.
+fn high_digits(p: Plan, both: u32) -> u32
+    ensures { λ r. ⌜ r ≡ highDigits p both ⌝ }
+{
+    if both <= 2 {
+        return 0;
+    }
+    p.digits / 2
+}
+
+// The merge of groups of l and m candidates with keys x and y and wires at u and v.
+pub(crate) fn merge(
+    w: Writer,
+    table: &mut [u32],
+    p: Plan,
+    x: u32,
+    y: u32,
+    u: u32,
+    v: u32,
+    l: u32,
+    m: u32,
+) -> Writer
+    requires { ⌜ Planned p ⌝ }
+    requires { ⌜ Room w (mergeSpan p l m) ⌝ }
+    requires { ⌜ (x + keySpan p ≤ w .wire) × (y + keySpan p ≤ w .wire) × (0 < l) × (0 < m) ⌝ }
+    requires { ⌜ (1 < l → u + l ≤ w .wire) × (1 < m → v + m ≤ w .wire) ⌝ }
+    ensures { λ r. ⌜ Wrote w (now (table .entry)) (merge p (w .wire) x y u v l m) (now (table .exit)) r ⌝ }
+{
+    let compared = contest(w, table, p, x, y, high_digits(p, l + m));
+    let q = compared.wire - 2;
+    let judged = verdict(compared, table, q);
+    let first = still_won(judged, table, u, q + 4, l);
+    still_won(first, table, v, q + 5, m)
+}
+
+// The better of two keys, by a contest whose result stands at q.
+pub(crate) fn better(w: Writer, table: &mut [u32], p: Plan, q: u32, x: u32, y: u32) -> Writer
+    requires { ⌜ Planned p ⌝ }
+    requires { ⌜ Room w (keySpan p) ⌝ }
+    requires { ⌜ (x + keySpan p ≤ w .wire) × (y + keySpan p ≤ w .wire) × (q + 1 < w .wire) ⌝ }
+    ensures { λ r. ⌜ Wrote w (now (table .entry)) (choose (q + 1) x y (keySpan p)) (now (table .exit)) r ⌝ }
+{
+    let span = key_span(p);
+    w.choose(table, q + 1, x, y, span)
+}
+
+// The number of wires of a key.
+pub(crate) fn key_span(p: Plan) -> u32
+    requires { ⌜ Planned p ⌝ }
+    ensures { λ r. ⌜ r ≡ keySpan p ⌝ }
+{
+    (p.grades - 1) * (p.digits + 1)
+}

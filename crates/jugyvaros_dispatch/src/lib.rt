@@ -1,2 +1,0 @@
-// Up to eight juries in rounds, for programs in C and Rust.
-pub mod dispatch;

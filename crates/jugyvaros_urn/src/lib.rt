@@ -1,2 +1,0 @@
-// The calls on an urn, for programs in C and Rust.
-pub mod urns;

@@ -1,2 +1,0 @@
-// The run on an urn for programs in C and Rust.
-pub mod run;

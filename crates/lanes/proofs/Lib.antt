@@ -1,6 +1,0 @@
-pub mod LaneLaws
-pub mod ListLaws
-pub mod ValueLaws
-pub mod GateLaws
-pub mod Turning
-pub mod Finishing

@@ -1,0 +1,132 @@
+-- What the call [levels] answers and leaves, by the outcomes of its tests.
+-- Assumes nothing.
+use mathlib.Core.Path.{_≡_, _∙_, refl, sym, ap}
+use mathlib.Core.Bool.{Bool, true, false}
+use mathlib.Core.Logic.{⊎-elim}
+use mathlib.Core.Option.{Option, none, some}
+use mathlib.Core.List.{List, [], _∷_}
+use Prim.Native.Nat.{ℕ, _*_, _≤_, _<_}
+use native.Mathlib.Nat.{mul-pos}
+use native.Mathlib.Omega.{arith}
+use lib.Dec.{eqb}
+use lib.ListN.{length}
+use borrow.Author.Tests.{eq-eqb, ne-eqb, eqb-true}
+use Rattle.gates.specs.Gate.{gatesOf}
+use Rattle.gates.specs.Board.{conditionalCount}
+use Rattle.gates.specs.Test.{firstBad}
+use Rattle.gates.specs.declared.place.Place.the-variants.{Nowhere}
+use Rattle.gates.proofs.Evaluating.{accepted-list}
+use Rattle.gate_levels.specs.Levels.{levelsOf, roundsOf}
+use Rattle.jury.specs.declared.shape.Shape.{Shape}
+use Rattle.jury.specs.Shape.{gradedLimits, rankedLimits, withinLimits, ballotBytes}
+use Rattle.jury.specs.Reason.{Reason, reasonAt, unless, firstOf}
+use Rattle.jury.proofs.Limits.{within, bytes-are, ranked, ranked-bytes, kinds}
+use Rattle.tally.specs.Answer.{refused, accepted, outcome, sizeOf}
+use Rattle.tally.specs.Test.{testReasons, testOutcome}
+use Rattle.tally.proofs.TestReasons.{orElse, first-append, TestPassed}
+use Rattle.levels.specs.Answer.{depthsOf}
+use Rattle.levels.specs.Levels.{levelsReasons, levelsOutcome, afterwards, levelsWritten}
+
+-- a refusal is the first reason that applies
+pub outcome-refused : {A : Type 0} (o : Option Reason) (v : A) (r : Reason) → outcome o v ≡ refused r → o ≡ some r
+unfolding outcome
+outcome-refused none v r e = let z : _≡_ {A = ℕ} 0 1 = cc in absurd (omega arith)
+outcome-refused (some q) v r e = let p : q ≡ r = cc in ap {B = Option Reason} some p
+
+pub outcome-accepted : {A : Type 0} (o : Option Reason) (v w : A) → outcome o v ≡ accepted w → (o ≡ none) × (v ≡ w)
+unfolding outcome
+outcome-accepted none v w e = (refl, cc)
+outcome-accepted (some q) v w e = let z : _≡_ {A = ℕ} 0 1 = cc in absurd (omega arith)
+
+-- a shape within its limits has ballot bytes, of whichever kind it is
+pub some-bytes : (s : Shape) → withinLimits s ≡ true → 1 ≤ ballotBytes s
+some-bytes s e = ⊎-elim graded rank (kinds s e)
+  where
+    graded : gradedLimits s ≡ true → 1 ≤ ballotBytes s
+    graded g =
+        let w = within s g in
+        let rows : 0 < s .ballots * s .candidates = mul-pos (w .n-least) (w .k-least) in
+        let d : 0 < s .grades = omega (arith, w .d-least) in
+        let all : 0 < s .ballots * s .candidates * s .grades = mul-pos rows d in
+        omega (arith, bytes-are s w)
+
+    rank : rankedLimits s ≡ true → 1 ≤ ballotBytes s
+    rank r =
+        let w = ranked s r in
+        let rows : 0 < s .ballots * s .candidates = mul-pos (w .n-least) (w .k-least) in
+        let all : 0 < s .ballots * s .candidates * s .candidates = mul-pos rows (w .k-least) in
+        omega (arith, ranked-bytes s (w .ranking))
+
+-- what an accepted test tells of the list
+pub record ListFacts (s : Shape) (table : List ℕ) (gates conditional : ℕ) : Type 0 where
+  pub reasons : firstOf (testReasons s table) ≡ none
+  pub within : withinLimits s ≡ true
+  pub some-input : 1 ≤ ballotBytes s
+  pub enough : s .candidates ≤ length (gatesOf table)
+  pub few : length (gatesOf table) ≤ 1048576
+  pub good : firstBad (ballotBytes s) 0 (gatesOf table) ≡ Nowhere
+  pub gates-are : gates ≡ length (gatesOf table)
+  pub conditional-are : conditional ≡ conditionalCount (gatesOf table)
+
+pub list-facts : (s : Shape) (table : List ℕ) (gates conditional : ℕ) → TestPassed s table (record { gates = gates; conditional = conditional }) → ListFacts s table gates conditional
+list-facts s table gates conditional p =
+    let f = accepted-list (ballotBytes s) (s .candidates) table gates conditional (p .tests) in
+    record {
+      reasons = p .reasons;
+      within = p .within;
+      some-input = some-bytes s (p .within);
+      enough = f .enough;
+      few = f .few;
+      good = f .good;
+      gates-are = f .gates-are;
+      conditional-are = f .conditional-are;
+    }
+
+module _ (s : Shape) (table levels : List ℕ) where
+  by : (o : Option Reason) (b : Bool) → firstOf (testReasons s table) ≡ o → eqb (length levels) (length (gatesOf table)) ≡ b
+      → firstOf (levelsReasons s table levels) ≡ orElse o (firstOf (unless b 200 ∷ []))
+  unfolding levelsReasons
+  by o b e f =
+      first-append (testReasons s table) (unless (eqb (length levels) (length (gatesOf table))) 200 ∷ [])
+      ∙ ap (λ (x : Option Reason). orElse x (firstOf (unless (eqb (length levels) (length (gatesOf table))) 200 ∷ []))) e
+      ∙ ap (λ (x : Bool). orElse o (firstOf (unless x 200 ∷ []))) f
+
+  pub of-list : (r : Reason) → testOutcome s table ≡ refused r → firstOf (levelsReasons s table levels) ≡ some r
+  unfolding testOutcome orElse
+  of-list r e = by (some r) _ (outcome-refused (firstOf (testReasons s table)) (sizeOf (gatesOf table)) r e) refl
+
+  pub other-length : firstOf (testReasons s table) ≡ none → (length levels ≡ length (gatesOf table) → ⊥) → firstOf (levelsReasons s table levels) ≡ some (reasonAt 200 0)
+  unfolding orElse unless firstOf
+  other-length e h = by none false e (ne-eqb (length levels) (length (gatesOf table)) h)
+
+  pub all-pass : firstOf (testReasons s table) ≡ none → length levels ≡ length (gatesOf table) → firstOf (levelsReasons s table levels) ≡ none
+  unfolding orElse unless firstOf
+  all-pass e h = by none true e (eq-eqb (length levels) (length (gatesOf table)) h)
+
+  -- and back: which tests an accepted call has passed
+  pub both-passed : firstOf (levelsReasons s table levels) ≡ none → (firstOf (testReasons s table) ≡ none) × (length levels ≡ length (gatesOf table))
+  unfolding orElse unless firstOf
+  both-passed e = go (firstOf (testReasons s table)) (eqb (length levels) (length (gatesOf table))) refl refl
+    where
+      go : (o : Option Reason) (b : Bool) → firstOf (testReasons s table) ≡ o → eqb (length levels) (length (gatesOf table)) ≡ b → (firstOf (testReasons s table) ≡ none) × (length levels ≡ length (gatesOf table))
+      go (some r) b f g = let q = sym (by (some r) b f g) ∙ e in let z : _≡_ {A = ℕ} 0 1 = cc in absurd (omega arith)
+      go none false f g = let q = sym (by none false f g) ∙ e in let z : _≡_ {A = ℕ} 0 1 = cc in absurd (omega arith)
+      go none true f g = (f, eqb-true (length levels) (length (gatesOf table)) g)
+
+  pub call-refused : (r : Reason) → firstOf (levelsReasons s table levels) ≡ some r → (refused r ≡ levelsOutcome s table levels) × (levels ≡ levelsWritten s table levels)
+  unfolding levelsOutcome levelsWritten outcome afterwards
+  call-refused r e = (rw e, rw e)
+
+  pub call-accepted : firstOf (levelsReasons s table levels) ≡ none
+      → (accepted (depthsOf (ballotBytes s) (gatesOf table)) ≡ levelsOutcome s table levels) × (levelsOf (ballotBytes s) (gatesOf table) ≡ levelsWritten s table levels)
+  unfolding levelsOutcome levelsWritten outcome afterwards
+  call-accepted e = (rw e, rw e)
+
+-- the answer of an accepted call
+pub depths-are : (inputs : ℕ) (table : List ℕ) (g c r : ℕ) → g ≡ length (gatesOf table) → c ≡ conditionalCount (gatesOf table) → r ≡ roundsOf inputs (gatesOf table)
+    → record { gates = g; conditional = c; rounds = r } ≡ depthsOf inputs (gatesOf table)
+unfolding depthsOf
+depths-are inputs table g c r eg ec er =
+    ap (λ (n : ℕ). record { gates = n; conditional = c; rounds = r }) eg
+    ∙ ap (λ (n : ℕ). record { gates = length (gatesOf table); conditional = n; rounds = r }) ec
+    ∙ ap (λ (n : ℕ). record { gates = length (gatesOf table); conditional = conditionalCount (gatesOf table); rounds = n }) er

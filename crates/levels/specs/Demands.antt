@@ -1,0 +1,47 @@
+-- What is shown of the call [levels], over the definitions that its contract equates with the program's answer and
+-- table.
+use mathlib.Core.Path.{_≡_}
+use mathlib.Core.Bool.{true}
+use mathlib.Core.List.{List, [], _∷_}
+use Prim.Native.Nat.{ℕ, _≤_, _<_}
+use lib.ListN.{getD}
+use Rattle.gates.specs.Kind.{conditionalOf}
+use Rattle.gates.specs.Gate.{gatesOf}
+use Rattle.gates.specs.inner.Step.{gateAt}
+use Rattle.gate_levels.specs.Levels.{wireLevel}
+use Rattle.jury.specs.declared.shape.Shape.{Shape}
+use Rattle.jury.specs.Shape.{ballotBytes}
+use Rattle.tally.specs.Answer.{accepted}
+use Rattle.tally.specs.Memory.{Lent, KeepsMemory}
+use Rattle.levels.specs.Answer.{Depths, depthsOf}
+use Rattle.levels.specs.Levels.{levelsOutcome, levelsWritten}
+
+-- The table that the call may write to. It holds no secrets.
+abbrev pub levelTable : (s : Shape) (table levels : List ℕ) → Lent
+levelTable s table levels = record { before = levels; after = levelsWritten s table levels }
+
+abbrev pub Memory : Type 0
+Memory =
+    (s : Shape) (table levels : List ℕ)
+    → KeepsMemory (1 ∷ 2 ∷ 3 ∷ 200 ∷ []) (levelsOutcome s table levels) (levelTable s table levels ∷ []) []
+
+-- One operand x of gate g: its level is at most the gate's, and below it where the gate is conditional.
+pub record OperandBelow (s : Shape) (table levels : List ℕ) (g x : ℕ) : Type 0 where
+  pub most : wireLevel (ballotBytes s) (levelsWritten s table levels) x ≤ getD (levelsWritten s table levels) g 0
+  pub below : conditionalOf (gateAt table g .kind) ≡ true
+      → wireLevel (ballotBytes s) (levelsWritten s table levels) x < getD (levelsWritten s table levels) g 0
+
+-- Of an accepted call: G, C and R are the list's own, R is at most C, no level is above R, and whoever opens level by
+-- level has every operand when it is needed.
+pub record Depth (s : Shape) (table levels : List ℕ) (depths : Depths) : Type 0 where
+  pub own : depths ≡ depthsOf (ballotBytes s) (gatesOf table)
+  pub few : depths .rounds ≤ depths .conditional
+  pub level : (g : ℕ) → getD (levelsWritten s table levels) g 0 ≤ depths .rounds
+  pub a-operand : (g : ℕ) → g < depths .gates → OperandBelow s table levels g (gateAt table g .a)
+  pub b-operand : (g : ℕ) → g < depths .gates → OperandBelow s table levels g (gateAt table g .b)
+  pub c-operand : (g : ℕ) → g < depths .gates → OperandBelow s table levels g (gateAt table g .c)
+
+pub record Demands : Type 0 where
+  pub memory : Memory
+  pub depth : (s : Shape) (table levels : List ℕ) (depths : Depths) → levelsOutcome s table levels ≡ accepted depths
+      → Depth s table levels depths

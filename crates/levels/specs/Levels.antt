@@ -1,0 +1,32 @@
+-- The entry point [levels].
+use mathlib.Core.Option.{Option, none, some}
+use mathlib.Core.List.{List, [], _∷_, _++_}
+use Prim.Native.Nat.{ℕ}
+use lib.Dec.{eqb}
+use lib.ListN.{length}
+use Rattle.gates.specs.Gate.{gatesOf}
+use Rattle.gate_levels.specs.Levels.{levelsOf}
+use Rattle.jury.specs.declared.shape.Shape.{Shape}
+use Rattle.jury.specs.Shape.{ballotBytes}
+use Rattle.jury.specs.Reason.{Reason, unless, firstOf}
+use Rattle.tally.specs.Answer.{Outcome, outcome}
+use Rattle.tally.specs.Test.{testReasons}
+use Rattle.levels.specs.Answer.{Depths, depthsOf}
+
+-- The reasons in checking order: 1, 2 and 3 as for the test of a list, then 200, a table that has not one number a
+-- gate.
+unfoldable pub levelsReasons : Shape → List ℕ → List ℕ → List (Option Reason)
+levelsReasons s table levels = testReasons s table ++ unless (eqb (length levels) (length (gatesOf table))) 200 ∷ []
+
+unfoldable pub levelsOutcome : Shape → List ℕ → List ℕ → Outcome Depths
+levelsOutcome s table levels =
+    outcome (firstOf (levelsReasons s table levels)) (depthsOf (ballotBytes s) (gatesOf table))
+
+-- A lent table afterwards: new where the call is accepted, as it was on a refusal.
+unfoldable pub afterwards : Option Reason → List ℕ → List ℕ → List ℕ
+afterwards (some r) new old = old
+afterwards none new old = new
+
+unfoldable pub levelsWritten : Shape → List ℕ → List ℕ → List ℕ
+levelsWritten s table levels =
+    afterwards (firstOf (levelsReasons s table levels)) (levelsOf (ballotBytes s) (gatesOf table)) levels

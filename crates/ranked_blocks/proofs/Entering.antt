@@ -1,0 +1,145 @@
+-- The entries of the tables, as they are written: numbers and places, stages, and what is kept.
+-- Assumes nothing.
+use mathlib.Core.Path.{_≡_, _∙_, refl, sym, ap}
+use mathlib.Core.Bool.{Bool, true, false, cond, _||_, not}
+use mathlib.Core.Logic.{_≢_}
+use mathlib.Core.List.{[], _++_}
+use Prim.Native.Nat.{ℕ, zero, suc, _+_, _-_, _*_, _/_, _%_, _≤_, _<_}
+use native.Mathlib.Nat.{mul-le-mul}
+use native.Mathlib.Numerals.{add-one}
+use native.Mathlib.Omega.{arith}
+use lib.Dec.{eqb}
+use lib.ListN.{length}
+use borrow.Author.Tests.{eq-eqb, ne-eqb, lt-ltb, le-ltb}
+use Rattle.gate_words.specs.Choice.{masked}
+use Rattle.gate_words.specs.Counter.{counter}
+use Rattle.basics.proofs.Arithmetic.{row-within}
+use Rattle.basics.proofs.Flags.{or-first, or-second}
+use Rattle.ranked_circuit.specs.Blocks.{compare, smaller, larger, largerIf}
+use Rattle.ranked_circuit.specs.Stages.{votesBlock, linksBlock, stays, newWord, pathBlock}
+use Rattle.ranked_circuit.proofs.TableLaws.{row-low, column-low, number-of}
+use Rattle.ranked_circuit.proofs.StageLaws.{apart-all, stagePad, stage-length}
+
+-- the number of each two candidates is small
+pub square-small : (k : ℕ) → k ≤ 8 → k * k ≤ 64
+square-small k h = mul-le-mul {n₁ = k} {m₁ = k} {n₂ = 8} {m₂ = 8} h h
+
+pub index-small : (k i j : ℕ) → k ≤ 8 → i < k → j < k → i * k + j < 64
+index-small k i j h hi hj = omega (arith, row-within i k k hi, square-small k h)
+
+-- row and column of number e
+pub record Place (k e : ℕ) : Type 0 where
+  pub row : e / k < k
+  pub column : e % k < k
+  pub number : e / k * k + e % k ≡ e
+  pub small : e < 64
+
+pub place : (k e : ℕ) → k ≤ 8 → e < k * k → Place k e
+place k e h l = record { row = row-low k e l; column = column-low k e l; number = number-of k e; small = omega (arith, square-small k h) }
+
+-- stages
+pub diagonal-stays : (m i j : ℕ) → i ≡ j → stays m i j ≡ true
+unfolding stays
+diagonal-stays zero i j e = or-second (not (eqb i 0 || eqb j 0)) (eqb i j) (eq-eqb i j e)
+diagonal-stays (suc l) i j e = or-second (eqb i l || eqb j l) (eqb i j) (eq-eqb i j e)
+
+module _ (m i j : ℕ) (z : m ≡ 0) (ne : i ≢ j) where
+  pub zero-from : i ≡ 0 → stays m i j ≡ false
+  unfolding stays
+  zero-from e = ap (λ (x : ℕ). stays x i j) z ∙ rw (eq-eqb i 0 e, ne-eqb i j ne)
+
+  pub zero-to : i ≢ 0 → j ≡ 0 → stays m i j ≡ false
+  unfolding stays
+  zero-to n e = ap (λ (x : ℕ). stays x i j) z ∙ rw (ne-eqb i 0 n, eq-eqb j 0 e, ne-eqb i j ne)
+
+  pub zero-else : i ≢ 0 → j ≢ 0 → stays m i j ≡ true
+  unfolding stays
+  zero-else n p = ap (λ (x : ℕ). stays x i j) z ∙ rw (ne-eqb i 0 n, ne-eqb j 0 p)
+
+pub later-stays : (m i j : ℕ) → m ≢ 0 → stays m i j ≡ (eqb i (m - 1) || eqb j (m - 1) || eqb i j)
+unfolding stays
+later-stays zero i j n = absurd (n refl)
+later-stays (suc l) i j n = let e : suc l - 1 ≡ l = omega arith in rw e refl
+
+pub row-stays : (m i j : ℕ) → m ≢ 0 → i ≡ m - 1 → stays m i j ≡ true
+row-stays m i j n e = later-stays m i j n ∙ or-first (eqb i (m - 1) || eqb j (m - 1)) (eqb i j) (or-first (eqb i (m - 1)) (eqb j (m - 1)) (eq-eqb i (m - 1) e))
+
+pub column-stays : (m i j : ℕ) → m ≢ 0 → i ≢ j → i ≢ m - 1 → stays m i j ≡ eqb j (m - 1)
+column-stays m i j n ne r = later-stays m i j n ∙ rw (ne-eqb i (m - 1) r, ne-eqb i j ne) (only (eqb j (m - 1)))
+  where
+    only : (b : Bool) → (b || false) ≡ b
+    only true = refl
+    only false = refl
+
+-- the words of a stage that moves them
+pub apart-later : (m i j : ℕ) → m ≢ 0 → stays m i j ≡ false → (i ≢ m - 1) × (j ≢ m - 1) × (i ≢ j)
+apart-later zero i j n e = absurd (n refl)
+apart-later (suc l) i j n e = let q : suc l - 1 ≡ l = omega arith in rw q (apart-all l i j e)
+
+module _ (links words : ℕ → ℕ → ℕ) (w at i j : ℕ) where
+  pub new-zero : (m : ℕ) → m ≡ 0 → masked (links i j) (words i j) (w + 1) ≡ newWord links words w m at i j
+  unfolding newWord
+  new-zero m z = ap (masked (links i j) (words i j)) (add-one w) ∙ sym (ap (λ (x : ℕ). newWord links words w x at i j) z)
+
+  pub new-first : (m : ℕ) → m ≡ 1 → smaller at (words i (m - 1)) (words (m - 1) j) w ++ largerIf (at + (2 * w + suc w)) (links i j) (words i j) (at + 2 * w) w ≡ newWord links words w m at i j
+  unfolding newWord
+  new-first m z = rw z refl
+
+  pub new-later : (m : ℕ) → m ≢ 0 → m ≢ 1 → smaller at (words i (m - 1)) (words (m - 1) j) w ++ larger (at + (2 * w + suc w)) (words i j) (at + 2 * w) w ≡ newWord links words w m at i j
+  unfolding newWord
+  new-later zero n p = absurd (n refl)
+  new-later (suc zero) n p = absurd (p refl)
+  new-later (suc (suc l)) n p = let e : suc (suc l) - 1 ≡ suc l = omega arith in rw e refl
+
+  pub long-zero : (m : ℕ) → m ≡ 0 → length (newWord links words w m at i j) ≡ suc w
+  long-zero m z = stage-length links words w m at i j ∙ rw z (unfold stagePad in (omega arith))
+
+  pub long-first : (m : ℕ) → m ≡ 1 → length (newWord links words w m at i j) ≡ 2 * w + suc w + (2 * w + 1) + suc w
+  long-first m z = stage-length links words w m at i j ∙ rw z (unfold stagePad in refl)
+
+  pub long-later : (m : ℕ) → m ≢ 0 → m ≢ 1 → length (newWord links words w m at i j) ≡ 2 * w + suc w + 2 * w + suc w
+  long-later m n p = stage-length links words w m at i j ∙ pads m n p
+    where
+      pads : (m : ℕ) → m ≢ 0 → m ≢ 1 → stagePad w m + suc w ≡ 2 * w + suc w + 2 * w + suc w
+      pads zero n p = absurd (n refl)
+      pads (suc zero) n p = absurd (p refl)
+      pads (suc (suc l)) n p = unfold stagePad in refl
+
+  -- at least a word
+  pub long-word : (m : ℕ) → suc w ≤ length (newWord links words w m at i j)
+  long-word m = omega (arith, stage-length links words w m at i j)
+
+  pub path-kept : (m : ℕ) → stays m i j ≡ true → [] ≡ pathBlock links words w m at i j
+  unfolding pathBlock
+  path-kept m e = sym (ap (λ (c : Bool). cond c [] (newWord links words w m at i j)) e)
+
+  pub path-moved : (m : ℕ) → stays m i j ≡ false → newWord links words w m at i j ≡ pathBlock links words w m at i j
+  unfolding pathBlock
+  path-moved m e = sym (ap (λ (c : Bool). cond c [] (newWord links words w m at i j)) e)
+
+-- counters
+module _ (k n w at i j : ℕ) where
+  pub votes-kept : i ≡ j → [] ≡ votesBlock k n w at i j
+  unfolding votesBlock
+  votes-kept e = sym (ap (λ (c : Bool). cond c [] (counter at (i * k + j) (k * k) n 0 w)) (eq-eqb i j e))
+
+  pub votes-moved : (e : ℕ) → i * k + j ≡ e → i ≢ j → counter at e (k * k) n 0 w ≡ votesBlock k n w at i j
+  unfolding votesBlock
+  votes-moved e q ne = ap (λ (x : ℕ). counter at x (k * k) n 0 w) (sym q) ∙ sym (ap (λ (c : Bool). cond c [] (counter at (i * k + j) (k * k) n 0 w)) (ne-eqb i j ne))
+
+-- comparisons
+module _ (words : ℕ → ℕ → ℕ) (w at i j : ℕ) where
+  pub links-kept : i ≤ j → [] ≡ linksBlock words w at i j
+  unfolding linksBlock
+  links-kept l = sym (ap (λ (c : Bool). cond c (compare at (words i j) (words j i) w) []) (le-ltb j i l))
+
+  pub links-moved : j < i → (x y : ℕ) → x ≡ words i j → y ≡ words j i → compare at x y w ≡ linksBlock words w at i j
+  unfolding linksBlock
+  links-moved l x y ex ey = rw (ex, ey, lt-ltb j i l)
+
+-- what is kept: a test that holds leaves all as it was
+pub keeps : {A : Type 0} (t : Bool) (a b : A) → t ≡ true → a ≡ cond t a b
+keeps t a b e = sym (ap (λ (c : Bool). cond c a b) e)
+
+pub stores : {A : Type 0} (t : Bool) (a b c : A) → t ≡ false → c ≡ b → c ≡ cond t a b
+stores t a b c e q = q ∙ sym (ap (λ (x : Bool). cond x a b) e)

@@ -1,0 +1,50 @@
+-- `ranked_blocks::blocks::order` meets its contract: where the words differ, then the comparison.
+-- Assumes nothing.
+use mathlib.Core.Path.{_≡_, ap}
+use Prim.Native.Nat.{ℕ, _+_}
+use native.Mathlib.Omega.{arith}
+use borrow.Author.Needs.{needs}
+use Rattle.gate_words.specs.Comparison.{above}
+use Rattle.gate_words.proofs.Laws.{length-differences}
+use Rattle.ranked_circuit.specs.Blocks.{order}
+use Rattle.ranked_blocks.proofs.Behind.{behind, room-behind}
+use Rattle.ranked_blocks.proofs.blocks.order.Statement.{statement}
+use Rattle.ranked_blocks.proofs.blocks.order.Tie as tie
+use Rattle.gate_words.proofs.Standing.{wrote-then}
+
+add-differences : tie.Need-add-differences
+add-differences c = search needs
+
+add-differences-2 : tie.Need-add-differences-2
+add-differences-2 c = search needs
+
+differences-requires : tie.Need-differences-requires
+differences-requires c κs = search needs
+
+-- the writer behind the differences
+differ : (c : tie.After-differences) → (c .differences) .result .wire ≡ (c .before .before .before .args) .w .wire + (c .before .before .before .args) .digits
+differ c = behind ((c .before .before .before .args) .w) ((c .before .before .before .args) .table .now) _ ((c .differences) .last .1 .0) ((c .differences) .result) ((c .before .before .before .args) .digits) ((c .differences) .ensures) (length-differences ((c .before .before .before .args) .x + 1) ((c .before .before .before .args) .y + 1) ((c .before .before .before .args) .digits))
+
+add-above : tie.Need-add-above
+add-above c = search needs
+
+above-requires : tie.Need-above-requires
+above-requires c κs =
+    let a = (c .before .before .before .before .before .before .args) in
+    let e = differ (c .before .before .before) in (
+      room-behind (a .w) (a .table .now) _ ((c .before .before .before .differences) .last .1 .0) ((c .before .before .before .differences) .result) (a .digits) (a .digits) _ ((c .before .before .before .differences) .ensures) (length-differences (a .x + 1) (a .y + 1) (a .digits)) (omega arith) ((c .before .before .before .before .before .before .pre) .0),
+      (omega (arith, (c .before .before .before .before .before .before .pre) .1), omega (arith, (c .before .before .before .before .before .before .pre) .1)),
+    )
+
+returns : tie.Need-returns
+unfolding order
+returns c =
+    let a = (c .before .before .before .before .before .before .before .before .before .args) in
+    wrote-then (a .w) (a .table .now) _ ((c .before .before .before .before .before .before .differences) .last .1 .0) ((c .before .before .before .before .before .before .differences) .result) _ _ ((c .before .before .above) .last .1 .0) ((c .before .before .above) .result) ((c .before .before .before .before .before .before .differences) .ensures) ((c .before .before .above) .ensures)
+    (ap (λ (n : ℕ). above n (a .w .wire) (a .x + 1) (a .x) (a .digits)) (differ (c .before .before .before .before .before .before)))
+
+same-length : tie.Need-same-length
+same-length c = search needs
+
+pub order-spec : {M : Type 1} → statement M
+order-spec = tie.close (tie.spec add-differences add-differences-2 differences-requires add-above above-requires same-length returns)

@@ -1,0 +1,30 @@
+-- `ranked_blocks::kept::kept` meets its contract: the number of each two of eight candidates is below 64.
+-- Assumes nothing.
+use native.Mathlib.Omega.{arith}
+use borrow.Author.Needs.{needs}
+use Rattle.ranked_blocks.proofs.Entering.{index-small}
+use Rattle.ranked_blocks.proofs.kept.kept.Statement.{statement}
+use Rattle.ranked_blocks.proofs.kept.kept.Tie as tie
+
+mul-result : tie.Need-mul-result
+mul-result c = omega (arith, index-small ((c .args) .k) ((c .args) .i) ((c .args) .j) ((c .pre) .0) ((c .pre) .1) ((c .pre) .2))
+
+add-result : tie.Need-add-result
+add-result c = omega (arith, index-small ((c .args) .k) ((c .args) .i) ((c .args) .j) ((c .pre) .0) ((c .pre) .1) ((c .pre) .2))
+
+cast-result : tie.Need-cast-result
+cast-result c = omega (arith, index-small ((c .args) .k) ((c .args) .i) ((c .args) .j) ((c .pre) .0) ((c .pre) .1) ((c .pre) .2))
+
+mul-result-2 : tie.Need-mul-result-2
+mul-result-2 c = omega (arith, index-small ((c .args) .k) ((c .args) .i) ((c .args) .j) ((c .pre) .0) ((c .pre) .1) ((c .pre) .2))
+
+shared-slice-read-result : tie.Need-shared-slice-read-result
+shared-slice-read-result c = omega (arith, index-small ((c .before .args) .k) ((c .before .args) .i) ((c .before .args) .j) ((c .before .pre) .0) ((c .before .pre) .1) ((c .before .pre) .2), (c .before .pre) .3)
+
+returns : tie.Need-returns
+returns c = search needs
+
+pub kept-spec : {M : Type 1} → statement M
+kept-spec =
+    tie.close
+    (tie.spec mul-result add-result cast-result mul-result-2 shared-slice-read-result returns)

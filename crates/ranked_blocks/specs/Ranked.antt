@@ -1,0 +1,35 @@
+-- The public numbers that a ranked tasting's own list is written with, and where its words stand.
+use mathlib.Core.Bool.{Bool, cond}
+use mathlib.Core.Logic.{_≢_}
+use mathlib.Core.List.{List}
+use Prim.Native.Nat.{ℕ, suc, _+_, _-_, _*_, _≤_, _<_}
+use lib.Dec.{ltb}
+use lib.ListN.{getD, set}
+use Rattle.gate_words.specs.Counter.{Countable}
+use Rattle.ranked_blocks.specs.declared.entries.Ranks.{Ranks}
+
+-- Two to eight candidates, 1 to 255 ballots, and words just wide enough to count them.
+pub record Ranked (p : Ranks) : Type 0 where
+  pub k-least : 2 ≤ p .candidates
+  pub k-most : p .candidates ≤ 8
+  pub n-least : 1 ≤ p .ballots
+  pub n-most : p .ballots ≤ 255
+  pub w-most : p .digits ≤ 7
+  pub countable : Countable (p .ballots) 0 (p .digits)
+
+-- The wire kept for i and j, of k candidates.
+abbrev pub keptOf : List ℕ → ℕ → ℕ → ℕ → ℕ
+keptOf wires k i j = getD wires (i * k + j) 0
+
+-- Such wires once x is kept for number e too, unless it stays as it was.
+abbrev pub keep : Bool → List ℕ → ℕ → ℕ → List ℕ
+keep stays wires e x = cond stays wires (set wires e x)
+
+-- Once a comparison of i with an earlier j ends before `wire`: its last wire but one tells that i is above, its last
+-- that it is below.
+abbrev pub keepLinks : List ℕ → ℕ → ℕ → ℕ → ℕ → List ℕ
+keepLinks wires k i j wire = cond (ltb j i) (set (set wires (i * k + j) (wire - 2)) (j * k + i) (wire - 1)) wires
+
+-- The words kept for each two candidates end before a wire, a word having a digit and w more.
+abbrev pub WordsBelow : List ℕ → ℕ → ℕ → ℕ → Type 0
+WordsBelow words k w wire = (i j : ℕ) → i < k → j < k → i ≢ j → keptOf words k i j + suc w ≤ wire

@@ -1,0 +1,37 @@
+// What is kept of each two of k candidates: where their word stands, or a wire that tells of them. That of i and j has
+// number i k + j.
+ghost use mathlib.Core.Path.{_≡_};
+ghost use Prim.Native.Nat.{_≤_, _<_};
+ghost use lib.ListN.{length};
+ghost use Rattle.ranked_circuit.specs.Stages as spec;
+ghost use Rattle.ranked_blocks.specs.Ranked.{keptOf};
+
+// The wire kept for i and j.
+pub fn kept(wires: &[u32], k: u32, i: u32, j: u32) -> u32
+    requires { ⌜ (k ≤ 8) × (i < k) × (j < k) × (length (now wires) ≡ 64) ⌝ }
+    ensures { λ r. ⌜ r ≡ keptOf (now (wires .entry)) k i j ⌝ }
+{
+    wires[(i * k + j) as usize]
+}
+
+// Whether stage m of the paths leaves the word of i and j as it is.
+pub(crate) fn stays(m: u32, i: u32, j: u32) -> bool
+    ensures { λ r. ⌜ r ≡ spec.stays m i j ⌝ }
+{
+    if i == j {
+        return true;
+    }
+    if m == 0 {
+        if i == 0 {
+            return false;
+        }
+        if j == 0 {
+            return false;
+        }
+        return true;
+    }
+    if i == m - 1 {
+        return true;
+    }
+    j == m - 1
+}

@@ -1,0 +1,7 @@
+// The blocks of the tables that a ranked tasting's own list is made of, one for each two candidates.
+//
+// Each function writes the gates of one block of `ranked_circuit` and returns the next writer. Its `requires` asks for
+// room and for operands that are wires already.
+mod blocks;
+pub mod entries;
+pub mod kept;

@@ -1,0 +1,209 @@
+-- How many gates a ranked tasting's own list has, and how many of them are conditional: both by the sums of its tables.
+-- Assumes nothing.
+use mathlib.Core.Path.{_≡_, _∙_, refl, sym, ap}
+use mathlib.Core.Bool.{Bool, true, false, cond}
+use mathlib.Core.List.{List, [], _∷_, _++_}
+use Prim.Native.Nat.{ℕ, zero, suc, _+_, _-_, _*_, _/_, _%_, _≤_}
+use native.Mathlib.Nat.{suc-mul, zero-mul}
+use native.Mathlib.Omega.{arith}
+use lib.Dec.{eqb, ltb}
+use lib.ListN.{length}
+use Rattle.gates.specs.Gate.{Gate}
+use Rattle.gate_words.specs.Choice.{masked}
+use Rattle.gate_words.specs.Gates.{notOf, orOf}
+use Rattle.gate_words.specs.Counter.{counter}
+use Rattle.ranked_circuit.specs.Blocks.{compare, smaller, larger, largerIf}
+use Rattle.ranked_circuit.specs.Table.{blocks, entries, table}
+use Rattle.ranked_circuit.specs.Stages.{votesBlock, linksBlock, stays, newWord, pathBlock}
+use Rattle.ranked_circuit.specs.Paths.{votesAt, votesTable, linksFrom, linksTable, linkWire, nextPaths, pathsTo}
+use Rattle.ranked_circuit.specs.RankedList.{joined, loserRow, loserRows, outputGates, contestsFrom, contests, beatsAt, losersFrom, pairFrom, rankedList}
+use Rattle.ranked_circuit.proofs.TableLaws.{startOf}
+use Rattle.ranked_circuit.proofs.Accuracy.{pathGates, contestGates, rowGates, lastGates, list-is, pair-is}
+
+-- the sum of m numbers, and of the numbers of a table
+pub sumBelow : (ℕ → ℕ) → ℕ → ℕ
+sumBelow f zero = 0
+sumBelow f (suc m) = sumBelow f m + f m
+
+pub tableSum : (ℕ → ℕ → ℕ) → ℕ → ℕ
+tableSum f k = sumBelow (λ e. f (e / k) (e % k)) (k * k)
+
+none-below : (f : ℕ → ℕ) → sumBelow f 0 ≡ 0
+unfolding sumBelow
+none-below f = refl
+
+same-sum : (x m : ℕ) → sumBelow (λ e. x) m ≡ m * x
+unfolding sumBelow
+same-sum x zero = sym (zero-mul x)
+same-sum x (suc m) = omega (arith, same-sum x m, suc-mul m x)
+
+-- what is counted of a list: nothing of an empty one, and of two lists the sum
+pub record Figure (f : List Gate → ℕ) : Type 0 where
+  pub none : f [] ≡ 0
+  pub both : (gs hs : List Gate) → f (gs ++ hs) ≡ f gs + f hs
+
+-- what is counted of each block: a counter, two words compared, a link's strength, the first and a further detour; and of each gate that joins and of each last one
+pub record Each (f : List Gate → ℕ) (n w c p s d e o x : ℕ) : Type 0 where
+  pub counters : (at from step : ℕ) → f (counter at from step n 0 w) ≡ c
+  pub compares : (at a b : ℕ) → f (compare at a b w) ≡ p
+  pub strengths : (l a : ℕ) → f (masked l a (suc w)) ≡ s
+  pub firsts : (at a b at′ l a′ b′ : ℕ) → f (smaller at a b w ++ largerIf at′ l a′ b′ w) ≡ d
+  pub detours : (at a b at′ a′ b′ : ℕ) → f (smaller at a b w ++ larger at′ a′ b′ w) ≡ e
+  pub joins : (a b : ℕ) → f (orOf a b ∷ []) ≡ o
+  pub lasts : (a : ℕ) → f (notOf a ∷ []) ≡ x
+
+-- of a table's entries
+pub apartOf : ℕ → ℕ → ℕ → ℕ
+apartOf c i j = cond (eqb i j) 0 c
+
+pub linkedOf : ℕ → ℕ → ℕ → ℕ
+linkedOf p i j = cond (ltb j i) p 0
+
+pub stageOf : ℕ → ℕ → ℕ → ℕ → ℕ
+stageOf x m i j = cond (stays m i j) 0 x
+
+-- of the blocks of each stage
+pub stageFigure : ℕ → ℕ → ℕ → ℕ → ℕ
+stageFigure s d e zero = s
+stageFigure s d e (suc zero) = d
+stageFigure s d e (suc (suc l)) = e
+
+module _ (f : List Gate → ℕ) (g : Figure f) where
+  either-figure : (t : Bool) (gs hs : List Gate) (a b : ℕ) → f gs ≡ a → f hs ≡ b → f (cond t gs hs) ≡ cond t a b
+  either-figure true gs hs a b e h = e
+  either-figure false gs hs a b e h = h
+
+  blocks-figure : (block : ℕ → ℕ → List Gate) (x : ℕ → ℕ) → ((at e : ℕ) → f (block at e) ≡ x e) → (n m : ℕ) → f (blocks n block m) ≡ sumBelow x m
+  unfolding blocks sumBelow
+  blocks-figure block x h n zero = g .none
+  blocks-figure block x h n (suc m) = omega (arith, g .both (blocks n block m) (block (startOf n block m) m), blocks-figure block x h n m, h (startOf n block m) m)
+
+  table-figure : (k : ℕ) (block : ℕ → ℕ → ℕ → List Gate) (x : ℕ → ℕ → ℕ) → ((at i j : ℕ) → f (block at i j) ≡ x i j) → (n : ℕ) → f (table n k block) ≡ tableSum x k
+  unfolding table entries tableSum
+  table-figure k block x h n = blocks-figure (λ at e. block at (e / k) (e % k)) (λ e. x (e / k) (e % k)) (λ at e. h at (e / k) (e % k)) n (k * k)
+
+  module _ (n w c p s d e o x : ℕ) (a : Each f n w c p s d e o x) where
+    votes-figure : (k at i j : ℕ) → f (votesBlock k n w at i j) ≡ apartOf c i j
+    unfolding votesBlock apartOf
+    votes-figure k at i j = either-figure (eqb i j) [] (counter at (i * k + j) (k * k) n 0 w) 0 c (g .none) (a .counters at (i * k + j) (k * k))
+
+    links-figure : (words : ℕ → ℕ → ℕ) (at i j : ℕ) → f (linksBlock words w at i j) ≡ linkedOf p i j
+    unfolding linksBlock linkedOf
+    links-figure words at i j = either-figure (ltb j i) (compare at (words i j) (words j i) w) [] p 0 (a .compares at (words i j) (words j i)) (g .none)
+
+    new-figure : (links words : ℕ → ℕ → ℕ) (m at i j : ℕ) → f (newWord links words w m at i j) ≡ stageFigure s d e m
+    unfolding newWord stageFigure
+    new-figure links words zero at i j = a .strengths (links i j) (words i j)
+    new-figure links words (suc zero) at i j = a .firsts at (words i 0) (words 0 j) (at + (2 * w + suc w)) (links i j) (words i j) (at + 2 * w)
+    new-figure links words (suc (suc l)) at i j = a .detours at (words i (suc l)) (words (suc l) j) (at + (2 * w + suc w)) (words i j) (at + 2 * w)
+
+    stage-figure : (links words : ℕ → ℕ → ℕ) (m at i j : ℕ) → f (pathBlock links words w m at i j) ≡ stageOf (stageFigure s d e m) m i j
+    unfolding pathBlock stageOf
+    stage-figure links words m at i j = either-figure (stays m i j) [] (newWord links words w m at i j) 0 (stageFigure s d e m) (g .none) (new-figure links words m at i j)
+
+    paths-figure : (k m : ℕ) → f (pathsTo k n w m .gates) ≡ tableSum (apartOf c) k + tableSum (linkedOf p) k + sumBelow (λ l. tableSum (stageOf (stageFigure s d e l) l) k) m
+    unfolding pathsTo nextPaths sumBelow votesTable linksTable
+    paths-figure k zero =
+        omega (
+          arith,
+          g .both (votesTable k n w) (linksTable k n w),
+          table-figure k (votesBlock k n w) (apartOf c) (votes-figure k) (n * k * k),
+          table-figure k (linksBlock (votesAt k n w) w) (linkedOf p) (links-figure (votesAt k n w)) (linksFrom k n w),
+        )
+    paths-figure k (suc m) =
+        let q = pathsTo k n w m in
+        let start = n * k * k + length (q .gates) in
+        let block = pathBlock (linkWire k n w) (q .words) w m in
+        omega (arith, g .both (q .gates) (table start k block), paths-figure k m, table-figure k block (stageOf (stageFigure s d e m) m) (stage-figure (linkWire k n w) (q .words) m) start)
+
+    rows-figure : (beats : ℕ → ℕ → ℕ) (r from k : ℕ) → f (loserRows beats r from k) ≡ k * (r * o)
+    unfolding loserRows
+    rows-figure beats r from k = blocks-figure (loserRow beats r) (λ i. r * o) row from k ∙ same-sum (r * o) k
+      where
+        row : (at i : ℕ) → f (loserRow beats r at i) ≡ r * o
+        row at i = unfold loserRow in (blocks-figure (λ wire t. orOf (joined beats (suc r) at i (2 * t)) (joined beats (suc r) at i (2 * t + 1)) ∷ []) (λ t. o) (λ wire t. a .joins (joined beats (suc r) at i (2 * t)) (joined beats (suc r) at i (2 * t + 1))) at r ∙ same-sum o r)
+
+    outputs-figure : (beats : ℕ → ℕ → ℕ) (r from k : ℕ) → f (outputGates beats r from k) ≡ k * x
+    unfolding outputGates
+    outputs-figure beats r from k =
+        blocks-figure (λ wire i. notOf (joined beats (suc r) (from + i * r) i (2 * r)) ∷ []) (λ i. x) (λ wire i. a .lasts (joined beats (suc r) (from + i * r) i (2 * r))) (from + k * r) k ∙ same-sum x k
+
+    -- all of the list
+    pub by-tables : (r : ℕ) → f (rankedList (suc (suc (suc r))) n w) ≡
+        tableSum (apartOf c) (suc (suc (suc r))) + tableSum (linkedOf p) (suc (suc (suc r))) + sumBelow (λ l. tableSum (stageOf (stageFigure s d e l) l) (suc (suc (suc r)))) (suc (suc (suc (suc r))))
+        + tableSum (linkedOf p) (suc (suc (suc r))) + suc (suc (suc r)) * (suc r * o) + suc (suc (suc r)) * x
+    unfolding pathGates contestGates contests rowGates lastGates
+    by-tables r =
+        let k = suc (suc (suc r)) in
+        omega (
+          arith,
+          ap f (list-is r n w),
+          g .both (pathGates r n w ++ contestGates r n w ++ rowGates r n w) (lastGates r n w),
+          g .both (pathGates r n w ++ contestGates r n w) (rowGates r n w),
+          g .both (pathGates r n w) (contestGates r n w),
+          paths-figure k (suc k),
+          table-figure k (linksBlock (pathsTo k n w (suc k) .words) w) (linkedOf p) (links-figure (pathsTo k n w (suc k) .words)) (contestsFrom k n w),
+          rows-figure (beatsAt k n w) (suc r) (losersFrom k n w) k,
+          outputs-figure (beatsAt k n w) (suc r) (losersFrom k n w) k,
+        )
+
+    -- of the list of two candidates
+    pub pair-figure : f (rankedList 2 n w) ≡ tableSum (apartOf c) 2 + tableSum (linkedOf p) 2 + 2 * x
+    pair-figure =
+        omega (
+          arith,
+          ap f (pair-is n w),
+          g .both (pathsTo 2 n w 0 .gates) (outputGates (linkWire 2 n w) 0 (pairFrom n w) 2),
+          paths-figure 2 0,
+          none-below (λ l. tableSum (stageOf (stageFigure s d e l) l) 2),
+          outputs-figure (linkWire 2 n w) 0 (pairFrom n w) 2,
+        )
+
+-- the sums of the tables of r + 3 candidates
+abbrev Sums : ℕ → ℕ → ℕ → ℕ → ℕ → ℕ → Type 0
+Sums r c p s d e =
+    tableSum (apartOf c) (suc (suc (suc r))) + tableSum (linkedOf p) (suc (suc (suc r))) + sumBelow (λ l. tableSum (stageOf (stageFigure s d e l) l) (suc (suc (suc r)))) (suc (suc (suc (suc r))))
+    + tableSum (linkedOf p) (suc (suc (suc r)))
+    ≡ suc (suc (suc r)) * suc (suc r) * c + suc (suc (suc r)) * suc (suc r) * p + 2 * suc (suc r) * s + suc (suc r) * suc r * d + suc (suc r) * (suc (suc r) * suc r) * e
+
+sums-three : (c p s d e : ℕ) → Sums 0 c p s d e
+unfolding tableSum sumBelow apartOf linkedOf stageOf stageFigure stays
+sums-three c p s d e = omega arith
+
+sums-four : (c p s d e : ℕ) → Sums 1 c p s d e
+unfolding tableSum sumBelow apartOf linkedOf stageOf stageFigure stays
+sums-four c p s d e = omega arith
+
+sums-five : (c p s d e : ℕ) → Sums 2 c p s d e
+unfolding tableSum sumBelow apartOf linkedOf stageOf stageFigure stays
+sums-five c p s d e = omega arith
+
+sums-six : (c p s d e : ℕ) → Sums 3 c p s d e
+unfolding tableSum sumBelow apartOf linkedOf stageOf stageFigure stays
+sums-six c p s d e = omega arith
+
+sums-seven : (c p s d e : ℕ) → Sums 4 c p s d e
+unfolding tableSum sumBelow apartOf linkedOf stageOf stageFigure stays
+sums-seven c p s d e = omega arith
+
+sums-eight : (c p s d e : ℕ) → Sums 5 c p s d e
+unfolding tableSum sumBelow apartOf linkedOf stageOf stageFigure stays
+sums-eight c p s d e = omega arith
+
+sums : (r c p s d e : ℕ) → r ≤ 5 → Sums r c p s d e
+sums zero c p s d e h = sums-three c p s d e
+sums (suc zero) c p s d e h = sums-four c p s d e
+sums (suc (suc zero)) c p s d e h = sums-five c p s d e
+sums (suc (suc (suc zero))) c p s d e h = sums-six c p s d e
+sums (suc (suc (suc (suc zero)))) c p s d e h = sums-seven c p s d e
+sums (suc (suc (suc (suc (suc zero))))) c p s d e h = sums-eight c p s d e
+sums (suc (suc (suc (suc (suc (suc r)))))) c p s d e h = absurd (omega arith)
+
+-- what is counted of the list of r + 3 candidates, and of two
+pub figure-is : (f : List Gate → ℕ) → Figure f → (n w c p s d e o x : ℕ) → Each f n w c p s d e o x → (r : ℕ) → r ≤ 5 → f (rankedList (suc (suc (suc r))) n w) ≡
+    suc (suc (suc r)) * suc (suc r) * c + suc (suc (suc r)) * suc (suc r) * p + 2 * suc (suc r) * s + suc (suc r) * suc r * d + suc (suc r) * (suc (suc r) * suc r) * e + suc (suc (suc r)) * (suc r * o) + suc (suc (suc r)) * x
+figure-is f g n w c p s d e o x a r h = omega (arith, by-tables f g n w c p s d e o x a r, sums r c p s d e h)
+
+pub pair-figure-is : (f : List Gate → ℕ) → Figure f → (n w c p s d e o x : ℕ) → Each f n w c p s d e o x → f (rankedList 2 n w) ≡ 2 * c + p + 2 * x
+unfolding tableSum sumBelow apartOf linkedOf
+pair-figure-is f g n w c p s d e o x a = pair-figure f g n w c p s d e o x a ∙ omega arith

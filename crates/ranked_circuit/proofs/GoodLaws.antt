@@ -1,0 +1,180 @@
+-- The own list of a ranked tasting is well-formed: every operand points back.
+-- Assumes nothing.
+use mathlib.Core.Path.{_≡_, _∙_, refl, sym, ap, subst}
+use mathlib.Core.Bool.{Bool, true, false, cond}
+use mathlib.Core.Logic.{⊎-elim, _≢_}
+use mathlib.Core.List.{List, []}
+use Prim.Native.Nat.{ℕ, zero, suc, _+_, _-_, _*_, _≤_, _<_}
+use native.Mathlib.Nat.{suc-mul}
+use native.Mathlib.Omega.{arith}
+use lib.Dec.{eqb, ltb}
+use lib.ListN.{length, length-append}
+use borrow.Author.Tests.{lt-ltb, le-ltb}
+use Rattle.gates.specs.Gate.{Gate}
+use Rattle.gates.proofs.Laws.{AllGood, good-append}
+use Rattle.gate_words.specs.Word.{Below}
+use Rattle.gate_words.specs.Counter.{counter, Countable}
+use Rattle.gate_words.proofs.Laws.{masked-good, counter-good}
+use Rattle.basics.proofs.Arithmetic.{row-within}
+use Rattle.basics.proofs.Cases.{below-or-not}
+use Rattle.ranked_circuit.specs.Blocks.{compare, smaller, larger, largerIf}
+use Rattle.ranked_circuit.specs.Table.{table, entryEnd}
+use Rattle.ranked_circuit.specs.Stages.{votesBlock, linksBlock, linkAt, stays, newWord, pathBlock}
+use Rattle.ranked_circuit.specs.Paths.{votesAt, votesTable, linksFrom, linksTable, linkWire, nextPaths, pathsTo}
+use Rattle.ranked_circuit.proofs.BlockLaws.{length-smaller, whole-good, smaller-good, larger-good, larger-if-good}
+use Rattle.ranked_circuit.proofs.TableLaws.{entryStart, entry-end, table-good, end-within}
+use Rattle.ranked_circuit.proofs.StageLaws.{apart-zero, apart-all, stage-moves, stage-stays, stage-length, votes-length, links-moves, links-length}
+use Rattle.ranked_circuit.proofs.PathLaws.{bool-cases}
+use Rattle.gate_words.proofs.PointsBack.{behind}
+
+-- a choice between no gate and a well-formed list
+either-good : (n : ℕ) (t : Bool) (gs hs : List Gate) → AllGood n gs → (t ≡ false → AllGood n hs) → AllGood n (cond t gs hs)
+either-good n true gs hs p q = p
+either-good n false gs hs p q = q refl
+
+-- wires a stride apart, the last of which is below
+pub below-stride : (n at d m : ℕ) → at + m * d < n + d → Below n at d m
+below-stride n at d zero h = tt
+below-stride n at d (suc m) h = let e = suc-mul m d in (omega arith, below-stride n (at + d) d m (omega arith))
+
+pub bytes-below : (k n at i j : ℕ) → i < k → j < k → n * k * k ≤ at → Below at (i * k + j) (k * k) n
+bytes-below k n at i j hi hj h =
+    let l = row-within i k k hi in
+    let e : n * (k * k) ≡ n * k * k = omega arith in
+    below-stride at (i * k + j) (k * k) n (omega arith)
+
+votes-good : (k n w at i j : ℕ) → i < k → j < k → n * k * k ≤ at → Countable n 0 w → AllGood at (votesBlock k n w at i j)
+unfolding votesBlock
+votes-good k n w at i j hi hj h c =
+    either-good at (eqb i j) [] (counter at (i * k + j) (k * k) n 0 w) tt (λ e. counter-good at (i * k + j) (k * k) n 0 w (bytes-below k n at i j hi hj h) c)
+
+-- the words of each two candidates end before a wire
+abbrev pub WordsBelow : ℕ → ℕ → (ℕ → ℕ → ℕ) → ℕ → Type 0
+WordsBelow k w words wire = (i j : ℕ) → i < k → j < k → i ≢ j → words i j + suc w ≤ wire
+
+abbrev pub WiresBelow : ℕ → (ℕ → ℕ → ℕ) → ℕ → Type 0
+WiresBelow k wires wire = (i j : ℕ) → i < k → j < k → i ≢ j → wires i j < wire
+
+module _ (k w : ℕ) where
+  pub links-good : (words : ℕ → ℕ → ℕ) (n : ℕ) → WordsBelow k w words n → AllGood n (table n k (linksBlock words w))
+  links-good words n below =
+      table-good n k (linksBlock words w)
+      (λ i j hi hj.
+      let at = entryStart n k (linksBlock words w) i j in
+      ⊎-elim (λ (l : j < i). subst (λ (gs : List Gate). AllGood at gs) (sym (links-moves words w at i j l)) (whole-good at (words i j) (words j i) w (omega (arith, below i j hi hj (λ e. omega arith))) (omega (arith, below j i hj hi (λ e. omega arith)))))
+      (λ (l : i ≤ j). subst (λ (gs : List Gate). AllGood at gs) (sym (none at i j l)) tt) (below-or-not j i))
+    where
+      none : (at i j : ℕ) → i ≤ j → linksBlock words w at i j ≡ []
+      none at i j l = unfold linksBlock in (ap (λ (c : Bool). cond c (compare at (words i j) (words j i) w) []) (le-ltb j i l))
+
+  -- the wires that tell of links are wires of their table
+  pub links-below : (words : ℕ → ℕ → ℕ) (n : ℕ) → WiresBelow k (linkAt n k (linksBlock words w)) (n + length (table n k (linksBlock words w)))
+  unfolding linkAt
+  links-below words n i j hi hj ne = ⊎-elim later earlier (below-or-not j i)
+    where
+      block : ℕ → ℕ → ℕ → List Gate
+      block = linksBlock words w
+
+      later : j < i → cond (ltb j i) (entryEnd n k block i j - 2) (entryEnd n k block j i - 1) < n + length (table n k block)
+      later l =
+          subst (λ (c : Bool). cond c (entryEnd n k block i j - 2) (entryEnd n k block j i - 1) < n + length (table n k block)) (sym (lt-ltb j i l))
+          (omega (arith, entry-end n k block i j hj, links-length words w (entryStart n k block i j) i j l, end-within n k block i j hj hi))
+
+      earlier : i ≤ j → cond (ltb j i) (entryEnd n k block i j - 2) (entryEnd n k block j i - 1) < n + length (table n k block)
+      earlier l =
+          subst (λ (c : Bool). cond c (entryEnd n k block i j - 2) (entryEnd n k block j i - 1) < n + length (table n k block)) (sym (le-ltb j i l))
+          (omega (arith, entry-end n k block j i hi, links-length words w (entryStart n k block j i) j i (omega arith), end-within n k block j i hi hj))
+
+  new-good : (links words : ℕ → ℕ → ℕ) (m at i j : ℕ) → m ≤ k → i < k → j < k → WordsBelow k w words at → WiresBelow k links at → stays m i j ≡ false → AllGood at (newWord links words w m at i j)
+  unfolding newWord
+  new-good links words zero at i j hm hi hj below under e = masked-good at (links i j) (words i j) (suc w) (under i j hi hj (apart-zero i j e)) (below i j hi hj (apart-zero i j e))
+  new-good links words (suc zero) at i j hm hi hj below under e =
+      let a = apart-all 0 i j e in
+      let h = below i j hi hj (a .2) in
+      let f = under i j hi hj (a .2) in
+      behind at (2 * w + suc w) (smaller at (words i 0) (words 0 j) w) (largerIf (at + (2 * w + suc w)) (links i j) (words i j) (at + 2 * w) w) (length-smaller at (words i 0) (words 0 j) w)
+      (smaller-good at (words i 0) (words 0 j) w (below i 0 hi (omega arith) (a .0)) (below 0 j (omega arith) hj (λ z. a .1 (sym z))))
+      (larger-if-good (at + (2 * w + suc w)) (links i j) (words i j) (at + 2 * w) w (omega arith) (omega arith) (omega arith))
+  new-good links words (suc (suc l)) at i j hm hi hj below under e =
+      let a = apart-all (suc l) i j e in
+      let h = below i j hi hj (a .2) in
+      behind at (2 * w + suc w) (smaller at (words i (suc l)) (words (suc l) j) w) (larger (at + (2 * w + suc w)) (words i j) (at + 2 * w) w) (length-smaller at (words i (suc l)) (words (suc l) j) w)
+      (smaller-good at (words i (suc l)) (words (suc l) j) w (below i (suc l) hi (omega arith) (a .0)) (below (suc l) j (omega arith) hj (λ z. a .1 (sym z))))
+      (larger-good (at + (2 * w + suc w)) (words i j) (at + 2 * w) w (omega arith) (omega arith))
+
+  stage-good : (links words : ℕ → ℕ → ℕ) (m at i j : ℕ) → m ≤ k → i < k → j < k → WordsBelow k w words at → WiresBelow k links at → AllGood at (pathBlock links words w m at i j)
+  stage-good links words m at i j hm hi hj below under =
+      bool-cases (stays m i j) (λ e. subst (λ (gs : List Gate). AllGood at gs) (sym (stage-stays links words w m at i j e)) tt)
+      (λ e. subst (λ (gs : List Gate). AllGood at gs) (sym (stage-moves links words w m at i j e)) (new-good links words m at i j hm hi hj below under e))
+
+module _ (k n w : ℕ) where
+  pub votes-below : WordsBelow k w (votesAt k n w) (linksFrom k n w)
+  unfolding votesAt linksFrom votesTable
+  votes-below i j hi hj ne =
+      omega (
+        arith,
+        entry-end (n * k * k) k (votesBlock k n w) i j hj,
+        votes-length k n w (entryStart (n * k * k) k (votesBlock k n w) i j) i j ne,
+        end-within (n * k * k) k (votesBlock k n w) i j hj hi,
+      )
+
+  -- where the list of m stages ends
+  abbrev pub endOf : ℕ → ℕ
+  endOf m = n * k * k + length (pathsTo k n w m .gates)
+
+  first-end : endOf 0 ≡ linksFrom k n w + length (linksTable k n w)
+  unfolding pathsTo linksFrom
+  first-end = omega (arith, length-append (votesTable k n w) (linksTable k n w))
+
+  next-end : (m : ℕ) → endOf (suc m) ≡ endOf m + length (table (endOf m) k (pathBlock (linkWire k n w) (pathsTo k n w m .words) w m))
+  unfolding pathsTo nextPaths
+  next-end m = omega (arith, length-append (pathsTo k n w m .gates) (table (endOf m) k (pathBlock (linkWire k n w) (pathsTo k n w m .words) w m)))
+
+  pub link-below : (m : ℕ) → WiresBelow k (linkWire k n w) (endOf m)
+  unfolding linkWire linksTable
+  link-below zero i j hi hj ne = omega (arith, links-below k w (votesAt k n w) (linksFrom k n w) i j hi hj ne, first-end)
+  link-below (suc m) i j hi hj ne = omega (arith, link-below m i j hi hj ne, next-end m)
+
+  pub words-below : (m : ℕ) → WordsBelow k w (pathsTo k n w m .words) (endOf m)
+  unfolding pathsTo
+  words-below zero i j hi hj ne = omega (arith, votes-below i j hi hj ne, first-end)
+  words-below (suc m) i j hi hj ne = bool-cases (stays m i j) (kept (words-below m i j hi hj ne)) moved
+    where
+      block : ℕ → ℕ → ℕ → List Gate
+      block = pathBlock (linkWire k n w) (pathsTo k n w m .words) w m
+
+      end : nextPaths k n w m (pathsTo k n w m) .words i j ≡ cond (stays m i j) (pathsTo k n w m .words i j) (entryEnd (endOf m) k block i j - suc w)
+      end = unfold nextPaths in refl
+
+      grown : n * k * k + length (nextPaths k n w m (pathsTo k n w m) .gates) ≡ endOf m + length (table (endOf m) k block)
+      grown = unfold nextPaths in (omega (arith, length-append (pathsTo k n w m .gates) (table (endOf m) k block)))
+
+      kept : pathsTo k n w m .words i j + suc w ≤ endOf m → stays m i j ≡ true → nextPaths k n w m (pathsTo k n w m) .words i j + suc w ≤ n * k * k + length (nextPaths k n w m (pathsTo k n w m) .gates)
+      kept h e = let s = end ∙ ap (λ (c : Bool). cond c (pathsTo k n w m .words i j) (entryEnd (endOf m) k block i j - suc w)) e in omega (arith, grown)
+
+      moved : stays m i j ≡ false → nextPaths k n w m (pathsTo k n w m) .words i j + suc w ≤ n * k * k + length (nextPaths k n w m (pathsTo k n w m) .gates)
+      moved e =
+          let at = entryStart (endOf m) k block i j in
+          let s = end ∙ ap (λ (c : Bool). cond c (pathsTo k n w m .words i j) (entryEnd (endOf m) k block i j - suc w)) e in
+          omega (
+            arith,
+            grown,
+            entry-end (endOf m) k block i j hj,
+            ap length (stage-moves (linkWire k n w) (pathsTo k n w m .words) w m at i j e),
+            stage-length (linkWire k n w) (pathsTo k n w m .words) w m at i j,
+            end-within (endOf m) k block i j hj hi,
+          )
+
+  pub paths-good : Countable n 0 w → (m : ℕ) → m ≤ suc k → AllGood (n * k * k) (pathsTo k n w m .gates)
+  unfolding pathsTo nextPaths votesTable linksTable
+  paths-good c zero hm =
+      good-append (n * k * k) (votesTable k n w) (linksTable k n w)
+      (table-good (n * k * k) k (votesBlock k n w) (λ i j hi hj. votes-good k n w (entryStart (n * k * k) k (votesBlock k n w) i j) i j hi hj (omega arith) c))
+      (unfold linksFrom in (links-good k w (votesAt k n w) (linksFrom k n w) votes-below))
+  paths-good c (suc m) hm =
+      let block = pathBlock (linkWire k n w) (pathsTo k n w m .words) w m in
+      good-append (n * k * k) (pathsTo k n w m .gates) (table (endOf m) k block) (paths-good c m (omega arith))
+      (table-good (endOf m) k block
+      (λ i j hi hj.
+      stage-good k w (linkWire k n w) (pathsTo k n w m .words) m (entryStart (endOf m) k block i j) i j (omega arith) hi hj
+      (λ a c ha hc ne. omega (arith, words-below m a c ha hc ne)) (λ a c ha hc ne. omega (arith, link-below m a c ha hc ne))))

@@ -1,0 +1,12 @@
+pub mod BlockLaws
+pub mod TableLaws
+pub mod Columns
+pub mod StageLaws
+pub mod PathLaws
+pub mod GoodLaws
+pub mod LoserLaws
+pub mod Accuracy
+pub mod Figures
+pub mod SizeLaws
+pub mod CostLaws
+pub mod OwnRankingLaws

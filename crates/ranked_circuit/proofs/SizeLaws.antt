@@ -1,0 +1,104 @@
+-- The number of gates of a ranked tasting's own list, and its bound.
+-- Assumes nothing.
+use mathlib.Core.Path.{_≡_, _∙_, refl}
+use Prim.Native.Nat.{ℕ, zero, suc, _+_, _-_, _*_, _≤_, _<_}
+use native.Mathlib.Nat.{suc-mul, mul-add, mul-comm, mul-assoc, mul-le-mul}
+use native.Mathlib.Omega.{arith}
+use lib.ListN.{length, length-append}
+use Rattle.gate_words.specs.Counter.{countSize}
+use Rattle.gate_words.proofs.CounterSteps.{count-size-most}
+use Rattle.gate_words.proofs.Laws.{length-counter, length-masked}
+use Rattle.ranked_circuit.specs.Blocks.{smaller, larger, largerIf}
+use Rattle.ranked_circuit.specs.RankedList.{rankedList}
+use Rattle.ranked_circuit.specs.OwnRanking.{rankingBound}
+use Rattle.ranked_circuit.proofs.BlockLaws.{length-whole, length-smaller, length-larger, length-larger-if}
+use Rattle.ranked_circuit.proofs.Figures.{Each, figure-is, pair-figure-is}
+
+-- the levels' bound by products of two numbers
+levels-product : (r n : ℕ) → r * (2 * n + 2) + 2 * n + 2 ≡ 2 * (n * suc r) + 2 * suc r
+levels-product r n =
+    let whole : suc r * (2 * n + 2) ≡ suc r * (2 * n) + suc r * 2 = mul-add (suc r) (2 * n) 2 in
+    let first : suc r * (2 * n) ≡ 2 * (n * suc r) = mul-comm (suc r) (2 * n) ∙ mul-assoc 2 n (suc r) in
+    omega (arith, suc-mul r (2 * n + 2))
+
+counter-most : (n w : ℕ) → 0 < n → countSize n 0 w + suc w ≤ 2 * (n * suc w) + 3 * suc w
+counter-most n w h = omega (arith, count-size-most n 0 w n (omega arith) h, levels-product w n)
+
+-- each block's
+sizes : (n w : ℕ) → Each length n w (countSize n 0 w + suc w) (3 + 3 * w) (suc w) (6 * w + 3) (6 * w + 2) 1 1
+sizes n w =
+    record {
+      counters = λ at from step. omega (arith, length-counter at from step n 0 w);
+      compares = λ at a b. length-whole at a b w;
+      strengths = λ l a. length-masked l a (suc w);
+      firsts = λ at a b at′ l a′ b′. omega (arith, length-append (smaller at a b w) (largerIf at′ l a′ b′ w), length-smaller at a b w, length-larger-if at′ l a′ b′ w);
+      detours = λ at a b at′ a′ b′. omega (arith, length-append (smaller at a b w) (larger at′ a′ b′ w), length-smaller at a b w, length-larger at′ a′ b′ w);
+      joins = λ a b. refl;
+      lasts = λ a. refl;
+    }
+
+-- G: a counter for each two candidates either way, two comparisons for both, a word for each link to or from the first, and so on
+pub gates-are : (r n w : ℕ) → r ≤ 5 → length (rankedList (suc (suc (suc r))) n w) ≡
+    suc (suc (suc r)) * suc (suc r) * (countSize n 0 w + suc w) + suc (suc (suc r)) * suc (suc r) * (3 + 3 * w) + 2 * suc (suc r) * suc w + suc (suc r) * suc r * (6 * w + 3) + suc (suc r) * (suc (suc r) * suc r) * (6 * w + 2) + suc (suc (suc r)) * suc (suc r)
+gates-are r n w h =
+    let total = figure-is length (record { none = refl; both = length-append }) n w (countSize n 0 w + suc w) (3 + 3 * w) (suc w) (6 * w + 3) (6 * w + 2) 1 1 (sizes n w) r h in
+    omega arith
+
+pub pair-gates-are : (n w : ℕ) → length (rankedList 2 n w) ≡ 2 * (countSize n 0 w + suc w) + (3 + 3 * w) + 2
+pair-gates-are n w =
+    let total = pair-figure-is length (record { none = refl; both = length-append }) n w (countSize n 0 w + suc w) (3 + 3 * w) (suc w) (6 * w + 3) (6 * w + 2) 1 1 (sizes n w) in
+    omega arith
+
+module _ (n w : ℕ) (h : 0 < n) where
+  bounded-two : length (rankedList 2 n w) ≤ rankingBound 2 n (suc w)
+  unfolding rankingBound
+  bounded-two = omega (arith, pair-gates-are n w, counter-most n w h)
+
+  bounded-three : length (rankedList 3 n w) ≤ rankingBound 3 n (suc w)
+  unfolding rankingBound
+  bounded-three = omega (arith, gates-are 0 n w (omega arith), counter-most n w h)
+
+  bounded-four : length (rankedList 4 n w) ≤ rankingBound 4 n (suc w)
+  unfolding rankingBound
+  bounded-four = omega (arith, gates-are 1 n w (omega arith), counter-most n w h)
+
+  bounded-five : length (rankedList 5 n w) ≤ rankingBound 5 n (suc w)
+  unfolding rankingBound
+  bounded-five = omega (arith, gates-are 2 n w (omega arith), counter-most n w h)
+
+  bounded-six : length (rankedList 6 n w) ≤ rankingBound 6 n (suc w)
+  unfolding rankingBound
+  bounded-six = omega (arith, gates-are 3 n w (omega arith), counter-most n w h)
+
+  bounded-seven : length (rankedList 7 n w) ≤ rankingBound 7 n (suc w)
+  unfolding rankingBound
+  bounded-seven = omega (arith, gates-are 4 n w (omega arith), counter-most n w h)
+
+  bounded-eight : length (rankedList 8 n w) ≤ rankingBound 8 n (suc w)
+  unfolding rankingBound
+  bounded-eight = omega (arith, gates-are 5 n w (omega arith), counter-most n w h)
+
+  pub gates-most : (r : ℕ) → r ≤ 6 → length (rankedList (suc (suc r)) n w) ≤ rankingBound (suc (suc r)) n (suc w)
+  gates-most zero l = bounded-two
+  gates-most (suc zero) l = bounded-three
+  gates-most (suc (suc zero)) l = bounded-four
+  gates-most (suc (suc (suc zero))) l = bounded-five
+  gates-most (suc (suc (suc (suc zero)))) l = bounded-six
+  gates-most (suc (suc (suc (suc (suc zero))))) l = bounded-seven
+  gates-most (suc (suc (suc (suc (suc (suc zero)))))) l = bounded-eight
+  gates-most (suc (suc (suc (suc (suc (suc (suc r))))))) l = absurd (omega arith)
+
+-- in plain numbers
+pub bound-small : (c n v : ℕ) → c ≤ 8 → n ≤ 255 → v ≤ 8 → rankingBound c n v ≤ 400000
+unfolding rankingBound
+bound-small c n v hk hn hv =
+    let two : c * c ≤ 8 * 8 = mul-le-mul hk hk in
+    let three : c * c * c ≤ 64 * 8 = mul-le-mul two hk in
+    let nv : n * v ≤ 255 * 8 = mul-le-mul hn hv in
+    let a : c * c * (n * v) ≤ 64 * 2040 = mul-le-mul two nv in
+    let a′ : 2 * c * c * n * v ≡ 2 * (c * c * (n * v)) = omega arith in
+    let b′ : 12 * v + 4 ≤ 100 = omega arith in
+    let b : c * c * c * (12 * v + 4) ≤ 512 * 100 = mul-le-mul three b′ in
+    let d′ : 20 * v + 20 ≤ 180 = omega arith in
+    let d : c * c * (20 * v + 20) ≤ 64 * 180 = mul-le-mul two d′ in
+    omega arith

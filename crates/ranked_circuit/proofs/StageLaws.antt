@@ -1,0 +1,180 @@
+-- What the words of the circuit's blocks spell: numbers of ballots, links, and the strengths of paths.
+-- Assumes nothing.
+use mathlib.Core.Path.{_≡_, _∙_, refl, sym, ap, subst}
+use mathlib.Core.Bool.{Bool, true, false, cond, _||_, not}
+use mathlib.Core.Logic.{⊎-elim, _≢_}
+use mathlib.Core.List.{List, [], _++_}
+use Prim.Native.Nat.{ℕ, zero, suc, min, max, _+_, _-_, _*_, _≤_, _<_}
+use native.Mathlib.Nat.{add-zero}
+use native.Mathlib.Omega.{arith}
+use lib.Dec.{eqb}
+use lib.ListN.{length, length-append}
+use borrow.Author.Tests.{eqb-false, ne-eqb, lt-ltb, le-ltb}
+use Rattle.basics.proofs.Cases.{below-or-not}
+use Rattle.gates.specs.Gate.{Gate}
+use Rattle.gates.proofs.Laws.{Holds, holds-append}
+use Rattle.gate_words.specs.Word.{ones, number}
+use Rattle.gate_words.specs.Choice.{masked}
+use Rattle.gate_words.specs.Counter.{counter, countSize, Countable}
+use Rattle.gate_words.specs.Comparison.{upEnd, downEnd}
+use Rattle.gate_words.proofs.Laws.{Binary, masked-one, masked-zero, counter-law, length-counter, length-masked}
+use Rattle.rule_schulze.specs.Schulze.{link}
+use Rattle.rule_schulze.proofs.Winning.{link-won, link-lost}
+use Rattle.ranked_circuit.specs.Blocks.{compare, smaller, larger, largerIf}
+use Rattle.ranked_circuit.specs.Table.{table, entryEnd}
+use Rattle.ranked_circuit.specs.Stages.{votesBlock, linksBlock, linkAt, stays, newWord, pathBlock}
+use Rattle.ranked_circuit.proofs.BlockLaws.{compare-up, compare-down, smaller-law, larger-law, larger-if, larger-if-not, length-whole, length-smaller, length-larger, length-larger-if}
+use Rattle.ranked_circuit.proofs.TableLaws.{entryStart, entry-end, entry-holds}
+
+-- none of some tests holds
+pub neither : (a b : Bool) → (a || b) ≡ false → (a ≡ false) × (b ≡ false)
+neither true b e = let z : _≡_ {A = ℕ} 0 1 = cc in absurd (omega arith)
+neither false b e = (refl, e)
+
+-- a detour over l that does not leave the word as it is
+pub apart-all : (l i j : ℕ) → stays (suc l) i j ≡ false → (i ≢ l) × (j ≢ l) × (i ≢ j)
+unfolding stays
+apart-all l i j e =
+    let p = neither (eqb i l || eqb j l) (eqb i j) e in
+    let q = neither (eqb i l) (eqb j l) (p .0) in
+    (eqb-false i l (q .0), eqb-false j l (q .1), eqb-false i j (p .1))
+
+pub apart-zero : (i j : ℕ) → stays 0 i j ≡ false → i ≢ j
+unfolding stays
+apart-zero i j e = eqb-false i j (neither (not (eqb i 0 || eqb j 0)) (eqb i j) e .1)
+
+pub stage-moves : (links words : ℕ → ℕ → ℕ) (w m at i j : ℕ) → stays m i j ≡ false → pathBlock links words w m at i j ≡ newWord links words w m at i j
+unfolding pathBlock
+stage-moves links words w m at i j e = ap (λ (c : Bool). cond c [] (newWord links words w m at i j)) e
+
+pub stage-stays : (links words : ℕ → ℕ → ℕ) (w m at i j : ℕ) → stays m i j ≡ true → pathBlock links words w m at i j ≡ []
+unfolding pathBlock
+stage-stays links words w m at i j e = ap (λ (c : Bool). cond c [] (newWord links words w m at i j)) e
+
+-- the gates before its word
+unfoldable pub stagePad : ℕ → ℕ → ℕ
+stagePad w zero = 0
+stagePad w (suc zero) = 2 * w + suc w + (2 * w + 1)
+stagePad w (suc (suc l)) = 2 * w + suc w + 2 * w
+
+pub stage-length : (links words : ℕ → ℕ → ℕ) (w m at i j : ℕ) → length (newWord links words w m at i j) ≡ stagePad w m + suc w
+unfolding stagePad newWord
+stage-length links words w zero at i j = omega (arith, length-masked (links i j) (words i j) (suc w))
+stage-length links words w (suc zero) at i j =
+    let way = smaller at (words i 0) (words 0 j) w in
+    let more = largerIf (at + (2 * w + suc w)) (links i j) (words i j) (at + 2 * w) w in
+    omega (arith, length-append way more, length-smaller at (words i 0) (words 0 j) w, length-larger-if (at + (2 * w + suc w)) (links i j) (words i j) (at + 2 * w) w)
+stage-length links words w (suc (suc l)) at i j =
+    let way = smaller at (words i (suc l)) (words (suc l) j) w in
+    let more = larger (at + (2 * w + suc w)) (words i j) (at + 2 * w) w in
+    omega (arith, length-append way more, length-smaller at (words i (suc l)) (words (suc l) j) w, length-larger (at + (2 * w + suc w)) (words i j) (at + 2 * w) w)
+
+-- a counter's block
+pub votes-moves : (k n w at i j : ℕ) → i ≢ j → votesBlock k n w at i j ≡ counter at (i * k + j) (k * k) n 0 w
+unfolding votesBlock
+votes-moves k n w at i j ne = ap (λ (c : Bool). cond c [] (counter at (i * k + j) (k * k) n 0 w)) (ne-eqb i j ne)
+
+pub votes-length : (k n w at i j : ℕ) → i ≢ j → length (votesBlock k n w at i j) ≡ countSize n 0 w + suc w
+votes-length k n w at i j ne = ap length (votes-moves k n w at i j ne) ∙ omega (arith, length-counter at (i * k + j) (k * k) n 0 w)
+
+-- a block of comparisons, i being the later candidate
+pub links-moves : (words : ℕ → ℕ → ℕ) (w at i j : ℕ) → j < i → linksBlock words w at i j ≡ compare at (words i j) (words j i) w
+unfolding linksBlock
+links-moves words w at i j l = ap (λ (c : Bool). cond c (compare at (words i j) (words j i) w) []) (lt-ltb j i l)
+
+pub links-length : (words : ℕ → ℕ → ℕ) (w at i j : ℕ) → j < i → length (linksBlock words w at i j) ≡ 3 + 3 * w
+links-length words w at i j l = ap length (links-moves words w at i j l) ∙ length-whole at (words i j) (words j i) w
+
+-- the two wires that tell of links are the last of their block
+up-last : (at w : ℕ) → upEnd (at + 3) (at + 1) w ≡ at + (3 + 3 * w) - 2
+unfolding upEnd
+up-last at zero = omega arith
+up-last at (suc w) = omega arith
+
+down-last : (at w : ℕ) → downEnd (at + 3) (at + 2) w ≡ at + (3 + 3 * w) - 1
+unfolding downEnd
+down-last at zero = omega arith
+down-last at (suc w) = omega arith
+
+module _ (W : ℕ → ℕ) (b : Binary W) where
+  -- a smaller word, and what stands behind it
+  behind-smaller : (at x y w : ℕ) (gs : List Gate) → Holds W at (smaller at x y w ++ gs) → Holds W at (smaller at x y w) × Holds W (at + (2 * w + suc w)) gs
+  behind-smaller at x y w gs h =
+      let p = holds-append W at (smaller at x y w) gs h in
+      (p .0, subst (λ (l : ℕ). Holds W (at + l) gs) (length-smaller at x y w) (p .1))
+
+  -- the number of the ballots whose byte is 1
+  pub votes-law : (k n w at i j : ℕ) → i ≢ j → Countable n 0 w → Holds W at (votesBlock k n w at i j) → number W (at + countSize n 0 w) 1 (suc w) ≡ ones W (i * k + j) (k * k) n
+  votes-law k n w at i j ne c h =
+      counter-law W b at (i * k + j) (k * k) n 0 w c (subst (λ (gs : List Gate). Holds W at gs) (votes-moves k n w at i j ne) h) ∙ add-zero (ones W (i * k + j) (k * k) n)
+
+  -- words that are compared, of which a wire tells whether one is larger
+  module _ (words t : ℕ → ℕ → ℕ) (k w : ℕ) (spelled : (i j : ℕ) → i < k → j < k → i ≢ j → number W (words i j) 1 (suc w) ≡ t i j) where
+    abbrev pub Tells : (ℕ → ℕ → ℕ) → ℕ → ℕ → Type 0
+    Tells wires i j = (t j i < t i j → W (wires i j) ≡ 1) × (t i j ≤ t j i → W (wires i j) ≡ 0)
+
+    module _ (n : ℕ) (h : Holds W n (table n k (linksBlock words w))) (i j : ℕ) (hi : i < k) (hj : j < k) (l : j < i) where
+      block : ℕ → ℕ → ℕ → List Gate
+      block = linksBlock words w
+
+      at : ℕ
+      at = entryStart n k block i j
+
+      ends : entryEnd n k block i j ≡ at + (3 + 3 * w)
+      unfolding at block
+      ends = entry-end n k block i j hj ∙ ap (λ (x : ℕ). at + x) (links-length words w at i j l)
+
+      held : Holds W at (compare at (words i j) (words j i) w)
+      unfolding at block
+      held = subst (λ (gs : List Gate). Holds W at gs) (links-moves words w at i j l) (entry-holds n k block i j hj W hi h)
+
+      later : Tells (linkAt n k (linksBlock words w)) i j
+      unfolding linkAt block
+      later =
+          let r = compare-up W b at (words i j) (words j i) w held in
+          let e : linkAt n k (linksBlock words w) i j ≡ upEnd (at + 3) (at + 1) w = ap (λ (c : Bool). cond {A = ℕ} c (entryEnd n k block i j - 2) (entryEnd n k block j i - 1)) (lt-ltb j i l) ∙ omega (arith, ends, up-last at w) in
+          rw e ((λ q. r .0 (omega (arith, spelled i j hi hj (λ e. omega arith), spelled j i hj hi (λ e. omega arith)))), (λ q. r .1 (omega (arith, spelled i j hi hj (λ e. omega arith), spelled j i hj hi (λ e. omega arith)))))
+
+      earlier : Tells (linkAt n k (linksBlock words w)) j i
+      unfolding linkAt block
+      earlier =
+          let r = compare-down W b at (words i j) (words j i) w held in
+          let e : linkAt n k (linksBlock words w) j i ≡ downEnd (at + 3) (at + 2) w = ap (λ (c : Bool). cond {A = ℕ} c (entryEnd n k block j i - 2) (entryEnd n k block i j - 1)) (le-ltb i j (omega arith)) ∙ omega (arith, ends, down-last at w) in
+          rw e ((λ q. r .0 (omega (arith, spelled i j hi hj (λ e. omega arith), spelled j i hj hi (λ e. omega arith)))), (λ q. r .1 (omega (arith, spelled i j hi hj (λ e. omega arith), spelled j i hj hi (λ e. omega arith)))))
+
+    pub link-told : (n : ℕ) → Holds W n (table n k (linksBlock words w)) → (i j : ℕ) → i < k → j < k → i ≢ j → Tells (linkAt n k (linksBlock words w)) i j
+    link-told n h i j hi hj ne = ⊎-elim (λ (l : j < i). later n h i j hi hj l) (λ (l : i ≤ j). earlier n h j i hj hi (omega arith)) (below-or-not j i)
+
+  -- a link's strength: the number of ballots where the link is there
+  pub strength-law : (f x w at v v′ : ℕ) → number W x 1 (suc w) ≡ v → (v′ < v → W f ≡ 1) × (v ≤ v′ → W f ≡ 0) → Holds W at (masked f x (suc w))
+      → (v′ < v → number W (at + 0) 1 (suc w) ≡ v) × (v ≤ v′ → number W (at + 0) 1 (suc w) ≡ 0)
+  strength-law f x w at v v′ e told h =
+      rw (add-zero at) ((λ l. masked-one W b at f x (suc w) (told .0 l) h ∙ e), (λ l. masked-zero W b at f x (suc w) (told .1 l) h))
+
+  -- the stronger of the path so far and a way
+  pub way-law : (words : ℕ → ℕ → ℕ) (w l at i j a c d : ℕ) → number W (words i j) 1 (suc w) ≡ a → number W (words i (suc l)) 1 (suc w) ≡ c → number W (words (suc l) j) 1 (suc w) ≡ d →
+      Holds W at (smaller at (words i (suc l)) (words (suc l) j) w ++ larger (at + (2 * w + suc w)) (words i j) (at + 2 * w) w) → number W (at + (2 * w + suc w + 2 * w)) 1 (suc w) ≡ max a (min c d)
+  way-law words w l at i j a c d ea ec ed h =
+      let p = behind-smaller at (words i (suc l)) (words (suc l) j) w (larger (at + (2 * w + suc w)) (words i j) (at + 2 * w) w) h in
+      let s = smaller-law W b at (words i (suc l)) (words (suc l) j) w (p .0) in
+      let r = larger-law W b (at + (2 * w + suc w)) (words i j) (at + 2 * w) w (p .1) in
+      let e : at + (2 * w + suc w) + 2 * w ≡ at + (2 * w + suc w + 2 * w) = omega arith in
+      sym (ap (λ (m : ℕ). number W m 1 (suc w)) e) ∙ omega (arith, r, s)
+
+  -- the same where the path so far counts only if a link is there
+  pub first-way-law : (links words v : ℕ → ℕ → ℕ) (w at i j c d : ℕ) → number W (words i j) 1 (suc w) ≡ v i j → (v j i < v i j → W (links i j) ≡ 1) × (v i j ≤ v j i → W (links i j) ≡ 0) →
+      number W (words i 0) 1 (suc w) ≡ c → number W (words 0 j) 1 (suc w) ≡ d →
+      Holds W at (smaller at (words i 0) (words 0 j) w ++ largerIf (at + (2 * w + suc w)) (links i j) (words i j) (at + 2 * w) w) → number W (at + (2 * w + suc w + (2 * w + 1))) 1 (suc w) ≡ max (link v i j) (min c d)
+  first-way-law links words v w at i j c d ea told ec ed h =
+      let p = behind-smaller at (words i 0) (words 0 j) w (largerIf (at + (2 * w + suc w)) (links i j) (words i j) (at + 2 * w) w) h in
+      let s = smaller-law W b at (words i 0) (words 0 j) w (p .0) in
+      let e : at + (2 * w + suc w) + 2 * w + 1 ≡ at + (2 * w + suc w + (2 * w + 1)) = omega arith in
+      sym (ap (λ (m : ℕ). number W m 1 (suc w)) e)
+      ∙ ⊎-elim
+      (λ (l : v j i < v i j).
+      let r = larger-if W b (at + (2 * w + suc w)) (links i j) (words i j) (at + 2 * w) w (p .1) (told .0 l) in
+      omega (arith, r, s, link-won v i j l))
+      (λ (l : v i j ≤ v j i).
+      let r = larger-if-not W b (at + (2 * w + suc w)) (links i j) (words i j) (at + 2 * w) w (p .1) (told .1 l) in
+      omega (arith, r, s, link-lost v i j l))
+      (below-or-not (v j i) (v i j))

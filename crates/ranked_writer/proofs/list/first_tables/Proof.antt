@@ -1,0 +1,94 @@
+-- `ranked_writer::list::first_tables` meets its contract: the numbers of ballots, then the links.
+-- Assumes nothing.
+use mathlib.Core.Path.{_≡_, _∙_, sym, ap, subst}
+use Prim.Native.Nat.{ℕ, _+_, _-_, _*_}
+use native.Mathlib.Omega.{arith}
+use borrow.Author.Needs.{needs}
+use lib.ListN.{length, length-append}
+use Rattle.gate_words.proofs.Writing.{room-less, room-after, wrote-as, wrote-both}
+use Rattle.ranked_circuit.specs.Table.{table}
+use Rattle.ranked_circuit.specs.Stages.{votesBlock, linksBlock}
+use Rattle.ranked_circuit.specs.Paths.{votesAt, linksFrom, pathsTo}
+use Rattle.ranked_blocks.specs.Ranked.{keptOf}
+use Rattle.ranked_writer.specs.Tables.{Keeps}
+use Rattle.ranked_writer.proofs.Parts.{first-parts, links-from, votes-words, votes-kept-below, link-wire-is, first-links-is, links-table-is, links-kept-is}
+use Rattle.ranked_writer.proofs.list.first_tables.Statement.{statement}
+use Rattle.ranked_writer.proofs.list.first_tables.Tie as tie
+
+-- both tables
+long : (k n w : ℕ) → length (pathsTo k n w 0 .gates) ≡ length (table (n * k * k) k (votesBlock k n w)) + length (table (linksFrom k n w) k (linksBlock (votesAt k n w) w))
+long k n w = ap length (first-parts k n w) ∙ length-append (table (n * k * k) k (votesBlock k n w)) (table (linksFrom k n w) k (linksBlock (votesAt k n w) w))
+
+votes-from : (k n w wire : ℕ) → wire ≡ n * k * k → table wire k (votesBlock k n w) ≡ table (n * k * k) k (votesBlock k n w)
+votes-from k n w wire q = ap (λ (x : ℕ). table x k (votesBlock k n w)) q
+
+votes-table-requires : tie.Need-votes-table-requires
+votes-table-requires c κs =
+    let a = (c .before .before .before .before .before .args) in
+    let p = a .p in
+    let q = (c .before .before .before .before .before .pre) .1 .1 in (
+      (c .before .before .before .before .before .pre) .0,
+      (room-less (a .w) _ _ (omega (arith, ap length (votes-from (p .candidates) (p .ballots) (p .digits) (a .w .wire) (q .0)), long (p .candidates) (p .ballots) (p .digits))) ((c .before .before .before .before .before .pre) .1 .0), (omega (arith, q .0), q .2)),
+    )
+
+kept : (c : tie.After-votes-table) → Keeps ((c .before .before .before .before .before .before .args) .p .candidates) ((c .votes-table) .last .1 .1 .0) (pathsTo ((c .before .before .before .before .before .before .args) .p .candidates) ((c .before .before .before .before .before .before .args) .p .ballots) ((c .before .before .before .before .before .before .args) .p .digits) 0 .words)
+kept c =
+    let a = (c .before .before .before .before .before .before .args) in
+    votes-words (a .p .candidates) (a .p .ballots) (a .p .digits) (a .w .wire) ((c .votes-table) .last .1 .1 .0) ((c .before .before .before .before .before .before .pre) .1 .1 .0) ((c .votes-table) .ensures .1)
+
+stands : (c : tie.After-votes-table) → (c .votes-table) .result .wire ≡ linksFrom ((c .before .before .before .before .before .before .args) .p .candidates) ((c .before .before .before .before .before .before .args) .p .ballots) ((c .before .before .before .before .before .before .args) .p .digits)
+stands c =
+    let a = (c .before .before .before .before .before .before .args) in
+    let p = a .p in
+    omega (arith, (c .votes-table) .ensures .0 .wires, ap length (votes-from (p .candidates) (p .ballots) (p .digits) (a .w .wire) ((c .before .before .before .before .before .before .pre) .1 .1 .0)), links-from (p .candidates) (p .ballots) (p .digits), (c .before .before .before .before .before .before .pre) .1 .1 .0)
+
+same : (c : tie.After-votes-table) → table ((c .votes-table) .result .wire) ((c .before .before .before .before .before .before .args) .p .candidates) (linksBlock (keptOf ((c .votes-table) .last .1 .1 .0) ((c .before .before .before .before .before .before .args) .p .candidates)) ((c .before .before .before .before .before .before .args) .p .digits)) ≡ table (linksFrom ((c .before .before .before .before .before .before .args) .p .candidates) ((c .before .before .before .before .before .before .args) .p .ballots) ((c .before .before .before .before .before .before .args) .p .digits)) ((c .before .before .before .before .before .before .args) .p .candidates) (linksBlock (votesAt ((c .before .before .before .before .before .before .args) .p .candidates) ((c .before .before .before .before .before .before .args) .p .ballots) ((c .before .before .before .before .before .before .args) .p .digits)) ((c .before .before .before .before .before .before .args) .p .digits))
+same c =
+    let p = (c .before .before .before .before .before .before .args) .p in
+    links-table-is (p .candidates) (p .ballots) (p .digits) (pathsTo (p .candidates) (p .ballots) (p .digits) 0 .words) ((c .votes-table) .last .1 .1 .0) (kept (c)) ((c .votes-table) .result .wire) (linksFrom (p .candidates) (p .ballots) (p .digits)) (stands (c))
+    ∙ first-links-is (p .candidates) (p .ballots) (p .digits)
+
+links-table-requires : tie.Need-links-table-requires
+links-table-requires c κs =
+    let a = (c .before .before .before .before .before .before .before .before .before .before .before .before .before .args) in
+    let p = a .p in
+    let v = (c .before .before .before .before .before .before .before .votes-table) in
+    let k = kept (c .before .before .before .before .before .before .before) in (
+      (c .before .before .before .before .before .before .before .before .before .before .before .before .before .pre) .0,
+      (
+        room-after (a .w) (a .table .now) _ (v .last .1 .0) (v .result) _ _ (v .ensures .0)
+            (omega (arith, ap length (votes-from (p .candidates) (p .ballots) (p .digits) (a .w .wire) ((c .before .before .before .before .before .before .before .before .before .before .before .before .before .pre) .1 .1 .0)), long (p .candidates) (p .ballots) (p .digits), ap length (same (c .before .before .before .before .before .before .before)))) ((c .before .before .before .before .before .before .before .before .before .before .before .before .before .pre) .1 .0),
+        ((k .long, (c .before .before .before .before .before .before .before .before .before .before .before .before .before .pre) .1 .1 .1), votes-kept-below (p .candidates) (p .ballots) (p .digits) (v .result .wire) (v .last .1 .1 .0) (stands (c .before .before .before .before .before .before .before)) k),
+      ),
+    )
+
+returns : tie.Need-returns
+returns c =
+    let a = (c .before .before .before .before .before .before .before .before .before .before .before .before .before .before .before .before .before .before .args) in
+    let p = a .p in
+    let v = (c .before .before .before .before .before .before .before .before .before .before .before .before .votes-table) in
+    let l = (c .before .before .before .before .links-table) in
+    let words = pathsTo (p .candidates) (p .ballots) (p .digits) 0 .words in
+    let from = linksFrom (p .candidates) (p .ballots) (p .digits) in (
+      wrote-as (a .w) (a .table .now) _ _ (l .last .1 .0) (l .result) (sym (first-parts (p .candidates) (p .ballots) (p .digits)))
+          (wrote-both (a .w) (a .table .now) (table (p .ballots * p .candidates * p .candidates) (p .candidates) (votesBlock (p .candidates) (p .ballots) (p .digits))) (v .last .1 .0) (v .result) _ (l .last .1 .0) (l .result)
+          (wrote-as (a .w) (a .table .now) _ _ (v .last .1 .0) (v .result) (votes-from (p .candidates) (p .ballots) (p .digits) (a .w .wire) ((c .before .before .before .before .before .before .before .before .before .before .before .before .before .before .before .before .before .before .pre) .1 .1 .0)) (v .ensures .0))
+          (wrote-as (v .result) (v .last .1 .0) _ _ (l .last .1 .0) (l .result) (same (c .before .before .before .before .before .before .before .before .before .before .before .before)) (l .ensures .0))),
+      (
+        kept (c .before .before .before .before .before .before .before .before .before .before .before .before),
+        subst (λ (f : ℕ → ℕ → ℕ). Keeps (p .candidates) (l .last .1 .1 .1 .0) f) (link-wire-is (p .candidates) (p .ballots) (p .digits))
+            (links-kept-is (p .candidates) (p .ballots) (p .digits) words (v .last .1 .1 .0) (kept (c .before .before .before .before .before .before .before .before .before .before .before .before)) (v .result .wire) from (l .last .1 .1 .1 .0) (stands (c .before .before .before .before .before .before .before .before .before .before .before .before)) (l .ensures .1)),
+      ),
+    )
+
+same-length : tie.Need-same-length
+same-length c = search needs
+
+same-length-2 : tie.Need-same-length-2
+same-length-2 c = search needs
+
+same-length-3 : tie.Need-same-length-3
+same-length-3 c = search needs
+
+pub first-tables-spec : {M : Type 1} → statement M
+first-tables-spec = tie.close (tie.spec votes-table-requires links-table-requires same-length same-length-2 same-length-3 returns)

@@ -1,0 +1,133 @@
+-- `ranked_writer::list::path_tables` meets its contract: one stage after the other.
+-- Assumes nothing.
+use mathlib.Core.Path.{_≡_, _∙_, refl, sym, ap, subst}
+use mathlib.Core.List.{List, [], _++_}
+use Prim.Native.Nat.{ℕ, suc, _+_, _-_, _≤_}
+use native.Mathlib.Numerals.{add-one}
+use native.Mathlib.Omega.{arith}
+use borrow.Author.Needs.{needs}
+use lib.ListN.{length}
+use Rattle.gates.specs.Gate.{Gate}
+use Rattle.gate_words.specs.Writing.{Wrote}
+use Rattle.gate_words.proofs.Writing.{room-less, room-after, wrote-nothing, wrote-as, wrote-both}
+use Rattle.ranked_circuit.specs.Table.{table}
+use Rattle.ranked_circuit.specs.Stages.{pathBlock}
+use Rattle.ranked_circuit.specs.Paths.{linkWire, pathsTo}
+use Rattle.ranked_circuit.proofs.GoodLaws.{endOf}
+use Rattle.ranked_blocks.specs.Ranked.{keptOf}
+use Rattle.ranked_blocks.specs.declared.entries.Ranks.{Ranks}
+use Rattle.ranked_writer.specs.Tables.{Keeps}
+use Rattle.ranked_writer.proofs.Parts.{kept-below, stagesTo, stages-split, stages-long, stages-next, stages-grow, stage-table, stage-words, stage-end}
+use Rattle.ranked_writer.proofs.list.path_tables.Statement.{statement}
+use Rattle.ranked_writer.proofs.list.path_tables.Tie as tie
+
+abbrev wordsAt : Ranks → ℕ → ℕ → ℕ → ℕ
+wordsAt p m = pathsTo (p .candidates) (p .ballots) (p .digits) m .words
+
+abbrev stages : Ranks → ℕ → List Gate
+stages p m = stagesTo (p .candidates) (p .ballots) (p .digits) m
+
+abbrev Inv-loop : tie.InvT-loop
+Inv-loop table₀ words₀ p links next₀ m₀ table words next m =
+    (m ≤ suc (p .candidates)) × Keeps (p .candidates) links (linkWire (p .candidates) (p .ballots) (p .digits)) × (next .wire ≡ endOf (p .candidates) (p .ballots) (p .digits) m)
+    × Wrote next₀ table₀ (stages p m) table next × Keeps (p .candidates) words (wordsAt p m)
+
+abbrev μ-loop : tie.MeasureT-loop
+μ-loop table₀ words₀ p links next₀ m₀ table words next m = suc (p .candidates) - m
+
+first-tables-requires : tie.Need-first-tables-requires Inv-loop μ-loop
+first-tables-requires c κs =
+    let a = (c .before .before .before .before .before .args) in
+    let p = a .p in
+    ((c .before .before .before .before .before .pre) .0, (room-less (a .w) _ _ (omega (arith, stages-long (p .candidates) (p .ballots) (p .digits) (suc (p .candidates)))) ((c .before .before .before .before .before .pre) .1 .0), ((c .before .before .before .before .before .pre) .1 .1 .0, refl, (c .before .before .before .before .before .pre) .1 .1 .1)))
+
+nothing : (p : Ranks) → stages p 0 ≡ []
+nothing p = unfold stagesTo in refl
+
+loop-holds : tie.Need-loop-holds Inv-loop μ-loop
+loop-holds c =
+    let a = (c .before .before .before .before .before .before .before .before .before .before .before .args) in
+    let p = a .p in
+    let f = (c .before .before .before .before .before .first-tables) in (
+      omega arith,
+      f .ensures .1 .1,
+      omega (arith, f .ensures .0 .wires, (c .before .before .before .before .before .before .before .before .before .before .before .pre) .1 .1 .0),
+      wrote-as (f .result) (f .last .1 .0) _ _ (f .last .1 .0) (f .result) (sym (nothing p)) (wrote-nothing (f .result) (f .last .1 .0)),
+      f .ensures .1 .0,
+    )
+
+-- the stage under the wires that are kept
+same : (c : tie.Then1 Inv-loop μ-loop) → table ((c .before .before .loop) .next .wire) ((c .before .before .before .before .before .before .before .before .before .before .before .before .before .before .args) .p .candidates) (pathBlock (keptOf ((c .before .before .before .before .before .before .before .before .first-tables) .last .1 .1 .0) ((c .before .before .before .before .before .before .before .before .before .before .before .before .before .before .args) .p .candidates)) (keptOf ((c .before .before .loop) .words) ((c .before .before .before .before .before .before .before .before .before .before .before .before .before .before .args) .p .candidates)) ((c .before .before .before .before .before .before .before .before .before .before .before .before .before .before .args) .p .digits) ((c .before .before .loop) .m)) ≡ table (endOf ((c .before .before .before .before .before .before .before .before .before .before .before .before .before .before .args) .p .candidates) ((c .before .before .before .before .before .before .before .before .before .before .before .before .before .before .args) .p .ballots) ((c .before .before .before .before .before .before .before .before .before .before .before .before .before .before .args) .p .digits) ((c .before .before .loop) .m)) ((c .before .before .before .before .before .before .before .before .before .before .before .before .before .before .args) .p .candidates) (pathBlock (linkWire ((c .before .before .before .before .before .before .before .before .before .before .before .before .before .before .args) .p .candidates) ((c .before .before .before .before .before .before .before .before .before .before .before .before .before .before .args) .p .ballots) ((c .before .before .before .before .before .before .before .before .before .before .before .before .before .before .args) .p .digits)) (wordsAt ((c .before .before .before .before .before .before .before .before .before .before .before .before .before .before .args) .p) ((c .before .before .loop) .m)) ((c .before .before .before .before .before .before .before .before .before .before .before .before .before .before .args) .p .digits) ((c .before .before .loop) .m))
+same c =
+    let p = (c .before .before .before .before .before .before .before .before .before .before .before .before .before .before .args) .p in
+    let l = (c .before .before .loop) in
+    stage-table (p .candidates) (p .ballots) (p .digits) (l .m) ((c .if1) .taken) ((c .before .before .before .before .before .before .before .before .first-tables) .last .1 .1 .0) (l .words) (l .inv .1) (l .inv .4) (l .next .wire) (l .inv .2)
+
+path-table-requires : tie.Need-path-table-requires Inv-loop μ-loop
+path-table-requires c κs =
+    let a = (c .before .before .before .before .before .before .before .before .before .before .before .before .before .before .before .before .before .args) in
+    let p = a .p in
+    let l = (c .before .before .before .before .before .loop) in
+    let f = (c .before .before .before .before .before .before .before .before .before .before .before .first-tables) in
+    let room₀ = room-after (a .w) (a .table .now) _ (f .last .1 .0) (f .result) (length (stages p (suc (p .candidates)))) _ (f .ensures .0) (omega (arith, stages-long (p .candidates) (p .ballots) (p .digits) (suc (p .candidates)))) ((c .before .before .before .before .before .before .before .before .before .before .before .before .before .before .before .before .before .pre) .1 .0) in
+    let grow = stages-grow (p .candidates) (p .ballots) (p .digits) (suc (p .candidates)) (suc (l .m)) (omega (arith, (c .before .before .before .if1) .taken)) in
+    let next = stages-next (p .candidates) (p .ballots) (p .digits) (l .m) in (
+      (c .before .before .before .before .before .before .before .before .before .before .before .before .before .before .before .before .before .pre) .0,
+      (
+        room-after (f .result) (f .last .1 .0) _ (l .table) (l .next) _ _ (l .inv .3) (omega (arith, ap length (same (c .before .before .before)), grow, next)) room₀,
+        (((c .before .before .before .if1) .taken, l .inv .1 .long, l .inv .4 .long), kept-below (p .candidates) (p .ballots) (p .digits) (l .m) (l .words) (l .next .wire) (l .inv .4) (l .inv .2)),
+      ),
+    )
+
+add-m : tie.Need-add-m Inv-loop μ-loop
+add-m c = omega (arith, (c .before .before .before .before .before .before .before .before .if1) .taken, (c .before .before .before .before .before .before .before .before .before .before .before .before .before .before .before .before .before .before .before .before .before .before .pre) .0 .k-most)
+
+loop-less : tie.Need-loop-less Inv-loop μ-loop
+loop-less c = omega (arith, (c .before .before .before .before .before .before .before .before .if1) .taken)
+
+stages-are : (p : Ranks) (m : ℕ) → stages p m ++ table (endOf (p .candidates) (p .ballots) (p .digits) m) (p .candidates) (pathBlock (linkWire (p .candidates) (p .ballots) (p .digits)) (wordsAt p m) (p .digits) m) ≡ stages p (suc m)
+stages-are p m = unfold stagesTo in refl
+
+loop-again : tie.Need-loop-again Inv-loop μ-loop
+loop-again c =
+    let a = (c .before .before .before .before .before .before .before .before .before .before .before .before .before .before .before .before .before .before .before .before .before .before .args) in
+    let p = a .p in
+    let l = (c .before .before .before .before .before .before .before .before .before .before .loop) in
+    let f = (c .before .before .before .before .before .before .before .before .before .before .before .before .before .before .before .before .first-tables) in
+    let h = (c .before .before .before .before .path-table) in
+    let e = add-one (l .m) in (
+      omega (arith, (c .before .before .before .before .before .before .before .before .if1) .taken),
+      l .inv .1,
+      omega (arith, h .ensures .0 .wires, ap length (same (c .before .before .before .before .before .before .before .before)), stage-end (p .candidates) (p .ballots) (p .digits) (l .m), l .inv .2) ∙ ap (endOf (p .candidates) (p .ballots) (p .digits)) (sym e),
+      wrote-as (f .result) (f .last .1 .0) _ _ (h .last .1 .0) (h .result) (stages-are p (l .m) ∙ ap (stages p) (sym e))
+          (wrote-both (f .result) (f .last .1 .0) (stages p (l .m)) (l .table) (l .next) _ (h .last .1 .0) (h .result) (l .inv .3) (wrote-as (l .next) (l .table) _ _ (h .last .1 .0) (h .result) (same (c .before .before .before .before .before .before .before .before)) (h .ensures .0))),
+      subst (λ (x : ℕ). Keeps (p .candidates) (h .last .1 .1 .1 .0) (wordsAt p x)) (sym e)
+          (stage-words (p .candidates) (p .ballots) (p .digits) (l .m) ((c .before .before .before .before .before .before .before .before .if1) .taken) (f .last .1 .1 .0) (l .words) (l .inv .1) (l .inv .4) (l .next .wire) (h .last .1 .1 .1 .0) (l .inv .2) (h .ensures .1)),
+    )
+
+same-length : tie.Need-same-length Inv-loop μ-loop
+same-length c = (c .before .before .loop) .inv .3 .long ∙ (c .before .before .before .before .before .before .before .before .first-tables) .ensures .0 .long
+
+same-length-2 : tie.Need-same-length-2 Inv-loop μ-loop
+same-length-2 c = (c .before .before .loop) .inv .4 .long ∙ sym ((c .before .before .before .before .before .before .before .before .before .before .before .before .before .before .pre) .1 .1 .1)
+
+returns : tie.Need-returns Inv-loop μ-loop
+returns c =
+    let a = (c .before .before .before .before .before .before .before .before .before .before .before .before .before .before .args) in
+    let p = a .p in
+    let l = (c .before .before .loop) in
+    let f = (c .before .before .before .before .before .before .before .before .first-tables) in
+    let all : l .m ≡ suc (p .candidates) = omega (arith, (c .if1) .left) in (
+      wrote-as (a .w) (a .table .now) _ _ (l .table) (l .next) (sym (stages-split (p .candidates) (p .ballots) (p .digits) (l .m)) ∙ ap (λ (x : ℕ). pathsTo (p .candidates) (p .ballots) (p .digits) x .gates) all)
+          (wrote-both (a .w) (a .table .now) (pathsTo (p .candidates) (p .ballots) (p .digits) 0 .gates) (f .last .1 .0) (f .result) (stages p (l .m)) (l .table) (l .next) (f .ensures .0) (l .inv .3)),
+      subst (λ (x : ℕ). Keeps (p .candidates) (l .words) (wordsAt p x)) all (l .inv .4),
+    )
+
+slice-aggregate-first-tables : tie.Need-slice-aggregate-first-tables Inv-loop μ-loop
+slice-aggregate-first-tables c = search needs
+
+slice-aggregate-path-table : tie.Need-slice-aggregate-path-table Inv-loop μ-loop
+slice-aggregate-path-table c = search needs
+
+pub path-tables-spec : {M : Type 1} → statement M
+path-tables-spec = tie.close (tie.spec Inv-loop μ-loop slice-aggregate-first-tables first-tables-requires loop-holds slice-aggregate-path-table path-table-requires add-m loop-less loop-again same-length same-length-2 returns)

@@ -1,0 +1,95 @@
+-- `ranked_writer::losers::loser_row` meets its contract: one gate after the other joins two.
+-- Assumes nothing.
+use mathlib.Core.Path.{_≡_, _∙_, refl, ap}
+use mathlib.Core.List.{List, [], _∷_}
+use Prim.Native.Nat.{ℕ, suc, _+_, _-_, _*_, _≤_}
+use native.Mathlib.Omega.{arith}
+use lib.ListN.{length}
+use Rattle.gates.specs.Gate.{Gate}
+use Rattle.gate_words.specs.Gates.{orOf}
+use Rattle.gate_words.specs.declared.writer.Writer.{Writer}
+use Rattle.gate_words.specs.Writing.{Room}
+use Rattle.gate_words.proofs.Writing.{room-less, wrote-as}
+use Rattle.gate_words.proofs.Emitting.{or-wrote}
+use Rattle.ranked_circuit.specs.Table.{blocks}
+use Rattle.ranked_circuit.specs.RankedList.{joined, loserRow}
+use Rattle.ranked_circuit.proofs.TableLaws.{length-same}
+use Rattle.ranked_blocks.specs.Ranked.{keptOf}
+use Rattle.ranked_writer.proofs.Filling.{Filled, fill-start, fill-next, fill-room, fill-end}
+use Rattle.ranked_writer.proofs.losers.loser_row.Statement.{statement}
+use Rattle.ranked_writer.proofs.losers.loser_row.Tie as tie
+
+abbrev gate : List ℕ → ℕ → ℕ → ℕ → ℕ → ℕ → List Gate
+gate beats k at i wire t = orOf (joined (keptOf beats k) (suc (k - 2)) at i (2 * t)) (joined (keptOf beats k) (suc (k - 2)) at i (2 * t + 1)) ∷ []
+
+abbrev Inv-loop : tie.InvT-loop
+Inv-loop table₀ beats k i at next₀ t₀ table next t = (at ≡ next₀ .wire) × (t ≤ k - 2) × Filled next₀ table₀ (gate beats k at i) t table next
+
+abbrev μ-loop : tie.MeasureT-loop
+μ-loop table₀ beats k i at next₀ t₀ table next t = k - 2 - t
+
+loop-holds : tie.Need-loop-holds Inv-loop μ-loop
+loop-holds c = let a = (c .before .before .args) in (refl, omega arith, fill-start (a .w) (a .table .now) (gate (a .beats .now) (a .k) (a .w .wire) (a .i)))
+
+sub-loop : tie.Need-sub-loop Inv-loop μ-loop
+sub-loop c = omega (arith, (c .before .before .before .pre) .1 .0)
+
+mul-joined : tie.Need-mul-joined Inv-loop μ-loop
+mul-joined c = omega (arith, (c .loop-test) .taken, (c .before .before .before .before .pre) .1 .1)
+
+joined-requires : tie.Need-joined-requires Inv-loop μ-loop
+joined-requires c κs = ((c .before .before .before .before .pre) .1 .0, (c .before .before .before .before .pre) .1 .1, (c .before .before .before .before .pre) .1 .2, omega (arith, (c .loop-test) .taken, (c .before .before .before .before .pre) .1 .1), omega (arith, (c .before .loop) .inv .0, (c .before .before .before .before .pre) .0 .small), (c .before .before .before .before .pre) .1 .3)
+
+mul-joined-2 : tie.Need-mul-joined-2 Inv-loop μ-loop
+mul-joined-2 c = omega (arith, (c .before .loop-test) .taken, (c .before .before .before .before .before .pre) .1 .1)
+
+add-joined : tie.Need-add-joined Inv-loop μ-loop
+add-joined c = omega (arith, (c .before .loop-test) .taken, (c .before .before .before .before .before .pre) .1 .1)
+
+joined-requires-2 : tie.Need-joined-requires-2 Inv-loop μ-loop
+joined-requires-2 c κs = ((c .before .before .before .before .before .pre) .1 .0, (c .before .before .before .before .before .pre) .1 .1, (c .before .before .before .before .before .pre) .1 .2, omega (arith, (c .before .loop-test) .taken, (c .before .before .before .before .before .pre) .1 .1), omega (arith, (c .before .before .loop) .inv .0, (c .before .before .before .before .before .pre) .0 .small), (c .before .before .before .before .before .pre) .1 .3)
+
+row-room : (w : Writer) (b : ℕ → ℕ → List Gate) (r : ℕ) → ((at e : ℕ) → length (b at e) ≡ 1) → Room w r → Room w (length (blocks (w .wire) b r))
+row-room w b r one room = room-less w _ _ (omega (arith, length-same (w .wire) b 1 one r)) room
+
+emit-requires : tie.Need-emit-requires Inv-loop μ-loop
+emit-requires c κs =
+    let a = (c .before .before .before .before .before .before .before .args) in
+    let l = (c .before .before .before .before .loop) in
+    let b = gate (a .beats .now) (a .k) (a .w .wire) (a .i) in
+    fill-room (a .w) (a .table .now) b (l .t) (a .k - 2) (l .table) (l .next) ((c .before .before .before .loop-test) .taken) (row-room (a .w) b (a .k - 2) (λ at e. refl) ((c .before .before .before .before .before .before .before .pre) .0)) (l .inv .2)
+
+add-t : tie.Need-add-t Inv-loop μ-loop
+add-t c = omega (arith, (c .before .before .before .before .before .before .loop-test) .taken, (c .before .before .before .before .before .before .before .before .before .before .pre) .1 .1)
+
+loop-less : tie.Need-loop-less Inv-loop μ-loop
+loop-less c = omega (arith, (c .before .before .before .before .before .before .loop-test) .taken)
+
+loop-again : tie.Need-loop-again Inv-loop μ-loop
+loop-again c =
+    let a = (c .before .before .before .before .before .before .before .before .before .before .args) in
+    let l = (c .before .before .before .before .before .before .before .loop) in
+    let h = (c .before .before .emit) in
+    let b = gate (a .beats .now) (a .k) (a .w .wire) (a .i) in (
+      l .inv .0,
+      omega (arith, (c .before .before .before .before .before .before .loop-test) .taken),
+      fill-next (a .w) (a .table .now) b (l .t) (l .table) (l .next) (h .last .1 .0) (h .result) (l .inv .2)
+          (wrote-as (l .next) (l .table) _ _ (h .last .1 .0) (h .result) (ap (λ (x : ℕ). orOf x ((c .before .before .before .before .joined2) .result) ∷ []) ((c .before .before .before .before .before .joined) .ensures) ∙ ap (λ (x : ℕ). orOf (joined (keptOf (a .beats .now) (a .k)) (suc (a .k - 2)) (a .w .wire) (a .i) (2 * l .t)) x ∷ []) ((c .before .before .before .before .joined2) .ensures))
+          (or-wrote (l .next) (l .table) (h .last .1 .0) (h .result) _ _ 0 (h .ensures))),
+    )
+
+same-length : tie.Need-same-length Inv-loop μ-loop
+same-length c = (c .before .loop) .inv .2 .long
+
+row-is : (beats : ℕ → ℕ → ℕ) (r at i : ℕ) → blocks at (λ wire t. orOf (joined beats (suc r) at i (2 * t)) (joined beats (suc r) at i (2 * t + 1)) ∷ []) r ≡ loserRow beats r at i
+row-is beats r at i = unfold loserRow in refl
+
+returns : tie.Need-returns Inv-loop μ-loop
+returns c =
+    let a = (c .before .before .before .before .args) in
+    let l = (c .before .loop) in
+    wrote-as (a .w) (a .table .now) _ _ (l .table) (l .next) (row-is (keptOf (a .beats .now) (a .k)) (a .k - 2) (a .w .wire) (a .i))
+    (fill-end (a .w) (a .table .now) (gate (a .beats .now) (a .k) (a .w .wire) (a .i)) (l .t) (a .k - 2) (l .table) (l .next) (omega (arith, (c .loop-test) .left)) (l .inv .1) (l .inv .2))
+
+pub loser-row-spec : {M : Type 1} → statement M
+loser-row-spec = tie.close (tie.spec Inv-loop μ-loop loop-holds sub-loop mul-joined joined-requires mul-joined-2 add-joined joined-requires-2 emit-requires add-t loop-less loop-again same-length returns)

@@ -1,0 +1,125 @@
+// The own list of a ranked tasting.
+use crate::losers::loser_rows;
+use crate::losers::output_gates;
+use crate::tables::links_table;
+use crate::tables::path_table;
+use crate::tables::votes_table;
+use gate_words::writer::Writer;
+use gates::kind;
+use jury::width::width;
+use ranked_blocks::entries::Ranks;
+ghost use mathlib.Core.Path.{_≡_};
+ghost use Prim.Native.Nat.{suc, _+_, _-_, _*_, _≤_, _<_};
+ghost use lib.ListN.{length};
+ghost use Rattle.gate_words.specs.Writing.{Room, Wrote};
+ghost use Rattle.ranked_circuit.specs.Paths.{pathsTo, linkWire};
+ghost use Rattle.ranked_circuit.specs.RankedList.{rankedList};
+ghost use Rattle.ranked_circuit.specs.OwnRanking.{ownRanking};
+ghost use Rattle.ranked_blocks.specs.Ranked.{Ranked};
+ghost use Rattle.ranked_writer.specs.Tables.{Keeps};
+
+// The numbers of ballots, and the links.
+fn first_tables(
+    w: Writer,
+    table: &mut [u32],
+    links: &mut [u32],
+    words: &mut [u32],
+    p: Ranks,
+) -> Writer
+    requires { ⌜ Ranked p ⌝ }
+    requires { ⌜ Room w (length (pathsTo (p .candidates) (p .ballots) (p .digits) 0 .gates)) ⌝ }
+    requires { ⌜
+        (w .wire ≡ p .ballots * p .candidates * p .candidates) × (length (now links) ≡ 64) × (length (now words) ≡ 64)
+        ⌝ }
+    ensures { λ r. ⌜
+        Wrote w (now (table .entry)) (pathsTo (p .candidates) (p .ballots) (p .digits) 0 .gates) (now (table .exit)) r
+        ⌝ }
+    ensures { λ r. ⌜
+        Keeps (p .candidates) (now (words .exit)) (pathsTo (p .candidates) (p .ballots) (p .digits) 0 .words)
+        ⌝ }
+    ensures { λ r. ⌜ Keeps (p .candidates) (now (links .exit)) (linkWire (p .candidates) (p .ballots) (p .digits)) ⌝ }
+{
+    let counted = votes_table(w, table, words, p);
+    links_table(counted, table, words, links, p)
+}
+
+// All stages of the paths.
+fn path_tables(w: Writer, table: &mut [u32], words: &mut [u32], p: Ranks) -> Writer
+    requires { ⌜ Ranked p ⌝ }
+    requires { ⌜ Room w (length (pathsTo (p .candidates) (p .ballots) (p .digits) (suc (p .candidates)) .gates)) ⌝ }
+    requires { ⌜ (w .wire ≡ p .ballots * p .candidates * p .candidates) × (length (now words) ≡ 64) ⌝ }
+    ensures { λ r. ⌜
+        Wrote w (now (table .entry)) (pathsTo (p .candidates) (p .ballots) (p .digits) (suc (p .candidates)) .gates)
+        (now (table .exit)) r
+        ⌝ }
+    ensures { λ r. ⌜
+        Keeps (p .candidates) (now (words .exit))
+        (pathsTo (p .candidates) (p .ballots) (p .digits) (suc (p .candidates)) .words)
+        ⌝ }
+{
+    let mut links = [0u32; 64];
+    let mut next = first_tables(w, table, &mut links, words, p);
+    let mut m: u32 = 0;
+    while m <= p.candidates {
+        next = path_table(next, table, &links, words, p, m);
+        m += 1;
+    }
+    next
+}
+
+// The list for two candidates: their links tell who is beaten.
+fn pair_circuit(w: Writer, table: &mut [u32], p: Ranks) -> Writer
+    requires { ⌜ Ranked p ⌝ }
+    requires { ⌜ Room w (length (rankedList (p .candidates) (p .ballots) (p .digits))) ⌝ }
+    requires { ⌜ (p .candidates ≡ 2) × (w .wire ≡ p .ballots * p .candidates * p .candidates) ⌝ }
+    ensures { λ r. ⌜
+        Wrote w (now (table .entry)) (rankedList (p .candidates) (p .ballots) (p .digits)) (now (table .exit)) r
+        ⌝ }
+{
+    let mut links = [0u32; 64];
+    let mut words = [0u32; 64];
+    let linked = first_tables(w, table, &mut links, &mut words, p);
+    output_gates(linked, table, &links, p.candidates, linked.wire)
+}
+
+// The list for three or more candidates.
+fn circuit(w: Writer, table: &mut [u32], p: Ranks) -> Writer
+    requires { ⌜ Ranked p ⌝ }
+    requires { ⌜ Room w (length (rankedList (p .candidates) (p .ballots) (p .digits))) ⌝ }
+    requires { ⌜ (3 ≤ p .candidates) × (w .wire ≡ p .ballots * p .candidates * p .candidates) ⌝ }
+    ensures { λ r. ⌜
+        Wrote w (now (table .entry)) (rankedList (p .candidates) (p .ballots) (p .digits)) (now (table .exit)) r
+        ⌝ }
+{
+    let mut words = [0u32; 64];
+    let mut beats = [0u32; 64];
+    let paths = path_tables(w, table, &mut words, p);
+    let met = links_table(paths, table, &words, &mut beats, p);
+    let lost = loser_rows(met, table, &beats, p.candidates);
+    output_gates(lost, table, &beats, p.candidates, met.wire)
+}
+
+// Writes the own list for so many candidates and ballots from the table's first number on, as far as the table goes.
+// The writer says how many gates the list has, and how many of them are conditional, whatever the table.
+pub fn ranked_list(candidates: u32, ballots: u32, table: &mut [u32]) -> Writer
+    requires { ⌜ (1 ≤ candidates) × (candidates ≤ 8) × (1 ≤ ballots) × (ballots ≤ 255) ⌝ }
+    ensures { λ r. ⌜
+        Wrote (record { gate = 0; wire = ballots * candidates * candidates; conditional = 0 }) (now (table .entry))
+        (ownRanking candidates ballots) (now (table .exit)) r
+        ⌝ }
+{
+    let w = Writer::new(ballots * candidates * candidates);
+    if candidates == 1 {
+        return w.emit(table, kind::ONE, 0, 0, 0);
+    }
+    let digits = width(ballots as usize) as u32 - 1;
+    let p = Ranks {
+        candidates,
+        ballots,
+        digits,
+    };
+    if candidates == 2 {
+        return pair_circuit(w, table, p);
+    }
+    circuit(w, table, p)
+}

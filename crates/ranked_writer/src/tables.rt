@@ -1,0 +1,115 @@
+// The tables: k rows of k blocks.
+use gate_words::writer::Writer;
+use ranked_blocks::entries::Ranks;
+use ranked_blocks::entries::links_entry;
+use ranked_blocks::entries::path_entry;
+use ranked_blocks::entries::votes_entry;
+ghost use mathlib.Core.Path.{_≡_};
+ghost use mathlib.Core.Bool.{cond};
+ghost use Prim.Native.Nat.{suc, _+_, _-_, _*_, _≤_, _<_};
+ghost use lib.ListN.{length};
+ghost use Rattle.gate_words.specs.Writing.{Room, Wrote};
+ghost use Rattle.ranked_circuit.specs.Table as spec;
+ghost use Rattle.ranked_circuit.specs.Table.{entryEnd};
+ghost use Rattle.ranked_circuit.specs.Stages.{votesBlock, linksBlock, linkAt, stays, pathBlock};
+ghost use Rattle.ranked_blocks.specs.Ranked.{Ranked, keptOf, WordsBelow};
+ghost use Rattle.ranked_writer.specs.Tables.{Keeps};
+
+// The numbers of ballots.
+pub(crate) fn votes_table(w: Writer, table: &mut [u32], words: &mut [u32], p: Ranks) -> Writer
+    requires { ⌜ Ranked p ⌝ }
+    requires { ⌜
+        Room w (length (spec.table (w .wire) (p .candidates) (votesBlock (p .candidates) (p .ballots) (p .digits))))
+        ⌝ }
+    requires { ⌜ (p .ballots * p .candidates * p .candidates ≤ w .wire) × (length (now words) ≡ 64) ⌝ }
+    ensures { λ r. ⌜
+        Wrote w (now (table .entry)) (spec.table (w .wire) (p .candidates)
+        (votesBlock (p .candidates) (p .ballots) (p .digits))) (now (table .exit)) r
+        ⌝ }
+    ensures { λ r. ⌜
+        Keeps (p .candidates) (now (words .exit))
+        (λ i j. entryEnd (w .wire) (p .candidates) (votesBlock (p .candidates) (p .ballots) (p .digits)) i j - suc
+        (p .digits))
+        ⌝ }
+{
+    let k = p.candidates;
+    let mut next = w;
+    let mut e: u32 = 0;
+    while e < k * k {
+        next = votes_entry(next, table, words, p, e);
+        e += 1;
+    }
+    next
+}
+
+// Words compared.
+pub(crate) fn links_table(
+    w: Writer,
+    table: &mut [u32],
+    words: &[u32],
+    links: &mut [u32],
+    p: Ranks,
+) -> Writer
+    requires { ⌜ Ranked p ⌝ }
+    requires { ⌜
+        Room w (length (spec.table (w .wire) (p .candidates)
+        (linksBlock (keptOf (now words) (p .candidates)) (p .digits))))
+        ⌝ }
+    requires { ⌜ (length (now words) ≡ 64) × (length (now links) ≡ 64) ⌝ }
+    requires { ⌜ WordsBelow (now words) (p .candidates) (p .digits) (w .wire) ⌝ }
+    ensures { λ r. ⌜
+        Wrote w (now (table .entry)) (spec.table (w .wire) (p .candidates)
+        (linksBlock (keptOf (now (words .entry)) (p .candidates)) (p .digits))) (now (table .exit)) r
+        ⌝ }
+    ensures { λ r. ⌜
+        Keeps (p .candidates) (now (links .exit))
+        (linkAt (w .wire) (p .candidates) (linksBlock (keptOf (now (words .entry)) (p .candidates)) (p .digits)))
+        ⌝ }
+{
+    let k = p.candidates;
+    let mut next = w;
+    let mut e: u32 = 0;
+    while e < k * k {
+        next = links_entry(next, table, words, links, p, e);
+        e += 1;
+    }
+    next
+}
+
+// Stage m of the paths.
+pub(crate) fn path_table(
+    w: Writer,
+    table: &mut [u32],
+    links: &[u32],
+    words: &mut [u32],
+    p: Ranks,
+    m: u32,
+) -> Writer
+    requires { ⌜ Ranked p ⌝ }
+    requires { ⌜
+        Room w (length (spec.table (w .wire) (p .candidates)
+        (pathBlock (keptOf (now links) (p .candidates)) (keptOf (now words) (p .candidates)) (p .digits) m)))
+        ⌝ }
+    requires { ⌜ (m ≤ p .candidates) × (length (now links) ≡ 64) × (length (now words) ≡ 64) ⌝ }
+    requires { ⌜ WordsBelow (now words) (p .candidates) (p .digits) (w .wire) ⌝ }
+    ensures { λ r. ⌜
+        Wrote w (now (table .entry)) (spec.table (w .wire) (p .candidates)
+        (pathBlock (keptOf (now (links .entry)) (p .candidates)) (keptOf (now (words .entry)) (p .candidates))
+        (p .digits) m)) (now (table .exit)) r
+        ⌝ }
+    ensures { λ r. ⌜
+        Keeps (p .candidates) (now (words .exit))
+        (λ i j. cond (stays m i j) (keptOf (now (words .entry)) (p .candidates) i j)
+        (entryEnd (w .wire) (p .candidates) (pathBlock (keptOf (now (links .entry)) (p .candidates))
+        (keptOf (now (words .entry)) (p .candidates)) (p .digits) m) i j - suc (p .digits)))
+        ⌝ }
+{
+    let k = p.candidates;
+    let mut next = w;
+    let mut e: u32 = 0;
+    while e < k * k {
+        next = path_entry(next, table, links, words, p, m, e);
+        e += 1;
+    }
+    next
+}

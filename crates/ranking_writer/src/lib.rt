@@ -1,4 +1,0 @@
-// The own list of a ranked tasting, written into a table.
-pub mod list;
-mod lost;
-mod tables;

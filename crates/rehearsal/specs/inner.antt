@@ -1,0 +1,3 @@
+-- What the functions of the rehearsal ask of each other and promise each other.
+pub mod Buffers
+pub mod Rehearses

@@ -1,0 +1,38 @@
+-- What the program lends, and what of it a run is lent.
+use mathlib.Core.Path.{_≡_}
+use mathlib.Core.List.{List}
+use Prim.Native.Nat.{ℕ, _≤_}
+use lib.Dec.{T}
+use lib.ListN.{length}
+use Rattle.gates.specs.Gate.{numbersOf}
+use Rattle.gates.specs.Board.{conditionalCount, Bits}
+use Rattle.jury.specs.declared.shape.Shape.{Shape}
+use Rattle.jury.specs.Shape.{withinLimits}
+use Rattle.tally.specs.OwnList.{ownList}
+use Rattle.rehearsal.specs.Rehearsal.{shapeIn}
+
+-- A tape of bits, which the program fills with zeros, a table for at most 4,000 gates, and a wire table and a board
+-- that are long enough for them.
+pub record Buffers (table tape wires board : List ℕ) : Type 0 where
+  pub tableLength : length table ≤ 16000
+  pub tapeLength : 4000 ≤ length tape
+  pub tapeBits : Bits tape
+  pub wiresLength : 20320 ≤ length wires
+  pub boardLength : 4008 ≤ length board
+
+-- With the shape that the input gives.
+pub record Ready (s : Shape) (input table tape wires board : List ℕ) : Type 0 where
+  pub shape-is : s ≡ shapeIn input
+  pub buffers : Buffers table tape wires board
+
+-- What a run of the own list is lent: its numbers, a mask tape and buffers that are long enough.
+pub record Cut (s : Shape) (list : List ℕ) (gates conditional : ℕ) (tape wires board : List ℕ) : Type 0 where
+  pub within : T (withinLimits s)
+  pub list-is : list ≡ numbersOf (ownList s)
+  pub gates-are : gates ≡ length (ownList s)
+  pub conditional-are : conditional ≡ conditionalCount (ownList s)
+  pub few : gates ≤ 4000
+  pub tapeLength : 4000 ≤ length tape
+  pub tapeBits : Bits tape
+  pub wiresLength : 20320 ≤ length wires
+  pub boardLength : 4008 ≤ length board

@@ -1,0 +1,25 @@
+-- What each function of the rehearsal answers, and that the closing bytes which it names lie on the board.
+use mathlib.Core.Path.{_≡_}
+use mathlib.Core.List.{List}
+use Prim.Native.Nat.{ℕ, _+_, _≤_}
+use lib.ListN.{length}
+use Rattle.jury.specs.declared.shape.Shape.{Shape}
+use Rattle.jury.specs.Reason.{firstOf}
+use Rattle.jury.specs.Ballots.{ballotReasons}
+use Rattle.tally.specs.Answer.{Outcome, outcome}
+use Rattle.rehearsal.specs.Rehearsal.{Printed, printedOf, outcomeOn}
+use Rattle.rehearsal.specs.declared.rehearse.Rehearsed.{Rehearsed}
+use Rattle.rehearsal.specs.declared.rehearse.Rehearsed.the-variants.{Winners, Refused}
+
+-- Where the closing bytes end.
+unfoldable pub endOn : Rehearsed → ℕ
+endOn (Winners s first) = first + s .candidates
+endOn (Refused r) = 0
+
+pub record Rehearses (expected : Outcome Printed) (board : List ℕ) (r : Rehearsed) : Type 0 where
+  pub answers : outcomeOn board r ≡ expected
+  pub on-board : endOn r ≤ length board
+
+-- The run by itself, of a list that was written.
+unfoldable pub runOutcome : Shape → List ℕ → Outcome Printed
+runOutcome s ballots = outcome (firstOf (ballotReasons s ballots)) (printedOf s ballots)

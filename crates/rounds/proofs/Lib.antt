@@ -1,4 +1,0 @@
-pub mod Pieces
-pub mod Passed
-pub mod Turning
-pub mod Rounding

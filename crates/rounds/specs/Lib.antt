@@ -1,4 +1,0 @@
-pub mod Tables
-pub mod Reasons
-pub mod Rounds
-pub mod Inner

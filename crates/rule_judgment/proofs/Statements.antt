@@ -1,0 +1,54 @@
+-- What other crates rest on, stated over running sums: for two rows of counts, which sequence comes first.
+-- Assumes nothing.
+use mathlib.Core.Path.{_≡_}
+use mathlib.Core.Bool.{true}
+use mathlib.Core.Logic.{_⊎_, _≢_}
+use mathlib.Core.List.{List}
+use Prim.Native.Nat.{ℕ, _+_, _*_, _≤_, _<_}
+use lib.ListN.{take}
+use Rattle.basics.specs.Lists.{sum}
+use Rattle.rule_judgment.specs.Judgment.{sequenceOf, precedes}
+
+-- the number of a row's grades that are the t best ones
+abbrev pub running : List ℕ → ℕ → ℕ
+running row t = sum (take t row)
+
+-- a's sequence comes before b's
+abbrev pub Precedes : List ℕ → List ℕ → Type 0
+Precedes a b = precedes (sequenceOf a) (sequenceOf b) ≡ true
+
+-- two rows of n grades each
+pub record Alike (n : ℕ) (a b : List ℕ) : Type 0 where
+  pub sum-a : sum a ≡ n
+  pub sum-b : sum b ≡ n
+
+-- a is larger at threshold i, and b is not larger at any threshold j whose positions are struck earlier
+pub record Decides (n : ℕ) (a b : List ℕ) (i : ℕ) : Type 0 where
+  pub larger : running b i < running a i
+  pub above : (j : ℕ) → i < j → running a j < running b j → n ≤ running a i + running a j
+  pub below : (j : ℕ) → j < i → running a j < running b j → running b j + running b i < n
+
+-- the sum rule: a threshold that decides for a puts a first
+abbrev pub SumRule : Type 0
+SumRule = (n : ℕ) (a b : List ℕ) → Alike n a b → (i : ℕ) → Decides n a b i → Precedes a b
+
+-- one row has half of its grades among the t best, the other has not
+abbrev pub HalfRule : Type 0
+HalfRule = (n : ℕ) (a b : List ℕ) → Alike n a b → (t : ℕ) → n ≤ 2 * running a t → 2 * running b t < n → Precedes a b
+
+-- the same with less asked of the two: it is enough that the smaller row is below half at the lower one, and that the larger one is not at the upper one
+pub record Bracket (n : ℕ) (a b : List ℕ) (lower upper : ℕ) : Type 0 where
+  pub between : (t : ℕ) → lower < t → t < upper → running a t ≡ running b t
+  pub lower-half : (t : ℕ) → t < lower → running a t ≢ running b t → ((2 * running a lower < n) ⊎ (2 * running b lower < n)) × (running a lower ≢ running b lower)
+  pub upper-half : (t : ℕ) → upper < t → running a t ≢ running b t → ((n ≤ 2 * running a upper) ⊎ (n ≤ 2 * running b upper)) × (running a upper ≢ running b upper)
+
+-- what two such thresholds decide
+pub record TwoDecide (n : ℕ) (a b : List ℕ) (lower upper : ℕ) : Type 0 where
+  -- equal at both: equal sequences
+  pub equal : running a lower ≡ running b lower → running a upper ≡ running b upper → sequenceOf a ≡ sequenceOf b
+  -- larger at one and not smaller at the other: first
+  pub at-lower : running b lower < running a lower → running b upper ≤ running a upper → Precedes a b
+  pub at-upper : running b upper < running a upper → running b lower ≤ running a lower → Precedes a b
+  -- opposite directions, the larger row at the lower threshold being a: the sum of its two running sums decides
+  pub lower-wins : running b lower < running a lower → running a upper < running b upper → n ≤ running a lower + running a upper → Precedes a b
+  pub upper-wins : running b lower < running a lower → running a upper < running b upper → running a lower + running a upper < n → Precedes b a

@@ -1,0 +1,36 @@
+-- Proofs of the statements of specs/Theorems.antt, and what accepted ballots give for them.
+-- Assumes nothing.
+use mathlib.Core.List.{List}
+use Prim.Native.Nat.{ℕ}
+use native.Mathlib.Omega.{arith}
+use Rattle.jury.specs.declared.shape.Shape.{Shape}
+use Rattle.jury.specs.Counts.{countsOf, countArray}
+use Rattle.jury.specs.inner.Counts.{rowsIn}
+use Rattle.jury.specs.Accepted.{GradedBallots}
+use Rattle.jury.proofs.Limits.{within}
+use Rattle.jury.proofs.Matrix.{array-rows}
+use Rattle.jury.proofs.CountFacts.{counts-length, counts-sum}
+use Rattle.rule_judgment.specs.Theorems.{EachGets, BytesSay, SomebodyWins, GaugeKept, EqualSequences}
+use Rattle.rule_judgment.proofs.Winners.{byte-says, somebody-wins}
+use Rattle.rule_judgment.proofs.GaugeAgrees.{winner-wins, other-loses}
+use Rattle.rule_judgment.proofs.Equal.{equal-sequences}
+
+pub bytes-say : BytesSay
+bytes-say n rows each i h = byte-says n rows each i h
+
+pub somebody : SomebodyWins
+somebody = somebody-wins
+
+pub gauge-alone : GaugeKept
+gauge-alone n rows some each i wins = record { wins = winner-wins n rows some each i wins; alone = other-loses n rows some each i wins }
+
+pub equal-exactly : EqualSequences
+equal-exactly = equal-sequences
+
+-- every candidate of accepted ballots has n grades
+pub each-gets : (s : Shape) (xs : List ℕ) → GradedBallots s xs → EachGets (s .ballots) (countsOf s xs)
+each-gets s xs a i l = counts-sum s xs a i (omega (arith, counts-length s xs))
+
+-- as the array in which the program keeps their counts says it
+pub array-gets : (s : Shape) (xs : List ℕ) → GradedBallots s xs → EachGets (s .ballots) (rowsIn (s .candidates) (s .grades) (countArray s xs))
+array-gets s xs a = rw (array-rows s xs (within s (a .within))) (each-gets s xs a)

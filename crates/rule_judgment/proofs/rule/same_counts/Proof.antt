@@ -1,0 +1,100 @@
+-- `rule_judgment::rule::same_counts` meets its contract: what is left of the two rows is the same exactly where they are.
+-- Assumes nothing.
+use mathlib.Core.Path.{_≡_, _∙_, refl, sym, ap}
+use mathlib.Core.Bool.{Bool}
+use mathlib.Core.List.{List, []}
+use Prim.Native.Nat.{ℕ, _-_, _≤_}
+use native.Mathlib.Numerals.{add-one}
+use native.Mathlib.Omega.{arith}
+use lib.ListN.{length, take, drop, getD}
+use lib.Seq.{length-take-le}
+use Rattle.rule_judgment.specs.inner.Decision.{sameCounts}
+use Rattle.rule_judgment.proofs.SameCounts.{same-later, same-not, same-end}
+use Rattle.rule_judgment.proofs.rule.same_counts.Statement.{statement}
+use Rattle.rule_judgment.proofs.rule.same_counts.Tie as tie
+
+abbrev Inv-loop : tie.InvT-loop
+Inv-loop counts a b d g₀ g =
+    (g ≤ d) × (sameCounts (drop g (take d (getD counts a []))) (drop g (take d (getD counts b []))) ≡ sameCounts (take d (getD counts a [])) (take d (getD counts b [])))
+
+abbrev μ-loop : tie.MeasureT-loop
+μ-loop counts a b d g₀ g = d - g
+
+-- the rows of both candidates
+abbrev first : tie.Start Inv-loop μ-loop → List ℕ
+first c = getD (c .args .counts .now) (c .args .a) []
+
+abbrev second : tie.Start Inv-loop μ-loop → List ℕ
+second c = getD (c .args .counts .now) (c .args .b) []
+
+first-length : (c : tie.Start Inv-loop μ-loop) → c .args .d ≤ length (first c)
+first-length c = omega (arith, c .pre .0 .2, c .pre .1 .0)
+
+second-length : (c : tie.Start Inv-loop μ-loop) → c .args .d ≤ length (second c)
+second-length c = omega (arith, c .pre .0 .2, c .pre .1 .1)
+
+-- an answer, with the rows' length
+both : (c : tie.Start Inv-loop μ-loop) {r : Bool} → r ≡ sameCounts (take (c .args .d) (first c)) (take (c .args .d) (second c)) →
+    (r ≡ sameCounts (take (c .args .d) (first c)) (take (c .args .d) (second c))) × (length (take (c .args .d) (first c)) ≡ c .args .d) × (length (take (c .args .d) (second c)) ≡ c .args .d)
+both c e = (e, length-take-le (c .args .d) (first c) (first-length c), length-take-le (c .args .d) (second c) (second-length c))
+
+loop-holds : tie.Need-loop-holds Inv-loop μ-loop
+loop-holds c = (omega arith, refl)
+
+mul-if1 : tie.Need-mul-if1 Inv-loop μ-loop
+mul-if1 c = omega (arith, c .before .before .pre .0)
+
+mul-if1-2 : tie.Need-mul-if1-2 Inv-loop μ-loop
+mul-if1-2 c = omega (arith, c .before .before .pre .0)
+
+index-1-if1 : tie.Need-index-1-if1 Inv-loop μ-loop
+index-1-if1 c = c .before .before .pre .0 .0
+
+index-2-if1 : tie.Need-index-2-if1 Inv-loop μ-loop
+index-2-if1 c = omega (arith, c .before .before .pre .0)
+
+mul-if1-3 : tie.Need-mul-if1-3 Inv-loop μ-loop
+mul-if1-3 c = omega (arith, c .before .before .before .pre .0)
+
+mul-if1-4 : tie.Need-mul-if1-4 Inv-loop μ-loop
+mul-if1-4 c = omega (arith, c .before .before .before .pre .0)
+
+index-1-if1-2 : tie.Need-index-1-if1-2 Inv-loop μ-loop
+index-1-if1-2 c = c .before .before .before .pre .0 .1
+
+index-2-if1-2 : tie.Need-index-2-if1-2 Inv-loop μ-loop
+index-2-if1-2 c = omega (arith, c .before .before .before .pre .0)
+
+returns : tie.Need-returns Inv-loop μ-loop
+returns c =
+    let at = c .before .before .before .before in
+    let start = at .before in
+    let x = start .args in
+    both start
+    (sym (same-not (first start) (second start) (at .loop .g) (x .d) (first-length start) (second-length start) (omega arith) (c .if1 .taken)) ∙ at .loop .inv .1)
+
+add-g : tie.Need-add-g Inv-loop μ-loop
+add-g c = omega arith
+
+loop-less : tie.Need-loop-less Inv-loop μ-loop
+loop-less c = omega arith
+
+loop-again : tie.Need-loop-again Inv-loop μ-loop
+loop-again c =
+    let at = c .before .before .before .before in
+    let start = at .before in
+    let x = start .args in
+    let g = at .loop .g in
+    (omega arith, ap (λ (j : ℕ). sameCounts (drop j (take (x .d) (first start))) (drop j (take (x .d) (second start)))) (add-one g) ∙ sym (same-later (first start) (second start) g (x .d) (first-length start) (second-length start) (omega arith) (c .if1 .left)) ∙ at .loop .inv .1)
+
+returns-2 : tie.Need-returns-2 Inv-loop μ-loop
+returns-2 c =
+    let at = c .before in
+    let start = at .before in
+    let x = start .args in
+    both start
+    (sym (same-end (first start) (second start) (at .loop .g) (x .d) (first-length start) (second-length start) (omega arith)) ∙ at .loop .inv .1)
+
+pub same-counts-spec : {M : Type 1} → statement M
+same-counts-spec =
+    tie.close (tie.spec Inv-loop μ-loop loop-holds mul-if1 mul-if1-2 index-1-if1 index-2-if1 mul-if1-3 mul-if1-4 index-1-if1-2 index-2-if1-2 returns add-g loop-less loop-again returns-2)

@@ -1,0 +1,26 @@
+-- Definitions for inner functions and their proofs: no entry point's contract needs them.
+use mathlib.Core.Bool.{Bool, true, false, cond, _&&_, _||_}
+use mathlib.Core.List.{List, [], _∷_}
+use Prim.Native.Nat.{ℕ, _+_, _*_}
+use lib.Dec.{leb, ltb, eqb}
+use Rattle.rule_judgment.specs.declared.rule.Sums.{Sums}
+
+-- Whether two rows of counts are the same.
+unfoldable pub sameCounts : List ℕ → List ℕ → Bool
+sameCounts [] [] = true
+sameCounts [] (y ∷ ys) = false
+sameCounts (x ∷ xs) [] = false
+sameCounts (x ∷ xs) (y ∷ ys) = eqb x y && sameCounts xs ys
+
+-- Whether one of two candidates has half of its n grades among the best so far.
+unfoldable pub halfReached : ℕ → Sums → Bool
+halfReached n sums = leb n (2 * sums .a) || leb n (2 * sums .b)
+
+-- Whether a comes before b, by their running sums at the nearest differences below and above half: the one that is
+-- larger at both, or at one alone, comes first. Where each is larger at one, the lower difference decides if there
+-- the larger candidate's two sums add up to n or more.
+unfoldable pub decidedBy : ℕ → Sums → Sums → Bool
+decidedBy n lower upper =
+    cond (ltb (lower .b) (lower .a)) (leb (upper .b) (upper .a) || leb n (lower .a + upper .a))
+    (cond (ltb (lower .a) (lower .b)) (ltb (upper .b) (upper .a)
+    && ltb (lower .b + upper .b) n) (ltb (upper .b) (upper .a)))

@@ -1,0 +1,137 @@
+// Full majority judgment on the matrix of grade counts, without striking grade after grade: of two candidates, the
+// running sums at two grades tell whose sequence comes first, and equal sequences are of equal counts.
+use jury::shape::Shape;
+ghost use mathlib.Core.Path.{_≡_};
+ghost use Prim.Native.Nat.{ℕ, _≤_, _<_};
+ghost use mathlib.Core.List.{[]};
+ghost use lib.Dec.{T};
+ghost use lib.ListN.{length, take, getD};
+ghost use Rattle.jury.specs.Shape.{gradedLimits};
+ghost use Rattle.basics.specs.Lists.{sum};
+ghost use Rattle.jury.specs.ClosingBytes.{eightBytes};
+ghost use Rattle.jury.specs.inner.Counts.{rowsIn};
+ghost use Rattle.rule_judgment.specs.Judgment.{sequenceOf, precedes, judgmentOf};
+ghost use Rattle.rule_judgment.specs.Theorems.{EachGets};
+ghost use Rattle.rule_judgment.specs.inner.Decision.{sameCounts, halfReached, decidedBy};
+
+// How many grades of two candidates are among the best, up to one grade.
+pub struct Sums {
+    pub a: usize,
+    pub b: usize,
+}
+
+// The closing bytes: 1 for each candidate whose sequence comes first, 0 for any other and from place k on.
+pub fn winners(shape: Shape, counts: [[u16; 7]; 8]) -> [u8; 8]
+    requires { ⌜ T (gradedLimits shape) ⌝ }
+    requires { ⌜ EachGets (shape .ballots) (rowsIn (shape .candidates) (shape .grades) counts) ⌝ }
+    requires { ⌜ ((i : ℕ) → i < 8 → length (getD counts i []) ≡ 7) ⌝ }
+    ensures { λ r. ⌜ r ≡ eightBytes (judgmentOf (rowsIn (shape .candidates) (shape .grades) counts)) ⌝ }
+{
+    let k = shape.candidates;
+    let d = shape.grades;
+    let first = first_winner(counts, k, d, shape.ballots);
+    let mut closing = [0u8; 8];
+    let mut c = 0;
+    while c < k {
+        if same_counts(&counts, c, first, d) {
+            closing[c] = 1;
+        }
+        c += 1;
+    }
+    closing
+}
+
+// A candidate whose sequence no other one precedes.
+fn first_winner(counts: [[u16; 7]; 8], k: usize, d: usize, n: usize) -> usize
+    requires { ⌜ (0 < k) × (k ≤ 8) × (d ≤ 7) × (0 < n) × (n ≤ 255) ⌝ }
+    requires { ⌜ EachGets n (rowsIn k d counts) ⌝ }
+    ensures { λ r. ⌜ (r < k) × (getD (judgmentOf (rowsIn k d counts)) r 0 ≡ 1) ⌝ }
+{
+    let mut first = 0;
+    let mut c = 1;
+    while c < k {
+        if comes_before(&counts, c, first, d, n) {
+            first = c;
+        }
+        c += 1;
+    }
+    first
+}
+
+// Whether candidates a and b have the same counts. The matrix is lent: a row
+// that is copied right after its numbers were stored makes the processor wait for it.
+fn same_counts(counts: &[[u16; 7]; 8], a: usize, b: usize, d: usize) -> bool
+    requires { ⌜ (a < 8) × (b < 8) × (d ≤ 7) ⌝ }
+    requires { ⌜ (length (getD (now counts) a []) ≡ 7) × (length (getD (now counts) b []) ≡ 7) ⌝ }
+    ensures { λ r. ⌜
+        (r ≡ sameCounts (take d (getD (now (counts .entry)) a [])) (take d (getD (now (counts .entry)) b [])))
+        × (length (take d (getD (now (counts .entry)) a [])) ≡ d)
+        × (length (take d (getD (now (counts .entry)) b [])) ≡ d)
+        ⌝ }
+{
+    let mut g = 0;
+    while g < d {
+        if counts[a][g] != counts[b][g] {
+            return false;
+        }
+        g += 1;
+    }
+    true
+}
+
+// Whether the sequence of candidate a comes before that of b, each of them having n grades.
+fn comes_before(counts: &[[u16; 7]; 8], a: usize, b: usize, d: usize, n: usize) -> bool
+    requires { ⌜ (a < 8) × (b < 8) × (d ≤ 7) × (0 < n) × (n ≤ 255) ⌝ }
+    requires { ⌜ (sum (take d (getD (now counts) a [])) ≡ n) × (sum (take d (getD (now counts) b [])) ≡ n) ⌝ }
+    ensures { λ r. ⌜
+        r ≡ precedes (sequenceOf (take d (getD (now (counts .entry)) a [])))
+        (sequenceOf (take d (getD (now (counts .entry)) b [])))
+        ⌝ }
+{
+    let mut lower = Sums { a: 0, b: 0 };
+    let mut sums = Sums { a: 0, b: 0 };
+    let mut g = 0;
+    while g < d {
+        sums = Sums {
+            a: sums.a + wide(counts[a][g]),
+            b: sums.b + wide(counts[b][g]),
+        };
+        if sums.a != sums.b {
+            if half_reached(n, sums) {
+                return decided(n, lower, sums);
+            }
+            lower = sums;
+        }
+        g += 1;
+    }
+    lower.b < lower.a
+}
+
+// Whether one of two candidates has half of its n grades among the best so far.
+fn half_reached(n: usize, sums: Sums) -> bool
+    requires { ⌜ (sums .a ≤ 255) × (sums .b ≤ 255) ⌝ }
+    ensures { λ r. ⌜ r ≡ halfReached n sums ⌝ }
+{
+    n <= 2 * sums.a || n <= 2 * sums.b
+}
+
+// Whether a comes before b, by the nearest differences below and above half.
+fn decided(n: usize, lower: Sums, upper: Sums) -> bool
+    requires { ⌜ (lower .a ≤ 255) × (lower .b ≤ 255) × (upper .a ≤ 255) × (upper .b ≤ 255) ⌝ }
+    ensures { λ r. ⌜ r ≡ decidedBy n lower upper ⌝ }
+{
+    if lower.b < lower.a {
+        return upper.b <= upper.a || n <= lower.a + upper.a;
+    }
+    if lower.a < lower.b {
+        return upper.b < upper.a && lower.b + upper.b < n;
+    }
+    upper.b < upper.a
+}
+
+// A count as a number in which sums of counts do not overflow.
+fn wide(count: u16) -> usize
+    ensures { λ r. ⌜ r ≡ count ⌝ }
+{
+    count as usize
+}

@@ -1,0 +1,81 @@
+-- From the tables of the count to the rule.
+-- Assumes nothing.
+use mathlib.Core.Path.{_≡_, _∙_, refl, sym, ap}
+use mathlib.Core.Bool.{Bool, cond, _||_}
+use mathlib.Core.Logic.{⊎-elim, _≢_}
+use mathlib.Core.List.{List, [], _∷_, List·Memᴰ·head, List·Memᴰ·tail}
+use Prim.Native.Nat.{ℕ, _<_}
+use native.Mathlib.Omega.{arith}
+use lib.Dec.{leb, eqb}
+use lib.ListN.{getD, List·getD-eq-default}
+use lib.Seq.{ext-getD}
+use borrow.Author.Tests.{eq-eqb}
+use Rattle.basics.specs.Lists.{tabulate}
+use Rattle.jury.specs.ClosingBytes.{eightBytes}
+use Rattle.basics.proofs.Cases.{same-or-not, below-or-not}
+use Rattle.jury.proofs.Rows.{eight-at, eight-length}
+use Rattle.basics.proofs.Tabulate.{upTo, upTo-new, upTo-old, length-tabulate, getD-tabulate, tabulate-cong}
+use Rattle.rule_schulze.specs.Schulze.{link, strongest, candidates, every, wins, closingBytes}
+use Rattle.rule_schulze.specs.Closure.{closure}
+use Rattle.rule_schulze.specs.Winner.{On}
+use Rattle.rule_schulze.specs.inner.Tables.{entry, Holds, HoldsPairs, unbeatenIn}
+use Rattle.rule_schulze.proofs.Members.{of-candidates}
+use Rattle.rule_schulze.proofs.Paths.{closure-strongest}
+use Rattle.rule_schulze.proofs.Tables.{AgreePairs, closure-agree}
+
+every-same : (f g : ℕ → Bool) (xs : List ℕ) → ((x : ℕ) → On x xs → f x ≡ g x) → every f xs ≡ every g xs
+unfolding every
+every-same f g [] h = refl
+every-same f g (x ∷ xs) h = cc (h x (List·Memᴰ·head refl), every-same f g xs (λ y m. h y (List·Memᴰ·tail m)))
+
+-- whether i is unbeaten depends on the strengths between each two of the k candidates alone
+unbeaten-same : (k : ℕ) (p q : ℕ → ℕ → ℕ) (i : ℕ) → i < k → AgreePairs k p q →
+    every (λ j. eqb j i || leb (p j i) (p i j)) (candidates k) ≡ every (λ j. eqb j i || leb (q j i) (q i j)) (candidates k)
+unbeaten-same k p q i h a = every-same (λ j. eqb j i || leb (p j i) (p i j)) (λ j. eqb j i || leb (q j i) (q i j)) (candidates k) (λ j m. ⊎-elim (same j) (other j (of-candidates k m)) (same-or-not j i))
+  where
+    same : (j : ℕ) → j ≡ i → (eqb j i || leb (p j i) (p i j)) ≡ (eqb j i || leb (q j i) (q i j))
+    same j e = rw (eq-eqb j i e)
+
+    other : (j : ℕ) → j < k → j ≢ i → (eqb j i || leb (p j i) (p i j)) ≡ (eqb j i || leb (q j i) (q i j))
+    other j l n = rw (a j i l h n, a i j h l (λ e. n (sym e)))
+
+-- strengths of links between each two of the k candidates give those of the strongest paths
+pub strongest-agree : (k : ℕ) (s t : ℕ → ℕ → ℕ) → AgreePairs k s t → AgreePairs k (strongest s k) (strongest t k)
+strongest-agree k s t a i j hi hj ne =
+    sym (closure-strongest s k i j ne) ∙ closure-agree k k s t (omega arith) a i j hi hj ne ∙ closure-strongest t k i j ne
+
+link-agree : (k : ℕ) (v w : ℕ → ℕ → ℕ) → ((i j : ℕ) → i < k → j < k → v i j ≡ w i j) → AgreePairs k (link v) (link w)
+unfolding link
+link-agree k v w h i j hi hj ne = rw (h i j hi hj, h j i hj hi)
+
+-- the closing bytes depend on the numbers of each two of the k candidates alone
+pub closing-agree : (k : ℕ) (v w : ℕ → ℕ → ℕ) → ((i j : ℕ) → i < k → j < k → v i j ≡ w i j) → closingBytes v k ≡ closingBytes w k
+unfolding closingBytes wins
+closing-agree k v w h =
+    tabulate-cong k (λ i. cond (wins v k i) 1 0) (λ i. cond (wins w k i) 1 0)
+    (λ i l. ap (λ (t : Bool). cond {A = ℕ} t 1 0) (unbeaten-same k (strongest (link v) k) (strongest (link w) k) i l (strongest-agree k (link v) (link w) (link-agree k v w h))))
+
+-- the table that the detours leave names the rule's winners
+pub table-wins : (k : ℕ) (v : ℕ → ℕ → ℕ) (links paths : List (List ℕ)) → Holds k links (link v) → HoldsPairs k paths (closure k (entry links)) → (i : ℕ) → i < k → unbeatenIn paths k i ≡ wins v k i
+unfolding unbeatenIn wins
+table-wins k v links paths hl hp i h =
+    unbeaten-same k (entry paths) (strongest (link v) k) i h
+    (λ a b ha hb ne.
+    hp a b ha hb ne ∙ closure-agree k k (entry links) (link v) (omega arith) (λ c d hc hd n. hl c d hc hd) a b ha hb ne ∙ closure-strongest (link v) k a b ne)
+
+-- eight bytes of which the first k are a table's, and the others 0
+pub eight-table : (k : ℕ) (f : ℕ → ℕ) → tabulate 8 (upTo k f (λ j. 0)) ≡ eightBytes (tabulate k f)
+eight-table k f =
+    ext-getD 0 (tabulate 8 bytes) (eightBytes (tabulate k f)) (length-tabulate 8 bytes ∙ sym (eight-length (tabulate k f)))
+    (λ j l. at j (omega (arith, length-tabulate 8 bytes)))
+  where
+    bytes : ℕ → ℕ
+    bytes = upTo k f (λ j. 0)
+
+    byte : (j : ℕ) → bytes j ≡ getD (tabulate k f) j 0
+    byte j =
+        ⊎-elim (λ l. upTo-new k j f (λ m. 0) l ∙ sym (getD-tabulate k j f 0 l))
+        (λ l. upTo-old k j f (λ m. 0) l ∙ sym (List·getD-eq-default (tabulate k f) 0 {n = j} (omega (arith, length-tabulate k f)))) (below-or-not j k)
+
+    at : (j : ℕ) → j < 8 → getD (tabulate 8 bytes) j 0 ≡ getD (eightBytes (tabulate k f)) j 0
+    at j l = getD-tabulate 8 j bytes 0 l ∙ byte j ∙ sym (eight-at (tabulate k f) j l)

@@ -1,0 +1,29 @@
+-- Paths and winners, said without a computation.
+use mathlib.Core.Path.{_≡_}
+use mathlib.Core.Logic.{_≢_}
+use mathlib.Core.List.{List, [], _∷_, List·Memᴰ}
+use Prim.Native.Nat.{ℕ, _≤_, _<_}
+use Rattle.rule_schulze.specs.Schulze.{link, weakest}
+
+-- x is one of these.
+abbrev pub On : ℕ → List ℕ → Type 0
+On x xs = List·Memᴰ x xs
+
+-- None of these comes twice.
+abbrev pub Distinct : List ℕ → Type 0
+Distinct [] = Unit {0}
+Distinct (x ∷ xs) = (¬ On x xs) × Distinct xs
+
+-- A path from i over these candidates to j, among k candidates, that visits none of them twice.
+pub record SimplePath (k i : ℕ) (between : List ℕ) (j : ℕ) : Type 0 where
+  pub below : (x : ℕ) → On x between → x < k
+  pub once : Distinct (i ∷ j ∷ between)
+
+-- Some such path has the strength x, and none a greater one.
+pub record Strongest (s : ℕ → ℕ → ℕ) (k i j x : ℕ) : Type 0 where
+  pub attained : (between : List ℕ) × SimplePath k i between j × (weakest s i between j ≡ x)
+  pub largest : (between : List ℕ) → SimplePath k i between j → weakest s i between j ≤ x
+
+-- No candidate's strongest path to i is stronger than the one from i back to it.
+abbrev pub Winner : (ℕ → ℕ → ℕ) → ℕ → ℕ → Type 0
+Winner v k i = (j x y : ℕ) → j < k → j ≢ i → Strongest (link v) k i j x → Strongest (link v) k j i y → y ≤ x

@@ -1,0 +1,31 @@
+-- Definitions for inner functions and their proofs: no entry point's contract needs them.
+use mathlib.Core.Path.{_≡_}
+use mathlib.Core.Logic.{_≢_}
+use mathlib.Core.Bool.{Bool, _||_}
+use mathlib.Core.List.{List, []}
+use Prim.Native.Nat.{ℕ, _*_, _≤_, _<_}
+use lib.Dec.{leb, eqb}
+use lib.ListN.{length, getD}
+use Rattle.rule_schulze.specs.Schulze.{candidates, every}
+
+-- The number in row i and column j.
+abbrev pub entry : List (List ℕ) → ℕ → ℕ → ℕ
+entry t i j = getD (getD t i []) j 0
+
+-- The table holds the numbers of v, for k candidates.
+abbrev pub Holds : ℕ → List (List ℕ) → (ℕ → ℕ → ℕ) → Type 0
+Holds k t v = (i j : ℕ) → i < k → j < k → entry t i j ≡ v i j
+
+-- The same but on the diagonal, which no path uses.
+abbrev pub HoldsPairs : ℕ → List (List ℕ) → (ℕ → ℕ → ℕ) → Type 0
+HoldsPairs k t v = (i j : ℕ) → i < k → j < k → i ≢ j → entry t i j ≡ v i j
+
+-- No number of column i is above its counterpart in row i.
+unfoldable pub unbeatenIn : List (List ℕ) → ℕ → ℕ → Bool
+unbeatenIn t k i = every (λ j. eqb j i || leb (entry t j i) (entry t i j)) (candidates k)
+
+-- As many bytes as n ballots of k candidates have, and few enough of both.
+pub record RankedSize (k n : ℕ) (xs : List ℕ) : Type 0 where
+  pub most-candidates : k ≤ 8
+  pub most-ballots : n ≤ 255
+  pub size : length xs ≡ n * k * k

@@ -1,6 +1,0 @@
-pub mod Members
-pub mod Paths
-pub mod Winning
-pub mod Filling
-pub mod Tables
-pub mod Counting

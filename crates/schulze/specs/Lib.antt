@@ -1,6 +1,0 @@
-pub mod Schulze
-pub mod Closure
-pub mod Winner
-pub mod Panels
-pub mod Votes
-pub mod Inner

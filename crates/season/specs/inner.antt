@@ -1,0 +1,2 @@
+-- What inner functions ask of each other.
+pub mod Sums

@@ -1,0 +1,53 @@
+-- Numbers in decimal, as characters.
+use mathlib.Core.Bool.{Bool, cond, _&&_}
+use mathlib.Core.Option.{Option, none, some}
+use mathlib.Core.List.{List, [], _∷_, _++_}
+use Prim.Native.Nat.{ℕ, zero, suc, _+_, _-_, _*_, _/_, _%_}
+use lib.Dec.{leb, ltb, eqb}
+
+-- The characters `0` and `9`. The digits between them stand in order.
+abbrev pub zeroCharacter : ℕ
+zeroCharacter = 48
+
+abbrev pub nineCharacter : ℕ
+nineCharacter = 57
+
+-- The largest number that a gate can hold, in 32 bits.
+abbrev pub largest : ℕ
+largest = 4294967295
+
+-- A number in at most so many digits, the first of them being 0 for 0 alone.
+unfoldable pub decimalWithin : ℕ → ℕ → List ℕ
+decimalWithin zero n = []
+decimalWithin (suc digits) n =
+    cond (ltb n 10) ((zeroCharacter + n) ∷ []) (decimalWithin digits (n / 10) ++ (zeroCharacter + n % 10) ∷ [])
+
+-- A number of 32 bits in decimal: ten digits hold it.
+unfoldable pub decimal : ℕ → List ℕ
+decimal n = decimalWithin 10 n
+
+unfoldable pub isDigit : ℕ → Bool
+isDigit c = leb zeroCharacter c && leb c nineCharacter
+
+-- What the first characters say, and the characters behind them.
+pub record Taken (Values : Type 0) : Type 0 where
+  pub value : Values
+  pub behind : List ℕ
+
+abbrev pub taken : {Values : Type 0} → Values → List ℕ → Option (Taken Values)
+taken value behind = some (record { value = value; behind = behind })
+
+-- The digits from here on, those before them having come to n: the whole number, or nothing where it is above the
+-- largest.
+unfoldable pub digitsIn : ℕ → List ℕ → Option (Taken ℕ)
+digitsIn n [] = taken n []
+digitsIn n (c ∷ cs) =
+    cond (isDigit c)
+    (cond (leb (10 * n + (c - zeroCharacter)) largest) (digitsIn (10 * n + (c - zeroCharacter)) cs) none)
+    (taken n (c ∷ cs))
+
+-- A number at the start of some characters. A first digit 0 is the whole number: no other begins with it.
+unfoldable pub numberIn : List ℕ → Option (Taken ℕ)
+numberIn [] = none
+numberIn (c ∷ cs) =
+    cond (isDigit c) (cond (eqb c zeroCharacter) (taken 0 cs) (digitsIn (c - zeroCharacter) cs)) none

@@ -1,0 +1,60 @@
+-- One gate as a line of text.
+use mathlib.Core.Bool.{Bool, true, false, cond}
+use mathlib.Core.Option.{Option, none, some, bind}
+use mathlib.Core.List.{List, [], _∷_, _++_}
+use Prim.Native.Nat.{ℕ}
+use lib.Dec.{ltb, eqb}
+use Rattle.gates.specs.Kind.{operandsOf}
+use Rattle.gates.specs.Gate.{Gate}
+use Rattle.text_lines.specs.Decimal.{decimal, Taken, taken, numberIn}
+
+abbrev pub space : ℕ
+space = 32
+
+abbrev pub lineFeed : ℕ
+lineFeed = 10
+
+-- An operand in use stands behind a space; one that is not in use is not written.
+unfoldable pub operandText : Bool → ℕ → List ℕ
+operandText true n = space ∷ decimal n
+operandText false n = []
+
+-- The kind, its operands in use, and a line feed.
+unfoldable pub lineOf : Gate → List ℕ
+lineOf g =
+    decimal (g .kind) ++ operandText (ltb 0 (operandsOf (g .kind))) (g .a)
+    ++ operandText (ltb 1 (operandsOf (g .kind))) (g .b)
+    ++ operandText (ltb 2 (operandsOf (g .kind))) (g .c)
+    ++ lineFeed ∷ []
+
+-- The same parts at the start of some characters, each of which may be missing: a known kind, an operand, which is 0
+-- where it is not in use, and a line feed.
+unfoldable pub knownKind : Taken ℕ → Option (Taken ℕ)
+knownKind k = cond (ltb (k .value) 8) (some k) none
+
+unfoldable pub operandIn : Bool → List ℕ → Option (Taken ℕ)
+operandIn true [] = none
+operandIn true (c ∷ cs) = cond (eqb c space) (numberIn cs) none
+operandIn false cs = taken 0 cs
+
+unfoldable pub endIn : List ℕ → Option (List ℕ)
+endIn [] = none
+endIn (c ∷ cs) = cond (eqb c lineFeed) (some cs) none
+
+-- A gate at the start of some characters.
+unfoldable pub gateIn : List ℕ → Option (Taken Gate)
+gateIn cs =
+    bind (bind (numberIn cs) knownKind) λ k.
+    bind (operandIn (ltb 0 (operandsOf (k .value))) (k .behind)) λ a.
+    bind (operandIn (ltb 1 (operandsOf (k .value))) (a .behind)) λ b.
+    bind (operandIn (ltb 2 (operandsOf (k .value))) (b .behind)) λ c.
+    bind (endIn (c .behind)) λ rest.
+    taken (record { kind = k .value; a = a .value; b = b .value; c = c .value }) rest
+
+-- The gate that a whole line is, if it has that form: nothing stands behind it.
+unfoldable pub only : Gate → List ℕ → Option Gate
+only g [] = some g
+only g (c ∷ cs) = none
+
+unfoldable pub gateOf : List ℕ → Option Gate
+gateOf line = bind (gateIn line) λ g. only (g .value) (g .behind)

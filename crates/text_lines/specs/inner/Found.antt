@@ -1,0 +1,28 @@
+-- What the functions that read a text from a place on find there, in the terms of the definitions. No promise of an
+-- entry point speaks of these.
+use mathlib.Core.Option.{Option, none}
+use mathlib.Core.List.{List}
+use Prim.Native.Nat.{ℕ, _≤_}
+use lib.ListN.{length, drop}
+use Rattle.gates.specs.Gate.{Gate}
+use Rattle.text_lines.specs.Decimal.{Taken, taken}
+use Rattle.text_lines.specs.declared.decimal.Found.{Found}
+use Rattle.text_lines.specs.declared.decimal.Found.the-variants as number
+use Rattle.text_lines.specs.declared.line.Line.{Line}
+use Rattle.text_lines.specs.declared.line.Line.the-variants as line
+
+unfoldable pub numberFound : List ℕ → Found → Option (Taken ℕ)
+numberFound text (number.Value value next) = taken value (drop next text)
+numberFound text number.Malformed = none
+
+abbrev pub NumberWithin : List ℕ → Found → Type 0
+NumberWithin text (number.Value value next) = next ≤ length text
+NumberWithin text number.Malformed = Unit {0}
+
+unfoldable pub lineFound : List ℕ → Line → Option (Taken Gate)
+lineFound text (line.Gate kind a b c next) = taken (record { kind = kind; a = a; b = b; c = c }) (drop next text)
+lineFound text line.Malformed = none
+
+abbrev pub LineWithin : List ℕ → Line → Type 0
+LineWithin text (line.Gate kind a b c next) = next ≤ length text
+LineWithin text line.Malformed = Unit {0}

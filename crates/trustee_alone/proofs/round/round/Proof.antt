@@ -1,0 +1,130 @@
+-- `trustee_alone::round::round` meets its contract: nothing is touched before all tests have passed.
+-- Assumes nothing.
+use borrow.Author.Needs.{needs}
+use mathlib.Core.Path.{_≡_, _∙_, sym, ap}
+use mathlib.Core.Option.{none}
+use mathlib.Core.List.{List}
+use Prim.Native.Nat.{ℕ, _+_, _*_}
+use native.Mathlib.Omega.{arith}
+use Rattle.gates.specs.Gate.{gatesOf}
+use Rattle.gates.proofs.Counting.{count-most}
+use Rattle.gate_levels.specs.Levels.{roundsOf}
+use Rattle.gate_levels.proofs.Laws.{rounds-most}
+use Rattle.jury.specs.Shape.{withinLimits, ballotBytes}
+use Rattle.jury.specs.Reason.{firstOf}
+use Rattle.basics.proofs.Flags.{true-T}
+use Rattle.jury.proofs.Limits.{bounds, inputs-bound}
+use Rattle.levels.specs.Answer.{Depths, depthsOf, depthsOutcome, levelReasonOf}
+use Rattle.levels.proofs.Reasons.{outcome-refused, outcome-accepted}
+use Rattle.trustee_rounds.specs.Rounds.{Turn, enters, publishes, closes}
+use Rattle.trustee_alone.specs.Rounds.{roundReasons, roundOutcome, ownTurn, wiresMade, publishedMade, roundedWires, roundedPublished}
+use Rattle.trustee_alone.proofs.Tests.{pass, outcome-some, outcome-none, left-old, left-new}
+use Rattle.trustee_alone.proofs.Passed.{Passed, round-passed}
+use Rattle.trustee_alone.proofs.round.round.Statement.{statement}
+use Rattle.trustee_alone.proofs.round.round.Tie as tie
+
+-- the tests passed, and the answer is the list's own
+accepted-by : (c : tie.After-answer) → let a = c .before .before .before .before .before .before .before .before .before .before .before .args in (firstOf (roundReasons (a .shape) (a .table .now) (a .t) (a .p) (a .round) (a .levels .now) (a .dealt .now) (a .heard .now) (a .wires .now) (a .published .now)) ≡ none) × ((depthsOf (ballotBytes (a .shape)) (gatesOf (a .table .now))) ≡ record { gates = c .answer .given .0 .0; conditional = c .answer .given .0 .1 .0; rounds = c .answer .given .0 .1 .1 .0 })
+unfolding depthsOutcome
+accepted-by c =
+    let a = c .before .before .before .before .before .before .before .before .before .before .before .args in
+    outcome-accepted (firstOf (roundReasons (a .shape) (a .table .now) (a .t) (a .p) (a .round) (a .levels .now) (a .dealt .now) (a .heard .now) (a .wires .now) (a .published .now))) (depthsOf (ballotBytes (a .shape)) (gatesOf (a .table .now))) _ (sym (c .before .before .test-round .ensures) ∙ ap depthsOutcome (c .answer .given .1))
+
+-- what is known then
+known : (c : tie.After-answer) → let a = c .before .before .before .before .before .before .before .before .before .before .before .args in Passed (a .shape) (a .table .now) (a .round) (a .levels .now) (a .dealt .now) (a .heard .now) (a .wires .now) (a .published .now)
+known c =
+    let a = c .before .before .before .before .before .before .before .before .before .before .before .args in
+    round-passed (a .shape) (a .table .now) (a .t) (a .p) (a .round) (a .levels .now) (a .dealt .now) (a .heard .now) (a .wires .now) (a .published .now) (accepted-by c .0)
+
+test-round-requires : tie.Need-test-round-requires
+test-round-requires c κs = search needs
+
+enum-known-answer : tie.Need-enum-known-answer
+enum-known-answer c = search needs
+
+enum-told : tie.Need-enum-told
+enum-told c = search needs
+
+same-length : tie.Need-same-length
+same-length c = search needs
+
+same-length-2 : tie.Need-same-length-2
+same-length-2 c = search needs
+
+returns : tie.Need-returns
+unfolding depthsOutcome roundOutcome roundedWires roundedPublished
+returns c =
+    let a = c .before .before .before .before .before .before .before .before .before .before .before .args in
+    let r = levelReasonOf (c .enum-told .given .0 .0) in
+    let e = ap depthsOutcome (c .enum-told .given .1) in
+    let why = outcome-refused (firstOf (roundReasons (a .shape) (a .table .now) (a .t) (a .p) (a .round) (a .levels .now) (a .dealt .now) (a .heard .now) (a .wires .now) (a .published .now))) (depthsOf (ballotBytes (a .shape)) (gatesOf (a .table .now))) r (sym (c .before .before .test-round .ensures) ∙ e) in
+    (e ∙ outcome-some (firstOf (roundReasons (a .shape) (a .table .now) (a .t) (a .p) (a .round) (a .levels .now) (a .dealt .now) (a .heard .now) (a .wires .now) (a .published .now))) (depthsOf (ballotBytes (a .shape)) (gatesOf (a .table .now))) r why, (left-old (firstOf (roundReasons (a .shape) (a .table .now) (a .t) (a .p) (a .round) (a .levels .now) (a .dealt .now) (a .heard .now) (a .wires .now) (a .published .now))) (wiresMade (a .shape) (a .table .now) (a .p) (a .round) (a .levels .now) (a .dealt .now) (a .heard .now) (a .wires .now)) (a .wires .now) r why, left-old (firstOf (roundReasons (a .shape) (a .table .now) (a .t) (a .p) (a .round) (a .levels .now) (a .dealt .now) (a .heard .now) (a .wires .now) (a .published .now))) (publishedMade (a .shape) (a .table .now) (a .p) (a .round) (a .levels .now) (a .dealt .now) (a .heard .now) (a .wires .now) (a .published .now)) (a .published .now) r why))
+
+ballot-bytes-requires : tie.Need-ballot-bytes-requires
+ballot-bytes-requires c κs = true-T (withinLimits (c .before .before .before .before .before .before .before .before .before .before .before .before .args .shape)) (known (c .before) .facts .within)
+
+round-requires : tie.Need-round-requires
+unfolding depthsOf
+round-requires c κs =
+    let a = c .before .before .before .before .before .before .before .before .before .before .before .before .before .before .before .args in
+    let ok = c .before .before .before .before in
+    let p = known ok in
+    let e = c .before .before .ballot-bytes .ensures in
+    let conditional = ap (λ (d : Depths). d .conditional) (accepted-by ok .1) in
+    rw e (record {
+      pass = record {
+        some-input = p .facts .some-input;
+        few = omega (arith, p .facts .few, inputs-bound (a .shape) (bounds (a .shape) (p .facts .within)));
+        good = p .facts .good;
+        levels-length = p .levels-length;
+        dealt-length = p .lengths .dealt-length;
+        wires-length = p .lengths .wires-length;
+      };
+      early = omega (arith, p .early, rounds-most (ballotBytes (a .shape)) (gatesOf (a .table .now)), count-most (gatesOf (a .table .now)), p .facts .few);
+      conditional-is = sym conditional;
+      enough = p .facts .enough;
+      heard-length = p .heard-length;
+      published-length = p .lengths .published-length ∙ ap (λ (n : ℕ). 2 * n + a .shape .candidates) conditional;
+    })
+
+same-length-3 : tie.Need-same-length-3
+same-length-3 c = search needs
+
+same-length-4 : tie.Need-same-length-4
+same-length-4 c = search needs
+
+returns-2 : tie.Need-returns-2
+unfolding depthsOutcome depthsOf roundOutcome roundedWires roundedPublished wiresMade publishedMade ownTurn
+returns-2 c =
+    let a = c .before .before .before .before .before .before .before .before .before .before .before .before .before .before .before .before .before .before .before .before .args in
+    let ok = c .before .before .before .before .before .before .before .before .before in
+    let by = accepted-by ok in
+    let e = c .before .before .before .before .before .before .before .ballot-bytes .ensures in
+    let conditional = ap (λ (d : Depths). d .conditional) (by .1) in
+    let rounds = ap (λ (d : Depths). d .rounds) (by .1) in
+    let done = c .before .before .before .before .round .ensures in
+    let u : ℕ → Turn = λ n. record { trustee = a .p; round = a .round; inputs = n; levels = a .levels .now; dealt = a .dealt .now; heard = a .heard .now } in
+    let X : ℕ → ℕ → ℕ → List ℕ = λ n m c.
+    closes (a .round) m c (a .shape .candidates) (enters (u n) (gatesOf (a .table .now)) 0 0 (a .wires .now)) (publishes (u n) (enters (u n) (gatesOf (a .table .now)) 0 0 (a .wires .now)) (gatesOf (a .table .now)) 0 0 (a .published .now)) in (
+      outcome-none (firstOf (roundReasons (a .shape) (a .table .now) (a .t) (a .p) (a .round) (a .levels .now) (a .dealt .now) (a .heard .now) (a .wires .now) (a .published .now))) (depthsOf (ballotBytes (a .shape)) (gatesOf (a .table .now))) _ (by .0) (sym (by .1)),
+      (
+        done .0 ∙ ap (λ (n : ℕ). enters (u n) (gatesOf (a .table .now)) 0 0 (a .wires .now)) e ∙ left-new (firstOf (roundReasons (a .shape) (a .table .now) (a .t) (a .p) (a .round) (a .levels .now) (a .dealt .now) (a .heard .now) (a .wires .now) (a .published .now))) (wiresMade (a .shape) (a .table .now) (a .p) (a .round) (a .levels .now) (a .dealt .now) (a .heard .now) (a .wires .now)) (a .wires .now) (by .0),
+        done .1 ∙ ap (λ (n : ℕ). X n (ok .answer .given .0 .1 .1 .0) (ok .answer .given .0 .1 .0)) e ∙ ap (λ (m : ℕ). X (ballotBytes (a .shape)) m (ok .answer .given .0 .1 .0)) (sym rounds) ∙ ap (λ (c : ℕ). X (ballotBytes (a .shape)) (roundsOf (ballotBytes (a .shape)) (gatesOf (a .table .now))) c) (sym conditional) ∙ left-new (firstOf (roundReasons (a .shape) (a .table .now) (a .t) (a .p) (a .round) (a .levels .now) (a .dealt .now) (a .heard .now) (a .wires .now) (a .published .now))) (publishedMade (a .shape) (a .table .now) (a .p) (a .round) (a .levels .now) (a .dealt .now) (a .heard .now) (a .wires .now) (a .published .now)) (a .published .now) (by .0),
+      ),
+    )
+
+pub round-spec : {M : Type 1} → statement M
+round-spec =
+    tie.close
+    (tie.spec
+    test-round-requires
+    enum-known-answer
+    enum-told
+    same-length
+    same-length-2
+    returns
+    ballot-bytes-requires
+    round-requires
+    same-length-3
+    same-length-4
+    returns-2)

@@ -1,0 +1,114 @@
+-- What is shown of a trustee's calls, over the definitions that their contracts equate with the program's answers and
+-- tables.
+use mathlib.Core.Path.{_≡_}
+use mathlib.Core.List.{List, [], _∷_}
+use Prim.Native.Nat.{ℕ, suc, _+_, _*_, _≤_, _<_}
+use lib.ListN.{length}
+use Rattle.gates.specs.Gate.{Gate, gatesOf}
+use Rattle.gates.specs.Board.{conditionalCount}
+use Rattle.gate_levels.specs.Levels.{levelsOf, roundsOf}
+use Rattle.jury.specs.declared.shape.Shape.{Shape}
+use Rattle.jury.specs.Shape.{ballotBytes}
+use Rattle.tally.specs.Answer.{accepted, Size, sizeOf}
+use Rattle.tally.specs.Memory.{Lent, KeepsMemory}
+use Rattle.levels.specs.Answer.{depthsOf}
+use Rattle.trustee_shares.specs.Views.{joined, Dealing, ballotsOf, dealtOf}
+use Rattle.trustee_rounds.specs.Together.{sumsOf, Holdings, publishedAfter, holdingsAfter}
+use Rattle.trustees.specs.Call.{Call}
+use Rattle.trustees.specs.Result.{trusteesResult, closingSums}
+use Rattle.trustee_alone.specs.Start.{startOutcome, startedWires, startedPublished}
+use Rattle.trustee_alone.specs.Rounds.{roundOutcome, roundedWires, roundedPublished}
+use Rattle.trustee_alone.specs.Finish.{finishOutcome, finishedWires}
+
+-- A table before and after a call.
+abbrev pub lent : (before after : List ℕ) → Lent
+lent before after = record { before = before; after = after }
+
+-- Demand 1. Start and rounds may write to the wire parts and to the published bits; the finish empties the wire parts.
+pub record Memory : Type 0 where
+  pub start : (s : Shape) (table : List ℕ) (t p : ℕ) (parts dealt ws published : List ℕ)
+      → KeepsMemory (1 ∷ 2 ∷ 3 ∷ 16 ∷ 17 ∷ 18 ∷ []) (startOutcome s table t p parts dealt ws published)
+      (lent ws (startedWires s table t p parts dealt ws published)
+      ∷ lent published (startedPublished s table t p parts dealt ws published) ∷ []) []
+  pub round : (s : Shape) (table : List ℕ) (t p round : ℕ) (levels dealt heard ws published : List ℕ)
+      → KeepsMemory (1 ∷ 2 ∷ 3 ∷ 16 ∷ 17 ∷ 18 ∷ 200 ∷ 201 ∷ 202 ∷ [])
+      (roundOutcome s table t p round levels dealt heard ws published)
+      (lent ws (roundedWires s table t p round levels dealt heard ws published)
+      ∷ lent published (roundedPublished s table t p round levels dealt heard ws published) ∷ []) []
+  pub finish : (s : Shape) (table ws : List ℕ)
+      → KeepsMemory (1 ∷ 2 ∷ 3 ∷ 17 ∷ []) (finishOutcome s table ws) (lent ws (finishedWires s table ws) ∷ [])
+      (lent ws (finishedWires s table ws) ∷ [])
+
+-- The sizes of the one call's list, and what the trustees of that call hold before round r when each is on its own.
+abbrev pub inputsIn : Call → ℕ
+inputsIn c = ballotBytes (c .shape)
+
+abbrev pub roundsIn : Call → ℕ
+roundsIn c = roundsOf (inputsIn c) (gatesOf (c .table))
+
+abbrev pub holdingsIn : Call → ℕ → Holdings
+holdingsIn c r =
+    holdingsAfter (c .trustees) (inputsIn c) (gatesOf (c .table)) (c .shape .candidates) (c .lent .dealing) r
+
+-- The sums of what all published before round r.
+unfoldable pub heardBefore : Call → ℕ → List ℕ
+heardBefore c r = sumsOf (c .trustees) (conditionalCount (gatesOf (c .table))) (holdingsIn c r .published)
+
+-- Trustees apart end as the one call of request 2.7 does on the joined tables: after the rounds 0 to R their published
+-- bits, trustee after trustee, are that call's, and the sums of their closing bits its eight bytes. So its accuracy and
+-- its hiding are theirs.
+pub record AsTheOneCall (c : Call) : Type 0 where
+  pub same-published : joined (c .trustees) (holdingsIn c (suc (roundsIn c)) .published) ≡ trusteesResult c .published
+  pub same-closing : closingSums (c .trustees) (c .shape .candidates) (holdingsIn c (suc (roundsIn c)) .wireParts)
+      ≡ trusteesResult c .closing
+
+-- What trustee p brings: its parts of the ballots, and its triples.
+abbrev pub partsIn : Call → ℕ → List ℕ
+partsIn c p = ballotsOf (inputsIn c) (c .lent .dealing) p
+
+abbrev pub dealtIn : Call → ℕ → List ℕ
+dealtIn c p = dealtOf (gatesOf (c .table)) (c .lent .dealing) p
+
+-- The start of trustee p on these tables, and its round r, are accepted and leave what the trustees together hold.
+pub record StartOf (c : Call) (p : ℕ) (ws published : List ℕ) : Type 0 where
+  pub answer : startOutcome (c .shape) (c .table) (c .trustees) p (partsIn c p) (dealtIn c p) ws published
+      ≡ accepted (sizeOf (gatesOf (c .table)))
+  pub wires : startedWires (c .shape) (c .table) (c .trustees) p (partsIn c p) (dealtIn c p) ws published
+      ≡ holdingsIn c 0 .wireParts p
+  pub bits : startedPublished (c .shape) (c .table) (c .trustees) p (partsIn c p) (dealtIn c p) ws published
+      ≡ holdingsIn c 0 .published p
+
+pub record RoundOf (c : Call) (p r : ℕ) : Type 0 where
+  pub answer : roundOutcome (c .shape) (c .table) (c .trustees) p r (levelsOf (inputsIn c) (gatesOf (c .table)))
+      (dealtIn c p) (heardBefore c r) (holdingsIn c r .wireParts p) (holdingsIn c r .published p)
+      ≡ accepted (depthsOf (inputsIn c) (gatesOf (c .table)))
+  pub wires : roundedWires (c .shape) (c .table) (c .trustees) p r (levelsOf (inputsIn c) (gatesOf (c .table)))
+      (dealtIn c p) (heardBefore c r) (holdingsIn c r .wireParts p) (holdingsIn c r .published p)
+      ≡ holdingsIn c (suc r) .wireParts p
+  pub bits : roundedPublished (c .shape) (c .table) (c .trustees) p r (levelsOf (inputsIn c) (gatesOf (c .table)))
+      (dealtIn c p) (heardBefore c r) (holdingsIn c r .wireParts p) (holdingsIn c r .published p)
+      ≡ holdingsIn c (suc r) .published p
+
+-- Trustee p of such an election: its start, on any tables of its lengths, and every round up to R. So the program's
+-- calls are the rounds that are spoken of here.
+pub record CallsOf (c : Call) (p : ℕ) : Type 0 where
+  pub start : (ws published : List ℕ) → length ws ≡ inputsIn c + length (gatesOf (c .table))
+      → length published ≡ 2 * conditionalCount (gatesOf (c .table)) + c .shape .candidates → StartOf c p ws published
+  pub round : (r : ℕ) → r ≤ roundsIn c → RoundOf c p r
+
+-- What a trustee sends depends on its own tables and on the sums that were heard, and on nothing else: over any two
+-- elections that agree on these.
+abbrev pub OwnTablesOnly : Type 0
+OwnTablesOnly =
+    (t inputs k : ℕ) (gs : List Gate) (d e : Dealing) (r : ℕ) (one other : Holdings) (p : ℕ)
+    → dealtOf gs d p ≡ dealtOf gs e p
+    → sumsOf t (conditionalCount gs) (one .published) ≡ sumsOf t (conditionalCount gs) (other .published)
+    → one .wireParts p ≡ other .wireParts p → one .published p ≡ other .published p
+    → publishedAfter t inputs gs k d r one p ≡ publishedAfter t inputs gs k e r other p
+
+pub record Demands : Type 0 where
+  pub memory : Memory
+  pub own-tables-only : OwnTablesOnly
+  pub as-the-one-call : (c : Call) (size : Size) → trusteesResult c .answer ≡ accepted size → AsTheOneCall c
+  pub calls : (c : Call) (size : Size) → trusteesResult c .answer ≡ accepted size
+      → (p : ℕ) → p < c .trustees → CallsOf c p

@@ -1,0 +1,25 @@
+-- The entry point [trustee-finish].
+use mathlib.Core.Option.{Option}
+use mathlib.Core.List.{List, [], _∷_, _++_}
+use Prim.Native.Nat.{ℕ, _+_}
+use lib.Dec.{eqb}
+use lib.ListN.{length, replicate}
+use Rattle.gates.specs.Gate.{gatesOf}
+use Rattle.jury.specs.declared.shape.Shape.{Shape}
+use Rattle.jury.specs.Shape.{ballotBytes}
+use Rattle.jury.specs.Reason.{Reason, unless, firstOf}
+use Rattle.tally.specs.Answer.{Outcome, outcome, Size, sizeOf}
+use Rattle.tally.specs.Test.{testReasons}
+use Rattle.levels.specs.Levels.{afterwards}
+
+-- The reasons in checking order: 1, 2 and 3 of the list, then 17, wire parts of another length.
+unfoldable pub finishReasons : Shape → List ℕ → List ℕ → List (Option Reason)
+finishReasons s table wireParts =
+    testReasons s table ++ unless (eqb (length wireParts) (ballotBytes s + length (gatesOf table))) 17 ∷ []
+
+unfoldable pub finishOutcome : Shape → List ℕ → List ℕ → Outcome Size
+finishOutcome s table wireParts = outcome (firstOf (finishReasons s table wireParts)) (sizeOf (gatesOf table))
+
+unfoldable pub finishedWires : Shape → List ℕ → List ℕ → List ℕ
+finishedWires s table wireParts =
+    afterwards (firstOf (finishReasons s table wireParts)) (replicate (length wireParts) 0) wireParts

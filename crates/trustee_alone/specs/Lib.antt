@@ -1,0 +1,6 @@
+pub mod Own
+pub mod inner
+pub mod Start
+pub mod Rounds
+pub mod Finish
+pub mod Demands

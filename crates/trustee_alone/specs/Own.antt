@@ -1,0 +1,17 @@
+-- One trustee's tables.
+use mathlib.Core.Bool.{Bool, _&&_}
+use mathlib.Core.List.{List}
+use Prim.Native.Nat.{ℕ, _+_, _*_}
+use lib.Dec.{eqb, leb, ltb}
+use lib.ListN.{length}
+use Rattle.tally.specs.Answer.{Size}
+
+-- Trustee p, counted from 0, of t, of whom there are 2 to 5.
+unfoldable pub isTrustee : ℕ → ℕ → Bool
+isTrustee t p = leb 2 t && leb t 5 && ltb p t
+
+-- The lengths of its triples, wire parts and published bits.
+unfoldable pub tablesFit : ℕ → ℕ → Size → List ℕ → List ℕ → List ℕ → Bool
+tablesFit inputs k size dealt wireParts published =
+    eqb (length dealt) (3 * size .conditional) && eqb (length wireParts) (inputs + size .gates)
+    && eqb (length published) (2 * size .conditional + k)

@@ -1,0 +1,5 @@
+// A trustee on a machine of its own: it holds its own tables, hears the opened sums, and sees nothing else.
+pub mod finish;
+pub mod own;
+pub mod round;
+pub mod start;

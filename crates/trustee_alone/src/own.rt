@@ -1,0 +1,44 @@
+// Tests of one trustee's number and tables.
+use trustees::test::LEAST_TRUSTEES;
+use trustees::test::MOST_TRUSTEES;
+ghost use mathlib.Core.Path.{_≡_};
+ghost use Rattle.trustees.specs.inner.Sizes.{SmallSizes};
+ghost use Rattle.trustee_alone.specs.Own.{isTrustee, tablesFit};
+
+// Whether p is one of t trustees, counted from 0, and there may be so many.
+pub(crate) fn is_trustee(t: usize, p: usize) -> bool
+    ensures { λ r. ⌜ r ≡ isTrustee t p ⌝ }
+{
+    if t < LEAST_TRUSTEES {
+        return false;
+    }
+    if MOST_TRUSTEES < t {
+        return false;
+    }
+    p < t
+}
+
+// Whether its triples, wire parts and published bits have the lengths that list and shape need.
+pub(crate) fn tables_fit(
+    inputs: usize,
+    k: usize,
+    gates: usize,
+    conditional: usize,
+    dealt: &[u8],
+    wires: &[u8],
+    published: &[u8],
+) -> bool
+    requires { ⌜ SmallSizes inputs k gates conditional ⌝ }
+    ensures { λ r. ⌜
+        r ≡ tablesFit inputs k (record { gates = gates; conditional = conditional }) (now (dealt .entry))
+        (now (wires .entry)) (now (published .entry))
+        ⌝ }
+{
+    if dealt.len() != 3 * conditional {
+        return false;
+    }
+    if wires.len() != inputs + gates {
+        return false;
+    }
+    published.len() == 2 * conditional + k
+}

@@ -1,0 +1,35 @@
+-- What the evaluation asks of its caller.
+use mathlib.Core.Path.{_≡_}
+use mathlib.Core.List.{List}
+use Prim.Native.Nat.{ℕ, _+_, _*_, _≤_, _<_}
+use lib.ListN.{length}
+use Rattle.gates.specs.Gate.{gatesOf}
+use Rattle.gates.specs.Board.{conditionalCount}
+use Rattle.gates.specs.Test.{firstBad}
+use Rattle.gates.specs.declared.place.Place.the-variants.{Nowhere}
+use Rattle.trustee_gates.specs.declared.gate.Pieces.{Pieces}
+
+-- A list of good gates over at least one input, and room for all parts, triples and factors of t trustees.
+pub record RunReady (t : ℕ) (pieces : Pieces) (inputs : ℕ) (table dealt wires published : List ℕ) : Type 0 where
+  pub some-input : 1 ≤ inputs
+  pub few : inputs + length (gatesOf table) < 1073741824
+  pub good : firstBad inputs 0 (gatesOf table) ≡ Nowhere
+  pub wires-size : pieces .wires ≡ inputs + length (gatesOf table)
+  pub dealt-size : 3 * conditionalCount (gatesOf table) ≤ pieces .dealt
+  pub published-size : 2 * conditionalCount (gatesOf table) ≤ pieces .published
+  pub wires-length : length wires ≡ t * pieces .wires
+  pub dealt-length : length dealt ≡ t * pieces .dealt
+  pub published-length : length published ≡ t * pieces .published
+
+-- Besides: tables of exactly the lengths of request 2.7, and at least k gates.
+pub record EvaluateReady (t inputs : ℕ) (table : List ℕ) (conditional k : ℕ)
+    (ballotParts dealt wires published : List ℕ) : Type 0 where
+  pub some-input : 1 ≤ inputs
+  pub few : inputs + length (gatesOf table) < 1073741824
+  pub good : firstBad inputs 0 (gatesOf table) ≡ Nowhere
+  pub enough : k ≤ length (gatesOf table)
+  pub conditional-is : conditional ≡ conditionalCount (gatesOf table)
+  pub ballot-length : length ballotParts ≡ t * inputs
+  pub dealt-length : length dealt ≡ t * (3 * conditional)
+  pub wires-length : length wires ≡ t * (inputs + length (gatesOf table))
+  pub published-length : length published ≡ t * (2 * conditional + k)

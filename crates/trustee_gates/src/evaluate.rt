@@ -1,0 +1,105 @@
+// The evaluation of a whole list by trustees. It is no entry point: its `requires` is what the tests establish.
+use crate::gate;
+use crate::gate::Numbers;
+use crate::gate::Pieces;
+use crate::table;
+use gates::kind;
+ghost use mathlib.Core.Path.{_≡_};
+ghost use Prim.Native.Nat.{_+_, _*_, _<_};
+ghost use lib.ListN.{length, take};
+ghost use lib.Seq.{sets};
+ghost use Rattle.gates.specs.Gate.{gatesOf};
+ghost use Rattle.gates.specs.inner.Step.{gateAt};
+ghost use Rattle.trustee_shares.specs.Shares.{partsOf};
+ghost use Rattle.trustee_shares.specs.Views.{piece, joined, maskedFactors, wirePartsOf, publishedOf};
+ghost use Rattle.trustee_gates.specs.Gate.{gateOf};
+ghost use Rattle.trustee_gates.specs.Evaluate.{RunReady, EvaluateReady};
+
+// Gate g of a table.
+pub fn numbers_at(table: &[u32], g: usize) -> Numbers
+    requires { ⌜ 4 * g + 3 < length (now table) ⌝ }
+    ensures { λ r. ⌜ gateOf r ≡ gateAt (now (table .entry)) g ⌝ }
+{
+    let at = 4 * g;
+    Numbers {
+        kind: table[at],
+        a: table[at + 1] as usize,
+        b: table[at + 2] as usize,
+        c: table[at + 3] as usize,
+    }
+}
+
+// All gates in turn, over wire parts of which the inputs are there already.
+fn run_gates(
+    t: usize,
+    pieces: Pieces,
+    inputs: usize,
+    table: &[u32],
+    dealt: &[u8],
+    wires: &mut [u8],
+    published: &mut [u8],
+)
+    requires { ⌜ RunReady t pieces inputs (now table) (now dealt) (now wires) (now published) ⌝ }
+    ensures { λ _.
+        ⌜ now (wires .exit) ≡ joined t (partsOf t (piece (pieces .dealt) (now (dealt .entry)))
+        (λ p. take inputs (piece (pieces .wires) (now (wires .entry)) p)) 0 (gatesOf (now (table .entry)))) ⌝ }
+    ensures { λ _.
+        ⌜ now (published .exit) ≡ joined t (λ p. sets (piece (pieces .published) (now (published .entry)) p) 0
+        (maskedFactors (partsOf t (piece (pieces .dealt) (now (dealt .entry)))
+        (λ q. take inputs (piece (pieces .wires) (now (wires .entry)) q)) 0 (gatesOf (now (table .entry))) p)
+        (piece (pieces .dealt) (now (dealt .entry)) p) 0 (gatesOf (now (table .entry))))) ⌝ }
+{
+    let marks = kind::CONDITIONAL;
+    let gates = table.len() / 4;
+    let mut i = 0;
+    let mut g = 0;
+    while g < gates {
+        let numbers = numbers_at(table, g);
+        i = gate::run_gate(
+            &marks,
+            t,
+            pieces,
+            numbers,
+            inputs + g,
+            i,
+            dealt,
+            wires,
+            published,
+        );
+        g += 1;
+    }
+}
+
+// The inputs go to the front of each trustee's wire parts, the gates follow, and in the end each trustee publishes its
+// parts of the last k wires.
+pub fn evaluate(
+    t: usize,
+    inputs: usize,
+    table: &[u32],
+    conditional: usize,
+    k: usize,
+    parts: &[u8],
+    dealt: &[u8],
+    wires: &mut [u8],
+    published: &mut [u8],
+)
+    requires { ⌜ EvaluateReady t inputs (now table) conditional k (now parts) (now dealt) (now wires)
+        (now published) ⌝ }
+    ensures { λ _.
+        ⌜ now (wires .exit) ≡ joined t (wirePartsOf t inputs (gatesOf (now (table .entry)))
+        (record { ballotParts = now (parts .entry); dealerParts = now (dealt .entry) })) ⌝ }
+    ensures { λ _.
+        ⌜ now (published .exit) ≡ joined t (publishedOf t inputs (gatesOf (now (table .entry))) k
+        (record { ballotParts = now (parts .entry); dealerParts = now (dealt .entry) })) ⌝ }
+{
+    let size = inputs + table.len() / 4;
+    let factors = 2 * conditional;
+    let pieces = Pieces {
+        wires: size,
+        dealt: 3 * conditional,
+        published: factors + k,
+    };
+    table::copy_pieces(t, inputs, parts, inputs, 0, wires, size, 0);
+    run_gates(t, pieces, inputs, table, dealt, wires, published);
+    table::copy_pieces(t, k, wires, size, size - k, published, factors + k, factors);
+}

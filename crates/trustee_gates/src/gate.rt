@@ -1,0 +1,228 @@
+// One gate: what all trustees publish for it, and their parts of its wire.
+use crate::bits;
+use crate::table;
+use gates::kind;
+ghost use mathlib.Core.Path.{_≡_};
+ghost use mathlib.Core.Bool.{cond};
+ghost use mathlib.Core.List.{_∷_, []};
+ghost use Prim.Native.Nat.{_+_, _*_, _<_};
+ghost use Rattle.gates.specs.Kind.{conditionalMarks, conditionalOf};
+ghost use Rattle.trustee_shares.specs.Shares.{secondFactor, maskedFirst, maskedSecond, productPart, partOfKind, part, openedFirst, openedSecond, newPart, markOf};
+ghost use Rattle.trustee_shares.specs.Views.{piece};
+ghost use Rattle.trustee_gates.specs.Tables.{eachPuts};
+ghost use Rattle.trustee_gates.specs.Gate.{gateOf, InWires, InDealt, PublishReady, ProductReady, FreeReady, GateReady};
+
+// How much of each table belongs to one trustee.
+pub struct Pieces {
+    pub wires: usize,
+    pub dealt: usize,
+    pub published: usize,
+}
+
+// A gate as its four numbers.
+pub struct Numbers {
+    pub kind: u32,
+    pub a: usize,
+    pub b: usize,
+    pub c: usize,
+}
+
+// The opened sums of both masked factors.
+pub struct Opened {
+    pub first: u8,
+    pub second: u8,
+}
+
+// Trustee p's bit of the second factor.
+fn second_factor(size: usize, gate: Numbers, p: usize, wires: &[u8]) -> u8
+    requires { ⌜ InWires size gate p (now wires) ⌝ }
+    ensures { λ r. ⌜ r ≡ secondFactor (piece size (now (wires .entry)) p) (gateOf gate) ⌝ }
+{
+    let b = table::entry(wires, size, p, gate.b);
+    if gate.kind == kind::CHOICE {
+        return bits::plus(b, table::entry(wires, size, p, gate.c));
+    }
+    b
+}
+
+// Trustee p's bit of the first factor, masked.
+pub fn masked_first(
+    pieces: Pieces,
+    gate: Numbers,
+    i: usize,
+    p: usize,
+    dealt: &[u8],
+    wires: &[u8],
+) -> u8
+    requires { ⌜ InWires (pieces .wires) gate p (now wires) ⌝ }
+    requires { ⌜ InDealt (pieces .dealt) i p (now dealt) ⌝ }
+    ensures { λ r.
+        ⌜ r ≡ maskedFirst (piece (pieces .wires) (now (wires .entry)) p)
+        (piece (pieces .dealt) (now (dealt .entry)) p) i (gateOf gate) ⌝ }
+{
+    let a = table::entry(wires, pieces.wires, p, gate.a);
+    bits::plus(a, table::entry(dealt, pieces.dealt, p, 3 * i))
+}
+
+// Trustee p's bit of the second factor, masked.
+pub fn masked_second(
+    pieces: Pieces,
+    gate: Numbers,
+    i: usize,
+    p: usize,
+    dealt: &[u8],
+    wires: &[u8],
+) -> u8
+    requires { ⌜ InWires (pieces .wires) gate p (now wires) ⌝ }
+    requires { ⌜ InDealt (pieces .dealt) i p (now dealt) ⌝ }
+    ensures { λ r.
+        ⌜ r ≡ maskedSecond (piece (pieces .wires) (now (wires .entry)) p)
+        (piece (pieces .dealt) (now (dealt .entry)) p) i (gateOf gate) ⌝ }
+{
+    let factor = second_factor(pieces.wires, gate, p, wires);
+    bits::plus(factor, table::entry(dealt, pieces.dealt, p, 3 * i + 1))
+}
+
+// Each trustee publishes its bits of both factors, masked; both are opened on the way.
+fn publish(
+    t: usize,
+    pieces: Pieces,
+    gate: Numbers,
+    i: usize,
+    dealt: &[u8],
+    wires: &[u8],
+    published: &mut [u8],
+) -> Opened
+    requires { ⌜ PublishReady t pieces gate i (now dealt) (now wires) (now published) ⌝ }
+    ensures { λ r.
+        ⌜ r .first ≡ openedFirst t (piece (pieces .dealt) (now (dealt .entry)))
+        (piece (pieces .wires) (now (wires .entry))) i (gateOf gate) ⌝ }
+    ensures { λ r.
+        ⌜ r .second ≡ openedSecond t (piece (pieces .dealt) (now (dealt .entry)))
+        (piece (pieces .wires) (now (wires .entry))) i (gateOf gate) ⌝ }
+    ensures { λ _.
+        ⌜ now (published .exit) ≡ eachPuts t (pieces .published) (2 * i)
+        (λ p. maskedFirst (piece (pieces .wires) (now (wires .entry)) p)
+        (piece (pieces .dealt) (now (dealt .entry)) p) i (gateOf gate)
+        ∷ maskedSecond (piece (pieces .wires) (now (wires .entry)) p) (piece (pieces .dealt) (now (dealt .entry)) p) i
+        (gateOf gate) ∷ []) (now (published .entry)) ⌝ }
+{
+    let size = pieces.published;
+    let mut first = 0;
+    let mut second = 0;
+    let mut p = 0;
+    while p < t {
+        let x = masked_first(pieces, gate, i, p, dealt, wires);
+        let y = masked_second(pieces, gate, i, p, dealt, wires);
+        let at = p * size + 2 * i;
+        published[at] = x;
+        published[at + 1] = y;
+        first = bits::plus(first, x);
+        second = bits::plus(second, y);
+        p += 1;
+    }
+    Opened { first, second }
+}
+
+// Trustee p's bit of the product of both factors.
+fn product_part(size: usize, i: usize, p: usize, opened: Opened, dealt: &[u8]) -> u8
+    requires { ⌜ InDealt size i p (now dealt) ⌝ }
+    ensures { λ r. ⌜ r ≡ productPart p (piece size (now (dealt .entry)) p) i (opened .first) (opened .second) ⌝ }
+{
+    let u = table::entry(dealt, size, p, 3 * i);
+    let v = table::entry(dealt, size, p, 3 * i + 1);
+    let product = table::entry(dealt, size, p, 3 * i + 2);
+    bits::product_bit(p, u, v, product, opened.first, opened.second)
+}
+
+// Trustee p's part of a gate's wire, from its bit z of the product.
+fn new_part(size: usize, gate: Numbers, p: usize, z: u8, wires: &[u8]) -> u8
+    requires { ⌜ InWires size gate p (now wires) ⌝ }
+    ensures { λ r.
+        ⌜ r ≡ partOfKind p (gate .kind) (part (piece size (now (wires .entry)) p) (gate .a))
+        (part (piece size (now (wires .entry)) p) (gate .b)) (part (piece size (now (wires .entry)) p) (gate .c)) z ⌝ }
+{
+    let a = table::entry(wires, size, p, gate.a);
+    let b = table::entry(wires, size, p, gate.b);
+    let c = table::entry(wires, size, p, gate.c);
+    bits::part_of_kind(p, gate.kind, a, b, c, z)
+}
+
+// Each trustee enters its part of a conditional gate's wire.
+fn enter_products(
+    t: usize,
+    pieces: Pieces,
+    gate: Numbers,
+    own: usize,
+    i: usize,
+    opened: Opened,
+    dealt: &[u8],
+    wires: &mut [u8],
+)
+    requires { ⌜ ProductReady t pieces gate own i (now dealt) (now wires) ⌝ }
+    ensures { λ _.
+        ⌜ now (wires .exit) ≡ eachPuts t (pieces .wires) own
+        (λ p. partOfKind p (gate .kind) (part (piece (pieces .wires) (now (wires .entry)) p) (gate .a))
+        (part (piece (pieces .wires) (now (wires .entry)) p) (gate .b))
+        (part (piece (pieces .wires) (now (wires .entry)) p) (gate .c))
+        (productPart p (piece (pieces .dealt) (now (dealt .entry)) p) i (opened .first) (opened .second))
+        ∷ []) (now (wires .entry)) ⌝ }
+{
+    let size = pieces.wires;
+    let mut p = 0;
+    while p < t {
+        let z = product_part(pieces.dealt, i, p, opened, dealt);
+        wires[p * size + own] = new_part(size, gate, p, z, wires);
+        p += 1;
+    }
+}
+
+// Each trustee enters its part of a free gate's wire, for which no product is needed.
+fn enter_free(t: usize, size: usize, gate: Numbers, own: usize, wires: &mut [u8])
+    requires { ⌜ FreeReady t size gate own (now wires) ⌝ }
+    ensures { λ _.
+        ⌜ now (wires .exit) ≡ eachPuts t size own (λ p. partOfKind p (gate .kind)
+        (part (piece size (now (wires .entry)) p) (gate .a)) (part (piece size (now (wires .entry)) p) (gate .b))
+        (part (piece size (now (wires .entry)) p) (gate .c)) 0 ∷ []) (now (wires .entry)) ⌝ }
+{
+    let mut p = 0;
+    while p < t {
+        wires[p * size + own] = new_part(size, gate, p, 0, wires);
+        p += 1;
+    }
+}
+
+// One gate, i conditional ones having been before it. Answers how many there are after it.
+pub(crate) fn run_gate(
+    marks: &[bool; 8],
+    t: usize,
+    pieces: Pieces,
+    gate: Numbers,
+    own: usize,
+    i: usize,
+    dealt: &[u8],
+    wires: &mut [u8],
+    published: &mut [u8],
+) -> usize
+    requires { ⌜ now marks ≡ conditionalMarks ⌝ }
+    requires { ⌜ GateReady t pieces gate own i (now dealt) (now wires) (now published) ⌝ }
+    ensures { λ r. ⌜ r ≡ i + markOf (gateOf gate) ⌝ }
+    ensures { λ _.
+        ⌜ now (wires .exit) ≡ eachPuts t (pieces .wires) own
+        (λ p. newPart t (piece (pieces .dealt) (now (dealt .entry))) (piece (pieces .wires) (now (wires .entry))) i
+        (gateOf gate) p ∷ []) (now (wires .entry)) ⌝ }
+    ensures { λ _.
+        ⌜ now (published .exit) ≡ cond (conditionalOf (gate .kind))
+        (eachPuts t (pieces .published) (2 * i) (λ p. maskedFirst (piece (pieces .wires) (now (wires .entry)) p)
+        (piece (pieces .dealt) (now (dealt .entry)) p) i (gateOf gate)
+        ∷ maskedSecond (piece (pieces .wires) (now (wires .entry)) p) (piece (pieces .dealt) (now (dealt .entry)) p) i
+        (gateOf gate) ∷ []) (now (published .entry))) (now (published .entry)) ⌝ }
+{
+    if kind::conditional(marks, gate.kind) {
+        let opened = publish(t, pieces, gate, i, dealt, wires, published);
+        enter_products(t, pieces, gate, own, i, opened, dealt, wires);
+        return i + 1;
+    }
+    enter_free(t, pieces.wires, gate, own, wires);
+    i
+}

@@ -1,0 +1,5 @@
+pub mod Entering
+pub mod Publishing
+pub mod Together
+pub mod Passing
+pub mod Closing

@@ -1,0 +1,103 @@
+-- `trustee_rounds::part::publish_gate` meets its contract: only a conditional gate of this level publishes.
+-- Assumes nothing.
+use borrow.Author.Needs.{needs}
+use mathlib.Core.Path.{_≡_, _∙_, sym, ap}
+use mathlib.Core.Bool.{Bool, true, cond, _&&_}
+use mathlib.Core.List.{List, [], _∷_}
+use Prim.Native.Nat.{ℕ, suc, _*_}
+use native.Mathlib.Numerals.{add-one}
+use native.Mathlib.Omega.{arith}
+use lib.Dec.{eqb}
+use lib.ListN.{length, set, length-set}
+use lib.Seq.{sets}
+use borrow.Author.Tests.{eq-eqb, ne-eqb, not-true, not-false}
+use Rattle.gates.specs.Kind.{conditionalOf}
+use Rattle.trustee_shares.specs.Shares.{maskedFirst, maskedSecond}
+use Rattle.trustee_shares.specs.Views.{piece}
+use Rattle.trustee_gates.specs.Gate.{gateOf}
+use Rattle.trustee_rounds.proofs.Passing.{own-piece}
+use Rattle.trustee_rounds.proofs.part.publish_gate.Statement.{statement}
+use Rattle.trustee_rounds.proofs.part.publish_gate.Tie as tie
+
+conditional-requires : tie.Need-conditional-requires
+conditional-requires c κs = search needs
+
+returns : tie.Need-returns
+returns c =
+    let a = c .before .before .before .before .before .args in
+    let is = sym (c .before .conditional .ensures) ∙ not-true (c .before .conditional .result) (c .if1 .taken) in
+    sym (ap (λ (b : Bool). cond (b && eqb (a .level) (a .next)) (sets (a .published .now) (2 * a .i) (maskedFirst (a .wires .now) (a .dealt .now) (a .i) (gateOf (a .numbers)) ∷ maskedSecond (a .wires .now) (a .dealt .now) (a .i) (gateOf (a .numbers)) ∷ [])) (a .published .now)) is)
+
+-- past the first test
+conditional-here : (c : tie.Else1) → conditionalOf (c .before .before .before .before .before .args .numbers .kind) ≡ true
+conditional-here c = sym (c .before .conditional .ensures) ∙ not-false (c .before .conditional .result) (c .if1 .left)
+
+returns-2 : tie.Need-returns-2
+returns-2 c =
+    let a = c .before .before .before .before .before .before .args in
+    sym (ap (λ (b : Bool). cond (b && eqb (a .level) (a .next)) (sets (a .published .now) (2 * a .i) (maskedFirst (a .wires .now) (a .dealt .now) (a .i) (gateOf (a .numbers)) ∷ maskedSecond (a .wires .now) (a .dealt .now) (a .i) (gateOf (a .numbers)) ∷ [])) (a .published .now)) (conditional-here (c .before)) ∙ ap (λ (b : Bool). cond (true && b) (sets (a .published .now) (2 * a .i) (maskedFirst (a .wires .now) (a .dealt .now) (a .i) (gateOf (a .numbers)) ∷ maskedSecond (a .wires .now) (a .dealt .now) (a .i) (gateOf (a .numbers)) ∷ [])) (a .published .now)) (ne-eqb (a .level) (a .next) (c .if2 .taken)))
+
+mul-at : tie.Need-mul-at
+mul-at c =
+    let s = c .before .before .before .before .before .before in
+    omega (arith, s .pre .1 .places-in (conditional-here (c .before)))
+
+masked-first-requires : tie.Need-masked-first-requires
+masked-first-requires c κs =
+    let s = c .before .before .before .before .before .before in
+    let o = s .pre .1 .operands in
+    (record { a-in = o .a-in; b-in = o .b-in; c-in = o .c-in; wires-reach = omega arith }, record { triple-in = s .pre .1 .triple-in (conditional-here (c .before)); dealt-reach = omega arith })
+
+slice-write-published : tie.Need-slice-write-published
+slice-write-published c =
+    let s = c .before .before .before .before .before .before .before in
+    omega (arith, s .pre .1 .places-in (conditional-here (c .before .before)))
+
+masked-second-requires : tie.Need-masked-second-requires
+masked-second-requires c κs =
+    let s = c .before .before .before .before .before .before .before in
+    let o = s .pre .1 .operands in
+    (record { a-in = o .a-in; b-in = o .b-in; c-in = o .c-in; wires-reach = omega arith }, record { triple-in = s .pre .1 .triple-in (conditional-here (c .before .before)); dealt-reach = omega arith })
+
+add-published : tie.Need-add-published
+add-published c =
+    let s = c .before .before .before .before .before .before .before .before in
+    omega (arith, s .pre .1 .places-in (conditional-here (c .before .before .before)))
+
+slice-write-published-2 : tie.Need-slice-write-published-2
+slice-write-published-2 c =
+    let s = c .before .before .before .before .before .before .before .before in
+    omega (arith, s .pre .1 .places-in (conditional-here (c .before .before .before)), length-set (s .args .published .now) (2 * s .args .i) (c .before .masked-first .result))
+
+same-length : tie.Need-same-length
+same-length c = search needs
+
+returns-3 : tie.Need-returns-3
+returns-3 c =
+    let s = c .before .before .before .before .before .before .before .before in
+    let a = s .args in
+    let two = c .before .before in
+    let first : c .before .masked-first .result ≡ maskedFirst (a .wires .now) (a .dealt .now) (a .i) (gateOf (a .numbers)) =
+    c .before .masked-first .ensures ∙ ap (λ (l : List ℕ). maskedFirst l (piece (length (a .dealt .now)) (a .dealt .now) 0) (a .i) (gateOf (a .numbers))) (own-piece (a .wires .now)) ∙ ap (λ (l : List ℕ). maskedFirst (a .wires .now) l (a .i) (gateOf (a .numbers))) (own-piece (a .dealt .now)) in
+    let second : c .masked-second .result ≡ maskedSecond (a .wires .now) (a .dealt .now) (a .i) (gateOf (a .numbers)) =
+    c .masked-second .ensures ∙ ap (λ (l : List ℕ). maskedSecond l (piece (length (a .dealt .now)) (a .dealt .now) 0) (a .i) (gateOf (a .numbers))) (own-piece (a .wires .now)) ∙ ap (λ (l : List ℕ). maskedSecond (a .wires .now) l (a .i) (gateOf (a .numbers))) (own-piece (a .dealt .now)) in
+    ap (λ (n : ℕ). set (set (a .published .now) (2 * a .i) (c .before .masked-first .result)) n (c .masked-second .result)) (add-one (2 * a .i))
+    ∙ ap (λ (v : ℕ). set (set (a .published .now) (2 * a .i) v) (suc (2 * a .i)) (c .masked-second .result)) first
+    ∙ ap (λ (v : ℕ). set (set (a .published .now) (2 * a .i) (maskedFirst (a .wires .now) (a .dealt .now) (a .i) (gateOf (a .numbers)))) (suc (2 * a .i)) v) second
+    ∙ sym (ap (λ (b : Bool). cond (b && eqb (a .level) (a .next)) (sets (a .published .now) (2 * a .i) (maskedFirst (a .wires .now) (a .dealt .now) (a .i) (gateOf (a .numbers)) ∷ maskedSecond (a .wires .now) (a .dealt .now) (a .i) (gateOf (a .numbers)) ∷ [])) (a .published .now)) (conditional-here (two .before)) ∙ ap (λ (b : Bool). cond (true && b) (sets (a .published .now) (2 * a .i) (maskedFirst (a .wires .now) (a .dealt .now) (a .i) (gateOf (a .numbers)) ∷ maskedSecond (a .wires .now) (a .dealt .now) (a .i) (gateOf (a .numbers)) ∷ [])) (a .published .now)) (eq-eqb (a .level) (a .next) (two .if2 .left)))
+
+pub publish-gate-spec : {M : Type 1} → statement M
+publish-gate-spec =
+    tie.close
+    (tie.spec
+    conditional-requires
+    returns
+    returns-2
+    mul-at
+    masked-first-requires
+    slice-write-published
+    masked-second-requires
+    add-published
+    slice-write-published-2
+    same-length
+    returns-3)

@@ -1,0 +1,135 @@
+-- `trustee_rounds::round::publish` meets its contract: what is left is one gate less with each turn.
+-- Assumes nothing.
+use borrow.Author.Needs.{needs}
+use mathlib.Core.Path.{refl}
+use mathlib.Core.List.{List, []}
+use Prim.Native.Nat.{ℕ, _-_, _<_}
+use native.Mathlib.Numerals.{add-one}
+use native.Mathlib.Omega.{arith}
+use lib.ListN.{length}
+use Rattle.gates.specs.Gate.{gatesOf}
+use Rattle.gates.proofs.Table.{length-gates}
+use Rattle.gates.proofs.Counting.{count-most}
+use Rattle.trustee_rounds.proofs.Passing.{PublishLeft, publish-start, publish-turn, publish-end, publish-ready, mark-small}
+use Rattle.trustee_rounds.proofs.round.publish.Statement.{statement}
+use Rattle.trustee_rounds.proofs.round.publish.Tie as tie
+
+abbrev Inv-loop : tie.InvT-loop
+Inv-loop inputs round table levels dealt wires published₀ marks next i₀ g₀ published i g =
+    (q : ℕ) (hs : List ℕ) → PublishLeft (record { trustee = q; round = round; inputs = inputs; levels = levels; dealt = dealt; heard = hs }) table wires published₀ published g i
+
+abbrev μ-loop : tie.MeasureT-loop
+μ-loop inputs round table levels dealt wires published₀ marks next i₀ g₀ published i g = length levels - g
+
+add-next : tie.Need-add-next Inv-loop μ-loop
+add-next c = omega (arith, c .before .before .before .before .before .pre .early)
+
+loop-holds : tie.Need-loop-holds Inv-loop μ-loop
+loop-holds c =
+    let s = c .before .before .before .before .before in
+    let a = s .args in
+    λ q hs. publish-start (record { trustee = q; round = a .round; inputs = a .inputs; levels = a .levels .now; dealt = a .dealt .now; heard = hs }) (a .table .now) (a .wires .now) (a .published .now) (s .pre .pass .good)
+
+numbers-at-requires : tie.Need-numbers-at-requires Inv-loop μ-loop
+numbers-at-requires c κs =
+    let at = c .before in
+    let l = at .loop in
+    let s = at .before .before .before .before .before .before in
+    let a = s .args in
+    let r = s .pre .pass in
+    omega (arith, r .levels-length, length-gates (a .table .now), c .loop-test .taken)
+
+mul-rounds : tie.Need-mul-rounds Inv-loop μ-loop
+mul-rounds c = search needs
+
+shared-slice-read-rounds : tie.Need-shared-slice-read-rounds Inv-loop μ-loop
+shared-slice-read-rounds c = omega (arith, c .before .before .loop-test .taken)
+
+rounds-requires : tie.Need-rounds-requires Inv-loop μ-loop
+rounds-requires c κs = search needs
+
+publish-gate-requires : tie.Need-publish-gate-requires Inv-loop μ-loop
+publish-gate-requires c κs =
+    let at = c .before .before .before .before .before .before in
+    let l = at .loop in
+    let s = at .before .before .before .before .before .before in
+    let a = s .args in
+    let r = s .pre .pass in
+    let n = c .before .before .before .before .numbers-at in
+    let h = c .before .before .before .before .before .loop-test .taken in
+    let inside : l .g < length (gatesOf (a .table .now)) = omega (arith, r .levels-length) in
+    let inv = l .inv 0 [] in
+    (refl, publish-ready (a .inputs) (a .table .now) (l .g) (l .i) (inv .ahead) (r .some-input) inside (n .result) (n .ensures) (a .dealt .now) (a .wires .now) (l .published) (r .wires-length) (r .dealt-length) (omega (arith, inv .long, s .pre .published-length)))
+
+mark-requires : tie.Need-mark-requires Inv-loop μ-loop
+mark-requires c κs = refl
+
+add-i : tie.Need-add-i Inv-loop μ-loop
+add-i c =
+    let at = c .before .before .before .before .before .before .before .before .before .before .before in
+    let l = at .loop in
+    let s = at .before .before .before .before .before .before in
+    let a = s .args in
+    let r = s .pre .pass in
+    let n = c .before .before .before .before .before .before .before .before .before .numbers-at in
+    let h = c .before .before .before .before .before .before .before .before .before .before .loop-test .taken in
+    let inside : l .g < length (gatesOf (a .table .now)) = omega (arith, r .levels-length) in
+    omega (arith, r .few, count-most (gatesOf (a .table .now)), mark-small (a .inputs) (a .table .now) (l .g) (l .i) (l .inv 0 [] .ahead) (r .some-input) inside (n .result) (n .ensures) (c .mark .result) (c .mark .ensures))
+
+add-g : tie.Need-add-g Inv-loop μ-loop
+add-g c = omega (arith, c .before .before .before .before .before .before .before .before .before .before .loop-test .taken)
+
+loop-less : tie.Need-loop-less Inv-loop μ-loop
+loop-less c = omega (arith, c .before .before .before .before .before .before .before .before .before .before .loop-test .taken)
+
+loop-again : tie.Need-loop-again Inv-loop μ-loop
+loop-again c =
+    let at = c .before .before .before .before .before .before .before .before .before .before .before in
+    let l = at .loop in
+    let s = at .before .before .before .before .before .before in
+    let a = s .args in
+    let r = s .pre .pass in
+    let n = c .before .before .before .before .before .before .before .before .before .numbers-at in
+    let h = c .before .before .before .before .before .before .before .before .before .before .loop-test .taken in
+    let inside : l .g < length (gatesOf (a .table .now)) = omega (arith, r .levels-length) in
+    λ q hs.
+    publish-turn (record { trustee = q; round = a .round; inputs = a .inputs; levels = a .levels .now; dealt = a .dealt .now; heard = hs }) (a .table .now) (a .wires .now) (a .published .now) (l .published) (l .g) (l .i) (l .inv q hs) (r .some-input) inside (n .result) (n .ensures) (c .before .before .before .before .before .before .before .rounds .result) _ _ (c .mark .result) _ _ (c .before .before .before .before .before .before .before .rounds .ensures) (add-one (a .round)) (c .before .before .before .before .publish-gate .ensures) (c .mark .ensures) refl (add-one (l .g))
+
+same-length : tie.Need-same-length Inv-loop μ-loop
+same-length c =
+    let at = c .before in
+    let l = at .loop in
+    let s = at .before .before .before .before .before .before in
+    let a = s .args in
+    let r = s .pre .pass in
+    l .inv 0 [] .long
+
+returns : tie.Need-returns Inv-loop μ-loop
+returns c =
+    let at = c .before in
+    let l = at .loop in
+    let s = at .before .before .before .before .before .before in
+    let a = s .args in
+    let r = s .pre .pass in
+    λ q hs. publish-end (record { trustee = q; round = a .round; inputs = a .inputs; levels = a .levels .now; dealt = a .dealt .now; heard = hs }) (a .table .now) (a .wires .now) (a .published .now) (l .published) (l .g) (l .i) (l .inv q hs) (omega (arith, r .levels-length, c .loop-test .left))
+
+pub publish-spec : {M : Type 1} → statement M
+publish-spec =
+    tie.close
+    (tie.spec
+    Inv-loop
+    μ-loop
+    add-next
+    loop-holds
+    numbers-at-requires
+    mul-rounds
+    shared-slice-read-rounds
+    rounds-requires
+    publish-gate-requires
+    mark-requires
+    add-i
+    add-g
+    loop-less
+    loop-again
+    same-length
+    returns)

@@ -1,0 +1,101 @@
+-- `trustee_rounds::round::round` meets its contract: parts, factors, and after the last level the closing bits.
+-- Assumes nothing.
+use borrow.Author.Needs.{needs}
+use mathlib.Core.Path.{_∙_, ap}
+use mathlib.Core.List.{List, _++_}
+use Prim.Native.Nat.{ℕ, _+_, _*_}
+use native.Mathlib.Omega.{arith}
+use lib.ListN.{length, take}
+use Rattle.gates.specs.Gate.{gatesOf}
+use Rattle.gates.specs.Wires.{outputsOf}
+use Rattle.trustee_rounds.specs.Rounds.{Turn, enters, publishes}
+use Rattle.trustee_rounds.proofs.Closing.{length-enters, length-publishes, not-closing, closing}
+use Rattle.trustee_rounds.proofs.round.round.Statement.{statement}
+use Rattle.trustee_rounds.proofs.round.round.Tie as tie
+
+enter-requires : tie.Need-enter-requires
+enter-requires c κs = search needs
+
+publish-requires : tie.Need-publish-requires
+publish-requires c κs =
+    let s = c .before .before .before .before .before .before .before .before .before .before .before .before in
+    let a = s .args in
+    let u : Turn = (record { trustee = a .seat .trustee; round = a .seat .round; inputs = a .seat .inputs; levels = a .levels .now; dealt = a .dealt .now; heard = a .heard .now }) in
+    let gs = gatesOf (a .table .now) in
+    let E = enters u gs 0 0 (a .wires .now) in
+    let entered = c .before .before .before .before .enter .ensures in
+    let r = s .pre .pass in
+    record {
+      pass = record {
+        some-input = r .some-input;
+        few = r .few;
+        good = r .good;
+        levels-length = r .levels-length;
+        dealt-length = r .dealt-length;
+        wires-length = ap length entered ∙ length-enters u gs 0 0 (a .wires .now) ∙ r .wires-length;
+      };
+      early = s .pre .early;
+      published-length = omega (arith, s .pre .published-length, s .pre .conditional-is);
+    }
+
+same-length : tie.Need-same-length
+same-length c = search needs
+
+same-length-2 : tie.Need-same-length-2
+same-length-2 c = search needs
+
+returns : tie.Need-returns
+returns c =
+    let s = c .before .before .before .before .before .before .before .before .before .before .before .before .before .before .before .before in
+    let a = s .args in
+    let u : Turn = (record { trustee = a .seat .trustee; round = a .seat .round; inputs = a .seat .inputs; levels = a .levels .now; dealt = a .dealt .now; heard = a .heard .now }) in
+    let gs = gatesOf (a .table .now) in
+    let E = enters u gs 0 0 (a .wires .now) in
+    let entered = c .before .before .before .before .before .before .before .before .enter .ensures in (
+      entered,
+      c .before .before .before .publish .ensures (a .seat .trustee) (a .heard .now) ∙ ap (λ (w : List ℕ). publishes u w gs 0 0 (a .published .now)) entered
+          ∙ not-closing (a .seat .round) (a .rounds) (a .conditional) (a .k) E (publishes u E gs 0 0 (a .published .now)) (c .if1 .taken),
+    )
+
+mul-close : tie.Need-mul-close
+mul-close c = search needs
+
+close-requires : tie.Need-close-requires
+close-requires c κs = search needs
+
+same-length-3 : tie.Need-same-length-3
+same-length-3 c = search needs
+
+same-length-4 : tie.Need-same-length-4
+same-length-4 c = search needs
+
+returns-2 : tie.Need-returns-2
+returns-2 c =
+    let s = c .before .before .before .before .before .before .before .before .before .before .before .before .before .before .before .before .before .before .before .before .before in
+    let a = s .args in
+    let u : Turn = (record { trustee = a .seat .trustee; round = a .seat .round; inputs = a .seat .inputs; levels = a .levels .now; dealt = a .dealt .now; heard = a .heard .now }) in
+    let gs = gatesOf (a .table .now) in
+    let E = enters u gs 0 0 (a .wires .now) in
+    let entered = c .before .before .before .before .before .before .before .before .before .before .before .before .before .enter .ensures in
+    let P = publishes u E gs 0 0 (a .published .now) in
+    let published = c .before .before .before .before .before .before .before .before .publish .ensures (a .seat .trustee) (a .heard .now) ∙ ap (λ (w : List ℕ). publishes u w gs 0 0 (a .published .now)) entered in (
+      entered,
+      closing (a .seat .round) (a .rounds) (a .conditional) (a .k) E P (c .before .before .before .before .before .if1 .left) (omega (arith, length-enters u gs 0 0 (a .wires .now), s .pre .pass .wires-length, s .pre .enough))
+          (length-publishes u E gs 0 0 (a .published .now) ∙ s .pre .published-length) _
+          (c .before .before .close .ensures ∙ ap (λ (l : List ℕ). take (2 * a .conditional) l ++ outputsOf (a .k) (c .before .before .before .before .before .before .before .before .before .before .before .before .before .enter .last .1 .1 .1 .1 .1 .0)) published ∙ ap (λ (w : List ℕ). take (2 * a .conditional) P ++ outputsOf (a .k) w) entered),
+    )
+
+pub round-spec : {M : Type 1} → statement M
+round-spec =
+    tie.close
+    (tie.spec
+    enter-requires
+    publish-requires
+    same-length
+    same-length-2
+    returns
+    mul-close
+    close-requires
+    same-length-3
+    same-length-4
+    returns-2)

@@ -1,0 +1,75 @@
+-- What inner functions ask: no entry point's contract needs it.
+use mathlib.Core.Path.{_≡_}
+use mathlib.Core.Bool.{true}
+use mathlib.Core.List.{List}
+use Prim.Native.Nat.{ℕ, _+_, _*_, _≤_, _<_}
+use lib.ListN.{length}
+use Rattle.gates.specs.Kind.{conditionalOf}
+use Rattle.gates.specs.Gate.{gatesOf}
+use Rattle.gates.specs.Board.{conditionalCount}
+use Rattle.gates.specs.Test.{firstBad}
+use Rattle.gates.specs.declared.place.Place.the-variants.{Nowhere}
+use Rattle.trustee_gates.specs.declared.gate.Numbers.{Numbers}
+use Rattle.trustee_rounds.specs.declared.round.Seat.{Seat}
+use Rattle.trustee_rounds.specs.Rounds.{Turn}
+
+-- A turn by the program's numbers and tables.
+abbrev pub turnBy : Seat → List ℕ → List ℕ → List ℕ → Turn
+turnBy seat levels dealt heard = record {
+  trustee =
+      seat .trustee;
+  round = seat .round;
+  inputs = seat .inputs;
+  levels = levels;
+  dealt = dealt;
+  heard = heard;
+}
+
+-- The operands are in the wire table.
+pub record GateIn (g : Numbers) (ws : List ℕ) : Type 0 where
+  pub a-in : g .a < length ws
+  pub b-in : g .b < length ws
+  pub c-in : g .c < length ws
+
+-- And where the gate is conditional, so are its triple and its sums.
+pub record PartReady (g : Numbers) (i : ℕ) (dealt heard ws : List ℕ) : Type 0 where
+  pub operands : GateIn g ws
+  pub known : g .kind < 8
+  pub triple-in : conditionalOf (g .kind) ≡ true → 3 * i + 2 < length dealt
+  pub sums-in : conditionalOf (g .kind) ≡ true → 2 * i + 1 < length heard
+
+pub record EnterReady (g : Numbers) (own i : ℕ) (dealt heard ws : List ℕ) : Type 0 where
+  pub ready : PartReady g i dealt heard ws
+  pub own-in : own < length ws
+
+pub record PublishReady (g : Numbers) (i : ℕ) (dealt ws published : List ℕ) : Type 0 where
+  pub operands : GateIn g ws
+  pub triple-in : conditionalOf (g .kind) ≡ true → 3 * i + 2 < length dealt
+  pub places-in : conditionalOf (g .kind) ≡ true → 2 * i + 1 < length published
+
+-- A list of good gates over at least one input, with tables of one trustee's lengths.
+pub record Pass (inputs : ℕ) (table levels dealt ws : List ℕ) : Type 0 where
+  pub some-input : 1 ≤ inputs
+  pub few : inputs + length (gatesOf table) < 1073741824
+  pub good : firstBad inputs 0 (gatesOf table) ≡ Nowhere
+  pub levels-length : length levels ≡ length (gatesOf table)
+  pub dealt-length : length dealt ≡ 3 * conditionalCount (gatesOf table)
+  pub wires-length : length ws ≡ inputs + length (gatesOf table)
+
+pub record EnterPass (seat : Seat) (table levels dealt heard ws : List ℕ) : Type 0 where
+  pub pass : Pass (seat .inputs) table levels dealt ws
+  pub heard-length : length heard ≡ 2 * conditionalCount (gatesOf table)
+
+pub record PublishPass (inputs round : ℕ) (table levels dealt ws published : List ℕ) : Type 0 where
+  pub pass : Pass inputs table levels dealt ws
+  pub early : round < 1073741824
+  pub published-length : 2 * conditionalCount (gatesOf table) ≤ length published
+
+pub record RoundReady (seat : Seat) (conditional k : ℕ) (table levels dealt heard ws published : List ℕ) : Type 0
+  where
+    pub pass : Pass (seat .inputs) table levels dealt ws
+    pub early : seat .round < 1073741824
+    pub conditional-is : conditional ≡ conditionalCount (gatesOf table)
+    pub enough : k ≤ length (gatesOf table)
+    pub heard-length : length heard ≡ 2 * conditionalCount (gatesOf table)
+    pub published-length : length published ≡ 2 * conditional + k

@@ -1,0 +1,133 @@
+// One round of one trustee. It is no entry point: its `requires` is what the tests establish.
+use crate::part;
+use gate_levels::level;
+use gates::kind;
+use trustee_gates::evaluate;
+ghost use mathlib.Core.Path.{_≡_};
+ghost use mathlib.Core.List.{List};
+ghost use Prim.Native.Nat.{ℕ, _*_};
+ghost use Rattle.gates.specs.Gate.{gatesOf};
+ghost use Rattle.trustee_rounds.specs.Rounds.{enters, publishes, closes};
+ghost use Rattle.trustee_rounds.specs.inner.Passes.{turnBy, EnterPass, PublishPass, RoundReady};
+
+// Who computes, in which round, for a list over how many inputs.
+pub struct Seat {
+    pub trustee: usize,
+    pub round: usize,
+    pub inputs: usize,
+}
+
+// Enters the parts of all gates of this round's level, in order.
+fn enter(seat: Seat, table: &[u32], levels: &[u32], dealt: &[u8], heard: &[u8], wires: &mut [u8])
+    requires { ⌜ EnterPass seat (now table) (now levels) (now dealt) (now heard) (now wires) ⌝ }
+    ensures { λ _. ⌜
+        now (wires .exit)
+        ≡ enters (turnBy seat (now (levels .entry)) (now (dealt .entry)) (now (heard .entry)))
+        (gatesOf (now (table .entry))) 0 0 (now (wires .entry))
+        ⌝ }
+{
+    let marks = kind::CONDITIONAL;
+    let p = seat.trustee;
+    let round = seat.round;
+    let inputs = seat.inputs;
+    let mut i = 0;
+    let mut g = 0;
+    while g < levels.len() {
+        let gate = evaluate::numbers_at(table, g);
+        let depth = level::rounds(levels[g]);
+        part::enter_gate(
+            &marks,
+            p,
+            round,
+            depth,
+            gate,
+            inputs + g,
+            i,
+            dealt,
+            heard,
+            wires,
+        );
+        i += kind::mark(&marks, gate.kind);
+        g += 1;
+    }
+}
+
+// Publishes the masked factors of all conditional gates of the next level, for which all parts are there. Neither the
+// trustee's number nor what it heard is needed.
+fn publish(
+    inputs: usize,
+    round: usize,
+    table: &[u32],
+    levels: &[u32],
+    dealt: &[u8],
+    wires: &[u8],
+    published: &mut [u8],
+)
+    requires { ⌜ PublishPass inputs round (now table) (now levels) (now dealt) (now wires) (now published) ⌝ }
+    ensures { λ _. ⌜
+        ((p : ℕ) (heard : List ℕ)
+        → now (published .exit)
+        ≡ publishes
+        (record {
+          trustee = p;
+          round = round;
+          inputs = inputs;
+          levels = now (levels .entry);
+          dealt = now (dealt .entry);
+          heard = heard;
+        }) (now (wires .entry)) (gatesOf (now (table .entry))) 0 0 (now (published .entry)))
+        ⌝ }
+{
+    let marks = kind::CONDITIONAL;
+    let next = round + 1;
+    let mut i = 0;
+    let mut g = 0;
+    while g < levels.len() {
+        let gate = evaluate::numbers_at(table, g);
+        let depth = level::rounds(levels[g]);
+        part::publish_gate(&marks, next, depth, gate, i, dealt, wires, published);
+        i += kind::mark(&marks, gate.kind);
+        g += 1;
+    }
+}
+
+// The whole round: parts of this level, factors of the next, and after the last level the closing bits.
+pub fn round(
+    seat: Seat,
+    rounds: usize,
+    conditional: usize,
+    k: usize,
+    table: &[u32],
+    levels: &[u32],
+    dealt: &[u8],
+    heard: &[u8],
+    wires: &mut [u8],
+    published: &mut [u8],
+)
+    requires { ⌜
+        RoundReady seat conditional k (now table) (now levels) (now dealt) (now heard) (now wires) (now published)
+        ⌝ }
+    ensures { λ _. ⌜
+        now (wires .exit)
+        ≡ enters (turnBy seat (now (levels .entry)) (now (dealt .entry)) (now (heard .entry)))
+        (gatesOf (now (table .entry))) 0 0 (now (wires .entry))
+        ⌝ }
+    ensures { λ _. ⌜
+        now (published .exit)
+        ≡ closes (seat .round) rounds conditional k
+        (enters (turnBy seat (now (levels .entry)) (now (dealt .entry)) (now (heard .entry)))
+        (gatesOf (now (table .entry))) 0 0 (now (wires .entry)))
+        (publishes (turnBy seat (now (levels .entry)) (now (dealt .entry)) (now (heard .entry)))
+        (enters (turnBy seat (now (levels .entry)) (now (dealt .entry)) (now (heard .entry)))
+        (gatesOf (now (table .entry))) 0 0 (now (wires .entry))) (gatesOf (now (table .entry))) 0 0
+        (now (published .entry)))
+        ⌝ }
+{
+    enter(seat, table, levels, dealt, heard, wires);
+    let at = seat.round;
+    publish(seat.inputs, at, table, levels, dealt, wires, published);
+    if at != rounds {
+        return;
+    }
+    gates::step::close(k, wires, 2 * conditional, published);
+}

@@ -1,0 +1,37 @@
+-- Demand 3 for trustees on two concrete dealings: different inputs, equal outputs, one view. Two trustees evaluate one
+-- gate, which says whether wire 0 and wire 1 are both 1, and trustee 1 is left out.
+use mathlib.Core.Path.{_≡_}
+use mathlib.Core.List.{List, [], _∷_}
+use Rattle.gates.specs.Gate.{Gate}
+use Rattle.trustee_shares.specs.Views.{Dealing, View, viewOf}
+
+abbrev pub andGate : List Gate
+andGate = record { kind = 4; a = 0; b = 1; c = 0 } ∷ []
+
+-- The inputs 1 0: trustee 0 holds 0 0 and trustee 1 holds 1 0, and all bits of the triple are 0.
+abbrev pub firstDealing : Dealing
+firstDealing = record { ballotParts = 0 ∷ 0 ∷ 1 ∷ 0 ∷ []; dealerParts = 0 ∷ 0 ∷ 0 ∷ 0 ∷ 0 ∷ 0 ∷ [] }
+
+-- The inputs 0 1: trustee 0 holds the same, trustee 1 holds 0 1 and has ones in its triple.
+abbrev pub secondDealing : Dealing
+secondDealing = record { ballotParts = 0 ∷ 0 ∷ 0 ∷ 1 ∷ []; dealerParts = 0 ∷ 0 ∷ 0 ∷ 1 ∷ 1 ∷ 1 ∷ [] }
+
+-- The inputs 0 1 with the triple of the first.
+abbrev pub otherTriple : Dealing
+otherTriple = record { ballotParts = 0 ∷ 0 ∷ 0 ∷ 1 ∷ []; dealerParts = 0 ∷ 0 ∷ 0 ∷ 0 ∷ 0 ∷ 0 ∷ [] }
+
+-- What trustee 0 holds and sees in both: its own parts, and what both publish.
+abbrev pub oneView : View
+oneView =
+    record {
+      ballotParts = (0 ∷ 0 ∷ []) ∷ [];
+      dealerParts = (0 ∷ 0 ∷ 0 ∷ []) ∷ [];
+      wireParts = (0 ∷ 0 ∷ 0 ∷ []) ∷ [];
+      published = 0 ∷ 0 ∷ 0 ∷ 1 ∷ 0 ∷ 0 ∷ [];
+    }
+
+pub record PairOfDealings : Type 0 where
+  pub first-view : viewOf 2 1 2 andGate 1 firstDealing ≡ oneView
+  pub second-view : viewOf 2 1 2 andGate 1 secondDealing ≡ oneView
+  -- another view
+  pub other-triple : viewOf 2 1 2 andGate 1 otherTriple .published ≡ 0 ∷ 0 ∷ 0 ∷ 0 ∷ 1 ∷ 0 ∷ []

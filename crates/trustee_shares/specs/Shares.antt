@@ -1,0 +1,87 @@
+-- Wires split among trustees: request 2.7, gate by gate. Trustees are counted from 0, so trustee 1 of the request is
+-- number 0 here.
+use mathlib.Core.Bool.{cond}
+use mathlib.Core.List.{List, [], _∷_, _++_}
+use Prim.Native.Nat.{ℕ, zero, suc, _+_, _*_, _%_}
+use lib.Dec.{eqb}
+use lib.ListN.{getD}
+use Rattle.gates.specs.Kind.{conditionalOf}
+use Rattle.gates.specs.Gate.{Gate}
+
+-- The sum of what each of t trustees has; modulo 2 it opens a bit.
+unfoldable pub sumOf : ℕ → (ℕ → ℕ) → ℕ
+sumOf zero f = 0
+sumOf (suc t) f = sumOf t f + f t
+
+unfoldable pub opened : ℕ → (ℕ → ℕ) → ℕ
+opened t f = sumOf t f % 2
+
+-- A trustee's part of wire x.
+unfoldable pub part : List ℕ → ℕ → ℕ
+part parts x = getD parts x 0
+
+-- A trustee's bits of what is dealt for the i-th conditional gate: of u, of v and of their product. A dealt (u, v,
+-- u·v) is a Beaver triple. A trustee's dealer parts stand in this order, gate after gate.
+unfoldable pub uOf : List ℕ → ℕ → ℕ
+uOf dealt i = getD dealt (3 * i) 0
+
+unfoldable pub vOf : List ℕ → ℕ → ℕ
+vOf dealt i = getD dealt (3 * i + 1) 0
+
+unfoldable pub productOf : List ℕ → ℕ → ℕ
+productOf dealt i = getD dealt (3 * i + 2) 0
+
+-- The factors of a conditional gate: a; and b, or for a choice b plus c, modulo 2. A trustee computes its bit of them
+-- from its own parts of the wires.
+unfoldable pub firstFactor : List ℕ → Gate → ℕ
+firstFactor ws g = part ws (g .a)
+
+unfoldable pub secondFactor : List ℕ → Gate → ℕ
+secondFactor ws g = cond (eqb (g .kind) 7) ((part ws (g .b) + part ws (g .c)) % 2) (part ws (g .b))
+
+-- What a trustee publishes for the i-th conditional gate: its bits of both factors, masked by its bits of u and v.
+unfoldable pub maskedFirst : List ℕ → List ℕ → ℕ → Gate → ℕ
+maskedFirst ws dealt i g = (firstFactor ws g + uOf dealt i) % 2
+
+unfoldable pub maskedSecond : List ℕ → List ℕ → ℕ → Gate → ℕ
+maskedSecond ws dealt i g = (secondFactor ws g + vOf dealt i) % 2
+
+-- What only the first trustee enters: a public bit x.
+unfoldable pub entered : ℕ → ℕ → ℕ
+entered zero x = x
+entered (suc p) x = 0
+
+-- Trustee p's bit of the product of both factors, e and f being the opened sums.
+unfoldable pub productPart : ℕ → List ℕ → ℕ → ℕ → ℕ → ℕ
+productPart p dealt i e f = (productOf dealt i + e * vOf dealt i + f * uOf dealt i + entered p (e * f)) % 2
+
+-- Trustee p's bit of a gate's wire, by the gate's kind, from its parts a, b, c of the operands and its bit z of the
+-- product.
+unfoldable pub partOfKind : ℕ → ℕ → ℕ → ℕ → ℕ → ℕ → ℕ
+partOfKind p kind a b c z =
+    getD (0 ∷ entered p 1 ∷ a ∷ (a + entered p 1) % 2 ∷ z ∷ (a + b + z) % 2 ∷ (a + b) % 2 ∷ (c + z) % 2 ∷ []) kind 0
+
+-- All trustees' parts of the wires, trustee p's being held p; all trustees' dealer parts likewise.
+abbrev pub Held : Type 0
+Held = ℕ → List ℕ
+
+unfoldable pub openedFirst : ℕ → Held → Held → ℕ → Gate → ℕ
+openedFirst t dealt held i g = opened t (λ p. maskedFirst (held p) (dealt p) i g)
+
+unfoldable pub openedSecond : ℕ → Held → Held → ℕ → Gate → ℕ
+openedSecond t dealt held i g = opened t (λ p. maskedSecond (held p) (dealt p) i g)
+
+-- Trustee p's part of the wire of gate g, before which i conditional gates stand.
+unfoldable pub newPart : ℕ → Held → Held → ℕ → Gate → ℕ → ℕ
+newPart t dealt held i g p =
+    partOfKind p (g .kind) (part (held p) (g .a)) (part (held p) (g .b)) (part (held p) (g .c))
+    (productPart p (dealt p) i (openedFirst t dealt held i g) (openedSecond t dealt held i g))
+
+-- How many conditional gates one gate is.
+unfoldable pub markOf : Gate → ℕ
+markOf g = cond (conditionalOf (g .kind)) 1 0
+
+-- Each gate adds one part to those that each trustee holds, i conditional gates having been before.
+unfoldable pub partsOf : ℕ → Held → Held → ℕ → List Gate → Held
+partsOf t dealt held i [] = held
+partsOf t dealt held i (g ∷ gs) = partsOf t dealt (λ p. held p ++ (newPart t dealt held i g p ∷ [])) (i + markOf g) gs

@@ -1,0 +1,99 @@
+-- What trustees hold, publish and see: request 2.7.
+use mathlib.Core.Path.{_≡_}
+use mathlib.Core.Bool.{cond}
+use mathlib.Core.List.{List, [], _∷_, _++_}
+use Prim.Native.Nat.{ℕ, zero, suc, _+_, _-_, _*_, _≤_, _<_}
+use lib.Dec.{eqb}
+use lib.ListN.{length, getD, take, drop}
+use Rattle.gates.specs.Kind.{conditionalOf}
+use Rattle.gates.specs.Gate.{Gate}
+use Rattle.gates.specs.Wires.{wiresOf, outputsOf}
+use Rattle.gates.specs.Board.{conditionalCount, Bits}
+use Rattle.gates.specs.Test.{firstBad}
+use Rattle.gates.specs.Hiding.{ExactlyOne}
+use Rattle.gates.specs.declared.place.Place.the-variants.{Nowhere}
+use Rattle.trustee_shares.specs.Shares.{opened, part, uOf, vOf, productOf, maskedFirst, maskedSecond, Held, partsOf}
+
+-- Tables go trustee after trustee: trustee p's piece of one with so many bits for each, and the table of t pieces.
+unfoldable pub piece : ℕ → List ℕ → ℕ → List ℕ
+piece size table p = take size (drop (p * size) table)
+
+unfoldable pub joined : ℕ → Held → List ℕ
+joined zero pieces = []
+joined (suc t) pieces = joined t pieces ++ pieces t
+
+-- A dealing: the ballot parts, and the dealer parts of all conditional gates.
+pub record Dealing : Type 0 where
+  pub ballotParts : List ℕ
+  pub dealerParts : List ℕ
+
+unfoldable pub ballotsOf : ℕ → Dealing → Held
+ballotsOf inputs d = piece inputs (d .ballotParts)
+
+unfoldable pub dealtOf : List Gate → Dealing → Held
+dealtOf gs d = piece (3 * conditionalCount gs) (d .dealerParts)
+
+-- A dealing of these input bits for a list and t trustees: the tables have their lengths, all parts are bits, the
+-- ballot parts add up to the inputs, and of each triple the parts of the product to the product.
+pub record GoodDealing (t : ℕ) (gs : List Gate) (inputs : List ℕ) (d : Dealing) : Type 0 where
+  pub ballot-size : length (d .ballotParts) ≡ t * length inputs
+  pub dealer-size : length (d .dealerParts) ≡ t * (3 * conditionalCount gs)
+  pub ballot-bits : Bits (d .ballotParts)
+  pub dealer-bits : Bits (d .dealerParts)
+  pub ballot-sums : (x : ℕ) → x < length inputs → opened t (λ p. part (ballotsOf (length inputs) d p) x)
+      ≡ getD inputs x 0
+  pub products : (i : ℕ) → i < conditionalCount gs
+      → opened t (λ p. productOf (dealtOf gs d p) i)
+      ≡ opened t (λ p. uOf (dealtOf gs d p) i) * opened t (λ p. vOf (dealtOf gs d p) i)
+
+-- All wire parts of a run, and what each trustee publishes: both masked factors of each conditional gate, i of them
+-- having been before, and at the end its parts of the last k wires. A part keeps its value, so it may be read off all
+-- wire parts.
+unfoldable pub wirePartsOf : ℕ → ℕ → List Gate → Dealing → Held
+wirePartsOf t inputs gs d = partsOf t (dealtOf gs d) (ballotsOf inputs d) 0 gs
+
+unfoldable pub maskedFactors : List ℕ → List ℕ → ℕ → List Gate → List ℕ
+maskedFactors parts dealt i [] = []
+maskedFactors parts dealt i (g ∷ gs) =
+    cond (conditionalOf (g .kind)) (maskedFirst parts dealt i g ∷ maskedSecond parts dealt i g
+    ∷ maskedFactors parts dealt (i + 1) gs) (maskedFactors parts dealt i gs)
+
+unfoldable pub closingParts : ℕ → List ℕ → List ℕ
+closingParts k parts = drop (length parts - k) parts
+
+unfoldable pub publishedOf : ℕ → ℕ → List Gate → ℕ → Dealing → Held
+publishedOf t inputs gs k d p = maskedFactors (wirePartsOf t inputs gs d p) (dealtOf gs d p) 0 gs
+    ++ closingParts k (wirePartsOf t inputs gs d p)
+
+-- The pieces of all trustees but q.
+unfoldable pub othersOf : ℕ → ℕ → Held → List (List ℕ)
+othersOf zero q pieces = []
+othersOf (suc t) q pieces = othersOf t q pieces ++ cond (eqb t q) [] (pieces t ∷ [])
+
+-- All that the trustees but q hold and see: their ballot parts, dealer parts and wire parts, and every published bit,
+-- q's too. Plain ballots are not in it.
+pub record View : Type 0 where
+  pub ballotParts : List (List ℕ)
+  pub dealerParts : List (List ℕ)
+  pub wireParts : List (List ℕ)
+  pub published : List ℕ
+
+unfoldable pub viewOf : ℕ → ℕ → ℕ → List Gate → ℕ → Dealing → View
+viewOf t q inputs gs k d =
+    record {
+      ballotParts = othersOf t q (ballotsOf inputs d);
+      dealerParts = othersOf t q (dealtOf gs d);
+      wireParts = othersOf t q (wirePartsOf t inputs gs d);
+      published = joined t (publishedOf t inputs gs k d);
+    }
+
+-- Whoever is left out, the others cannot tell two elections of one list with equal last k wires apart: however the
+-- first was dealt, the second can be dealt in one way and no other with the same view.
+abbrev pub ViewsHideInputs : Type 0
+ViewsHideInputs =
+    (t q k : ℕ) (gs : List Gate) (xs ys : List ℕ) (d : Dealing)
+    → q < t → k ≤ length gs → length xs ≡ length ys → Bits xs → Bits ys → firstBad (length xs) 0 gs ≡ Nowhere
+    → outputsOf k (wiresOf xs gs) ≡ outputsOf k (wiresOf ys gs)
+    → GoodDealing t gs xs d
+    → ExactlyOne (λ (e : Dealing). GoodDealing t gs ys e
+    × (viewOf t q (length xs) gs k d ≡ viewOf t q (length ys) gs k e))

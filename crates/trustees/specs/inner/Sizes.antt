@@ -1,0 +1,30 @@
+-- What inner functions ask: no entry point's contract needs it.
+use mathlib.Core.Path.{_≡_}
+use mathlib.Core.List.{List}
+use Prim.Native.Nat.{ℕ, _+_, _*_, _≤_}
+use lib.ListN.{length}
+use Rattle.trustee_shares.specs.Views.{Dealing}
+
+-- Sizes of an accepted list and of accepted ballots, so small that no product with the number of trustees wraps.
+pub record SmallSizes (inputs outputs gates conditional : ℕ) : Type 0 where
+  pub inputs-most : inputs ≤ 1048576
+  pub outputs-most : outputs ≤ 8
+  pub gates-most : gates ≤ 1048576
+  pub conditional-most : conditional ≤ 1048576
+
+-- Besides, so many trustees as there may be.
+pub record SmallCall (inputs outputs gates conditional t : ℕ) : Type 0 where
+  pub sizes : SmallSizes inputs outputs gates conditional
+  pub few : t ≤ 5
+
+-- The closing bits, k of them from `first` on, stand in each trustee's piece of what is published.
+pub record ClosingFits (t size first k : ℕ) (published : List ℕ) : Type 0 where
+  pub k-most : k ≤ 8
+  pub closing-in : first + k ≤ size
+  pub published-length : length published ≡ t * size
+
+-- A dealing whose tables have the lengths that ballots and list need.
+pub record DealingFits (t conditional : ℕ) (ballots : List ℕ) (d : Dealing) : Type 0 where
+  pub conditional-most : conditional ≤ 1048576
+  pub ballot-length : length (d .ballotParts) ≡ t * length ballots
+  pub dealer-length : length (d .dealerParts) ≡ t * (3 * conditional)

@@ -1,0 +1,39 @@
+-- What holds of an urn when a ballot is about to be looked for, put in or taken out.
+use mathlib.Core.Path.{_≡_}
+use mathlib.Core.Bool.{true, false}
+use mathlib.Core.List.{List}
+use Prim.Native.Nat.{ℕ, _*_, _≤_}
+use lib.Dec.{T}
+use lib.ListN.{length}
+use Rattle.urn_chains.specs.declared.find.ChainPosition.the-variants.{Found}
+use Rattle.urn_chains.specs.Slots.{slotAt}
+use Rattle.urn_chains.specs.Sound.{gradedShape, goodJuror, urnSlots, sound, freeOf}
+use Rattle.urn.specs.declared.facts.Facts.{Facts}
+use Rattle.urn.specs.declared.facts.UrnCheck.{UrnCheck}
+use Rattle.urn.specs.Facts.{isEmpty, factsOf}
+use Rattle.urn.specs.inner.Position.{positionIn}
+
+-- What a look at an urn leaves: its facts, and where the juror's ballot lies in a sound one.
+pub record Looked (k d : ℕ) (urn : List ℕ) (juror : ℕ) (check : UrnCheck) : Type 0 where
+  pub told : check .facts ≡ factsOf k d urn juror
+  pub few : check .facts .ballots ≤ 256
+  pub placed : check .facts .sound ≡ true → check .position ≡ positionIn k d urn juror
+
+-- Facts that an admission is decided by: one ballot more is still a number of ballots.
+pub record Countable (k d : ℕ) (facts : Facts) : Type 0 where
+  pub graded : T (gradedShape k d)
+  pub few : facts .ballots ≤ 256
+
+-- A ballot of a juror that a free slot can take.
+pub record Admissible (k d : ℕ) (urn : List ℕ) (juror : ℕ) (ballot : List ℕ) : Type 0 where
+  pub graded : T (gradedShape k d)
+  pub isSound : sound k d urn ≡ true
+  pub room : isEmpty (freeOf k d urn) ≡ false
+  pub numbered : goodJuror juror ≡ true
+  pub size : length ballot ≡ k * d
+
+-- A ballot in this slot, which follows slot `before` in the chain.
+pub record Present (k d : ℕ) (urn : List ℕ) (before slot : ℕ) : Type 0 where
+  pub graded : T (gradedShape k d)
+  pub isSound : sound k d urn ≡ true
+  pub placed : positionIn k d urn (slotAt (urnSlots k d urn) slot .juror) ≡ Found before slot

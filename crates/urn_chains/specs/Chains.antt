@@ -1,0 +1,71 @@
+-- An urn read as two chains, and the slots that hold two given chains.
+use mathlib.Core.Bool.{Bool, true}
+use mathlib.Core.List.{List, [], _∷_, map}
+use Prim.Native.Nat.{ℕ, zero, suc}
+use lib.Dec.{eqb}
+use lib.ListN.{length, set, replicate}
+use Rattle.urn_chains.specs.Slots.{Slot, slotAt, freeSlot}
+
+-- The slots of the chain that begins with slot i, at most so many: it goes on with the next slot's index until that
+-- is 0.
+unfoldable pub chain : ℕ → ℕ → List Slot → List ℕ
+chain zero i slots = []
+chain (suc most) zero slots = []
+chain (suc most) (suc i) slots = suc i ∷ chain most (slotAt slots (suc i) .next) slots
+
+-- Whether that chain gets to 0 within so many slots.
+unfoldable pub ends : ℕ → ℕ → List Slot → Bool
+ends zero i slots = eqb i 0
+ends (suc most) zero slots = true
+ends (suc most) (suc i) slots = ends most (slotAt slots (suc i) .next) slots
+
+-- A ballot in the urn: where it lies, whose it is, and its bytes.
+pub record Entry : Type 0 where
+  pub slot : ℕ
+  pub juror : ℕ
+  pub ballot : List ℕ
+
+unfoldable pub entryAt : List Slot → ℕ → Entry
+entryAt slots i = record { slot = i; juror = slotAt slots i .juror; ballot = slotAt slots i .ballot }
+
+-- The slots of the ballot chain, which slot 0 begins in its byte 0, and the ballots in chain order.
+unfoldable pub ballotSlots : List Slot → List ℕ
+ballotSlots slots = chain (length slots) (slotAt slots 0 .next) slots
+
+unfoldable pub ballotChain : List Slot → List Entry
+ballotChain slots = map (entryAt slots) (ballotSlots slots)
+
+-- The slots of the free chain, which slot 0 begins in its byte 1.
+unfoldable pub freeChain : List Slot → List ℕ
+freeChain slots = chain (length slots) (slotAt slots 0 .juror) slots
+
+-- The first slot of a chain, 0 where it has none.
+unfoldable pub firstEntry : List Entry → ℕ
+firstEntry [] = 0
+firstEntry (e ∷ es) = e .slot
+
+unfoldable pub firstFree : List ℕ → ℕ
+firstFree [] = 0
+firstFree (i ∷ is) = i
+
+-- The slot of a ballot, before the ballots es in its chain.
+unfoldable pub entrySlot : Entry → List Entry → Slot
+entrySlot e es = record { next = firstEntry es; juror = e .juror; ballot = e .ballot }
+
+-- Slots with each ballot of a chain in its slot.
+unfoldable pub withBallots : List Entry → List Slot → List Slot
+withBallots [] slots = slots
+withBallots (e ∷ es) slots = set (withBallots es slots) (e .slot) (entrySlot e es)
+
+-- Slots with a chain of free slots, of ballots of b bytes.
+unfoldable pub withFree : ℕ → List ℕ → List Slot → List Slot
+withFree b [] slots = slots
+withFree b (i ∷ is) slots = set (withFree b is slots) i (freeSlot b (firstFree is))
+
+-- Slot 0 of an urn with these chains.
+unfoldable pub headSlot : ℕ → List Entry → List ℕ → Slot
+headSlot b es is = record { next = firstEntry es; juror = firstFree is; ballot = replicate b 0 }
+
+-- The n slots of the urn that has these ballots and these free slots, in this order.
+unfoldable pub layout : ℕ → ℕ → List Entry → List ℕ → List Slot
+layout n b es is = set (withBallots es (withFree b is (replicate n (freeSlot b 0)))) 0 (headSlot b es is)

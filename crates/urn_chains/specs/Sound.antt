@@ -1,0 +1,94 @@
+-- When an urn is sound. Every test here ends, whatever the bytes.
+use mathlib.Core.Bool.{Bool, true, false, _&&_}
+use mathlib.Core.Option.{Option, none, some}
+use mathlib.Core.List.{List, _++_, map}
+use Prim.Native.Nat.{ℕ, suc, _-_, _*_, _/_, _%_}
+use lib.Dec.{eqb, leb, ltb}
+use lib.ListN.{length}
+use Rattle.jury.specs.declared.shape.Shape.{Shape}
+use Rattle.jury.specs.Shape.{gradedLimits}
+use Rattle.jury.specs.Reason.{Reason, firstOf}
+use Rattle.jury.specs.Ballots.{ballotReasons}
+use Rattle.basics.specs.Lists.{tabulate}
+use Rattle.urn_chains.specs.Slots.{Slot, slotBytes, slotsOf, slotAt}
+use Rattle.urn_chains.specs.Chains.{Entry, ends, ballotChain, freeChain}
+use Rattle.basics.specs.Lists.{all}
+use Rattle.basics.specs.Lists.{member}
+use Rattle.basics.specs.Lists.{distinct}
+
+-- A jury of one with k candidates and d grades.
+unfoldable pub juryOfOne : ℕ → ℕ → Shape
+juryOfOne k d = record { candidates = k; grades = d; ballots = 1 }
+
+unfoldable pub noReason : Option Reason → Bool
+noReason none = true
+noReason (some r) = false
+
+-- The numbers of candidates and grades are those of a jury that grades: a ranking shape, with no grades, is none.
+abbrev pub gradedShape : ℕ → ℕ → Bool
+gradedShape k d = gradedLimits (juryOfOne k d)
+
+-- A good ballot: it has a byte for each candidate and grade, and none of the tests of ballots fails it, as the ballot
+-- of a jury of one.
+unfoldable pub goodBallot : ℕ → ℕ → List ℕ → Bool
+goodBallot k d ballot = eqb (length ballot) (k * d) && noReason (firstOf (ballotReasons (juryOfOne k d) ballot))
+
+-- A juror's number.
+unfoldable pub goodJuror : ℕ → Bool
+goodJuror juror = leb 1 juror && leb juror 255
+
+-- One of the slots from 1 on, of n slots with slot 0.
+unfoldable pub inUrn : ℕ → ℕ → Bool
+inUrn n i = ltb 0 i && ltb i n
+
+-- Each slot from 1 on is among these, and none is there twice.
+unfoldable pub eachOnce : ℕ → List ℕ → Bool
+eachOnce n is = all (inUrn n) is && distinct is && all (λ i. member i is) (tabulate (n - 1) suc)
+
+-- What the chains of an urn of n slots have to be: each slot from 1 on is in exactly one of them, once; the jurors are
+-- distinct and numbered 1 to 255; the ballots are good.
+unfoldable pub goodChains : ℕ → ℕ → ℕ → List Entry → List ℕ → Bool
+goodChains k d n es is =
+    eachOnce n (map (λ e. e .slot) es ++ is)
+    && all (λ e. goodJuror (e .juror)) es
+    && distinct (map (λ e. e .juror) es)
+    && all (λ e. goodBallot k d (e .ballot)) es
+
+unfoldable pub allZero : List ℕ → Bool
+allZero bytes = all (λ x. eqb x 0) bytes
+
+-- Zeros after byte 0.
+unfoldable pub emptySlot : Slot → Bool
+emptySlot s = eqb (s .juror) 0 && allZero (s .ballot)
+
+-- Both chains end; they are as they have to be; behind the two indexes of slot 0, and behind the index of a free slot,
+-- all bytes are 0 [urn-sound].
+unfoldable pub soundSlots : ℕ → ℕ → List Slot → Bool
+soundSlots k d slots =
+    ends (length slots) (slotAt slots 0 .next) slots
+    && ends (length slots) (slotAt slots 0 .juror) slots
+    && goodChains k d (length slots) (ballotChain slots) (freeChain slots)
+    && allZero (slotAt slots 0 .ballot)
+    && all (λ i. emptySlot (slotAt slots i)) (freeChain slots)
+
+-- The number of slots in so many bytes, for ballots of b bytes.
+unfoldable pub slotCount : ℕ → ℕ → ℕ
+slotCount b bytes = bytes / slotBytes b
+
+-- The length of an urn of 2 to 256 slots.
+unfoldable pub urnLength : ℕ → ℕ → Bool
+urnLength b bytes = eqb (bytes % slotBytes b) 0 && leb 2 (slotCount b bytes) && leb (slotCount b bytes) 256
+
+-- All slots of an urn for k candidates and d grades.
+unfoldable pub urnSlots : ℕ → ℕ → List ℕ → List Slot
+urnSlots k d urn = slotsOf (k * d) (slotCount (k * d) (length urn)) urn
+
+unfoldable pub sound : ℕ → ℕ → List ℕ → Bool
+sound k d urn = urnLength (k * d) (length urn) && soundSlots k d (urnSlots k d urn)
+
+-- The ballots of an urn in chain order, and its free slots.
+abbrev pub entriesOf : ℕ → ℕ → List ℕ → List Entry
+entriesOf k d urn = ballotChain (urnSlots k d urn)
+
+abbrev pub freeOf : ℕ → ℕ → List ℕ → List ℕ
+freeOf k d urn = freeChain (urnSlots k d urn)

@@ -1,0 +1,27 @@
+-- An urn is sound exactly where it is the layout of two good chains, and it is the layout of no others: so nobody has
+-- to believe the walk along the chains that `sound` describes.
+use mathlib.Core.Path.{_≡_}
+use mathlib.Core.Logic.{_↔_}
+use mathlib.Core.Bool.{true}
+use mathlib.Core.List.{List}
+use Prim.Native.Nat.{ℕ, _*_, _≤_}
+use Rattle.urn_chains.specs.Slots.{bytesOf}
+use Rattle.urn_chains.specs.Chains.{Entry, layout}
+use Rattle.urn_chains.specs.Sound.{goodChains, entriesOf, freeOf, sound}
+
+-- The urn is written from these ballots and these free slots, which are as the chains of an urn of n slots have to be.
+pub record LaidOut (k d n : ℕ) (es : List Entry) (is : List ℕ) (urn : List ℕ) : Type 0 where
+  pub least : 2 ≤ n
+  pub most : n ≤ 256
+  pub good : goodChains k d n es is ≡ true
+  pub bytes : urn ≡ bytesOf (layout n (k * d) es is)
+
+pub record SoundIsLaidOut : Type 0 where
+  pub exactly : (k d : ℕ) (urn : List ℕ)
+      → (sound k d urn ≡ true) ↔ ((n : ℕ) × (es : List Entry) × (is : List ℕ) × LaidOut k d n es is urn)
+  -- the chains that are read in it are those that it was written from
+  pub read-ballots : (k d n : ℕ) (es : List Entry) (is urn : List ℕ) → LaidOut k d n es is urn → entriesOf k d urn ≡ es
+  pub read-free : (k d n : ℕ) (es : List Entry) (is urn : List ℕ) → LaidOut k d n es is urn → freeOf k d urn ≡ is
+  -- no other number of slots, no other ballots and no other free slots make this urn
+  pub only : (k d n m : ℕ) (es fs : List Entry) (is js urn : List ℕ) → LaidOut k d n es is urn → LaidOut k d m fs js urn
+      → (n ≡ m) × (es ≡ fs) × (is ≡ js)

@@ -1,0 +1,148 @@
+"""Makes docs/EXAMPLE.md, the smallest own list line by line, from the list that the core writes.
+
+    python3 docs/example.py          writes the page
+    python3 docs/example.py --check  fails where the page is not what the library makes
+"""
+import pathlib
+import sys
+
+ROOT = pathlib.Path(__file__).resolve().parent.parent
+sys.path.insert(0, str(ROOT / "python"))
+
+from jugyvaros import GateList, Shape  # noqa: E402  (the line above is what finds it)
+
+PAGE = ROOT / "docs/EXAMPLE.md"
+SHAPE, LARGER = Shape(2, 2, 1), Shape(2, 3, 3)
+OPERANDS = (0, 0, 1, 1, 2, 2, 2, 3)
+WORDS = ("0", "1", "{0}", "not {0}", "{0} and {1}", "{0} or {1}", "{0} xor {1}", "{1} if {0} else {2}")
+# The tape of the first jury: any bits would do.
+PATTERN = (1, 0, 0, 1, 1, 0, 1)
+
+
+def values(gates, ballots):
+    """Every wire of a list, as the table of kinds says."""
+    wires = list(ballots)
+    for kind, a, b, c in gates:
+        x, y, z = (wires[wire] for wire in (a, b, c))
+        wires.append((0, 1, x, 1 - x, x & y, x | y, x ^ y, y if x else z)[kind])
+    return wires
+
+
+def bits(numbers):
+    return " ".join(map(str, numbers))
+
+
+def page():
+    gates = GateList.own(SHAPE)
+    inputs, conditional, count = SHAPE.inputs, gates.conditional, len(gates)
+    first, second = SHAPE.encode([[1, 1]]), SHAPE.encode([[2, 2]])
+    tape = bytes((PATTERN * conditional)[:conditional])
+    counterpart = gates.counterpart(first, tape, second)
+    boards = [gates.run(first, tape), gates.run(second, counterpart)]
+    assert bytes(boards[0]) == bytes(boards[1])
+    wires = [values(gates, ballots) for ballots in (first, second)]
+    shown = 0
+    rows = []
+    for g, (gate, text) in enumerate(zip(gates, gates.to_text().decode().splitlines())):
+        operands = [f"w{wire}" for wire in gate[1:1 + OPERANDS[gate.kind]]]
+        mark = ""
+        if gate.kind in (4, 5, 7):
+            mark = f"shows w{gate.a} as byte {shown}"
+            shown += 1
+        elif g >= count - SHAPE.candidates:
+            mark = f"closing byte of blend {g - count + SHAPE.candidates}"
+        own = inputs + g
+        rows.append(f"| `{text}` | w{own} = {WORDS[gate.kind].format(*operands)} | {mark} | {wires[0][own]} | {wires[1][own]} |")
+    other = SHAPE.encode([[1, 2]])
+    larger = GateList.own(LARGER)
+    larger_first, larger_second = LARGER.encode([[1, 2], [2, 2], [2, 3]]), LARGER.encode([[1, 3], [1, 3], [3, 1]])
+    larger_tape = bytes((PATTERN * larger.conditional)[:larger.conditional])
+    larger_counterpart = larger.counterpart(larger_first, larger_tape, larger_second)
+    assert larger_tape != larger_counterpart
+    return TEXT.format(
+        count=count, conditional=conditional, levels=gates.levels, inputs=inputs, last=inputs - 1, rows="\n".join(rows),
+        first=bits(first), second=bits(second), other=bits(other), tape=bits(tape), counterpart=bits(counterpart),
+        board=bits(bytes(boards[0])), closing=bits(boards[0].closing), shown=bits(boards[0].shown),
+        other_closing=bits(gates.run(other).closing), larger_first=bits(larger_first), larger_second=bits(larger_second),
+        larger_tape=bits(larger_tape), larger_counterpart=bits(larger_counterpart),
+        larger_board=bits(bytes(larger.run(larger_first, larger_tape))), are="is" if conditional == 1 else "are",
+        rounds="round" if gates.levels == 1 else "rounds")
+
+
+TEXT = """# An example: two blends, two grades, one juror
+
+Made by `python3 docs/example.py` from the list that the core writes; the gate fails where this page is another.
+
+The shape is 2 2 1: k = 2 candidates, d = 2 grades, n = 1 ballot. A ballot is two rows of two bytes, so there are I = {inputs} ballot
+bytes, wires w0 to w{last}: w0 is 1 if blend 0 has the better grade, w1 if it has the worse one, and w2, w3 say the same of
+blend 1. Gate g makes wire w{inputs} + g.
+
+## The own list
+
+The core generates a circuit of G = {count} gates, of which C = {conditional} {are} conditional; its depth is {levels} {rounds}. On the left
+stands the text that `tools/list` prints: the kind, then the operands that it uses. On the right are the wires of two juries:
+A, whose juror likes both blends (ballot {first}), and B, whose juror likes neither ({second}). In both the blends are equal, so both win.
+
+| line | wire | published | A | B |
+|---|---|---|--:|--:|
+{rows}
+
+Gates of kind 0, 1, 2, 3 and 6 are free: constants, copies, complements and sums modulo 2. Kinds 4, 5 and 7 multiply. Whoever
+evaluates the list under encryption has to open one masked bit for each of them, and that bit goes on the board.
+
+## The board under a tape
+
+Jury A is run with the tape {tape}: one secret random bit for each conditional gate, used once. Each conditional gate
+publishes its first operand plus its own tape bit, modulo 2, and the last two wires follow:
+
+    board of A   {board}
+                 the masked bits {shown}, then the closing bytes {closing}
+
+## The one tape that gives jury B the same board
+
+    tape of A    {tape}
+    tape of B    {counterpart}
+    board of B   {board}
+
+A mask can turn any bit into any other: tape bit i of B has to be board byte i plus B's own wire, modulo 2, so there is
+one such tape and no second one. In this small list the only wire that is shown happens to be the same for both juries, and
+so is the tape. A jury of three jurors and three grades shows more. Here are two of them in which blend 0 wins:
+
+    ballots of A {larger_first}
+    ballots of B {larger_second}
+    tape of A    {larger_tape}
+    tape of B    {larger_counterpart}
+    common board {larger_board}
+
+A tape is drawn at random, so both tapes are equally likely, and the board says nothing about which of the two juries sat.
+That is demand 3, for every list and every two juries with equal closing bytes.
+
+With other winners there is no such tape: a juror who likes blend 0 alone ({other}) gives the closing bytes {other_closing}, and
+no mask hides those.
+
+Try it with juries of your own: `tools/board A.txt B.txt`.
+
+## A stranger's list
+
+Any list of at least k gates whose operands point back is accepted for a shape, whoever wrote it. This one is accepted for
+2 2 1 and says for each blend whether it has the better grade:
+
+    4 0 0
+    2 2
+
+Its first gate is conditional (w4 = w0 and w0), so its board has one masked bit and two closing bytes. It is no jury's
+rule, and nothing says that its closing bytes name a winner: demand 2 speaks of the own list only. Demand 3 holds of it all
+the same: its board reveals its closing bytes and nothing else.
+"""
+
+
+def main():
+    if sys.argv[1:] == ["--check"]:
+        if PAGE.read_text() != page():
+            sys.exit("docs/example.py: docs/EXAMPLE.md is not what the library makes; run python3 docs/example.py")
+    else:
+        PAGE.write_text(page())
+
+
+if __name__ == "__main__":
+    main()

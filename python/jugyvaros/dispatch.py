@@ -1,0 +1,83 @@
+"""Up to eight juries on one unit, in rounds: a long jury does not hold up the others."""
+
+from __future__ import annotations
+
+import array
+from collections.abc import Sequence
+from typing import NamedTuple
+
+from .gates import Board, GateList, fresh_tape
+from .library import call, wipe
+from .reasons import Refused
+
+GATES_PER_ROUND = 4096
+MOST_JURIES = 8
+
+
+class Jury(NamedTuple):
+    """A jury to dispatch: a list, its ballots and, where a fresh one is not wanted, its tape."""
+
+    gates: GateList
+    ballots: bytes
+    tape: bytes | None = None
+
+
+class Dispatched(NamedTuple):
+    """A jury's board, which is that of a run by itself, and the number of rounds that it took."""
+
+    board: Board
+    rounds: int
+
+
+def dispatch(juries: Sequence[Jury], gates_per_round: int = GATES_PER_ROUND) -> list[Dispatched]:
+    """Runs 1 to 8 juries, each round up to `gates_per_round` gates of each. Tapes that are not given are fresh.
+
+    A refusal concerns the whole call: the first bad jury's first reason, with that jury as its place.
+    """
+    tapes = [fresh_tape(jury.gates.conditional) if jury.tape is None else bytearray(jury.tape) for jury in juries]
+    bad = _first_misfit(juries, tapes)
+    # of a jury with a piece of another length the core is lent none of that piece, and no jury behind it: it then
+    # tests all juries before in order, and this one up to that piece
+    lent = list(juries) if bad is None else list(juries[:bad + 1])
+    ballots = bytearray().join(_whole(jury.ballots, jury.gates.shape.inputs) for jury in lent)
+    masks = bytearray().join(_whole(tape, jury.gates.conditional) for tape, jury in zip(tapes, lent))
+    headers = array.array("L", [number for jury in lent for number in (*jury.gates.shape, len(jury.gates))])
+    table = array.array("I")
+    for jury in lent:
+        table.extend(jury.gates.table)
+    wires = bytearray(sum(jury.gates.shape.inputs + len(jury.gates) for jury in lent))
+    boards = bytearray(sum(jury.gates.conditional + jury.gates.shape.candidates for jury in lent))
+    number = len(juries) if len(juries) > MOST_JURIES else len(lent)
+    try:
+        rounds = call("jugy_dispatch", number, gates_per_round, headers, table, ballots, masks, wires, boards,
+                      answers=10, place_of="the jury")
+    finally:
+        wipe(ballots, masks, *tapes)
+    if bad is not None:
+        # the core was content with an empty tape, and a longer one was given
+        raise Refused(7, bad, "the jury")
+    return _cut(juries, boards, rounds)
+
+
+def _whole(piece: bytes | bytearray, length: int) -> bytes | bytearray:
+    """A piece of its right length, or none of it."""
+    return piece if len(piece) == length else b""
+
+
+def _first_misfit(juries: Sequence[Jury], tapes: Sequence[bytearray]) -> int | None:
+    """The first jury whose ballots or tape have another length than its list needs."""
+    for place, (jury, tape) in enumerate(zip(juries, tapes)):
+        if (len(jury.ballots), len(tape)) != (jury.gates.shape.inputs, jury.gates.conditional):
+            return place
+    return None
+
+
+def _cut(juries: Sequence[Jury], boards: bytearray, rounds: Sequence[int]) -> list[Dispatched]:
+    """Each jury's part of the answer."""
+    found, at = [], 0
+    for jury, number in zip(juries, rounds):
+        closing = at + jury.gates.conditional
+        end = closing + jury.gates.shape.candidates
+        found.append(Dispatched(Board(bytes(boards[at:closing]), bytes(boards[closing:end])), number))
+        at = end
+    return found

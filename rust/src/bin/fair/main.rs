@@ -1,0 +1,81 @@
+//! Rehearses a fair: random juries of one shape, 64 at a time, on all processors. `fair --help` says how.
+
+mod draw;
+mod options;
+mod rehearse;
+mod report;
+
+use jugyvaros::{GateList, JuryRefusal};
+use options::{Options, Other};
+use rehearse::{seconds, Clock, Fair, Outcome};
+use std::io::{IsTerminal, Write};
+use std::process::ExitCode;
+use std::time::{Duration, Instant};
+
+/// A seed's number: FNV-1a over its characters.
+fn seed_number(seed: &str) -> u64 {
+    seed.bytes().fold(0xCBF2_9CE4_8422_2325, |hash, byte| (hash ^ u64::from(byte)).wrapping_mul(0x100_0000_01B3))
+}
+
+/// A seed where none is given: a few digits, for whoever wants the same juries again.
+fn any_seed() -> std::io::Result<String> {
+    let word = jugyvaros::Secret::random_words(1)?[0];
+    Ok((word % 1_000_000_000).to_string())
+}
+
+/// Runs the fair on so many threads, with a bar where somebody looks on.
+fn rehearsed(fair: &Fair, jobs: usize) -> Result<Outcome, JuryRefusal> {
+    let began = Instant::now();
+    let looked_at = std::io::stderr().is_terminal();
+    std::thread::scope(|scope| {
+        let workers: Vec<_> = (0..jobs).map(|_| scope.spawn(|| fair.work())).collect();
+        while looked_at && !workers.iter().all(|worker| worker.is_finished()) {
+            eprint!("\r{}\x1b[K", report::bar(fair.counted(), fair.blocks, began.elapsed().as_secs_f64()));
+            std::thread::sleep(Duration::from_millis(100));
+        }
+        if looked_at {
+            eprint!("\r\x1b[K");
+        }
+        let mut outcome = Outcome::of(fair.draw.shape.candidates);
+        for worker in workers {
+            outcome.add(&worker.join().expect("a thread ends by itself")?);
+        }
+        Ok(outcome)
+    })
+}
+
+fn run(options: &Options) -> Result<(), Box<dyn std::error::Error>> {
+    let list = GateList::own(options.draw.shape)?;
+    let seed = options.seed.clone().map_or_else(any_seed, Ok)?;
+    let fair = Fair::new(&list, options.draw, seed_number(&seed), options.batches);
+    let outcome = rehearsed(&fair, options.jobs)?;
+    let text = report::lines(&options.draw, &seed, &outcome, seconds(Clock::Process));
+    std::io::stdout().write_all(text.as_bytes())?;
+    if let Some(file) = &options.svg {
+        std::fs::write(file, report::picture(&options.draw, &seed, &outcome))
+            .map_err(|why| format!("{}: {why}", file.display()))?;
+    }
+    Ok(())
+}
+
+fn main() -> ExitCode {
+    let options = match options::read(std::env::args().skip(1)) {
+        Ok(options) => options,
+        Err(Other::Help) => {
+            // whoever stops reading it has read enough
+            let _ = writeln!(std::io::stdout(), "{}", options::HELP);
+            return ExitCode::SUCCESS;
+        }
+        Err(Other::Wrong(what)) => {
+            eprintln!("fair: {what}");
+            return ExitCode::from(2);
+        }
+    };
+    match run(&options) {
+        Ok(()) => ExitCode::SUCCESS,
+        Err(why) => {
+            eprintln!("fair: {why}");
+            ExitCode::from(1)
+        }
+    }
+}

@@ -1,0 +1,167 @@
+//! A gate list that is known to fit its shape, and the board that a run of it fills.
+
+use crate::calls::{c, run_by};
+use crate::trustees::{self, Dealing, Tally};
+use crate::{list_of_text, measure, test, text, winners, write, Refusal, Secret, Shape, Size, Urn};
+use std::io;
+
+/// A circuit for one shape of jury, tested when it was made: its runs are never refused for the list.
+///
+/// ```
+/// use jugyvaros::{GateList, Reason, Shape};
+///
+/// let shape = Shape::graded(1, 2, 1);
+/// // anyone's list: one gate, which copies the first ballot byte
+/// let list = GateList::new(shape, vec![2, 0, 0, 0])?;
+/// assert_eq!((list.gates(), list.conditional(), list.inputs()), (1, 0, 2));
+/// assert_eq!(list.text(), "2 0\n");
+/// assert_eq!(list.run(&[1, 0], &[])?.closing(), [1]);
+/// // wire 2 is what the gate itself makes
+/// let refusal = GateList::new(shape, vec![2, 2, 0, 0]).unwrap_err();
+/// assert_eq!((refusal.reason, refusal.place), (Reason::Gate, 0));
+/// # Ok::<(), jugyvaros::Refusal>(())
+/// ```
+#[derive(Clone, Debug, PartialEq, Eq)]
+pub struct GateList {
+    shape: Shape,
+    table: Vec<u32>,
+    size: Size,
+}
+
+impl GateList {
+    /// The list that the core generates for a shape: its closing bytes say who wins.
+    pub fn own(shape: Shape) -> Result<GateList, Refusal> {
+        let mut table = vec![0; 4 * measure(shape)?.gates];
+        let size = write(shape, &mut table)?;
+        Ok(GateList { shape, table, size })
+    }
+
+    /// Anyone's list, four numbers a gate, where it fits the shape.
+    pub fn new(shape: Shape, table: Vec<u32>) -> Result<GateList, Refusal> {
+        let size = test(shape, &table)?;
+        Ok(GateList { shape, table, size })
+    }
+
+    /// Anyone's list as text, where it fits the shape.
+    pub fn from_text(shape: Shape, text: &str) -> Result<GateList, Refusal> {
+        GateList::new(shape, list_of_text(shape, text)?)
+    }
+
+    /// The list as text, a line a gate.
+    pub fn text(&self) -> String {
+        text(self.shape, &self.table).expect("the list fits its shape, and the room is enough for any list")
+    }
+
+    /// The shape that the list is for.
+    pub fn shape(&self) -> Shape {
+        self.shape
+    }
+
+    /// Four numbers a gate.
+    pub fn table(&self) -> &[u32] {
+        &self.table
+    }
+
+    /// G.
+    pub fn gates(&self) -> usize {
+        self.size.gates
+    }
+
+    /// C: how many bits a tape has.
+    pub fn conditional(&self) -> usize {
+        self.size.conditional
+    }
+
+    /// I: how many bytes the ballots have.
+    pub fn inputs(&self) -> usize {
+        self.shape.inputs()
+    }
+
+    /// I + G: how many wires there are.
+    pub(crate) fn wires(&self) -> usize {
+        self.inputs() + self.gates()
+    }
+
+    /// C + k: how many bytes a board has.
+    pub(crate) fn board_length(&self) -> usize {
+        self.conditional() + self.shape.candidates
+    }
+
+    /// The level of each gate: how many conditional gates the longest chain up to it has.
+    pub fn levels(&self) -> Vec<u32> {
+        let mut levels = vec![0; self.gates()];
+        crate::levels::levels(self.shape, &self.table, &mut levels).expect("the list fits its shape");
+        levels
+    }
+
+    /// R, the largest level: openings of one level can be made together, so this is how often they wait.
+    pub fn rounds(&self) -> usize {
+        self.levels().into_iter().max().unwrap_or(0) as usize
+    }
+
+    /// A fresh tape from the system's random numbers. It is for one run: a tape used twice gives away what the
+    /// wires hold.
+    pub fn fresh_tape(&self) -> io::Result<Secret<u8>> {
+        Secret::random_bits(self.conditional())
+    }
+
+    /// Runs the list on I ballot bytes with C fresh, secret tape bits.
+    pub fn run(&self, ballots: &[u8], tape: &[u8]) -> Result<Board, Refusal> {
+        self.run_with(c::jugy_run, ballots, tape)
+    }
+
+    /// Runs the list on the ballots in an urn, in the order of its chain.
+    pub fn run_urn(&self, urn: &Urn, tape: &[u8]) -> Result<Board, Refusal> {
+        self.run_with(c::jugy_run_urn, urn.bytes(), tape)
+    }
+
+    fn run_with(&self, call: crate::calls::Run<u8>, ballots: &[u8], tape: &[u8]) -> Result<Board, Refusal> {
+        let mut wires = Secret::zeros(self.wires());
+        let mut board = vec![0; self.board_length()];
+        run_by(call, self.shape, &self.table, ballots, tape, &mut wires, &mut board)?;
+        Ok(Board::new(board, self.conditional()))
+    }
+
+    /// Shares the ballots, and what a tally of this list needs, among 2 to 5 trustees by the system's random numbers.
+    pub fn deal(&self, ballots: &[u8], trustees: usize) -> io::Result<Dealing> {
+        Dealing::fresh(ballots, self.conditional(), trustees)
+    }
+
+    /// Tallies a dealing of these ballots.
+    pub fn tally(&self, ballots: &[u8], dealing: &Dealing) -> Result<Tally, Refusal> {
+        trustees::tally_list(self, ballots, dealing)
+    }
+}
+
+/// What a run leaves to be published: the shown bits, masked by the tape, then a closing byte for each candidate.
+#[derive(Clone, Debug, PartialEq, Eq)]
+pub struct Board {
+    bytes: Vec<u8>,
+    conditional: usize,
+}
+
+impl Board {
+    pub(crate) fn new(bytes: Vec<u8>, conditional: usize) -> Board {
+        Board { bytes, conditional }
+    }
+
+    /// All C + k bytes.
+    pub fn bytes(&self) -> &[u8] {
+        &self.bytes
+    }
+
+    /// The first C bytes: of each conditional gate its wire a, masked by its tape bit.
+    pub fn shown(&self) -> &[u8] {
+        &self.bytes[..self.conditional]
+    }
+
+    /// The last k bytes: under the shape's own list, 1 for each candidate that wins.
+    pub fn closing(&self) -> &[u8] {
+        &self.bytes[self.conditional..]
+    }
+
+    /// The candidates, counted from 0, whose closing byte is 1.
+    pub fn winners(&self) -> Vec<usize> {
+        winners(self.closing())
+    }
+}

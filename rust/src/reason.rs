@@ -1,0 +1,144 @@
+//! Why a call is turned away: each reason once, with its number, its words and what its place counts. The words
+//! are those of `c/jugyvaros.h`, and a test holds them to it, so that a reason reads the same in every
+//! language.
+
+use std::fmt;
+
+/// Makes the enum of the reasons and the table of their words from one row a reason.
+macro_rules! reasons {
+    ($($name:ident = $number:literal: $words:literal $(at $unit:literal)?;)*) => {
+        /// Why a call is turned away. The numbers are those of docs/REQUIREMENTS.md and `c/jugyvaros.h`.
+        #[derive(Clone, Copy, Debug, PartialEq, Eq, Hash)]
+        #[repr(usize)]
+        pub enum Reason {
+            $(
+                #[doc = concat!("Reason ", $number, ": ", $words, $("; the place is ", $unit,)? ".")]
+                $name = $number,
+            )*
+        }
+
+        impl Reason {
+            /// Every reason there is, by number.
+            pub const ALL: &'static [Reason] = &[$(Reason::$name),*];
+
+            /// What is wrong, in words.
+            pub fn words(self) -> &'static str {
+                match self {
+                    $(Reason::$name => $words,)*
+                }
+            }
+
+            /// What the place counts, where it counts something.
+            pub fn unit(self) -> Option<&'static str> {
+                match self {
+                    $(Reason::$name => reasons!(@unit $($unit)?),)*
+                }
+            }
+        }
+    };
+    (@unit) => { None };
+    (@unit $unit:literal) => { Some($unit) };
+}
+
+reasons! {
+    Shape = 1: "k, d or n is outside its limits";
+    Table = 2: "no room in the gate table to write, or no list of k to 1,048,576 whole gates";
+    Gate = 3: "a bad kind or operand" at "the gate";
+    BallotsLength = 4: "there are not I ballot bytes";
+    BallotByte = 5: "a byte of a ballot is neither 0 nor 1" at "the byte";
+    BallotRow = 6: "graded: a row with no 1 or several" at "the row, b k + c";
+    TapeLength = 7: "the tape's length is not C";
+    TapeByte = 8: "a byte of the tape is neither 0 nor 1" at "the byte";
+    WiresLength = 9: "the wire table's length is not I + G";
+    BoardLength = 10: "the board's length is not C + k";
+    NotAsymmetric = 11: "ranked: two before each other, or one before itself" at "the first such byte";
+    NotWeakOrder = 12: "ranked: i is before j, a third is neither behind i nor before j" at "the ballot";
+    Urn = 13: "the urn is not sound";
+    Juror = 14: "the juror is not 1 to 255, or is in already (admission), or not in (withdrawal)";
+    FullUrn = 15: "no slot of the urn is free";
+    Trustees = 16: "there are fewer than 2 or more than 5 trustees";
+    PartTables = 17: "one of the trustees' four tables has a wrong length";
+    Dealing = 18: "a part is neither 0 nor 1, or parts do not add up to their ballot byte or product";
+    Juries = 19: "there are no juries, or more than 8";
+    GatesPerRound = 20: "a jury's gates of a round are 0 or above 65,536";
+    Line = 23: "not a line of a gate, by form, kind or a number of 2^32 or more" at "the line";
+    Output = 24: "what would be written has no room in the output";
+    Levels = 200: "the level table has not G numbers, or not the list's own levels where they are read";
+    Round = 201: "the round is above R";
+    Heard = 202: "the sums are not 2 C bits";
+}
+
+impl Reason {
+    /// The reason of that number, if there is one.
+    pub fn of(number: usize) -> Option<Reason> {
+        Reason::ALL.iter().copied().find(|reason| reason.number() == number)
+    }
+
+    /// The number that the requirements give it.
+    pub fn number(self) -> usize {
+        self as usize
+    }
+}
+
+/// The first reason that applies, and its place, counted from 0.
+#[derive(Clone, Copy, Debug, PartialEq, Eq)]
+pub struct Refusal {
+    /// Why the call is turned away.
+    pub reason: Reason,
+    /// Which gate, byte, row, ballot or line; 0 where the reason names no place.
+    pub place: usize,
+}
+
+impl fmt::Display for Refusal {
+    fn fmt(&self, f: &mut fmt::Formatter<'_>) -> fmt::Result {
+        write!(f, "refused {} {}: {}", self.reason.number(), self.place, self.reason.words())?;
+        match self.reason.unit() {
+            Some(unit) => write!(f, " (place {}, counted from 0: {unit})", self.place),
+            None => Ok(()),
+        }
+    }
+}
+
+impl std::error::Error for Refusal {}
+
+/// The same of a call for several juries: which jury, and what is wrong with it.
+#[derive(Clone, Copy, Debug, PartialEq, Eq)]
+pub struct JuryRefusal {
+    /// The jury that the fault was found in, counted from 0; none where the call as a whole is turned away.
+    pub jury: Option<usize>,
+    /// The reason, and its place in what belongs to that jury.
+    pub refusal: Refusal,
+}
+
+impl JuryRefusal {
+    /// Why the call is turned away.
+    pub fn reason(self) -> Reason {
+        self.refusal.reason
+    }
+
+    /// The place that the core answers: the jury where one has the fault.
+    pub fn place(self) -> usize {
+        self.jury.unwrap_or(self.refusal.place)
+    }
+}
+
+impl From<Refusal> for JuryRefusal {
+    fn from(refusal: Refusal) -> Self {
+        JuryRefusal { jury: None, refusal }
+    }
+}
+
+impl fmt::Display for JuryRefusal {
+    fn fmt(&self, f: &mut fmt::Formatter<'_>) -> fmt::Result {
+        let Some(jury) = self.jury else { return self.refusal.fmt(f) };
+        let reason = self.reason();
+        let (number, words) = (reason.number(), reason.words());
+        write!(f, "refused {number} {jury}: {words} (place {jury}, counted from 0: the jury")?;
+        match reason.unit() {
+            Some(unit) => write!(f, "; in it, place {}: {unit})", self.refusal.place),
+            None => write!(f, ")"),
+        }
+    }
+}
+
+impl std::error::Error for JuryRefusal {}

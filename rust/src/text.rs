@@ -1,0 +1,71 @@
+//! Gate lists as text: a line a gate.
+
+use crate::calls::answered;
+use crate::{Refusal, Shape};
+
+mod c {
+    extern "C" {
+        pub fn jugy_write_text(
+            k: usize,
+            d: usize,
+            n: usize,
+            table: *const u32,
+            table_length: usize,
+            output: *mut u8,
+            output_length: usize,
+            answer: *mut usize,
+            answer_length: usize,
+        ) -> usize;
+        pub fn jugy_read_text(
+            k: usize,
+            d: usize,
+            n: usize,
+            text: *const u8,
+            text_length: usize,
+            output: *mut u32,
+            output_length: usize,
+            answer: *mut usize,
+            answer_length: usize,
+        ) -> usize;
+    }
+}
+
+/// Writes the text of a list, one line a gate, and answers the number of characters written.
+pub fn write_text(shape: Shape, table: &[u32], output: &mut [u8]) -> Result<usize, Refusal> {
+    let [k, d, n] = shape.numbers();
+    let (to, room) = (output.as_mut_ptr(), output.len());
+    // SAFETY: as in `write`.
+    answered(|answer, length| unsafe {
+        c::jugy_write_text(k, d, n, table.as_ptr(), table.len(), to, room, answer, length)
+    })
+    .map(|[_, _, characters]| characters)
+}
+
+/// Reads a text as a list for a shape, and answers the count of numbers written, four a line.
+pub fn read_text(shape: Shape, text: &[u8], output: &mut [u32]) -> Result<usize, Refusal> {
+    let [k, d, n] = shape.numbers();
+    let (to, room) = (output.as_mut_ptr(), output.len());
+    // SAFETY: as in `write`.
+    answered(|answer, length| unsafe {
+        c::jugy_read_text(k, d, n, text.as_ptr(), text.len(), to, room, answer, length)
+    })
+    .map(|[_, _, numbers]| numbers)
+}
+
+/// The most characters that a gate's line has.
+const LINE: usize = 44;
+
+/// The text of a list.
+pub fn text(shape: Shape, table: &[u32]) -> Result<String, Refusal> {
+    let mut output = vec![0; LINE * (table.len() / 4)];
+    let length = write_text(shape, table, &mut output)?;
+    output.truncate(length);
+    Ok(output.into_iter().map(char::from).collect())
+}
+
+/// The list of a text.
+pub fn list_of_text(shape: Shape, text: &str) -> Result<Vec<u32>, Refusal> {
+    let mut output = vec![0; 4 * text.lines().count()];
+    read_text(shape, text.as_bytes(), &mut output)?;
+    Ok(output)
+}

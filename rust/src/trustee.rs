@@ -1,0 +1,171 @@
+//! A trustee on a machine of its own: it holds its own tables and hears the opened sums.
+//!
+//! All trustees start, then do the rounds 0 to R together. `c/jugyvaros.h` says what the tables hold and what may be
+//! sent.
+
+use crate::calls::{answered, sized};
+use crate::levels::Depths;
+use crate::{Refusal, Shape, Size};
+
+mod c {
+    extern "C" {
+        pub fn jugy_trustee_start(
+            k: usize,
+            d: usize,
+            n: usize,
+            table: *const u32,
+            table_length: usize,
+            trustees: usize,
+            trustee: usize,
+            ballot_shares: *const u8,
+            ballot_shares_length: usize,
+            triples: *const u8,
+            triples_length: usize,
+            wires: *mut u8,
+            wires_length: usize,
+            published: *mut u8,
+            published_length: usize,
+            answer: *mut usize,
+            answer_length: usize,
+        ) -> usize;
+        pub fn jugy_trustee_round(
+            k: usize,
+            d: usize,
+            n: usize,
+            table: *const u32,
+            table_length: usize,
+            trustees: usize,
+            trustee: usize,
+            round: usize,
+            levels: *const u32,
+            levels_length: usize,
+            triples: *const u8,
+            triples_length: usize,
+            heard: *const u8,
+            heard_length: usize,
+            wires: *mut u8,
+            wires_length: usize,
+            published: *mut u8,
+            published_length: usize,
+            answer: *mut usize,
+            answer_length: usize,
+        ) -> usize;
+        pub fn jugy_trustee_finish(
+            k: usize,
+            d: usize,
+            n: usize,
+            table: *const u32,
+            table_length: usize,
+            wires: *mut u8,
+            wires_length: usize,
+            answer: *mut usize,
+            answer_length: usize,
+        ) -> usize;
+    }
+}
+
+/// Who computes: trustee `number`, counted from 0, of `trustees`, for a list of a shape.
+#[derive(Clone, Copy, Debug)]
+pub struct Seat<'a> {
+    /// The jury's shape.
+    pub shape: Shape,
+    /// The list that all trustees run, four numbers a gate.
+    pub table: &'a [u32],
+    /// t, from 2 to 5.
+    pub trustees: usize,
+    /// Which of them this is, from 0 to t - 1.
+    pub number: usize,
+}
+
+impl Seat<'_> {
+    /// Starts with its I ballot shares and 3 C bits of triples: `wires` is I + G bytes, `published` 2 C + k.
+    pub fn start(
+        &self,
+        ballot_shares: &[u8],
+        triples: &[u8],
+        wires: &mut [u8],
+        published: &mut [u8],
+    ) -> Result<Size, Refusal> {
+        let [k, d, n] = self.shape.numbers();
+        // SAFETY: every pointer comes from a slice and is handed over with its length; what is written is a `&mut`.
+        sized(|answer, length| unsafe {
+            c::jugy_trustee_start(
+                k,
+                d,
+                n,
+                self.table.as_ptr(),
+                self.table.len(),
+                self.trustees,
+                self.number,
+                ballot_shares.as_ptr(),
+                ballot_shares.len(),
+                triples.as_ptr(),
+                triples.len(),
+                wires.as_mut_ptr(),
+                wires.len(),
+                published.as_mut_ptr(),
+                published.len(),
+                answer,
+                length,
+            )
+        })
+    }
+
+    /// Does a round, once `heard` has the sums of what all published in the rounds before.
+    pub fn round(
+        &self,
+        round: usize,
+        levels: &[u32],
+        triples: &[u8],
+        heard: &[u8],
+        wires: &mut [u8],
+        published: &mut [u8],
+    ) -> Result<Depths, Refusal> {
+        let [k, d, n] = self.shape.numbers();
+        // SAFETY: every pointer comes from a slice and is handed over with its length; what is written is a `&mut`.
+        answered(|answer, length| unsafe {
+            c::jugy_trustee_round(
+                k,
+                d,
+                n,
+                self.table.as_ptr(),
+                self.table.len(),
+                self.trustees,
+                self.number,
+                round,
+                levels.as_ptr(),
+                levels.len(),
+                triples.as_ptr(),
+                triples.len(),
+                heard.as_ptr(),
+                heard.len(),
+                wires.as_mut_ptr(),
+                wires.len(),
+                published.as_mut_ptr(),
+                published.len(),
+                answer,
+                length,
+            )
+        })
+        .map(Depths::of)
+    }
+
+    /// Empties its shares of the wires.
+    pub fn finish(&self, wires: &mut [u8]) -> Result<Size, Refusal> {
+        let [k, d, n] = self.shape.numbers();
+        // SAFETY: every pointer comes from a slice and is handed over with its length; what is written is a `&mut`.
+        sized(|answer, length| unsafe {
+            c::jugy_trustee_finish(
+                k,
+                d,
+                n,
+                self.table.as_ptr(),
+                self.table.len(),
+                wires.as_mut_ptr(),
+                wires.len(),
+                answer,
+                length,
+            )
+        })
+    }
+}

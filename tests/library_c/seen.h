@@ -1,0 +1,43 @@
+/* The reasons that a program's calls were answered with. Each program names those that can come, and ends with 1
+ * where one of them never did, or another one did. */
+#ifndef SEEN_H
+#define SEEN_H
+
+#include <stdio.h>
+#include <stdlib.h>
+
+enum { STATUSES = 256 };
+
+static size_t seen_statuses[STATUSES];
+
+/* Counts a status, and hands it on. */
+static inline size_t seen(size_t status) {
+    if (status < STATUSES)
+        seen_statuses[status]++;
+    return status;
+}
+
+static inline void all_seen(const char *program, const size_t *expected, size_t count) {
+    size_t calls = 0, named = 0;
+    for (size_t status = 0; status < STATUSES; status++)
+        calls += seen_statuses[status];
+    printf("%s: ok, %zu calls;", program, calls);
+    for (size_t i = 0; i < count; i++) {
+        printf(" %zu: %zu", expected[i], seen_statuses[expected[i]]);
+        if (!seen_statuses[expected[i]]) {
+            printf("\n%s: status %zu never came\n", program, expected[i]);
+            exit(1);
+        }
+        named += seen_statuses[expected[i]];
+    }
+    printf("\n");
+    if (named != calls) {
+        printf("%s: a status came that is not one of these\n", program);
+        exit(1);
+    }
+}
+
+#define ALL_SEEN(program, ...)                                                                                         \
+    all_seen(program, (const size_t[]){__VA_ARGS__}, sizeof(const size_t[]){__VA_ARGS__} / sizeof(size_t))
+
+#endif

@@ -1,0 +1,225 @@
+"""A trustee on a machine of its own, through the library, against a model written apart.
+
+    python3 tests/trustee.py    prints how many calls there were, by reason
+
+Trustees apart on own lists and strangers', graded and ranked: after every round each has the shares that the model's
+trustee has by then, and at the end all that jugy_trustees publishes. Rounds on tables of any bits, every reason at its
+edges with all pairs of faults, old contents of what is written, and answer arrays that are too short.
+"""
+
+import itertools
+import random
+
+import reference as doc
+from core import OLD, Core, bytes_of, numbers, output
+from levels import depths
+from running import flat, random_gates
+from trustees import CONDITIONAL, Trustee, dealings, parity, protocol
+
+# the lengths of answer arrays
+ANSWERS = {"start": 4, "round": 5, "finish": 4}
+
+
+def lent_to(name, call):
+    """The arguments of a call; what it writes comes last."""
+    written = [output(call["wires"]), output(call["published"])]
+    shape, dealt = [*call["shape"], numbers(call["table"])], bytes_of(call["dealt"])
+    if name == "start":
+        return [*shape, call["t"], call["p"], bytes_of(call["parts"]), dealt, *written]
+    if name == "round":
+        read = [numbers(call["levels"]), dealt, bytes_of(call["heard"])]
+        return [*shape, call["t"], call["p"], call["r"], *read, *written]
+    return [*shape, written[0]]
+
+
+def fault_of(name, call):
+    """Reason and place by the model, or none."""
+    fault = doc.test_fault(*call["shape"], call["table"])
+    if fault:
+        return fault
+    gates, inputs, k = doc.gates_of(call["table"]), doc.ballot_bytes(*call["shape"]), call["shape"][0]
+    count = doc.conditional_count(gates)
+    if name == "finish":
+        return (17, 0) if len(call["wires"]) != inputs + len(gates) else None
+    if not 2 <= call["t"] <= 5 or call["p"] >= call["t"]:
+        return 16, 0
+    lengths = [(call["dealt"], 3 * count), (call["wires"], inputs + len(gates)), (call["published"], 2 * count + k)]
+    bits = list(call["dealt"])
+    if name == "start":
+        lengths.append((call["parts"], inputs))
+        bits += call["parts"]
+    if any(len(lent) != length for lent, length in lengths):
+        return 17, 0
+    if any(bit > 1 for bit in bits):
+        return 18, 0
+    if name == "start":
+        return None
+    own = depths(inputs, gates)
+    if call["levels"] != own:
+        return 200, 0
+    if call["r"] > max(own):
+        return 201, 0
+    return (202, 0) if len(call["heard"]) != 2 * count or max(call["heard"], default=0) > 1 else None
+
+
+def one_round(call):
+    """The tables after a round, wire by wire: from any bits."""
+    gates, inputs, k = doc.gates_of(call["table"]), doc.ballot_bytes(*call["shape"]), call["shape"][0]
+    own, trustee = depths(inputs, gates), Trustee(call["p"], [], call["dealt"])
+    wires, published = list(call["wires"]), list(call["published"])
+    place = {g: i for i, g in enumerate(g for g, gate in enumerate(gates) if gate[0] in CONDITIONAL)}
+    for g, gate in enumerate(gates):
+        if own[g] == call["r"]:
+            trustee.held = wires
+            z = trustee.product(place[g], *call["heard"][2 * place[g] : 2 * place[g] + 2]) if g in place else None
+            trustee.held = wires[: inputs + len(gates)]
+            trustee.add(gate, z)
+            wires[inputs + g] = trustee.held[-1]
+    trustee.held = wires
+    for g, i in place.items():
+        if own[g] == call["r"] + 1:
+            published[2 * i : 2 * i + 2] = trustee.publish(gates[g], i)
+    if call["r"] == max(own):
+        published[2 * len(place) :] = wires[len(wires) - k :]
+    return wires, published
+
+
+def check(core, name, call):
+    """One call beside the model; the tables after it where it is accepted."""
+    lent, fault = lent_to(name, call), fault_of(name, call)
+    said = core.call(f"jugy_trustee_{name}", *lent, answers=ANSWERS[name])
+    if fault:
+        assert said == ["refused", *fault], (name, fault, said)
+        return None
+    gates = doc.gates_of(call["table"])
+    rounds = [max(depths(doc.ballot_bytes(*call["shape"]), gates))] if name == "round" else []
+    assert said == ["accepted", len(gates), doc.conditional_count(gates), *rounds], (name, said)
+    expected = {
+        "start": lambda: [call["parts"] + [0] * len(gates), [0] * len(call["published"])],
+        "round": lambda: list(one_round(call)),
+        "finish": lambda: [[0] * len(call["wires"])],
+    }[name]()
+    written = [each.items() for each in lent[-len(expected):]]
+    assert written == expected, name
+    return written
+
+
+def together(rng, core, shape, gates, t):
+    """All trustees from start to finish: as those of the one call."""
+    k, inputs, count = shape[0], doc.ballot_bytes(*shape), doc.conditional_count(gates)
+    ballots = [rng.randrange(2) for _ in range(inputs)]
+    parts, dealt = dealings(rng, ballots, count, t)
+    trustees, own = protocol(gates, inputs, k, t, parts, dealt), depths(inputs, gates)
+    calls = [
+        dict(
+            shape=shape, table=flat(gates), t=t, p=p, levels=own, heard=[0] * (2 * count),
+            parts=parts[inputs * p : inputs * (p + 1)], dealt=dealt[3 * count * p : 3 * count * (p + 1)],
+            wires=[9] * (inputs + len(gates)), published=[9] * (2 * count + k),
+        )
+        for p in range(t)
+    ]
+    for call in calls:
+        call["wires"], call["published"] = check(core, "start", call)
+    for r in range(max(own) + 1):
+        for call in calls:
+            call["r"] = r
+            call["wires"], call["published"] = check(core, "round", call)
+            held = trustees[call["p"]].held
+            assert call["wires"] == held[:inputs] + [bit if own[g] <= r else 0 for g, bit in enumerate(held[inputs:])]
+        heard = [parity(bits) for bits in zip(*(call["published"] for call in calls))]
+        for call in calls:
+            call["heard"] = heard[: 2 * count]
+    assert [call["published"] for call in calls] == [trustee.said for trustee in trustees]
+    plain = doc.run_gates(ballots, gates, [0] * count)[0]
+    assert heard[2 * count :] == plain[len(plain) - k :]
+    for call in calls:
+        (call["wires"],) = check(core, "finish", call)
+    return calls[0]
+
+
+def faults_of(call, name):
+    """Changes of an accepted call, each with one fault."""
+    k, d, n = call["shape"]
+    table = call["table"]
+    changes = {
+        "shape": {"shape": (9, d, n)},
+        "part of a gate": {"table": table[:-1]},
+        "kind": {"table": [8] + table[1:]},
+        "fewer wires": {"wires": call["wires"][1:]},
+        "more wires": {"wires": call["wires"] + [0]},
+    }
+    if name == "finish":
+        return changes
+    changes |= {
+        "one": {"t": 1},
+        "six": {"t": 6},
+        "none such": {"p": call["t"]},
+        "far": {"p": 2 ** 60},
+        "fewer triples": {"dealt": call["dealt"][1:]},
+        "more triples": {"dealt": call["dealt"] + [0]},
+        "two": {"dealt": call["dealt"][:-1] + [2]},
+        "no published": {"published": []},
+        "more published": {"published": call["published"] + [0]},
+    }
+    if name == "start":
+        more = {"fewer parts": {"parts": call["parts"][1:]}, "a part of 2": {"parts": [2] + call["parts"][1:]}}
+        return changes | more
+    own = call["levels"]
+    return changes | {
+        "fewer levels": {"levels": own[1:]},
+        "more levels": {"levels": own + [0]},
+        "a level more": {"levels": own[:-1] + [own[-1] + 1]},
+        "first level": {"levels": [own[0] + 1] + own[1:]},
+        "late": {"r": max(own) + 1},
+        "never": {"r": 2 ** 63},
+        "fewer sums": {"heard": call["heard"][1:]},
+        "more sums": {"heard": call["heard"] + [0]},
+        "a sum of 2": {"heard": [2] + call["heard"][1:]},
+    }
+
+
+def elections(rng, core):
+    """Own lists and strangers', by all numbers of trustees."""
+    for shape, t in itertools.product(((1, 2, 1), (2, 3, 2), (3, 2, 3), (2, 0, 2), (3, 0, 3)), range(2, 6)):
+        together(rng, core, shape, doc.gates_of(core.own_list(shape)), t)
+    for _ in range(60):
+        shape = rng.randrange(1, 4), rng.choice((0, 2, 3)), rng.randrange(1, 3)
+        gates = random_gates(rng, doc.ballot_bytes(*shape), rng.randrange(shape[0], 40))
+        together(rng, core, shape, gates, rng.randrange(2, 6))
+
+
+def any_tables(rng, core, call):
+    """A round is an equation over whatever bits the tables hold."""
+    for _ in range(100):
+        any_bits = {name: [rng.randrange(2) for _ in call[name]] for name in ("dealt", "heard", "wires", "published")}
+        check(core, "round", call | any_bits | {"r": rng.randrange(max(call["levels"]) + 1), "p": rng.randrange(3)})
+
+
+def refusals(core, name, call):
+    """Each fault of a call, and all pairs; answer arrays that are too short, and one that is longer."""
+    single = faults_of(call, name)
+    for one in single.values():
+        assert check(core, name, call | one) is None, (name, one)
+    for one, other in itertools.combinations(single.values(), 2):
+        if not set(one) & set(other):
+            assert check(core, name, call | one | other) is None, (name, one, other)
+    lent, needed = lent_to(name, call), ANSWERS[name]
+    core.ignores_short_answers(f"jugy_trustee_{name}", *lent, answers=needed)
+    assert core.raw(f"jugy_trustee_{name}", *lent, answers=needed + 2)[1][needed:] == [OLD, OLD], name
+
+
+def main():
+    rng = random.Random(202)
+    core = Core()
+    elections(rng, core)
+    call = together(rng, core, (2, 3, 2), doc.gates_of(core.own_list((2, 3, 2))), 3)
+    any_tables(rng, core, call)
+    for name in ANSWERS:
+        refusals(core, name, call)
+    alone = {1, 2, 3, 16, 17, 18}
+    told = core.saw(trustee_start=alone, trustee_round=alone | {200, 201, 202}, trustee_finish={1, 2, 3, 17})
+    print(f"tests/trustee.py: ok, {core.calls} calls: {told}")
+
+
+if __name__ == "__main__":
+    main()
