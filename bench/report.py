@@ -258,6 +258,12 @@ SECTIONS = [
     ("Lists as text", "C is `bench/text.c`. Shapes with 0 grades are rankings.", "text"),
     ("Trustees", "C is `bench/trustees.c`. The dealing is made before, and tested in every call.", "trustees"),
     (
+        "A trustee on its own machine",
+        "One of three trustees, all its rounds together, beside the one call for all three. A round goes through the "
+        "whole list, so it takes longer to compute; what it saves is a message for each gate.",
+        "apart",
+    ),
+    (
         "Eight juries in rounds",
         "Beside eight undivided runs of the same library. The shapes are in `bench/dispatch.c`.",
         "dispatch",
@@ -286,6 +292,7 @@ def main():
         "urn_run": urn_run_table(folder / "urn_run"),
         "text": text_table(folder / "text"),
         "trustees": trustees_table(folder / "trustees"),
+        "apart": "\n".join("    " + line for line in (folder / "apart_times").read_text().splitlines()),
         "dispatch": dispatch,
         "batch": batch,
     }
