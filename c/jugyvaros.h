@@ -200,9 +200,9 @@ size_t jugy_admit(size_t candidates, size_t grades, uint8_t *urn, size_t urn_len
 size_t jugy_withdraw(size_t candidates, size_t grades, uint8_t *urn, size_t urn_length, size_t juror, size_t *answer,
                      size_t answer_length);
 
-/* What an admission would answer, and what a withdrawal would, on an urn that is not altered. Of the ballots already
- * in, the answer tells whether the urn is sound; of a sound one, how many ballots it has, whether this juror's is
- * among them and whether a slot is free; and no more: two urns that agree in these give the same answer. */
+/* What an admission would answer, and what a withdrawal would; the urn stays as it is. The answer reveals whether the
+ * urn is sound; of a sound one, how many ballots it has, whether this juror's is among them and whether a slot is free;
+ * and no more: two urns that agree in these give the same answer. */
 size_t jugy_preview_admit(size_t candidates, size_t grades, const uint8_t *urn, size_t urn_length, size_t juror,
                           const uint8_t *ballot, size_t ballot_length, size_t *answer, size_t answer_length);
 size_t jugy_preview_withdraw(size_t candidates, size_t grades, const uint8_t *urn, size_t urn_length, size_t juror,

@@ -1,5 +1,5 @@
 """A season's runs in a file, twelve bytes a run, as the program season_sheet reads them: k, d, n, the closing bytes
-as a mask with candidate 0 in the lowest bit, then G and C, low byte first."""
+as a mask whose lowest bit is candidate 0, and four bytes each for G and C, the lowest first."""
 
 import pathlib
 import struct

@@ -16,7 +16,7 @@ LANES = 64
 def batch(gates: GateList, juries: Sequence[bytes], tapes: Sequence[bytes] | None = None) -> list[Board]:
     """Runs a list on 1 to 64 juries: the board of each is that of a run by itself. Tapes that are not given are fresh.
 
-    The place of a refusal is the first jury that has the fault.
+    Where a jury's ballots are refused, the place is the first such jury.
     """
     if not 1 <= len(juries) <= LANES:
         raise ValueError(f"a batch has 1 to {LANES} juries, not {len(juries)}")
