@@ -32,8 +32,8 @@ class Dispatched(NamedTuple):
 def dispatch(juries: Sequence[Jury], gates_per_round: int = GATES_PER_ROUND) -> list[Dispatched]:
     """Runs 1 to 8 juries, each round up to `gates_per_round` gates of each. Tapes that are not given are fresh.
 
-    If one jury is refused, no jury runs: the refusal has the number of the first refused jury's reason, and that jury as
-    its place.
+    If one jury is refused, no jury runs: the refusal has the number of the first refused jury's reason, and its place
+    is that jury.
     """
     tapes = [fresh_tape(jury.gates.conditional) if jury.tape is None else bytearray(jury.tape) for jury in juries]
     bad = _first_misfit(juries, tapes)
