@@ -4,10 +4,10 @@ use jury::shape::Shape;
 ghost use mathlib.Core.Path.{_≡_};
 ghost use lib.Dec.{T};
 ghost use lib.ListN.{length};
-ghost use Rattle.gates.specs.Board.{conditionalCount};
 ghost use Rattle.gate_words.specs.Writing.{Wrote};
 ghost use Rattle.jury.specs.Shape.{withinLimits, ballotBytes};
 ghost use Rattle.tally.specs.OwnList.{ownList};
+ghost use Rattle.tally.specs.inner.OwnSize.{OwnSize};
 
 // Writes it from the table's first number on, as far as the table goes. The writer says how many gates the list has,
 // and how many of them are conditional, whatever the table.
@@ -27,7 +27,7 @@ pub fn own_list(shape: Shape, table: &mut [u32]) -> Writer
 // G and C of it: what the writer counts while it writes into a table without a place.
 pub fn measure(shape: Shape) -> Writer
     requires { ⌜ T (withinLimits shape) ⌝ }
-    ensures { λ r. ⌜ (r .gate ≡ length (ownList shape)) × (r .conditional ≡ conditionalCount (ownList shape)) ⌝ }
+    ensures { λ r. ⌜ OwnSize shape r ⌝ }
 {
     own_list(shape, &mut [])
 }
