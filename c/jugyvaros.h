@@ -68,7 +68,7 @@ extern "C" {
 #define JUGY_WIRES_LENGTH 9     /* the wire table's length is not I + G */
 #define JUGY_BOARD_LENGTH 10    /* the board's length is not C + k */
 #define JUGY_NOT_ASYMMETRIC 11  /* ranked: two before each other, or one before itself; place: the first such byte */
-#define JUGY_NOT_WEAK_ORDER 12  /* ranked: i is before j, a third is neither after i nor before j; place: the ballot */
+#define JUGY_NOT_WEAK_ORDER 12  /* ranked: i is before j, a third is not after i and not before j; place: the ballot */
 #define JUGY_URN 13             /* the urn is not sound */
 #define JUGY_JUROR 14           /* the juror is not 1 to 255, or is in already (admission), or not in (withdrawal) */
 #define JUGY_FULL_URN 15        /* the urn has no free slot */
@@ -107,7 +107,7 @@ size_t jugy_measure(size_t candidates, size_t grades, size_t ballot_count, size_
 size_t jugy_write(size_t candidates, size_t grades, size_t ballot_count, uint32_t *table, size_t table_length,
                   size_t *answer, size_t answer_length);
 
-/* Tests a list, whoever wrote it, for a shape: answer[2] is G, answer[3] is C. table_length is the list's own, 4 G:
+/* Tests a list for a shape, whoever wrote it: answer[2] is G, answer[3] is C. table_length is the list's own, 4 G:
  * in a longer table whatever follows the list is tested as gates too. Reasons 1 to 3. */
 size_t jugy_test(size_t candidates, size_t grades, size_t ballot_count, const uint32_t *table, size_t table_length,
                  size_t *answer, size_t answer_length);

@@ -59,7 +59,7 @@ WORDS: dict[int, tuple[str, str, str]] = {
     ),
     12: (
         "NOT_WEAK_ORDER",
-        "ranked: i is before j, a third is neither after i nor before j",
+        "ranked: i is before j, a third is not after i and not before j",
         "the ballot",
     ),
     13: (

@@ -165,7 +165,7 @@ pub fn write(shape: Shape, table: &mut [u32]) -> Result<Size, Refusal> {
     sized(|answer, length| unsafe { c::jugy_write(k, d, n, table.as_mut_ptr(), table.len(), answer, length) })
 }
 
-/// Tests a list, whoever wrote it, for a shape.
+/// Tests a list for a shape, whoever wrote it.
 pub fn test(shape: Shape, table: &[u32]) -> Result<Size, Refusal> {
     let [k, d, n] = shape.numbers();
     // SAFETY: as in `write`; the table is only read.

@@ -51,7 +51,7 @@ reasons! {
     WiresLength = 9: "the wire table's length is not I + G";
     BoardLength = 10: "the board's length is not C + k";
     NotAsymmetric = 11: "ranked: two before each other, or one before itself" at "the first such byte";
-    NotWeakOrder = 12: "ranked: i is before j, a third is neither after i nor before j" at "the ballot";
+    NotWeakOrder = 12: "ranked: i is before j, a third is not after i and not before j" at "the ballot";
     Urn = 13: "the urn is not sound";
     Juror = 14: "the juror is not 1 to 255, or is in already (admission), or not in (withdrawal)";
     FullUrn = 15: "the urn has no free slot";

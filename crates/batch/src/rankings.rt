@@ -59,7 +59,7 @@ fn not_asymmetric_in_row(words: &[u64], k: usize, b: usize, i: usize) -> u64
     faults
 }
 
-// Reason 12: the juries with a ballot in which i is before j and a third candidate is neither after i nor before j.
+// Reason 12: the juries with a ballot in which i is before j and a third candidate is not after i and not before j.
 pub fn not_weak_order(words: &[u64], k: usize, n: usize) -> u64
     requires { ⌜ length (now words) ≡ n * k * k ⌝ }
     ensures { λ r.
@@ -108,7 +108,7 @@ fn not_weak_order_after(words: &[u64], k: usize, b: usize, i: usize) -> u64
     faults
 }
 
-// The juries in which some candidate is neither after i nor before j.
+// The juries in which some candidate is not after i and not before j.
 fn neither_after_nor_before(words: &[u64], k: usize, b: usize, i: usize, j: usize) -> u64
     requires { ⌜ ((b + 1) * k * k ≤ length (now words)) × (i < k) × (j < k) ⌝ }
     ensures { λ r.

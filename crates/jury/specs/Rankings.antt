@@ -41,11 +41,11 @@ notAsymmetricInBallot k xs b = firstOver k (notAsymmetricInRow k xs b)
 unfoldable pub firstNotAsymmetric : ℕ → ℕ → List ℕ → Place
 firstNotAsymmetric k n xs = firstOver n (notAsymmetricInBallot k xs)
 
--- Some l is neither after i nor before j.
+-- Some l is not after i and not before j.
 unfoldable pub neitherAfterNorBefore : ℕ → List ℕ → ℕ → ℕ → ℕ → Bool
 neitherAfterNorBefore k xs b i j = someBelow k (λ l. not (before k xs b i l) && not (before k xs b l j))
 
--- Some i is before some j while some l is neither after i nor before j. If 11 found nothing, l is a third candidate.
+-- Some i is before some j while some l is not after i and not before j. If 11 found nothing, l is a third candidate.
 unfoldable pub notWeakOrderAfter : ℕ → List ℕ → ℕ → ℕ → Bool
 notWeakOrderAfter k xs b i = someBelow k (λ j. before k xs b i j && neitherAfterNorBefore k xs b i j)
 

@@ -52,7 +52,7 @@ fn not_asymmetric_in_row(ballots: &[u8], k: usize, b: usize, i: usize) -> Place
     Place::Nowhere
 }
 
-// Reason 12: the first ballot in which i is before j and a third candidate is neither after i nor before j.
+// Reason 12: the first ballot in which i is before j and a third candidate is not after i and not before j.
 pub fn first_not_weak_order(ballots: &[u8], k: usize, n: usize) -> Place
     requires { ⌜ length (now ballots) ≡ n * k * k ⌝ }
     ensures { λ r. ⌜ r ≡ spec.firstNotWeakOrder k n (now (ballots .entry)) ⌝ }
@@ -82,7 +82,7 @@ fn not_weak_order(ballots: &[u8], k: usize, b: usize) -> bool
     false
 }
 
-// Whether i is before some j while a third candidate is neither after i nor before j.
+// Whether i is before some j while a third candidate is not after i and not before j.
 fn not_weak_order_after(ballots: &[u8], k: usize, b: usize, i: usize) -> bool
     requires { ⌜ ((b + 1) * k * k ≤ length (now ballots)) × (i < k) ⌝ }
     ensures { λ r. ⌜ r ≡ spec.notWeakOrderAfter k (now (ballots .entry)) b i ⌝ }

@@ -20,7 +20,7 @@ levelReasonOf Levels = reasonAt 200 0
 levelReasonOf Round = reasonAt 201 0
 levelReasonOf Heard = reasonAt 202 0
 
--- What an accepted call answers: G, C and the rounds R.
+-- The numbers answered: G, C and the rounds R.
 pub record Depths : Type 0 where
   pub gates : ℕ
   pub conditional : ℕ
