@@ -17,8 +17,8 @@
  * tied with it.
  *
  * Gates: four numbers each, kind, a, b, c; gate g is table[4 g] to table[4 g + 3]. The ballot bytes are wires 0 to
- * I - 1, and gate g makes wire I + g. Operands that a kind uses name earlier wires; the others are 0. A list has G
- * gates, of which C are conditional: such a gate costs the sealing layer one opening.
+ * I - 1, and gate g makes wire I + g. Operands that a kind uses name earlier wires; the others are 0. G is the number
+ * of gates of a list, C how many of them are conditional: such a gate costs the sealing layer one opening.
  *
  *   kind  operands  value                     conditional
  *   0     none      0                         no
@@ -202,7 +202,7 @@ size_t jugy_admit(size_t candidates, size_t grades, uint8_t *urn, size_t urn_len
 size_t jugy_withdraw(size_t candidates, size_t grades, uint8_t *urn, size_t urn_length, size_t juror, size_t *answer,
                      size_t answer_length);
 
-/* What an admission, or a withdrawal, would answer; the urn is not changed. The answer reveals whether the urn is sound
+/* What jugy_admit, or jugy_withdraw, would answer; the urn is not changed. The answer reveals whether the urn is sound
  * and, if so, how many ballots it has, whether this juror's is among them and whether a slot is free. Two urns that
  * agree in these get the same answer. */
 size_t jugy_preview_admit(size_t candidates, size_t grades, const uint8_t *urn, size_t urn_length, size_t juror,

@@ -57,7 +57,7 @@ pub fn run(
         .map_err(|refusal| located(shape, ballots, refusal))
 }
 
-/// For a fault in ballots, the core's place is the first jury that has it. Counting that jury alone tells where in its
+/// For a fault in ballots, the core answers the first jury with it as the place. Counting that jury alone tells where in its
 /// ballots the fault is.
 fn located(shape: Shape, ballots: &[u64], refusal: Refusal) -> JuryRefusal {
     match refusal.reason {
