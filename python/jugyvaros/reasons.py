@@ -1,14 +1,14 @@
-"""Why the core turns a call away: numbers, words, and the exception that carries them.
+"""Why the core refuses a call: numbers, words, and the exception that carries them.
 
-The words are those of c/jugyvaros.h (`python/from_header.py` takes them from there, and a test holds them to it), so
-that a reason reads the same in C, in Python and in every tool. What to do about it is said here.
+The words are those of c/jugyvaros.h (`python/from_header.py` takes them from there, and a test compares them), so that
+a reason reads the same in C, in Python and in every tool. The advice on what to do about it is here.
 """
 
 from __future__ import annotations
 
 from ._header import WORDS
 
-# Reasons of the season sheet, which is a program and has no exported function.
+# The season sheet is a program without an exported function, so the header does not have its reasons.
 SHEET = {
     21: ("SHEET_LENGTH", "the file is no whole number of runs, or has more than 4,096", ""),
     22: ("SHEET_RUN", "a run has a shape outside its limits, or a winner who is no candidate", "the run"),
@@ -27,7 +27,7 @@ ADVICE = {
     9: "the wire table has one byte for each ballot byte and each gate",
     10: "the board has one byte for each conditional gate and each candidate",
     11: "a candidate is never before itself, and of two at most one is before the other",
-    12: "a third candidate is behind the better one or before the worse one, or both",
+    12: "if one candidate is before another, every third is after the first or before the second",
     13: "start from an empty urn, and change it by admitting and withdrawing only",
     14: "jurors are numbered 1 to 255, and each is in once",
     15: "make the urn with more slots, or withdraw a ballot first",
@@ -47,11 +47,13 @@ ADVICE = {
 
 
 class Refused(Exception):
-    """The core turned a call away, and altered nothing.
+    """The core refused a call, and changed nothing.
 
-    number  the reason, as in c/jugyvaros.h
-    place   where the fault is, counted from 0; 0 where the reason has no place
-    words   what the reason means
+    number    the reason, as in c/jugyvaros.h
+    place     where the fault is, counted from 0; 0 if the reason has no place
+    place_of  what the place counts: "the gate", "the jury"; empty if the reason has no place
+    words     what is wrong
+    advice    what to do about it
     """
 
     def __init__(self, number: int, place: int = 0, place_of: str | None = None) -> None:

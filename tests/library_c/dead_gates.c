@@ -13,7 +13,7 @@ enum { MOST_GATES = 400000, MOST_WIRES = MOST_GATES + 255 * 64 };
 static uint32_t table[4 * MOST_GATES];
 static uint8_t needed[MOST_WIRES];
 
-/* How many gates no closing byte depends on, where `inputs` wires come before the gates. */
+/* How many gates no closing byte depends on; `inputs` wires come before the gates. */
 static size_t dead(size_t inputs, size_t gates, size_t k) {
     size_t count = 0;
     memset(needed, 0, inputs + gates);

@@ -7,12 +7,12 @@ use native.Mathlib.Omega.{arith}
 use lib.ListN.{length, set, drop, replicate, drop-of-length-le}
 use lib.Seq.{sets}
 
--- storing two lists one behind the other
+-- storing two lists one after the other
 pub sets-append : (xs ys t : List ℕ) (i j : ℕ) → j ≡ i + length xs → sets (sets t i xs) j ys ≡ sets t i (xs ++ ys)
 sets-append [] ys t i j e = ap (λ (k : ℕ). sets t k ys) (omega arith)
 sets-append (x ∷ xs) ys t i j e = sets-append xs ys (set t i x) (suc i) j (omega arith)
 
--- a table that is emptied to its end holds zeros alone
+-- a table that is emptied to its end holds only zeros
 pub all-emptied : (n : ℕ) (xs : List ℕ) → n ≡ length xs → replicate n 0 ++ drop n xs ≡ replicate (length xs) 0
 all-emptied n xs e =
     ap (λ (r : List ℕ). replicate n 0 ++ r) (drop-of-length-le xs {i = n} (omega arith))

@@ -1,4 +1,4 @@
--- What each exported call leaves, by the shape, what is lent, and the answer array.
+-- What each exported call leaves, given the shape, what is lent, and the answer array.
 use mathlib.Core.Path.{_≡_}
 use mathlib.Core.List.{List, [], _∷_}
 use Prim.Native.Nat.{ℕ}
@@ -26,7 +26,7 @@ pub record WriteLeaves (s : Shape) (table answer : List ℕ) (left : CallResult)
 abbrev pub testCall : (s : Shape) (table answer : List ℕ) → CallResult
 testCall s table answer = callResult sizeAnswer (sizeNumbers (testOutcome s table)) answer [] []
 
--- By what a run leaves.
+-- The same from what a run leaves.
 abbrev pub boardCall : (r : RunResult) (wires board answer : List ℕ) → CallResult
 boardCall r wires board answer =
     callResult sizeAnswer (sizeNumbers (r .answer)) answer (wires ∷ board ∷ []) (r .wires ∷ r .board ∷ [])

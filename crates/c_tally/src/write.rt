@@ -1,4 +1,4 @@
-// Writing the list of a shape, as a C program calls it.
+// Writing the own list of a shape, for C.
 use c_answers::array::SHORT_ANSWER;
 use c_answers::size::SIZE_ANSWER;
 use c_answers::size::put_size;

@@ -1,4 +1,4 @@
-// The evaluating step, which is no entry point: its `requires` is what the tests of this crate establish.
+// Evaluation. Nothing here is an entry point: what a `requires` asks, the tests of this crate establish.
 use crate::kind;
 ghost use mathlib.Core.Path.{_≡_};
 ghost use mathlib.Core.List.{_++_};
@@ -9,15 +9,15 @@ ghost use Rattle.gates.specs.inner.Marked.{Marked};
 ghost use Rattle.gates.specs.inner.Step.{StepReady, FinishReady, RunReady};
 ghost use Rattle.gates.specs.inner.Step.{GateReady, GateRan, Stepped, CloseReady, Evaluated};
 
-// A bit under its mask: their sum modulo 2, which cannot wrap.
+// A bit under its mask: their sum modulo 2. The sum of two bits cannot wrap.
 fn masked(a: u8, m: u8) -> u8
     ensures { λ r. ⌜ r ≡ (a + m) % 2 ⌝ }
 {
     (a % 2 + m % 2) % 2
 }
 
-// Gate g of the table: its value goes to wire own and, where it is conditional, its shown bit to the board.
-// Answers the number of shown bits after it.
+// Evaluates gate g of the table: stores its value in wire `own` and, if it is conditional, its shown bit on the
+// board. Answers the number of shown bits after it.
 fn run_gate(
     marks: &[bool; 8],
     table: &[u32],
@@ -50,8 +50,8 @@ fn run_gate(
     shown
 }
 
-// Evaluates gates from..to of a list over a wire table whose first bytes, as many as the inputs and the gates before
-// from, are there already. shown is the number of shown bits before; the answer is their number after.
+// Evaluates gates from..to of a list. The inputs and the wires of the gates before `from` are in the table already.
+// `shown` is the number of shown bits before this range; the answer is their number after it.
 pub fn step(
     inputs: usize,
     table: &[u32],
@@ -78,7 +78,7 @@ pub fn step(
     next
 }
 
-// Puts the outputs behind the shown bits.
+// Puts the outputs after the shown bits.
 pub fn close(outputs: usize, wires: &[u8], shown: usize, board: &mut [u8])
     requires { ⌜ CloseReady outputs shown (now wires) (now board) ⌝ }
     ensures { λ _. ⌜ now (board .exit) ≡ take shown (now (board .entry)) ++ outputsOf outputs (now (wires .entry)) ⌝ }
@@ -87,8 +87,8 @@ pub fn close(outputs: usize, wires: &[u8], shown: usize, board: &mut [u8])
     bytes::copy(&wires[first..], &mut board[shown..]);
 }
 
-// Evaluates a list whose inputs stand at the front of the wire table already: the step works over all gates, then the
-// outputs go to the end of the board. It is no entry point either.
+// Evaluates a list whose inputs are at the front of the wire table already: all gates, then the outputs at the end of
+// the board.
 pub fn finish(
     inputs: usize,
     table: &[u32],
@@ -107,7 +107,7 @@ pub fn finish(
     close(outputs, wires, shown, board);
 }
 
-// Evaluates a whole list: the inputs go to the front of the wire table, and the rest follows.
+// Evaluates a whole list: copies the inputs to the front of the wire table and does the rest there.
 pub fn run(
     inputs: &[u8],
     table: &[u32],

@@ -38,7 +38,7 @@ unfolding outcome
 outcome-accepted none v w e = (refl, cc)
 outcome-accepted (some q) v w e = let z : _≡_ {A = ℕ} 0 1 = cc in absurd (omega arith)
 
--- a shape within its limits has ballot bytes, of whichever kind it is
+-- a shape within its limits has ballot bytes, graded or ranked
 pub some-bytes : (s : Shape) → withinLimits s ≡ true → 1 ≤ ballotBytes s
 some-bytes s e = ⊎-elim graded rank (kinds s e)
   where
@@ -57,7 +57,7 @@ some-bytes s e = ⊎-elim graded rank (kinds s e)
         let all : 0 < s .ballots * s .candidates * s .candidates = mul-pos rows (w .k-least) in
         omega (arith, ranked-bytes s (w .ranking))
 
--- what an accepted test tells of the list
+-- what an accepted test says about the list
 pub record ListFacts (s : Shape) (table : List ℕ) (gates conditional : ℕ) : Type 0 where
   pub reasons : firstOf (testReasons s table) ≡ none
   pub within : withinLimits s ≡ true

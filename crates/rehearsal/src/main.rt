@@ -20,14 +20,14 @@ fn table() -> [u32; 16000]
     [0u32; 16000]
 }
 
-// The table holds 4,000 gates, and each may be conditional.
+// One tape byte for each gate: the table holds 4,000, and each may be conditional.
 fn tape() -> [u8; 4000]
     ensures { λ r. ⌜ ZeroTape 4000 r ⌝ }
 {
     [0u8; 4000]
 }
 
-// With the 16,320 ballot bytes of eight ranked candidates and 255 ballots they make 20,320 wires.
+// 4,000 gates, and the 16,320 ballot bytes of eight ranked candidates and 255 ballots.
 fn wires() -> [u8; 20320]
     ensures { λ r. ⌜ Zeros 20320 r ⌝ }
 {

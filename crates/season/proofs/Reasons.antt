@@ -1,4 +1,4 @@
--- What the sheet answers, from the outcomes of its tests, and which numbers its refusals have.
+-- What the sheet answers, from the outcomes of its tests, and the numbers of its refusals.
 -- Assumes nothing.
 use mathlib.Core.Path.{_≡_, _∙_, refl, sym, ap}
 use mathlib.Core.Logic.{_⊎_, inl, inr}
@@ -32,7 +32,7 @@ unfolding judged sheetReasons
 judged-by bytes size run e₁ e₂ = ap (λ (t : Bool). judged t (firstBadRun 0 (runsIn bytes))) e₁ ∙ ap (judged size) e₂
 
 module _ (bytes : List ℕ) where
-  -- the three ways to be turned away, and the one to be accepted
+  -- the three ways to be refused, and the one to be accepted
   pub part-of-a-run : (length bytes % runBytes ≡ 0 → ⊥) → firstOf (sheetReasons bytes) ≡ some (reasonOf Length)
   unfolding judged unless firstOf reasonOf
   part-of-a-run h = judged-by bytes false (firstBadRun 0 (runsIn bytes)) (and-first-fails _ (leb (length bytes) (mostRuns * runBytes)) (ne-eqb (length bytes % runBytes) 0 h)) refl

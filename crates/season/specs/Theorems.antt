@@ -1,4 +1,4 @@
--- What holds of the sheet.
+-- What holds for the sheet.
 use mathlib.Core.Path.{_≡_}
 use mathlib.Core.Logic.{_⊎_}
 use mathlib.Core.Option.{none, some}
@@ -14,8 +14,7 @@ pub record SheetMemory : Type 0 where
   pub number : (bytes : List ℕ) (r : Reason) → firstOf (sheetReasons bytes) ≡ some r
       → (r .number ≡ 21) ⊎ (r .number ≡ 22)
 
--- An accepted sheet tells the totals of its runs, and each total of two seasons, one behind the other, is the sum of
--- both.
+-- An accepted sheet has the totals of its runs, and each total of two seasons in one sheet is the sum of both.
 pub record SheetSums : Type 0 where
   pub told : (bytes : List ℕ) (r : Answer) → Sheet bytes r → firstOf (sheetReasons bytes) ≡ none
       → totalsFor r ≡ some (totalsOf (runsIn bytes))

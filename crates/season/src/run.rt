@@ -1,4 +1,4 @@
-// One run of a season, as its twelve bytes tell it.
+// One run of a season, read from its twelve bytes.
 use jury::shape::Shape;
 ghost use mathlib.Core.Path.{_≡_};
 ghost use Prim.Native.Nat.{_+_, _≤_, _^_};
@@ -23,14 +23,14 @@ pub struct Run {
     pub conditional: usize,
 }
 
-// A byte as a wider number, of which it is still known that it is small.
+// A byte as a wider number that is known to be small.
 fn wide(x: u8) -> usize
     ensures { λ r. ⌜ ByteRead x r ⌝ }
 {
     x as usize
 }
 
-// The number that four bytes write, low byte first.
+// The number in four bytes, low byte first.
 fn number(bytes: &[u8], at: usize) -> usize
     requires { ⌜ at + 4 ≤ length (now bytes) ⌝ }
     ensures { λ r. ⌜ NumberRead at (now (bytes .entry)) r ⌝ }
@@ -68,7 +68,7 @@ fn winners(mask: usize) -> usize
 }
 
 impl Run {
-    // The run that twelve bytes tell.
+    // The run in twelve bytes.
     pub fn read(bytes: &[u8]) -> Run
         requires { ⌜ runBytes ≤ length (now bytes) ⌝ }
         ensures { λ r. ⌜ RunRead (now (bytes .entry)) r ⌝ }
@@ -83,7 +83,7 @@ impl Run {
         }
     }
 
-    // Whether its shape is within the limits and each winner is a candidate.
+    // Whether its shape is within the limits and its mask names candidates only.
     pub fn is_good(self) -> bool
         ensures { λ r. ⌜ r ≡ goodRun self ⌝ }
     {

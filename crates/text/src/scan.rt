@@ -1,4 +1,4 @@
-// A text line by line: one pass for each test, and one that puts the numbers.
+// A text line by line: one pass for each test, and one that stores the numbers.
 use gates::place::Place;
 use text_lines::line;
 use text_lines::line::LINE_FEED;
@@ -13,7 +13,7 @@ ghost use Rattle.gates.specs.Test.{firstBad};
 ghost use Rattle.text.specs.Text.{linesOf, firstMalformed, gatesIn};
 ghost use Rattle.text.specs.inner.Scan.{ScanReady, PutReady};
 
-// How many lines a text has: its line feeds, and one more where characters stand behind the last of them.
+// How many lines a text has: its line feeds, plus one if characters follow the last of them.
 pub(crate) fn line_count(text: &[u8]) -> usize
     ensures { λ r. ⌜ r ≡ length (linesOf (now (text .entry))) ⌝ }
 {
@@ -35,7 +35,7 @@ pub(crate) fn line_count(text: &[u8]) -> usize
     }
 }
 
-// The first line that is no gate.
+// The first malformed line.
 pub(crate) fn first_malformed(text: &[u8]) -> Place
     ensures { λ r. ⌜ r ≡ firstMalformed 0 (linesOf (now (text .entry))) ⌝ }
 {
@@ -58,7 +58,7 @@ pub(crate) fn first_malformed(text: &[u8]) -> Place
     Place::Nowhere
 }
 
-// Whether all operands are below a wire. Those that are not in use are read as 0, which is below every gate's own wire.
+// Whether all operands are below a gate's own wire. Unused ones are read as 0, which is below every gate's wire.
 fn are_below(own: usize, a: u32, b: u32, c: u32) -> bool
     ensures { λ r. ⌜ r ≡ (ltb a own && ltb b own && ltb c own) ⌝ }
 {
@@ -71,7 +71,7 @@ fn are_below(own: usize, a: u32, b: u32, c: u32) -> bool
     (c as usize) < own
 }
 
-// The first gate that is not good, of a text whose lines are all gates.
+// The first bad gate of a text whose lines are all gates.
 pub(crate) fn first_bad(inputs: usize, text: &[u8]) -> Place
     requires { ⌜ ScanReady inputs (now text) ⌝ }
     ensures { λ r. ⌜ r ≡ firstBad inputs 0 (gatesIn (linesOf (now (text .entry)))) ⌝ }
@@ -98,7 +98,7 @@ pub(crate) fn first_bad(inputs: usize, text: &[u8]) -> Place
     Place::Nowhere
 }
 
-// Puts the numbers of a text whose lines are all gates.
+// Stores the numbers of a text whose lines are all gates.
 pub(crate) fn put_gates(text: &[u8], output: &mut [u32])
     requires { ⌜ PutReady (now text) (now output) ⌝ }
     ensures { λ _.

@@ -1,4 +1,4 @@
-// One gate as a line, out of a text.
+// Reads one gate from a line of text.
 use crate::decimal;
 use crate::decimal::Found;
 use gates::kind;
@@ -7,12 +7,12 @@ ghost use lib.ListN.{length, drop};
 ghost use Rattle.text_lines.specs.Line.{operandIn, gateIn};
 ghost use Rattle.text_lines.specs.inner.Found.{NumberRead, LineRead};
 
-// What stands before each operand, and what ends a line.
+// What precedes each operand, and what ends a line.
 pub const SPACE: u8 = 32;
 
 pub const LINE_FEED: u8 = 10;
 
-// The gate of a line, with the place behind it, or that the line has another form.
+// The gate of a line with the place after it, or that the line is malformed.
 pub enum Line {
     Gate {
         kind: u32,
@@ -24,7 +24,7 @@ pub enum Line {
     Malformed,
 }
 
-// An operand at a place of a text: a space and a number where it is in use.
+// An operand at a place of a text: a space and a number if it is in use, otherwise nothing.
 fn operand(used: bool, text: &[u8], at: usize) -> Found
     requires { ⌜ at ≤ length (now text) ⌝ }
     ensures { λ r. ⌜ NumberRead (now (text .entry)) (operandIn used (drop at (now (text .entry)))) r ⌝ }

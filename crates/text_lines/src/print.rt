@@ -1,4 +1,4 @@
-// One gate as a line, put into a text.
+// Puts one gate into a text, as a line.
 use crate::decimal;
 use crate::line::LINE_FEED;
 use crate::line::SPACE;
@@ -29,7 +29,7 @@ pub fn line_length(kind: u32, a: u32, b: u32, c: u32) -> usize
     kind_length + a_length + b_length + c_length + 1
 }
 
-// Puts an operand, behind a space, where it is in use, and answers the place behind it.
+// Puts a space and the operand if it is in use, and answers the place after it.
 fn put_operand(used: bool, n: u32, at: usize, output: &mut [u8]) -> usize
     requires { ⌜ at + length (operandText used n) ≤ length (now output) ⌝ }
     ensures { λ r. ⌜ Stored (now (output .entry)) at (operandText used n) (now (output .exit)) r ⌝ }
@@ -41,7 +41,7 @@ fn put_operand(used: bool, n: u32, at: usize, output: &mut [u8]) -> usize
     decimal::put(n, at + 1, output)
 }
 
-// Puts a gate's line, and answers the place behind it.
+// Puts a gate's line, and answers the place after it.
 pub fn put_line(kind: u32, a: u32, b: u32, c: u32, at: usize, output: &mut [u8]) -> usize
     requires { ⌜ at + length (lineOf (record { kind = kind; a = a; b = b; c = c })) ≤ length (now output) ⌝ }
     ensures { λ r. ⌜

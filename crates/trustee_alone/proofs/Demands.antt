@@ -1,4 +1,4 @@
--- Trustees apart end as the one call does, and send what follows from their own tables and the sums.
+-- Trustees apart end as the single call does, and send only what follows from their own tables and the sums.
 -- Assumes nothing.
 use mathlib.Core.Path.{_≡_, _∙_, refl, sym, ap}
 use mathlib.Core.Option.{Option, none, some}

@@ -1,4 +1,4 @@
--- Lists of tests, test by test, and what a call says and leaves by the first reason.
+-- Lists of tests, test by test, and what a call answers and leaves by the first reason.
 -- Assumes nothing.
 use mathlib.Core.Path.{_≡_, _∙_, refl, sym, ap}
 use mathlib.Core.Bool.{Bool, true, false, _&&_}
@@ -30,7 +30,7 @@ passed false n rest e = let z : _≡_ {A = ℕ} 0 1 = cc in absurd (omega arith)
 pub end : firstOf [] ≡ none
 end = unfold firstOf in refl
 
--- tests one after the other
+-- tests in order
 pub before : (xs ys : List (Option Reason)) (r : Reason) → firstOf xs ≡ some r → firstOf (xs ++ ys) ≡ some r
 unfolding orElse
 before xs ys r e = first-append xs ys ∙ ap (λ (o : Option Reason). orElse o (firstOf ys)) e
@@ -54,7 +54,7 @@ and-both a b c e f = rw (e, f) refl
 pub and-not : (a b : Bool) → a ≡ false → (a && b) ≡ false
 and-not a b e = rw e
 
--- what is said and left
+-- what is answered and left
 pub outcome-some : {A : Type 0} (o : Option Reason) (v : A) (r : Reason) → o ≡ some r → refused r ≡ outcome o v
 unfolding outcome
 outcome-some o v r e = rw e

@@ -1,5 +1,4 @@
--- What is shown of a trustee's calls, over the definitions that their contracts equate with the program's answers and
--- tables.
+-- What is shown of a trustee's calls, about the definitions that their contracts equate with answers and tables.
 use mathlib.Core.Path.{_≡_}
 use mathlib.Core.List.{List, [], _∷_}
 use Prim.Native.Nat.{ℕ, suc, _+_, _*_, _≤_, _<_}
@@ -24,7 +23,7 @@ use Rattle.trustee_alone.specs.Finish.{finishOutcome, finishedWires}
 abbrev pub lent : (before after : List ℕ) → Lent
 lent before after = record { before = before; after = after }
 
--- Demand 1. Start and rounds may write to the wire parts and to the published bits; the finish empties the wire parts.
+-- Demand 1. Start and rounds may write to the wire parts and the published bits; finish empties the wire parts.
 pub record Memory : Type 0 where
   pub start : (s : Shape) (table : List ℕ) (t p : ℕ) (parts dealt ws published : List ℕ)
       → KeepsMemory (1 ∷ 2 ∷ 3 ∷ 16 ∷ 17 ∷ 18 ∷ []) (startOutcome s table t p parts dealt ws published)
@@ -39,7 +38,7 @@ pub record Memory : Type 0 where
       → KeepsMemory (1 ∷ 2 ∷ 3 ∷ 17 ∷ []) (finishOutcome s table ws) (lent ws (finishedWires s table ws) ∷ [])
       (lent ws (finishedWires s table ws) ∷ [])
 
--- The sizes of the one call's list, and what the trustees of that call hold before round r when each is on its own.
+-- The sizes of the single call's list, and what its trustees hold before round r if each is on its own.
 abbrev pub inputsIn : Call → ℕ
 inputsIn c = ballotBytes (c .shape)
 
@@ -54,9 +53,9 @@ holdingsIn c r =
 unfoldable pub heardBefore : Call → ℕ → List ℕ
 heardBefore c r = sumsOf (c .trustees) (conditionalCount (gatesOf (c .table))) (holdingsIn c r .published)
 
--- Trustees apart end as the one call of request 2.7 does on the joined tables: after the rounds 0 to R their published
--- bits, trustee after trustee, are that call's, and the sums of their closing bits its eight bytes. So its accuracy and
--- its hiding are theirs.
+-- Trustees apart end as the single call of request 2.7 does on the joined tables: after the rounds 0 to R their
+-- published bits, trustee after trustee, are that call's, and the sums of their closing bits its eight bytes. So its
+-- accuracy and hiding are theirs.
 pub record AsTheOneCall (c : Call) : Type 0 where
   pub same-published : joined (c .trustees) (holdingsIn c (suc (roundsIn c)) .published) ≡ trusteesResult c .published
   pub same-closing : closingSums (c .trustees) (c .shape .candidates) (holdingsIn c (suc (roundsIn c)) .wireParts)
@@ -69,7 +68,8 @@ partsIn c p = ballotsOf (inputsIn c) (c .lent .dealing) p
 abbrev pub dealtIn : Call → ℕ → List ℕ
 dealtIn c p = dealtOf (gatesOf (c .table)) (c .lent .dealing) p
 
--- The start of trustee p on these tables, and its round r, are accepted and leave what the trustees together hold.
+-- The start of trustee p on these tables, and its round r, are accepted and leave what it holds in the election
+-- together.
 pub record StartOf (c : Call) (p : ℕ) (ws published : List ℕ) : Type 0 where
   pub answer : startOutcome (c .shape) (c .table) (c .trustees) p (partsIn c p) (dealtIn c p) ws published
       ≡ accepted (sizeOf (gatesOf (c .table)))
@@ -89,14 +89,14 @@ pub record RoundOf (c : Call) (p r : ℕ) : Type 0 where
       (dealtIn c p) (heardBefore c r) (holdingsIn c r .wireParts p) (holdingsIn c r .published p)
       ≡ holdingsIn c (suc r) .published p
 
--- Trustee p of such an election: its start, on any tables of its lengths, and every round up to R. So the program's
--- calls are the rounds that are spoken of here.
+-- Trustee p in such an election: its start, on any tables of the right lengths, and every round up to R. This ties
+-- the program's calls to the rounds that are spoken of here.
 pub record CallsOf (c : Call) (p : ℕ) : Type 0 where
   pub start : (ws published : List ℕ) → length ws ≡ inputsIn c + length (gatesOf (c .table))
       → length published ≡ 2 * conditionalCount (gatesOf (c .table)) + c .shape .candidates → StartOf c p ws published
   pub round : (r : ℕ) → r ≤ roundsIn c → RoundOf c p r
 
--- What a trustee sends depends on its own tables and on the sums that were heard, and on nothing else: over any two
+-- What a trustee sends depends on its own tables and on the sums it heard, and on nothing else: it is equal in two
 -- elections that agree on these.
 abbrev pub OwnTablesOnly : Type 0
 OwnTablesOnly =

@@ -12,7 +12,7 @@ use Rattle.tally.specs.Answer.{Outcome, outcome, Size, sizeOf}
 use Rattle.tally.specs.Test.{testReasons}
 use Rattle.levels.specs.Levels.{afterwards}
 
--- The reasons in checking order: 1, 2 and 3 of the list, then 17, wire parts of another length.
+-- The reasons in checking order: 1, 2 and 3 of the list, then 17 if the wire parts have the wrong length.
 unfoldable pub finishReasons : Shape → List ℕ → List ℕ → List (Option Reason)
 finishReasons s table wireParts =
     testReasons s table ++ unless (eqb (length wireParts) (ballotBytes s + length (gatesOf table))) 17 ∷ []

@@ -6,7 +6,7 @@ use lib.Dec.{eqb, leb, ltb}
 use lib.ListN.{length}
 use Rattle.tally.specs.Answer.{Outcome, Size}
 
--- Trustee p, counted from 0, of t, of whom there are 2 to 5.
+-- Trustee p, counted from 0, of t trustees, where t is 2 to 5.
 unfoldable pub isTrustee : ℕ → ℕ → Bool
 isTrustee t p = leb 2 t && leb t 5 && ltb p t
 

@@ -116,8 +116,8 @@ fn test_round(
     }
 }
 
-// Round r of trustee p of t: the gates of level r get their parts, the conditional gates of level r + 1 publish, and
-// after the last level the closing bits are published.
+// Round r of trustee p of t: gates of level r get their parts, conditional gates of level r + 1 publish, and after
+// the last level the closing bits are published.
 pub fn round(
     shape: Shape,
     table: &[u32],

@@ -50,7 +50,7 @@ fn test_own(
     Verdict::Accepted
 }
 
-// Trustee p of t starts: its wire parts are its ballot parts and zeros, and nothing is published yet.
+// Trustee p of t starts: its wire parts are its ballot parts, then zeros; nothing is published yet.
 pub fn start(
     shape: Shape,
     table: &[u32],

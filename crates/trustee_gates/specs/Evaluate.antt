@@ -24,7 +24,7 @@ pub record RunReady (t : ℕ) (pieces : Pieces) (inputs : ℕ) (table dealt wire
   pub dealt-length : length dealt ≡ t * pieces .dealt
   pub published-length : length published ≡ t * pieces .published
 
--- Besides: tables of exactly the lengths of request 2.7, and at least k gates.
+-- Also: tables of exactly the lengths of request 2.7, and at least k gates.
 pub record EvaluateReady (t inputs : ℕ) (table : List ℕ) (conditional k : ℕ)
     (ballotParts dealt wires published : List ℕ) : Type 0 where
   pub some-input : 1 ≤ inputs

@@ -24,7 +24,7 @@ pub record InWires (size : ℕ) (g : Numbers) (p : ℕ) (wires : List ℕ) : Typ
   pub c-in : g .c < size
   pub wires-reach : p * size + size ≤ length wires
 
--- And so are its bits of the i-th triple.
+-- So are its bits of the i-th triple.
 pub record InDealt (size i p : ℕ) (dealt : List ℕ) : Type 0 where
   pub triple-in : 3 * i + 2 < size
   pub dealt-reach : p * size + size ≤ length dealt
@@ -57,7 +57,7 @@ pub record ProductReady (t : ℕ) (pieces : Pieces) (g : Numbers) (own i : ℕ) 
   pub triple-in : 3 * i + 2 < pieces .dealt
   pub dealt-length : length dealt ≡ t * pieces .dealt
 
--- A gate of either sort: triple and factors have their places where it is conditional.
+-- A gate, conditional or free: if it is conditional, the tables have places for its triple and its factors.
 pub record GateReady (t : ℕ) (pieces : Pieces) (g : Numbers) (own i : ℕ) (dealt wires published : List ℕ) : Type 0 where
   pub free : FreeReady t (pieces .wires) g own wires
   pub known : g .kind < 8

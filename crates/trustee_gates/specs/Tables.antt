@@ -6,8 +6,8 @@ use lib.ListN.{length}
 use lib.Seq.{sets}
 use Rattle.trustee_shares.specs.Shares.{Held}
 
--- A table with pieces of one size after each of the first t trustees has put its entries into its piece, from an index
--- on.
+-- A table with pieces of one size, after each of the first t trustees has put its entries into its piece from an
+-- index on.
 unfoldable pub eachPuts : ℕ → ℕ → ℕ → Held → List ℕ → List ℕ
 eachPuts zero size index entries table = table
 eachPuts (suc t) size index entries table = sets (eachPuts t size index entries table) (t * size + index) (entries t)

@@ -46,7 +46,7 @@ fn product_adds_up(t: usize, size: usize, i: usize, dealt: &[u8]) -> bool
     table::open(dealt, size, t, 3 * i + 2) == bits::times(u, v)
 }
 
-// Whether the parts of the product of each of so many triples add up to it.
+// Whether the parts of each triple's product add up to it.
 pub fn products_add_up(t: usize, conditional: usize, dealt: &[u8]) -> bool
     requires { ⌜ ProductsReady t conditional (now dealt) ⌝ }
     ensures { λ r. ⌜ r ≡ productsAddUp t conditional (now (dealt .entry)) ⌝ }

@@ -1,4 +1,5 @@
-// The evaluation of a whole list by trustees. It is no entry point: its `requires` is what the tests establish.
+// The evaluation of a whole list by trustees. Nothing here is an entry point: what a `requires` asks, the tests
+// establish.
 use crate::gate;
 use crate::gate::Numbers;
 use crate::gate::Pieces;
@@ -25,7 +26,7 @@ pub fn numbers_at(table: &[u32], g: usize) -> Numbers
     }
 }
 
-// All gates in turn, over wire parts of which the inputs are there already.
+// All gates in order. The inputs are in the wire parts already.
 fn run_gates(
     t: usize,
     pieces: Pieces,
@@ -62,8 +63,8 @@ fn run_gates(
     }
 }
 
-// The inputs go to the front of each trustee's wire parts, the gates follow, and in the end each trustee publishes its
-// parts of the last k wires.
+// Copies the inputs to the front of each trustee's wire parts, does the gates, and publishes each trustee's parts of
+// the last k wires.
 pub fn evaluate(
     t: usize,
     inputs: usize,

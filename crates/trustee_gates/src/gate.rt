@@ -11,7 +11,7 @@ ghost use Rattle.trustee_gates.specs.Gate.{gateOf, InWires, InDealt, Pub
 ghost use Rattle.trustee_gates.specs.Gate.{FactorReady, Published, GateRan};
 ghost use Rattle.gates.specs.inner.Marked.{Marked};
 
-// How much of each table belongs to one trustee.
+// How many entries of each table belong to one trustee.
 pub struct Pieces {
     pub wires: usize,
     pub dealt: usize,
@@ -80,7 +80,7 @@ pub fn masked_second(
     bits::plus(factor, table::entry(dealt, pieces.dealt, p, 3 * i + 1))
 }
 
-// Each trustee publishes its bits of both factors, masked; both are opened on the way.
+// Each trustee publishes its masked bits of both factors; their sums are opened on the way.
 fn publish(
     t: usize,
     pieces: Pieces,
@@ -166,7 +166,7 @@ fn enter_products(
     }
 }
 
-// Each trustee enters its part of a free gate's wire, for which no product is needed.
+// Each trustee enters its part of a free gate's wire, which needs no product.
 fn enter_free(t: usize, size: usize, gate: Numbers, own: usize, wires: &mut [u8])
     requires { ⌜ FreeReady t size gate own (now wires) ⌝ }
     ensures { λ _.
@@ -181,7 +181,7 @@ fn enter_free(t: usize, size: usize, gate: Numbers, own: usize, wires: &mut [u8]
     }
 }
 
-// One gate, i conditional ones having been before it. Answers how many there are after it.
+// One gate, which i conditional gates precede. Answers their number after it.
 pub(crate) fn run_gate(
     marks: &[bool; 8],
     t: usize,

@@ -1,4 +1,4 @@
-// One round of one trustee. It is no entry point: its `requires` is what the tests establish.
+// One round of one trustee. Nothing here is an entry point: what a `requires` asks, the tests establish.
 use crate::part;
 use gate_levels::level;
 use gates::kind;
@@ -10,7 +10,7 @@ ghost use Rattle.gates.specs.Gate.{gatesOf};
 ghost use Rattle.trustee_rounds.specs.Rounds.{enters, publishes};
 ghost use Rattle.trustee_rounds.specs.inner.Passes.{turnBy, EnterPass, PublishPass, RoundReady, Turned};
 
-// Who computes, in which round, for a list over how many inputs.
+// Which trustee computes, in which round, for a list of how many inputs.
 pub struct Seat {
     pub trustee: usize,
     pub round: usize,
@@ -52,8 +52,8 @@ fn enter(seat: Seat, table: &[u32], levels: &[u32], dealt: &[u8], heard: &[u8], 
     }
 }
 
-// Publishes the masked factors of all conditional gates of the next level, for which all parts are there. Neither the
-// trustee's number nor what it heard is needed.
+// Publishes the masked factors of all conditional gates of the next level; their operands are known by now. Neither
+// the trustee's number nor what it heard is needed.
 fn publish(
     inputs: usize,
     round: usize,
@@ -91,7 +91,7 @@ fn publish(
     }
 }
 
-// The whole round: parts of this level, factors of the next, and after the last level the closing bits.
+// A whole round: parts of this level, factors of the next, and after the last level the closing bits.
 pub fn round(
     seat: Seat,
     rounds: usize,

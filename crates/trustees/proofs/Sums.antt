@@ -48,7 +48,7 @@ eight-tabulated k f =
     at : (j : ℕ) → j < 8 → getD (tabulate 8 (upTo k f (λ i. 0))) j 0 ≡ getD (eightBytes (tabulate k f)) j 0
     at j l = getD-tabulate 8 j (upTo k f (λ i. 0)) 0 l ∙ entry j ∙ sym (eight-at (tabulate k f) j l)
 
--- a shape within its limits has ballot bytes, of whichever kind it is
+-- a shape within its limits has ballot bytes, graded or ranked
 some-bytes : (s : Shape) → withinLimits s ≡ true → 1 ≤ ballotBytes s
 some-bytes s e = ⊎-elim graded rank (kinds s e)
   where
@@ -103,7 +103,7 @@ module _ (c : Call) where
   pub call-ready : (size : Size) → size ≡ sizeOf (gatesOf (c .table)) → CallPassed c → Ready c size
   call-ready size e p = rw e (ready-own p)
 
-  -- the closing bits stand behind the factors in each trustee's piece
+  -- the closing bits come after the factors in each trustee's piece
   module _ (size : Size) (r : Ready c size) where
     parts : Held
     parts = wirePartsIn c

@@ -1,5 +1,5 @@
--- The three demands for the trustees' call, over the definition that its contract equates with the program's answer and
--- with all that is lent.
+-- The three demands for the trustees' call, about the definition that its contract equates with its answer and all
+-- that is lent.
 use mathlib.Core.Path.{_≡_}
 use mathlib.Core.List.{List, [], _∷_}
 use Prim.Native.Nat.{ℕ, _+_, _<_}
@@ -22,11 +22,11 @@ use Rattle.trustee_shares.specs.Views.{Dealing}
 use Rattle.trustees.specs.Call.{Call, dealtAs, wirePartsIn, viewIn}
 use Rattle.trustees.specs.Result.{trusteesResult}
 
--- A call that is accepted answers the G and C of its list.
+-- An accepted call answers the G and C of its list.
 abbrev pub Accepted : Call → Type 0
 Accepted c = trusteesResult c .answer ≡ accepted (sizeOf (gatesOf (c .table)))
 
--- Demand 1. The call may write to two tables and empties the wire parts; a refusal answers zeros for the sums.
+-- Demand 1. The call may write to two tables, and empties the wire parts. A refusal answers zeros for the sums.
 pub record Memory (c : Call) : Type 0 where
   pub keeps : let parts : Lent = record { before = c .lent .wireParts; after = trusteesResult c .wireParts } in
       let bits : Lent = record { before = c .lent .published; after = trusteesResult c .published } in
@@ -34,9 +34,9 @@ pub record Memory (c : Call) : Type 0 where
       (parts ∷ [])
   pub zeros : (r : Reason) → trusteesResult c .answer ≡ refused r → trusteesResult c .closing ≡ replicate 8 0
 
--- Demand 2 of an accepted call: the parts of every wire add up to the plain wire, and the sums answered are the closing
--- bytes of every accepted plain run, whatever its tape, as eight bytes. The call leaves zeros for wire parts; that it
--- filled the table with these parts before is what the contract of `trustee_gates::evaluate::evaluate` says.
+-- Demand 2: the parts of every wire add up to the plain wire, and the sums answered are the closing bytes of every
+-- accepted plain run, whatever its tape. The call leaves zeros for wire parts; the contract of
+-- `trustee_gates::evaluate::evaluate` says that they were these parts before.
 pub record Accuracy (c : Call) (size : Size) : Type 0 where
   pub own-size : size ≡ sizeOf (gatesOf (c .table))
   pub every-wire : (x : ℕ) → x < length (c .ballots) + length (gatesOf (c .table))
@@ -48,21 +48,21 @@ pub record Accuracy (c : Call) (size : Size) : Type 0 where
       → trusteesResult c .closing
       ≡ eightBytes (closingBytes (c .shape) (runResult (c .shape) (c .table) (c .ballots) tape wires board .board))
 
--- Under the list that the core writes for a shape, the sums are the plain count's bytes, and say who wins.
+-- With the own list of a shape, the sums are the plain count's bytes, and say who wins.
 pub record OwnList (c : Call) : Type 0 where
   pub plain-count : trusteesResult c .closing ≡ plainClosing (c .shape) (c .ballots)
   pub says-who-wins : SaysWhoWins (c .shape) (c .ballots) (trusteesResult c .closing)
 
--- Demand 3 for trustees, of two calls that agree in shape, list and number of trustees: whichever trustee q is left
--- out, for each accepted dealing d of the first, one accepted dealing e of the second, and no other, lets the trustees
--- but q hold and see the same. The published bits of a view are the table that the call leaves.
+-- Demand 3 for two calls with one shape, list and number of trustees. Whichever trustee q is left out: for each
+-- accepted dealing d of the first, exactly one accepted dealing e of the second gives the other trustees the same
+-- view. Its published bits are the table that the call leaves.
 pub record Hidden (c c′ : Call) : Type 0 where
   pub same-view : (q : ℕ) → q < c .trustees → (d : Dealing) → Accepted (dealtAs c d)
       → ExactlyOne (λ (e : Dealing). Accepted (dealtAs c′ e) × (viewIn q (dealtAs c d) ≡ viewIn q (dealtAs c′ e)))
   pub sees-the-table : (q : ℕ) (d : Dealing) → Accepted (dealtAs c d)
       → viewIn q (dealtAs c d) .published ≡ trusteesResult (dealtAs c d) .published
 
--- It holds of all accepted calls of one shape, list and number of trustees that answer the same sums.
+-- It holds for all accepted calls with one shape, list and number of trustees that answer the same sums.
 abbrev pub ViewsTellNoMore : Type 0
 ViewsTellNoMore =
     (c c′ : Call) (first second : Size)

@@ -9,7 +9,7 @@ use Rattle.basics.specs.Lists.{tabulate}
 use Rattle.jury.specs.declared.shape.Shape.{Shape}
 use Rattle.jury.specs.Counts.{countArray, AddUp}
 
--- The array of counts while it is filled: eight rows of seven counts, to each of which 1 can be added.
+-- The array of counts while it is filled: eight rows of seven counts, each small enough for one more.
 pub record EightBySeven (counts : List (List ℕ)) : Type 0 where
   pub rows : length counts ≡ 8
   pub columns : (c : ℕ) → c < 8 → length (getD counts c []) ≡ 7
@@ -37,7 +37,7 @@ unfoldable pub plusBallot : ℕ → ℕ → List (List ℕ) → List ℕ → Lis
 plusBallot k d counts ballot =
     tabulate 8 (λ c. cond (ltb c k) (plusRow (getD counts c []) (take d (drop (c * d) ballot))) (getD counts c []))
 
--- The first k rows of an array of counts, d counts of each.
+-- The first d counts of each of the first k rows.
 unfoldable pub rowsIn : ℕ → ℕ → List (List ℕ) → List (List ℕ)
 rowsIn k d counts = map (take d) (take k counts)
 

@@ -7,13 +7,13 @@ use Rattle.season.specs.declared.run.Run.{Run}
 use Rattle.season.specs.declared.sheet.Totals.{Totals}
 use Rattle.season.specs.Season.{runBytes, mostRuns, numberAt, runOf, sharedOf}
 
--- A run's numbers are as small as its bytes make them.
+-- The numbers of a run fit into the bytes that they are read from.
 pub record Small (r : Run) : Type 0 where
   pub ballots-small : r .ballots < 256
   pub gates-small : r .gates < 2 ^ 32
   pub conditional-small : r .conditional < 2 ^ 32
 
--- No sum is larger than so many runs can make it.
+-- Each total is at most what n runs can sum to.
 pub record SumsOf (n : ℕ) (t : Totals) : Type 0 where
   pub runs-most : t .runs ≤ n
   pub gates-most : t .gates ≤ 4294967296 * n
@@ -21,7 +21,7 @@ pub record SumsOf (n : ℕ) (t : Totals) : Type 0 where
   pub ballots-most : t .ballots ≤ 256 * n
   pub shared-most : t .shared ≤ n
 
--- The totals with one run more.
+-- The totals with one more run.
 unfoldable pub plusRun : Totals → Run → Totals
 plusRun t r = record {
   runs = t .runs + 1;

@@ -1,5 +1,5 @@
--- What the functions that read a text from a place on find there, in the terms of the definitions. No promise of an
--- entry point speaks of these.
+-- What the functions that read from a place on find there, in terms of the definitions. No entry point's contract
+-- needs it.
 use mathlib.Core.Path.{_≡_}
 use mathlib.Core.Option.{Option, none}
 use mathlib.Core.List.{List}

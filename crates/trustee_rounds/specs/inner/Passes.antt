@@ -1,4 +1,4 @@
--- What inner functions ask and leave: no entry point's contract needs it.
+-- What inner functions ask and leave; no entry point's contract needs it.
 use mathlib.Core.Path.{_≡_}
 use mathlib.Core.Bool.{true}
 use mathlib.Core.List.{List}
@@ -31,7 +31,7 @@ pub record GateIn (g : Numbers) (ws : List ℕ) : Type 0 where
   pub b-in : g .b < length ws
   pub c-in : g .c < length ws
 
--- And where the gate is conditional, so are its triple and its sums.
+-- If the gate is conditional, so are its triple and its sums.
 pub record PartReady (g : Numbers) (i : ℕ) (dealt heard ws : List ℕ) : Type 0 where
   pub operands : GateIn g ws
   pub known : g .kind < 8
@@ -47,7 +47,7 @@ pub record PublishReady (g : Numbers) (i : ℕ) (dealt ws published : List ℕ) 
   pub triple-in : conditionalOf (g .kind) ≡ true → 3 * i + 2 < length dealt
   pub places-in : conditionalOf (g .kind) ≡ true → 2 * i + 1 < length published
 
--- A list of good gates over at least one input, with tables of one trustee's lengths.
+-- A list of good gates with at least one input, and tables of one trustee's lengths.
 pub record Pass (inputs : ℕ) (table levels dealt ws : List ℕ) : Type 0 where
   pub some-input : 1 ≤ inputs
   pub few : inputs + length (gatesOf table) < 1073741824

@@ -17,13 +17,13 @@ fn seed_number(seed: &str) -> u64 {
     seed.bytes().fold(0xCBF2_9CE4_8422_2325, |hash, byte| (hash ^ u64::from(byte)).wrapping_mul(0x100_0000_01B3))
 }
 
-/// A seed where none is given: a few digits, for whoever wants the same juries again.
+/// A seed if none is given: a few digits, so that the same juries can be drawn again.
 fn any_seed() -> std::io::Result<String> {
     let word = jugyvaros::Secret::random_words(1)?[0];
     Ok((word % 1_000_000_000).to_string())
 }
 
-/// Runs the fair on so many threads, with a bar where somebody looks on.
+/// Runs the fair on several threads, with a progress bar on a terminal.
 fn rehearsed(fair: &Fair, jobs: usize) -> Result<Outcome, JuryRefusal> {
     let began = Instant::now();
     let looked_at = std::io::stderr().is_terminal();
@@ -62,7 +62,7 @@ fn main() -> ExitCode {
     let options = match options::read(std::env::args().skip(1)) {
         Ok(options) => options,
         Err(Other::Help) => {
-            // whoever stops reading it has read enough
+            // a reader who closes the pipe has read enough
             let _ = writeln!(std::io::stdout(), "{}", options::HELP);
             return ExitCode::SUCCESS;
         }

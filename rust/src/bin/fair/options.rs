@@ -9,20 +9,22 @@ usage: fair K D N [BATCHES] [--seed SEED] [--spread STEPS] [--levels LEVELS] [--
 
 Rehearses a fair: random juries of one shape, 64 at a time, and how often each blend wins.
 
-  K D N            K blends, D grades or 0 where jurors rank the blends, N ballots a jury
-  BATCHES          so many times 64 juries; 16 where it is not given
+  K D N            K blends, D grades (0 if jurors rank the blends), N ballots a jury
+  BATCHES          how many times 64 juries; 16 if not given
   --seed SEED      any text or number: the same seed gives the same juries, whatever the number of jobs
   --spread STEPS   each blend of a jury has a true level, a grade or a rank; a juror takes STEPS steps from it, 0 to 64,
-                   each with probability 1/4 a level better, 1/4 a level worse, 1/2 none. Without it, levels are uniform
-  --levels LEVELS  of rankings: how many levels jurors tell apart, 1 to 8; blends of one level are ties. Else K
-  --jobs JOBS      how many threads work; as many as there are processors where it is not given
+                   each a level better with probability 1/4, a level worse with 1/4, and none with 1/2. Without this
+                   option every level is equally likely
+  --levels LEVELS  for rankings: how many levels jurors can tell apart, 1 to 8; blends of one level are tied. K if not
+                   given
+  --jobs JOBS      how many threads; as many as there are processors if not given
   --svg FILE       draws the shares
   --help           prints this
 
 Prints, a line each: the shape, the number of juries, the seed; each blend's wins with their share of all juries and
 its standard error; shared wins; with --spread, how often a truly best blend is among the winners; the processor time
-of all, and the core's part of it. Levels are equally likely but for less than one draw in 10^25. Ballots and tapes
-come from a generator that keeps no secret: a rehearsal has none.";
+of all threads, and the core's part of it. Ballots and tapes come from a generator that is not for secrets: a rehearsal
+has none.";
 
 /// A fair to rehearse.
 #[derive(Debug)]
@@ -34,7 +36,7 @@ pub struct Options {
     pub svg: Option<PathBuf>,
 }
 
-/// Why there is no fair: help is asked for, or something is wrong.
+/// Why there is no fair: help was asked for, or an option is wrong.
 #[derive(Debug, PartialEq, Eq)]
 pub enum Other {
     Help,
@@ -88,7 +90,7 @@ impl Words {
     }
 }
 
-/// Reads the words behind the program's name.
+/// Reads the arguments.
 pub fn read(words: impl IntoIterator<Item = String>) -> Result<Options, Other> {
     let words = Words::read(words)?;
     let [k, d, n, batches @ ..] = words.plain.as_slice() else {

@@ -1,5 +1,5 @@
--- `batch::run::run` meets its contract: where the tests pass, the evaluation fills the wire table and the board and the
--- wire table is emptied, and else nothing is touched.
+-- `batch::run::run` meets its contract: if the tests pass, the evaluation fills wire table and board, and the wire
+-- table is emptied; otherwise nothing is touched.
 -- Assumes nothing.
 use mathlib.Core.Path.{_≡_, _∙_, sym, ap}
 use mathlib.Core.Option.{Option, none, some}
@@ -45,7 +45,7 @@ test-run-requires c κs = search needs
 enum-told : tie.Need-enum-told
 enum-told c = search needs
 
--- where the tests pass, no reason applies
+-- if the tests pass, no reason applies
 no-reason : (c : tie.After-enum-told) → firstOf (batchReasons (call (started c))) ≡ none
 unfolding outcomeOf
 no-reason c =

@@ -1,5 +1,5 @@
--- `c_dispatch::by_rounds::jugy_dispatch` meets its contract: where the answer array is long enough, it says what the
--- dispatcher says.
+-- `c_dispatch::by_rounds::jugy_dispatch` meets its contract: if the answer array is long enough, it answers what the
+-- dispatcher does.
 -- Assumes nothing.
 use mathlib.Core.Path.{_∙_, ap}
 use mathlib.Core.List.{List, [], _∷_}

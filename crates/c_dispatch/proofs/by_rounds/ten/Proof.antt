@@ -1,4 +1,4 @@
--- `c_dispatch::by_rounds::ten` meets its contract: two numbers, and eight behind them.
+-- `c_dispatch::by_rounds::ten` meets its contract: two numbers, then eight.
 -- Assumes nothing.
 use mathlib.Core.Path.{ap}
 use mathlib.Core.List.{List, _∷_}

@@ -1,5 +1,5 @@
--- `c_trustees::by_trustees::jugy_trustees` meets its contract: where the answer array is long enough, it says what the
--- entry point says.
+-- `c_trustees::by_trustees::jugy_trustees` meets its contract: if the answer array is long enough, it answers what
+-- the entry point does.
 -- Assumes nothing.
 use borrow.Author.Needs.{needs}
 use mathlib.Core.Path.{ap}

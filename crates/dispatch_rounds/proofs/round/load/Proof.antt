@@ -1,4 +1,4 @@
--- `dispatch_rounds::round::load` meets its contract: the ballots are copied where no gate was given yet.
+-- `dispatch_rounds::round::load` meets its contract: the ballots are copied if no gate was given yet.
 -- Assumes nothing.
 use mathlib.Core.Path.{_∙_, sym, ap}
 use mathlib.Core.Bool.{Bool, cond}

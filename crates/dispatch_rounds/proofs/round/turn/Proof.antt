@@ -1,5 +1,5 @@
--- `dispatch_rounds::round::turn` meets its contract: a finished jury stands as it is, and any other is led on by a step,
--- and closed with its last gate.
+-- `dispatch_rounds::round::turn` meets its contract: a finished jury stays as it is; for any other the step does the
+-- next gates, and the last gate closes the board.
 -- Assumes nothing.
 use mathlib.Core.Path.{sym, ap, subst}
 use mathlib.Core.List.{List}

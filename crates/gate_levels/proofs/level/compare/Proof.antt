@@ -1,4 +1,5 @@
--- `gate_levels::level::compare` meets its contract: the first gate whose level differs decides, and else what is left is one gate less with each turn.
+-- `gate_levels::level::compare` meets its contract: the first gate whose level differs decides; without one,
+-- comparing the rest is comparing all.
 -- Assumes nothing.
 use borrow.Author.Needs.{needs}
 use mathlib.Core.Path.{_∙_, refl, ap}

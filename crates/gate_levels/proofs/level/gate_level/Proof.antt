@@ -1,4 +1,5 @@
--- `gate_levels::level::gate_level` meets its contract: the largest level of its operands, and one more where it is conditional.
+-- `gate_levels::level::gate_level` meets its contract: the largest level of the operands, plus one for a conditional
+-- gate.
 -- Assumes nothing.
 use borrow.Author.Needs.{needs}
 use mathlib.Core.Path.{_≡_, _∙_, sym, ap}

@@ -1,4 +1,4 @@
--- `gate_levels::level::write` meets its contract: what is left is one gate less with each turn.
+-- `gate_levels::level::write` meets its contract: writing the rest is writing all.
 -- Assumes nothing.
 use borrow.Author.Needs.{needs}
 use mathlib.Core.Path.{_∙_, refl, sym}

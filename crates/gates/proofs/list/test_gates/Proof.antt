@@ -1,4 +1,5 @@
--- `gates::list::test_gates` meets its contract: judging the rest from here, with the conditional gates counted so far, equals judging the whole list.
+-- `gates::list::test_gates` meets its contract: judging the rest, with the conditional gates counted so far, is
+-- judging the whole list.
 -- Assumes nothing.
 use mathlib.Core.Path.{_∙_, refl, sym, ap}
 use mathlib.Core.List.{List}

@@ -1,4 +1,5 @@
--- `gates::step::finish` meets its contract: stepping over all gates and closing leave the wires and the board of the whole list.
+-- `gates::step::finish` meets its contract: stepping over all gates, then closing, leaves the wires and the board of
+-- the list.
 -- Assumes nothing.
 use mathlib.Core.Path.{sym}
 use native.Mathlib.Omega.{arith}

@@ -1,4 +1,4 @@
--- `gates::step::run` meets its contract: inputs that were copied to the front of the wire table are what the rest starts from.
+-- `gates::step::run` meets its contract: the rest starts from the inputs, copied to the front of the wire table.
 -- Assumes nothing.
 use mathlib.Core.Path.{_∙_, ap}
 use mathlib.Core.List.{List}

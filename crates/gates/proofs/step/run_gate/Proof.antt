@@ -1,4 +1,5 @@
--- `gates::step::run_gate` meets its contract: the gate's operands are wires that there are, and its mark says whether it shows a bit.
+-- `gates::step::run_gate` meets its contract: the gate's operands name wires that exist, and its mark says whether it
+-- shows a bit.
 -- Assumes nothing.
 use mathlib.Core.Path.{_≡_, _∙_, refl, sym, ap}
 use mathlib.Core.Bool.{Bool, true, false, cond}
@@ -20,7 +21,7 @@ use Rattle.gates.proofs.step.run_gate.Tie as tie
 good : (c : tie.Start) → GoodGate (c .args .own) (gateAt (c .args .table .now) (c .args .g))
 good c = good-gate (c .args .own) (gateAt (c .args .table .now) (c .args .g)) (c .pre .gate .good)
 
--- a gate with the mark counts one, and one without it none
+-- a gate with the mark counts 1, one without it 0
 marked : (kind : ℕ) (t : Bool) (g : Gate) → t ≡ true → t ≡ conditionalOf kind → g .kind ≡ kind → conditionalCount (g ∷ []) ≡ 1
 marked kind t g e m k = count-one g ∙ ap (λ (x : ℕ). cond {A = ℕ} (conditionalOf x) 1 0) k ∙ ap (λ (u : Bool). cond {A = ℕ} u 1 0) (sym m ∙ e)
 

@@ -1,4 +1,5 @@
--- `gates::step::step` meets its contract: after each gate, what is left makes of the wires and the board what the whole range makes of them.
+-- `gates::step::step` meets its contract: after each gate, the gates that are left make the wires and the board of
+-- the whole range.
 -- Assumes nothing.
 use mathlib.Core.Path.{refl}
 use Prim.Native.Nat.{_+_, _-_}

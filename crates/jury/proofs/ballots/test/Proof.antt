@@ -1,4 +1,5 @@
--- `jury::ballots::test` meets its contract: each answer is the definition's at the outcomes of the tests that led there.
+-- `jury::ballots::test` meets its contract: each answer is the definition's for the outcomes of the tests that led
+-- there.
 -- Assumes nothing.
 use mathlib.Core.Path.{_≡_, _∙_, refl, sym}
 use mathlib.Core.Bool.{true, false}
@@ -28,7 +29,7 @@ returns c =
     let xs = start .args .ballots .now in
     sym (judged-by s xs false (firstAboveOne 0 xs) (kindReason s xs) (ne-eqb (length xs) (ballotBytes s) (λ e. c .if1 .taken (e ∙ sym (c .before .ballot-bytes .ensures)))) refl refl)
 
--- the length is as it must be
+-- the length is right
 size-known : (c : tie.Else1) → length (c .before .before .before .args .ballots .now) ≡ ballotBytes (c .before .before .before .args .shape)
 size-known c = c .if1 .left ∙ c .before .ballot-bytes .ensures
 

@@ -1,4 +1,4 @@
--- `jury::ballots::test_grades` meets its contract: the answer is the definition's at the outcome of the search.
+-- `jury::ballots::test_grades` meets its contract: the answer is the definition's for what the search found.
 -- Assumes nothing.
 use mathlib.Core.Path.{_∙_, sym, ap}
 use mathlib.Core.List.{[], _∷_}

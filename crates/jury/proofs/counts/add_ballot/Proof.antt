@@ -1,4 +1,5 @@
--- `jury::counts::add_ballot` meets its contract: below c the rows have the ballot's rows added, and from c on they are as they came.
+-- `jury::counts::add_ballot` meets its contract: the rows below c have the ballot's rows added, the others are
+-- unchanged.
 -- Assumes nothing.
 use mathlib.Core.Path.{_≡_, _∙_, sym, ap}
 use mathlib.Core.List.{List, []}
@@ -36,7 +37,7 @@ loop-holds c =
           ∙ tabulate-getD (start .args .counts .now) 8 [] (start .pre .array .rows)),
     )
 
--- the row of a turn lies within the ballot
+-- a turn's row lies within the ballot
 end-within : (c : tie.In-loop Inv-loop μ-loop) →
     c .before .loop .at + c .before .before .before .args .d ≤ length (c .before .before .before .args .ballot .now)
 end-within c =

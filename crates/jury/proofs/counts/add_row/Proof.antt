@@ -1,4 +1,4 @@
--- `jury::counts::add_row` meets its contract: below g the counts have their bytes added, and from g on they are as they came.
+-- `jury::counts::add_row` meets its contract: the counts below g have their bytes added, the others are unchanged.
 -- Assumes nothing.
 use mathlib.Core.Path.{_≡_, _∙_, sym, ap}
 use mathlib.Core.List.{List}

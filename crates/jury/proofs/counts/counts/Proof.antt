@@ -33,7 +33,7 @@ loop-holds c =
     let w = within s (c .before .pre .within) in
     (omega (arith, w .n-least), omega (arith, zero-mul (s .candidates * s .grades)), sym (array-start s (c .before .args .ballots .now)))
 
--- the ballot of a turn lies within the ballots
+-- a turn's ballot lies within the ballots
 end-within : (c : tie.In-loop Inv-loop μ-loop) →
     c .before .loop .at + c .before .before .before .args .shape .candidates * c .before .before .before .args .shape .grades ≤ length (c .before .before .before .args .ballots .now)
 end-within c =

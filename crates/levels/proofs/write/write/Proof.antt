@@ -1,4 +1,4 @@
--- `levels::write::write` meets its contract: the list is tested first, then the table's length, and nothing is written before.
+-- `levels::write::write` meets its contract: it tests the list, then the table's length, and writes only after that.
 -- Assumes nothing.
 use borrow.Author.Needs.{needs}
 use mathlib.Core.Path.{_≡_, _∙_, sym, ap}

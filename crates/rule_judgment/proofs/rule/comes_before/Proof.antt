@@ -1,4 +1,5 @@
--- `rule_judgment::rule::comes_before` meets its contract: the walk so far holds the last difference below half, and returns at the first one that is not.
+-- `rule_judgment::rule::comes_before` meets its contract: the loop keeps the last difference below half, and returns
+-- at the first one that is not below.
 -- Assumes nothing.
 use mathlib.Core.Path.{_∙_, refl, sym, ap, subst}
 use mathlib.Core.Logic.{⊎-elim}
@@ -78,7 +79,7 @@ add-t27 c =
     let x = at .before .args in
     omega (arith, sum-room (second (at .before)) (x .d) (at .loop .g) (at .loop .sums .b) (omega arith) (at .loop .inv .1 .sums-at .second), at .before .pre .secondSum)
 
--- the sums that a turn tests
+-- the sums of this turn
 next : (c : tie.After-struct-known2 Inv-loop μ-loop) → Sums
 next c = record { a = c .before .before .before .before .before .before .before .loop .sums .a + c .before .before .before .before .wide .result; b = c .before .before .before .before .before .before .before .loop .sums .b + c .before .wide2 .result }
 

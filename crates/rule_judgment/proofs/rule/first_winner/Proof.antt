@@ -57,7 +57,7 @@ add-c c = omega arith
 loop-less : tie.Need-loop-less Inv-loop μ-loop
 loop-less c = omega arith
 
--- what the call answers, of the rows
+-- the call's answer, in terms of the rows
 as-rows : (c : tie.Start Inv-loop μ-loop) (i j : ℕ) → i < c .args .k → j < c .args .k →
     precedes (sequenceOf (take (c .args .d) (getD (c .args .t1) i []))) (sequenceOf (take (c .args .d) (getD (c .args .t1) j []))) ≡ precedes (sequenceOf (getD (rows c) i [])) (sequenceOf (getD (rows c) j []))
 as-rows c i j hi hj = sym (rw (row-at (c .args .k) (c .args .d) (c .args .t1) i hi, row-at (c .args .k) (c .args .d) (c .args .t1) j hj))

@@ -1,4 +1,5 @@
--- `rule_judgment::rule::same_counts` meets its contract: what is left of the two rows is the same exactly where they are.
+-- `rule_judgment::rule::same_counts` meets its contract: the rest of the two rows is the same exactly if the rows
+-- are.
 -- Assumes nothing.
 use mathlib.Core.Path.{_≡_, _∙_, refl, sym, ap}
 use mathlib.Core.Bool.{Bool}

@@ -1,4 +1,5 @@
--- `rule_judgment::rule::winners` meets its contract: below c the closing bytes are 1 for those with the first winner's counts, and from c on they are 0.
+-- `rule_judgment::rule::winners` meets its contract: below c the bytes are 1 for those with the first winner's
+-- counts; from c on they are 0.
 -- Assumes nothing.
 use mathlib.Core.Path.{_≡_, _∙_, sym, ap}
 use mathlib.Core.Bool.{true, false}

@@ -1,4 +1,4 @@
--- `season::sheet::sums` meets its contract: the sums so far and those of the runs that are left are those of all.
+-- `season::sheet::sums` meets its contract: the sums so far and those of the runs left add up to those of all.
 -- Assumes nothing.
 use mathlib.Core.Path.{_≡_, _∙_, sym, ap}
 use Prim.Native.Nat.{ℕ, _+_, _-_, _*_, _≤_}
@@ -27,7 +27,7 @@ loop-holds c = (
   plus-start (totalsOf (firstRuns (c .before .args .runs - 0) (c .before .args .bytes .now))) ∙ ap (λ (n : ℕ). totalsOf (firstRuns n (c .before .args .bytes .now))) (sub-zero (c .before .args .runs)),
 )
 
--- the run of a turn lies within the bytes
+-- a turn's run lies within the bytes
 end-within : (c : tie.In-loop Inv-loop μ-loop) → c .before .loop .at + runBytes ≤ length (c .before .before .before .args .bytes .now)
 end-within c = omega arith
 

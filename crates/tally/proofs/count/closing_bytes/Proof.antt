@@ -1,4 +1,5 @@
--- `tally::count::closing_bytes` meets its contract: by the kind of the shape it counts grades or preferences, and applies the rule of that kind.
+-- `tally::count::closing_bytes` meets its contract: it counts grades or preferences, and applies the rule of that
+-- kind.
 -- Assumes nothing.
 use mathlib.Core.Path.{_≡_, _∙_, sym, ap, subst}
 use mathlib.Core.Bool.{true, false}

@@ -1,4 +1,4 @@
--- `tally::measure::measure` meets its contract: `graded_writer` measures the own list of a shape within its limits.
+-- `tally::measure::measure` meets its contract: it measures the own list of a shape within its limits.
 -- Assumes nothing.
 use mathlib.Core.Path.{_≡_, _∙_, sym, ap}
 use mathlib.Core.Bool.{Bool, true, false}

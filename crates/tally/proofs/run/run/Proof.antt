@@ -1,4 +1,5 @@
--- `tally::run::run` meets its contract: where the tests pass, the evaluation fills the wire table and the board and the wire table is emptied, and else nothing is touched.
+-- `tally::run::run` meets its contract: if the tests pass, the evaluation fills wire table and board, and the wire
+-- table is emptied; otherwise nothing is touched.
 -- Assumes nothing.
 use mathlib.Core.Path.{_≡_, _∙_, refl, sym, ap}
 use mathlib.Core.Option.{Option, none, some}
@@ -19,7 +20,7 @@ test-run-requires c κs = search needs
 enum-told : tie.Need-enum-told
 enum-told c = search needs
 
--- where the tests pass
+-- after the tests have passed
 start-of : tie.After-enum-told → tie.Start
 start-of c = c .before .before .before .before .before .before .before .before .before .before
 

@@ -39,7 +39,7 @@ returns c =
     let w = c .before .is-within-limits in
     same-text (read-refused (a .shape) (a .text .now) (a .output .now) (reasonAt 1 0) (shape-outside (a .shape) (a .text .now) (a .output .now) (sym (w .ensures) ∙ not-true (w .result) (c .if1 .taken))))
 
--- what the tests passed establish, one after the other
+-- what each test that passed establishes
 limits : (c : tie.Else1) → withinLimits (c .before .before .before .before .args .shape) ≡ true
 limits c = sym (c .before .is-within-limits .ensures) ∙ not-false (c .before .is-within-limits .result) (c .if1 .left)
 

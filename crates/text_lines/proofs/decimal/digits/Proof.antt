@@ -1,4 +1,4 @@
--- `text::decimal::digits` meets its contract.
+-- `text_lines::decimal::digits` meets its contract.
 -- Assumes nothing.
 use mathlib.Core.Path.{_≡_, _∙_, refl, sym, ap}
 use mathlib.Core.Bool.{true}

@@ -1,4 +1,4 @@
--- `text::decimal::number` meets its contract.
+-- `text_lines::decimal::number` meets its contract.
 -- Assumes nothing.
 use mathlib.Core.Path.{_≡_, _∙_, sym, ap}
 use mathlib.Core.Bool.{true}

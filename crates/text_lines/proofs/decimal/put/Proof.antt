@@ -1,4 +1,4 @@
--- `text::decimal::put` meets its contract.
+-- `text_lines::decimal::put` meets its contract: the last digit goes to the last place, and its tenth before it.
 -- Assumes nothing.
 use mathlib.Core.Path.{refl}
 use mathlib.Core.Path.{_≡_, _∙_}

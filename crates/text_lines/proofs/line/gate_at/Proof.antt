@@ -1,4 +1,4 @@
--- `text::line::gate_at` meets its contract.
+-- `text_lines::line::gate_at` meets its contract.
 -- Assumes nothing.
 use mathlib.Core.Path.{_≡_, _∙_, sym, ap}
 use mathlib.Core.Option.{none, some}
@@ -156,7 +156,7 @@ left-c c =
     let n = c .before .before .before .operand3 in
     left-b (c .before .before .before .before) ∙ c-found k x y (c-read c) (c-asked (c .before .before .before .before .before .before .before .before .before .before .before .before) (y .behind) ∙ found (c .before .before .before .before .before .before .before .before .before .before .before .before .before .before .before .before .before .before .before .before .args .text .now) (n .result) _ (n .ensures .found) _ _ (c .before .c .given .1))
 
--- the line ends in something else than a line feed
+-- the line does not end in a line feed
 unended : (c : tie.After-known-told4) → endIn (c-read c .behind) ≡ none → gateIn (drop (c .before .before .before .before .before .before .before .before .before .before .before .before .before .before .before .before .before .before .before .before .args .at) (c .before .before .before .before .before .before .before .before .before .before .before .before .before .before .before .before .before .before .before .before .args .text .now)) ≡ none
 unended c e = left-c c ∙ end-lost (kind-read (c .before .before .before .before .before .before .before .before .before .before .before .before .before .before .before)) (a-read (c .before .before .before .before .before .before .before .before)) (b-read (c .before .before .before .before)) (c-read c) e
 

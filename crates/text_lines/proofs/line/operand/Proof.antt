@@ -1,4 +1,4 @@
--- `text::line::operand` meets its contract.
+-- `text_lines::line::operand` meets its contract.
 -- Assumes nothing.
 use mathlib.Core.Path.{_≡_, _∙_, sym, ap}
 use mathlib.Core.Bool.{Bool, true}

@@ -1,4 +1,4 @@
--- `text::print::line_length` meets its contract.
+-- `text_lines::print::line_length` meets its contract.
 -- Assumes nothing.
 use Prim.Native.Nat.{_≤_}
 use lib.Dec.{ltb}

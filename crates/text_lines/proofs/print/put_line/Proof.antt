@@ -1,4 +1,4 @@
--- `text::print::put_line` meets its contract.
+-- `text_lines::print::put_line` meets its contract.
 -- Assumes nothing.
 use mathlib.Core.Path.{_≡_, _∙_, refl, ap}
 use mathlib.Core.List.{List, [], _∷_, _++_}

@@ -1,4 +1,4 @@
--- `text::print::put_operand` meets its contract.
+-- `text_lines::print::put_operand` meets its contract.
 -- Assumes nothing.
 use mathlib.Core.Path.{_≡_, _∙_, sym, ap}
 use mathlib.Core.List.{_∷_}

@@ -1,4 +1,4 @@
--- `trustee_alone::finish::finish` meets its contract: the list is tested first, then the length.
+-- `trustee_alone::finish::finish` meets its contract: it tests the list, then the length.
 -- Assumes nothing.
 use borrow.Author.Needs.{needs}
 use mathlib.Core.Path.{_≡_, _∙_, sym, ap}

@@ -1,4 +1,5 @@
--- `trustee_gates::evaluate::evaluate` meets its contract: the inputs are copied, the gates run, the closing bits copied.
+-- `trustee_gates::evaluate::evaluate` meets its contract: the inputs are copied, the gates run, and the closing bits
+-- copied.
 -- Assumes nothing.
 use borrow.Author.Needs.{needs}
 use mathlib.Core.Path.{_≡_, _∙_, refl, sym, ap}

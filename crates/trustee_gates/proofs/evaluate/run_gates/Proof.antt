@@ -1,4 +1,4 @@
--- `trustee_gates::evaluate::run_gates` meets its contract: what is left is one gate less with each turn.
+-- `trustee_gates::evaluate::run_gates` meets its contract: doing the rest is doing all.
 -- Assumes nothing.
 use mathlib.Core.Path.{_∙_, refl, sym}
 use mathlib.Core.List.{List}

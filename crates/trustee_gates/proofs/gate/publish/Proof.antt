@@ -1,4 +1,4 @@
--- `trustee_gates::gate::publish` meets its contract: the first p trustees have published their bits, and these are added.
+-- `trustee_gates::gate::publish` meets its contract: the first p trustees have published their bits, which are added.
 -- Assumes nothing.
 use borrow.Author.Needs.{needs}
 use mathlib.Core.Path.{_≡_, _∙_, refl, sym, ap}

@@ -1,4 +1,5 @@
--- `trustee_gates::gate::run_gate` meets its contract: a conditional gate is published, opened and entered, a free one entered.
+-- `trustee_gates::gate::run_gate` meets its contract: a conditional gate is published, opened and entered, a free one
+-- only entered.
 -- Assumes nothing.
 use borrow.Author.Needs.{needs}
 use mathlib.Core.Path.{_≡_, _∙_, sym, ap}

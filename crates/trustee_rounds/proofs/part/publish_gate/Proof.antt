@@ -28,7 +28,7 @@ returns c =
     let is = sym (c .before .conditional .ensures) ∙ not-true (c .before .conditional .result) (c .if1 .taken) in
     sym (ap (λ (b : Bool). cond (b && eqb (a .level) (a .next)) (sets (a .published .now) (2 * a .i) (maskedFirst (a .wires .now) (a .dealt .now) (a .i) (gateOf (a .numbers)) ∷ maskedSecond (a .wires .now) (a .dealt .now) (a .i) (gateOf (a .numbers)) ∷ [])) (a .published .now)) is)
 
--- past the first test
+-- after the first test
 conditional-here : (c : tie.Else1) → conditionalOf (c .before .before .before .before .before .args .numbers .kind) ≡ true
 conditional-here c = sym (c .before .conditional .ensures) ∙ not-false (c .before .conditional .result) (c .if1 .left)
 

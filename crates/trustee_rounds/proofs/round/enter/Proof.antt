@@ -1,4 +1,4 @@
--- `trustee_rounds::round::enter` meets its contract: what is left is one gate less with each turn.
+-- `trustee_rounds::round::enter` meets its contract: doing the rest is doing all.
 -- Assumes nothing.
 use borrow.Author.Needs.{needs}
 use mathlib.Core.Path.{_∙_, refl, sym}

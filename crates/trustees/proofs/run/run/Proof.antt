@@ -1,5 +1,5 @@
--- `trustees::run::run` meets its contract: where the tests pass, the evaluation fills both tables, the closing bits are
--- opened and the wire parts emptied, and else nothing is touched.
+-- `trustees::run::run` meets its contract: if the tests pass, the evaluation fills both tables, the closing bits are
+-- opened and the wire parts emptied; otherwise nothing is touched.
 -- Assumes nothing.
 use borrow.Author.Needs.{needs}
 use mathlib.Core.Path.{_≡_, _∙_, sym, ap}
@@ -50,7 +50,7 @@ passed c = c .before .before .before
 abbrev size : tie.After-known-told → Size
 size c = let g = c .before .answer .given in record { gates = g .0 .0; conditional = g .0 .1 .0 }
 
--- where the tests pass, no reason applies
+-- if the tests pass, no reason applies
 no-reason : (c : tie.After-known-told) → firstOf (trusteesReasons (call (started c))) ≡ none
 unfolding outcomeOf
 no-reason c =

@@ -1,4 +1,4 @@
--- `trustees::test::is_dealt_well` meets its contract: one test after the other.
+-- `trustees::test::is_dealt_well` meets its contract, one test after another.
 -- Assumes nothing.
 use borrow.Author.Needs.{needs}
 use mathlib.Core.Path.{_≡_, _∙_, sym}

@@ -1,4 +1,4 @@
--- `urn::put::put_slot` meets its contract: two stores and a copy behind them.
+-- `urn::put::put_slot` meets its contract: two stores and a copy after them.
 -- Assumes nothing.
 use mathlib.Core.Path.{_∙_}
 use borrow.Rule.Slice.PartMut.{same-len-mid}

@@ -1,4 +1,5 @@
--- `urn_run::load::load` meets its contract: after each turn, writing the rest of the chain's ballots behind those that are written is writing all of them.
+-- `urn_run::load::load` meets its contract: after each turn, writing the rest of the ballots after those written is
+-- writing all of them.
 -- Assumes nothing.
 use Prim.Native.Nat.{_+_, _-_, _*_, _≤_, _<_}
 use native.Mathlib.Omega.{arith}
@@ -48,7 +49,7 @@ loop-holds c =
     let a = s .args in
     load-begin (a .k) (a .d) (a .urn .now) (s .pre .graded) (s .pre .isSound) (a .wires .now) (c .wide .result) (s .pre .room) (c .wide .ensures)
 
--- The start of the call, from within a turn.
+-- The start of the call, seen from within a turn.
 abbrev from-turn : tie.In-loop Inv-loop μ-loop → tie.Start Inv-loop μ-loop
 from-turn c = c .before .before .before .before .before .before
 

@@ -1,4 +1,4 @@
--- `jury::shape::Shape::new` meets its contract: it answers by the test of the limits.
+-- `jury::shape::Shape::new` meets its contract: the test of the limits decides its answer.
 -- Assumes nothing.
 use mathlib.Core.Path.{_∙_, sym, ap}
 use mathlib.Core.Bool.{Bool, cond}
