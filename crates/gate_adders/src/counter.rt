@@ -5,14 +5,15 @@ use crate::adder::increment;
 use gate_words::choice::chain_end;
 use gate_words::writer::Writer;
 use gates::kind;
-ghost use Prim.Native.Nat.{_+_, _*_, _≤_, _<_};
+ghost use Prim.Native.Nat.{_+_, _*_, _<_};
 ghost use mathlib.Core.Path.{_≡_};
 ghost use lib.ListN.{length};
 ghost use Rattle.gate_words.specs.Limits.{writerLimit};
-ghost use Rattle.gate_words.specs.Word.{Below};
-ghost use Rattle.gate_words.specs.Writing.{Room, Wrote};
+ghost use Rattle.gate_words.specs.Writing.{Wrote};
 ghost use Rattle.gate_words.specs.Counter.{level, adders, levelSum, countLevels, countDigits, counter, addLevels};
-ghost use Rattle.gate_words.specs.Counter.{addDigits, accumulator, countSize, addSize, Countable};
+ghost use Rattle.gate_words.specs.Counter.{addDigits, accumulator, countSize, addSize};
+ghost use Rattle.gate_words.specs.inner.Counts.{LevelReady, CountReady, AddReady, CountDigitsReady, AddDigitsReady};
+ghost use Rattle.gate_words.specs.inner.Counts.{AddSizeReady};
 
 // The number of a level's adders.
 pub(crate) fn adders_of(count: u32, e: u32) -> u32
@@ -33,7 +34,7 @@ fn level_sum(n: u32, s: u32, count: u32, e: u32) -> u32
 
 // The number of gates of an accumulator's levels, which says how far apart two of its sums stand.
 pub fn add_size(count: u32, levels: u32) -> u32
-    requires { ⌜ (count < writerLimit) × (addSize count levels < writerLimit) ⌝ }
+    requires { ⌜ AddSizeReady count levels ⌝ }
     ensures { λ r. ⌜ r ≡ addSize count levels ⌝ }
 {
     let mut gates: u32 = 0;
@@ -57,8 +58,7 @@ pub(crate) fn level(
     e: u32,
     count: u32,
 ) -> Writer
-    requires { ⌜ Room start (length (level (start .wire) sum first stride e count)) ⌝ }
-    requires { ⌜ Below (start .wire) first stride count ⌝ }
+    requires { ⌜ LevelReady start (length (level (start .wire) sum first stride e count)) first stride count ⌝ }
     ensures { λ r. ⌜
         Wrote start (now (table .entry)) (level (start .wire) sum first stride e count) (now (table .exit)) r
         ⌝ }
@@ -93,9 +93,7 @@ fn count_levels(
     extra: u32,
     levels: u32,
 ) -> Writer
-    requires { ⌜ Room start (countSize count extra levels) ⌝ }
-    requires { ⌜ Below (start .wire) first stride count ⌝ }
-    requires { ⌜ (stride < writerLimit) × (count < writerLimit) × Countable count extra levels ⌝ }
+    requires { ⌜ CountReady start (countSize count extra levels) first stride count extra levels ⌝ }
     ensures { λ r. ⌜
         Wrote start (now (table .entry)) (countLevels (start .wire) first stride count extra levels) (now (table .exit))
         r
@@ -129,9 +127,7 @@ fn count_digits(
     extra: u32,
     levels: u32,
 ) -> Writer
-    requires { ⌜ Room start (levels + 1) ⌝ }
-    requires { ⌜ base + countSize count extra levels ≤ start .wire ⌝ }
-    requires { ⌜ (count < writerLimit) × Countable count extra levels ⌝ }
+    requires { ⌜ CountDigitsReady start base count extra levels ⌝ }
     ensures { λ r. ⌜
         Wrote start (now (table .entry)) (countDigits base first count extra levels) (now (table .exit)) r
         ⌝ }
@@ -163,9 +159,7 @@ pub fn counter(
     extra: u32,
     levels: u32,
 ) -> Writer
-    requires { ⌜ Room start (countSize count extra levels + (levels + 1)) ⌝ }
-    requires { ⌜ Below (start .wire) first stride count ⌝ }
-    requires { ⌜ (stride < writerLimit) × (count < writerLimit) × Countable count extra levels ⌝ }
+    requires { ⌜ CountReady start (countSize count extra levels + (levels + 1)) first stride count extra levels ⌝ }
     ensures { λ r. ⌜
         Wrote start (now (table .entry)) (counter (start .wire) first stride count extra levels) (now (table .exit)) r
         ⌝ }
@@ -185,9 +179,7 @@ fn add_levels(
     count: u32,
     levels: u32,
 ) -> Writer
-    requires { ⌜ Room start (addSize count levels) ⌝ }
-    requires { ⌜ Below (start .wire) first stride count ⌝ }
-    requires { ⌜ (stride < writerLimit) × (count < writerLimit) × (word + levels < start .wire) ⌝ }
+    requires { ⌜ AddReady start (addSize count levels) word first stride count levels ⌝ }
     ensures { λ r. ⌜
         Wrote start (now (table .entry)) (addLevels (start .wire) word first stride count levels) (now (table .exit)) r
         ⌝ }
@@ -219,9 +211,7 @@ fn add_digits(
     count: u32,
     levels: u32,
 ) -> Writer
-    requires { ⌜ Room start (levels + 1) ⌝ }
-    requires { ⌜ base + addSize count levels ≤ start .wire ⌝ }
-    requires { ⌜ (count < writerLimit) × (word + levels < start .wire) ⌝ }
+    requires { ⌜ AddDigitsReady start base word count levels ⌝ }
     ensures { λ r. ⌜ Wrote start (now (table .entry)) (addDigits base word count levels) (now (table .exit)) r ⌝ }
 {
     let mut w = start;
@@ -249,9 +239,7 @@ pub fn accumulator(
     count: u32,
     levels: u32,
 ) -> Writer
-    requires { ⌜ Room start (addSize count levels + (levels + 1)) ⌝ }
-    requires { ⌜ Below (start .wire) first stride count ⌝ }
-    requires { ⌜ (stride < writerLimit) × (count < writerLimit) × (word + levels < start .wire) ⌝ }
+    requires { ⌜ AddReady start (addSize count levels + (levels + 1)) word first stride count levels ⌝ }
     ensures { λ r. ⌜
         Wrote start (now (table .entry)) (accumulator (start .wire) word first stride count levels) (now (table .exit))
         r

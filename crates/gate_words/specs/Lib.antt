@@ -9,3 +9,4 @@ pub mod Halves
 pub mod Reach
 pub mod Writing
 pub mod Emitted
+pub mod inner

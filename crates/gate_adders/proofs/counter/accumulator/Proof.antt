@@ -16,10 +16,13 @@ add-digits-requires c κs =
     let s = c .before .before .before .before .before .before in
     let a = s .args in
     let w = c .before .before .before .add-levels in
-    let n = length-add-levels (a .start .wire) (a .word) (a .first) (a .stride) (a .count) (a .levels) in (
-      room-after (a .start) (a .table .now) _ (w .last .1 .0) (w .result) _ _ (w .ensures) (omega (arith, n)) (s .pre .0),
-      (omega (arith, n, w .ensures .wires), (s .pre .1 .1 .1, omega (arith, s .pre .1 .1 .2, w .ensures .wires))),
-    )
+    let n = length-add-levels (a .start .wire) (a .word) (a .first) (a .stride) (a .count) (a .levels) in
+    record {
+      room = room-after (a .start) (a .table .now) _ (w .last .1 .0) (w .result) _ _ (w .ensures) (omega (arith, n)) (s .pre .room);
+      levelsBelow = omega (arith, n, w .ensures .wires);
+      few = s .pre .few;
+      wordBelow = omega (arith, s .pre .wordBelow, w .ensures .wires);
+    }
 
 same-length : tie.Need-same-length
 same-length c = omega arith

@@ -25,14 +25,14 @@ loop-holds : tie.Need-loop-holds Inv-loop μ-loop
 loop-holds c =
     let a = c .before .args in
     let p = c .before .pre in
-    (p .1 .0, p .1 .1 .0, p .1 .1 .1, goes-start (a .start) (a .table .now) (addDigits (a .base) (a .word) (a .count) (a .levels)) (a .levels + 1) (p .0))
+    (p .levelsBelow, p .few, p .wordBelow, goes-start (a .start) (a .table .now) (addDigits (a .base) (a .word) (a .count) (a .levels)) (a .levels + 1) (p .room))
 
 -- in a turn the level's wires are there already
 level-fits : (c : tie.In-loop Inv-loop μ-loop) → let l = c .before .loop in l .n + 3 * adders (l .m) 0 + addSize (adders (l .m) 0) (l .left - 1) ≤ c .before .before .before .args .start .wire
 level-fits c = let l = c .before .loop in omega (arith, l .inv .0, add-size-step (l .m) (l .left) (c .loop-test .taken))
 
 level-sum-requires : tie.Need-level-sum-requires Inv-loop μ-loop
-level-sum-requires c κs = let s = c .before .before .before .before in let l = c .before .before .loop in omega (arith, s .pre .0 .small, l .inv .1, level-fits (c .before))
+level-sum-requires c κs = let s = c .before .before .before .before in let l = c .before .before .loop in omega (arith, s .pre .room .small, l .inv .1, level-fits (c .before))
 
 emit-requires : tie.Need-emit-requires Inv-loop μ-loop
 emit-requires c κs =
@@ -40,19 +40,19 @@ emit-requires c κs =
     let a = s .args in
     let l = c .before .before .before .loop in
     goes-room (a .start) (a .table .now) (addDigits (a .base) (a .word) (a .count) (a .levels)) (l .w) (l .table) (addDigits (l .n) (l .a) (l .m) (l .left)) 1 (a .levels + 1) (l .inv .3)
-    (omega (arith, length-add-digits (l .n) (l .a) (l .m) (l .left))) (omega (arith, length-add-digits (a .base) (a .word) (a .count) (a .levels))) (s .pre .0)
+    (omega (arith, length-add-digits (l .n) (l .a) (l .m) (l .left))) (omega (arith, length-add-digits (a .base) (a .word) (a .count) (a .levels))) (s .pre .room)
 
 add-a : tie.Need-add-a Inv-loop μ-loop
-add-a c = omega (arith, c .before .before .before .before .before .before .before .before .pre .0 .small, c .before .before .before .before .before .before .loop .inv .2)
+add-a c = omega (arith, c .before .before .before .before .before .before .before .before .pre .room .small, c .before .before .before .before .before .before .loop .inv .2)
 
 adders-of-requires : tie.Need-adders-of-requires Inv-loop μ-loop
 adders-of-requires c κs = omega (arith, c .before .before .before .before .before .before .loop .inv .1)
 
 mul-n : tie.Need-mul-n Inv-loop μ-loop
-mul-n c = omega (arith, c .before .before .before .before .before .before .before .before .before .pre .0 .small, c .adders-of .ensures, level-fits (c .before .before .before .before .before .before))
+mul-n c = omega (arith, c .before .before .before .before .before .before .before .before .before .pre .room .small, c .adders-of .ensures, level-fits (c .before .before .before .before .before .before))
 
 add-n : tie.Need-add-n Inv-loop μ-loop
-add-n c = omega (arith, c .before .before .before .before .before .before .before .before .before .pre .0 .small, c .adders-of .ensures, level-fits (c .before .before .before .before .before .before))
+add-n c = omega (arith, c .before .before .before .before .before .before .before .before .before .pre .room .small, c .adders-of .ensures, level-fits (c .before .before .before .before .before .before))
 
 sub-left : tie.Need-sub-left Inv-loop μ-loop
 sub-left c = omega arith
@@ -79,7 +79,7 @@ loop-again c =
     )
 
 chain-end-requires : tie.Need-chain-end-requires Inv-loop μ-loop
-chain-end-requires c κs = let l = c .before .before .loop in omega (arith, c .before .before .before .before .pre .0 .small, l .inv .0, add-size-last (l .m) (l .left) (c .before .loop-test .left))
+chain-end-requires c κs = let l = c .before .before .loop in omega (arith, c .before .before .before .before .pre .room .small, l .inv .0, add-size-last (l .m) (l .left) (c .before .loop-test .left))
 
 emit-requires-2 : tie.Need-emit-requires-2 Inv-loop μ-loop
 emit-requires-2 c κs =
@@ -87,7 +87,7 @@ emit-requires-2 c κs =
     let a = s .args in
     let l = c .before .before .before .loop in
     goes-room (a .start) (a .table .now) (addDigits (a .base) (a .word) (a .count) (a .levels)) (l .w) (l .table) (addDigits (l .n) (l .a) (l .m) (l .left)) 1 (a .levels + 1) (l .inv .3)
-    (omega (arith, length-add-digits (l .n) (l .a) (l .m) (l .left))) (omega (arith, length-add-digits (a .base) (a .word) (a .count) (a .levels))) (s .pre .0)
+    (omega (arith, length-add-digits (l .n) (l .a) (l .m) (l .left))) (omega (arith, length-add-digits (a .base) (a .word) (a .count) (a .levels))) (s .pre .room)
 
 same-length : tie.Need-same-length Inv-loop μ-loop
 same-length c = wrote-long _ _ _ _ _ (c .before .before .emit2 .ensures) ∙ c .before .before .before .before .before .before .loop .inv .3 .long

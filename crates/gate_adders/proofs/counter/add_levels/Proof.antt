@@ -26,7 +26,7 @@ loop-holds : tie.Need-loop-holds Inv-loop μ-loop
 loop-holds c =
     let a = c .before .args in
     let p = c .before .pre in
-    (p .1 .0, p .1 .1 .0, p .1 .1 .1, p .1 .1 .2, goes-start (a .start) (a .table .now) (addLevels (a .start .wire) (a .word) (a .first) (a .stride) (a .count) (a .levels)) (addSize (a .count) (a .levels)) (p .0))
+    (p .below, p .near, p .few, p .wordBelow, goes-start (a .start) (a .table .now) (addLevels (a .start .wire) (a .word) (a .first) (a .stride) (a .count) (a .levels)) (addSize (a .count) (a .levels)) (p .room))
 
 level-requires : tie.Need-level-requires Inv-loop μ-loop
 level-requires c κs =
@@ -34,18 +34,19 @@ level-requires c κs =
     let a = s .args in
     let l = c .before .before .loop in
     let b = level (l .w .wire) (l .a) (l .at) (l .d) 0 (l .m) in
-    let t = c .before .loop-test .taken in (
-      goes-room (a .start) (a .table .now) (addLevels (a .start .wire) (a .word) (a .first) (a .stride) (a .count) (a .levels)) (l .w) (l .table) (addLevels (l .w .wire) (l .a) (l .at) (l .d) (l .m) (l .left)) (length b) (addSize (a .count) (a .levels)) (l .inv .4)
+    let t = c .before .loop-test .taken in
+    record {
+      room = goes-room (a .start) (a .table .now) (addLevels (a .start .wire) (a .word) (a .first) (a .stride) (a .count) (a .levels)) (l .w) (l .table) (addLevels (l .w .wire) (l .a) (l .at) (l .d) (l .m) (l .left)) (length b) (addSize (a .count) (a .levels)) (l .inv .4)
           (omega (arith, ap length (add-levels-step (l .w .wire) (l .a) (l .at) (l .d) (l .m) (l .left) t), length-append b (addLevels (l .w .wire + 3 * adders (l .m) 0) (l .a + 1) (l .w .wire + 2) 3 (adders (l .m) 0) (l .left - 1))))
-          (omega (arith, length-add-levels (a .start .wire) (a .word) (a .first) (a .stride) (a .count) (a .levels))) (s .pre .0),
-      l .inv .0,
-    )
+          (omega (arith, length-add-levels (a .start .wire) (a .word) (a .first) (a .stride) (a .count) (a .levels))) (s .pre .room);
+      below = l .inv .0;
+    }
 
 add-a : tie.Need-add-a Inv-loop μ-loop
-add-a c = omega (arith, c .before .before .before .before .before .before .before .pre .0 .small, c .before .before .before .before .before .loop .inv .3)
+add-a c = omega (arith, c .before .before .before .before .before .before .before .pre .room .small, c .before .before .before .before .before .loop .inv .3)
 
 add-at : tie.Need-add-at Inv-loop μ-loop
-add-at c = let s = c .before .before .before .before .before .before .before in let a = s .args in omega (arith, s .pre .0 .small, c .before .before .before .before .before .loop .inv .4 .wireLeft, length-add-levels (a .start .wire) (a .word) (a .first) (a .stride) (a .count) (a .levels))
+add-at c = let s = c .before .before .before .before .before .before .before in let a = s .args in omega (arith, s .pre .room .small, c .before .before .before .before .before .loop .inv .4 .wireLeft, length-add-levels (a .start .wire) (a .word) (a .first) (a .stride) (a .count) (a .levels))
 
 adders-of-requires : tie.Need-adders-of-requires Inv-loop μ-loop
 adders-of-requires c κs = omega (arith, c .before .before .before .before .before .loop .inv .2)
@@ -81,12 +82,14 @@ parity-requires c κs =
     let s = c .before .before .before .before in
     let a = s .args in
     let l = c .before .before .loop in
-    let h = c .before .loop-test .left in (
-      goes-room (a .start) (a .table .now) (addLevels (a .start .wire) (a .word) (a .first) (a .stride) (a .count) (a .levels)) (l .w) (l .table) (addLevels (l .w .wire) (l .a) (l .at) (l .d) (l .m) (l .left)) (l .m) (addSize (a .count) (a .levels)) (l .inv .4)
+    let h = c .before .loop-test .left in
+    record {
+      room = goes-room (a .start) (a .table .now) (addLevels (a .start .wire) (a .word) (a .first) (a .stride) (a .count) (a .levels)) (l .w) (l .table) (addLevels (l .w .wire) (l .a) (l .at) (l .d) (l .m) (l .left)) (l .m) (addSize (a .count) (a .levels)) (l .inv .4)
           (omega (arith, length-add-levels (l .w .wire) (l .a) (l .at) (l .d) (l .m) (l .left), add-size-last (l .m) (l .left) h))
-          (omega (arith, length-add-levels (a .start .wire) (a .word) (a .first) (a .stride) (a .count) (a .levels))) (s .pre .0),
-      (l .inv .0, l .inv .1),
-    )
+          (omega (arith, length-add-levels (a .start .wire) (a .word) (a .first) (a .stride) (a .count) (a .levels))) (s .pre .room);
+      below = l .inv .0;
+      near = l .inv .1;
+    }
 
 same-length : tie.Need-same-length Inv-loop μ-loop
 same-length c = wrote-long _ _ _ _ _ (c .before .before .parity .ensures) ∙ c .before .before .before .before .before .loop .inv .4 .long

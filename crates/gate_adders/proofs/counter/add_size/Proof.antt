@@ -30,10 +30,10 @@ in-turn c =
     (adders-small (l .m) (c .adders-of .result) e (l .inv .0), omega (arith, l .inv .1, add-size-step (l .m) (l .left) (c .before .loop-test .taken), e, ap (λ (x : ℕ). addSize x (l .left - 1)) e))
 
 mul-gates : tie.Need-mul-gates Inv-loop μ-loop
-mul-gates c = omega (arith, in-turn c, c .before .before .before .pre .1)
+mul-gates c = omega (arith, in-turn c, c .before .before .before .pre .small)
 
 add-gates : tie.Need-add-gates Inv-loop μ-loop
-add-gates c = omega (arith, in-turn c, c .before .before .before .pre .1)
+add-gates c = omega (arith, in-turn c, c .before .before .before .pre .small)
 
 sub-left : tie.Need-sub-left Inv-loop μ-loop
 sub-left c = omega arith
@@ -45,7 +45,7 @@ loop-again : tie.Need-loop-again Inv-loop μ-loop
 loop-again c = in-turn c
 
 add-result : tie.Need-add-result Inv-loop μ-loop
-add-result c = let l = c .before .loop in omega (arith, l .inv .1, add-size-last (l .m) (l .left) (c .loop-test .left), c .before .before .pre .1)
+add-result c = let l = c .before .loop in omega (arith, l .inv .1, add-size-last (l .m) (l .left) (c .loop-test .left), c .before .before .pre .small)
 
 returns : tie.Need-returns Inv-loop μ-loop
 returns c = let l = c .before .loop in omega (arith, l .inv .1, add-size-last (l .m) (l .left) (c .loop-test .left))

@@ -24,7 +24,7 @@ loop-holds : tie.Need-loop-holds Inv-loop μ-loop
 loop-holds c =
     let a = c .before .args in
     let p = c .before .pre in
-    (p .1 .0, p .1 .1 .0, p .1 .1 .1, goes-start (a .start) (a .table .now) (countDigits (a .base) (a .first) (a .count) (a .extra) (a .levels)) (a .levels + 1) (p .0))
+    (p .levelsBelow, p .few, p .countable, goes-start (a .start) (a .table .now) (countDigits (a .base) (a .first) (a .count) (a .extra) (a .levels)) (a .levels + 1) (p .room))
 
 -- in a turn there is a bit to start from, and the level's wires are there already
 some-bit : (c : tie.In-loop Inv-loop μ-loop) → 1 ≤ c .before .loop .m
@@ -37,7 +37,7 @@ sub-level-sum : tie.Need-sub-level-sum Inv-loop μ-loop
 sub-level-sum c = some-bit (c .before)
 
 level-sum-requires : tie.Need-level-sum-requires Inv-loop μ-loop
-level-sum-requires c κs = let s = c .before .before .before .before in let l = c .before .before .loop in omega (arith, s .pre .0 .small, l .inv .1, level-fits (c .before))
+level-sum-requires c κs = let s = c .before .before .before .before in let l = c .before .before .loop in omega (arith, s .pre .room .small, l .inv .1, level-fits (c .before))
 
 emit-requires : tie.Need-emit-requires Inv-loop μ-loop
 emit-requires c κs =
@@ -45,10 +45,10 @@ emit-requires c κs =
     let a = s .args in
     let l = c .before .before .before .loop in
     goes-room (a .start) (a .table .now) (countDigits (a .base) (a .first) (a .count) (a .extra) (a .levels)) (l .w) (l .table) (countDigits (l .n) (l .at) (l .m) (l .rest) (l .left)) 1 (a .levels + 1) (l .inv .3)
-    (omega (arith, length-digits (l .n) (l .at) (l .m) (l .rest) (l .left))) (omega (arith, length-digits (a .base) (a .first) (a .count) (a .extra) (a .levels))) (s .pre .0)
+    (omega (arith, length-digits (l .n) (l .at) (l .m) (l .rest) (l .left))) (omega (arith, length-digits (a .base) (a .first) (a .count) (a .extra) (a .levels))) (s .pre .room)
 
 add-at : tie.Need-add-at Inv-loop μ-loop
-add-at c = omega (arith, c .before .before .before .before .before .before .before .before .pre .0 .small, c .before .before .before .before .before .before .loop .inv .0)
+add-at c = omega (arith, c .before .before .before .before .before .before .before .before .pre .room .small, c .before .before .before .before .before .before .loop .inv .0)
 
 sub-adders-of : tie.Need-sub-adders-of Inv-loop μ-loop
 sub-adders-of c = some-bit (c .before .before .before .before .before)
@@ -57,10 +57,10 @@ adders-of-requires : tie.Need-adders-of-requires Inv-loop μ-loop
 adders-of-requires c κs = omega (arith, c .before .before .before .before .before .before .loop .inv .1)
 
 mul-n : tie.Need-mul-n Inv-loop μ-loop
-mul-n c = omega (arith, c .before .before .before .before .before .before .before .before .before .pre .0 .small, c .adders-of .ensures, level-fits (c .before .before .before .before .before .before))
+mul-n c = omega (arith, c .before .before .before .before .before .before .before .before .before .pre .room .small, c .adders-of .ensures, level-fits (c .before .before .before .before .before .before))
 
 add-n : tie.Need-add-n Inv-loop μ-loop
-add-n c = omega (arith, c .before .before .before .before .before .before .before .before .before .pre .0 .small, c .adders-of .ensures, level-fits (c .before .before .before .before .before .before))
+add-n c = omega (arith, c .before .before .before .before .before .before .before .before .before .pre .room .small, c .adders-of .ensures, level-fits (c .before .before .before .before .before .before))
 
 sub-left : tie.Need-sub-left Inv-loop μ-loop
 sub-left c = omega arith
@@ -92,7 +92,7 @@ emit-requires-2 c κs =
     let a = s .args in
     let l = c .before .before .loop in
     goes-room (a .start) (a .table .now) (countDigits (a .base) (a .first) (a .count) (a .extra) (a .levels)) (l .w) (l .table) (countDigits (l .n) (l .at) (l .m) (l .rest) (l .left)) 1 (a .levels + 1) (l .inv .3)
-    (omega (arith, length-digits (l .n) (l .at) (l .m) (l .rest) (l .left))) (omega (arith, length-digits (a .base) (a .first) (a .count) (a .extra) (a .levels))) (s .pre .0)
+    (omega (arith, length-digits (l .n) (l .at) (l .m) (l .rest) (l .left))) (omega (arith, length-digits (a .base) (a .first) (a .count) (a .extra) (a .levels))) (s .pre .room)
 
 same-length : tie.Need-same-length Inv-loop μ-loop
 same-length c = wrote-long _ _ _ _ _ (c .before .before .emit2 .ensures) ∙ c .before .before .before .before .before .loop .inv .3 .long

@@ -16,10 +16,13 @@ count-digits-requires c κs =
     let s = c .before .before .before .before .before .before in
     let a = s .args in
     let w = c .before .before .before .count-levels in
-    let n = length-count (a .start .wire) (a .first) (a .stride) (a .count) (a .extra) (a .levels) in (
-      room-after (a .start) (a .table .now) _ (w .last .1 .0) (w .result) _ _ (w .ensures) (omega (arith, n)) (s .pre .0),
-      (omega (arith, n, w .ensures .wires), (s .pre .1 .1 .1, s .pre .1 .1 .2)),
-    )
+    let n = length-count (a .start .wire) (a .first) (a .stride) (a .count) (a .extra) (a .levels) in
+    record {
+      room = room-after (a .start) (a .table .now) _ (w .last .1 .0) (w .result) _ _ (w .ensures) (omega (arith, n)) (s .pre .room);
+      levelsBelow = omega (arith, n, w .ensures .wires);
+      few = s .pre .few;
+      countable = s .pre .countable;
+    }
 
 same-length : tie.Need-same-length
 same-length c = omega arith

@@ -48,7 +48,11 @@ compare-halves-requires : tie.Need-compare-halves-requires
 compare-halves-requires c κs =
     let f = first (c .before .before .before .before) in
     let o = second (c .before .before .before .before .before .before .before .before) in
-    (room-of ((c .before .before .before .before .key-median2) .result) _ _ _ f (omega arith), (omega (arith, f .place, o .place), omega (arith, f .place, o .place)))
+    record {
+      room = room-of ((c .before .before .before .before .key-median2) .result) _ _ _ f (omega arith);
+      firstBelow = omega (arith, f .place, o .place);
+      secondBelow = omega (arith, f .place, o .place);
+    }
 
 compared : (c : tie.After-compare-halves) → Stands (c .compare-halves .result) ((c .before .before .before .before .before .before .before .before .before .before .before .before) .args .w .wire + medianSpan ((c .before .before .before .before .before .before .before .before .before .before .before .before) .args .p) + medianSpan ((c .before .before .before .before .before .before .before .before .before .before .before .before) .args .p) + compareSpan (((c .before .before .before .before .before .before .before .before .before .before .before .before) .args .p) .places)) (lowerSpan (((c .before .before .before .before .before .before .before .before .before .before .before .before) .args .p) .digits) (((c .before .before .before .before .before .before .before .before .before .before .before .before) .args .p) .grades - 2) + 2)
 compared c =

@@ -16,7 +16,11 @@ compare-halves-requires : tie.Need-compare-halves-requires
 compare-halves-requires c κs =
     let s = (c .before .before .before .before) in
     let q = s .pre .1 in
-    (room-less (s .args .w) _ _ (omega (arith, q .2)) (s .pre .0), (omega (arith, q .0, q .2), omega (arith, q .1, q .2)))
+    record {
+      room = room-less (s .args .w) _ _ (omega (arith, q .2)) (s .pre .0);
+      firstBelow = omega (arith, q .0, q .2);
+      secondBelow = omega (arith, q .1, q .2);
+    }
 
 compared : (c : tie.After-compare-halves) → Stands (c .compare-halves .result) ((c .before .before .before .before .before) .args .w .wire + compareSpan ((c .before .before .before .before .before) .args .above)) 2
 compared c =

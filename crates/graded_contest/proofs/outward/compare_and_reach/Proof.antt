@@ -22,7 +22,11 @@ compare-halves-requires : tie.Need-compare-halves-requires
 compare-halves-requires c κs =
     let s = (c .before .before) in
     let q = s .pre .1 in
-    (room-less (s .args .w) _ _ (omega (arith, q .4)) (s .pre .0), (omega (arith, q .0, q .4), omega (arith, q .1, q .4)))
+    record {
+      room = room-less (s .args .w) _ _ (omega (arith, q .4)) (s .pre .0);
+      firstBelow = omega (arith, q .0, q .4);
+      secondBelow = omega (arith, q .1, q .4);
+    }
 
 -- behind each of them
 
@@ -37,7 +41,11 @@ compare-halves-requires-2 : tie.Need-compare-halves-requires-2
 compare-halves-requires-2 c κs =
     let q = (c .before .before .before .before .before .before) .pre .1 in
     let d = down (c .before .before .before) in
-    (room-of ((c .before .before .before .compare-halves) .result) _ _ _ d (omega (arith, q .4)), (omega (arith, d .place, q .2, q .4), omega (arith, d .place, q .3, q .4)))
+    record {
+      room = room-of ((c .before .before .before .compare-halves) .result) _ _ _ d (omega (arith, q .4));
+      firstBelow = omega (arith, d .place, q .2, q .4);
+      secondBelow = omega (arith, d .place, q .3, q .4);
+    }
 
 up : (c : tie.After-compare-halves2) → Stands (c .compare-halves2 .result) ((c .before .before .before .before .before .before .before) .args .w .wire + compareSpan ((c .before .before .before .before .before .before .before) .args .above) + compareSpan ((c .before .before .before .before .before .before .before) .args .above)) (reachSpan ((c .before .before .before .before .before .before .before) .args .above) + reachSpan ((c .before .before .before .before .before .before .before) .args .above))
 up c =
@@ -50,7 +58,11 @@ reach-requires : tie.Need-reach-requires
 reach-requires c κs =
     let q = (c .before .before .before .before .before .before .before .before .before .before) .pre .1 in
     let d = up (c .before .before .before) in
-    (room-of ((c .before .before .before .compare-halves2) .result) _ _ _ d (omega arith), (omega (arith, d .place, q .0), omega (arith, d .place, q .2)))
+    record {
+      room = room-of ((c .before .before .before .compare-halves2) .result) _ _ _ d (omega arith);
+      firstBelow = omega (arith, d .place, q .0);
+      secondBelow = omega (arith, d .place, q .2);
+    }
 
 left : (c : tie.After-reach) → Stands (c .reach .result) ((c .before .before .before .before .before .before .before .before .before .before .before) .args .w .wire + compareSpan ((c .before .before .before .before .before .before .before .before .before .before .before) .args .above) + compareSpan ((c .before .before .before .before .before .before .before .before .before .before .before) .args .above) + reachSpan ((c .before .before .before .before .before .before .before .before .before .before .before) .args .above)) (reachSpan ((c .before .before .before .before .before .before .before .before .before .before .before) .args .above))
 left c =
@@ -62,7 +74,7 @@ reach-requires-2 : tie.Need-reach-requires-2
 reach-requires-2 c κs =
     let q = (c .before .before .before .before .before .before .before .before .before .before .before .before .before .before) .pre .1 in
     let d = left (c .before .before .before) in
-    (d .left, (omega (arith, d .place, q .1), omega (arith, d .place, q .3)))
+    record { room = d .left; firstBelow = omega (arith, d .place, q .1); secondBelow = omega (arith, d .place, q .3) }
 
 returns : tie.Need-returns
 unfolding compareAndReach

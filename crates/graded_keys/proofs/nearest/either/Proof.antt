@@ -19,7 +19,11 @@ add-choose c =
 
 choose-requires : tie.Need-choose-requires
 choose-requires c κs =
-    (room-less ((c .before .before .args) .w) _ _ (omega arith) ((c .before .before) .pre .0), (omega (arith, (c .before .before) .pre .1), omega (arith, (c .before .before) .pre .1)))
+    record {
+      room = room-less ((c .before .before .args) .w) _ _ (omega arith) ((c .before .before) .pre .0);
+      firstBelow = omega (arith, (c .before .before) .pre .1);
+      secondBelow = omega (arith, (c .before .before) .pre .1);
+    }
 
 -- behind the first choice
 
@@ -33,7 +37,11 @@ add-choose-2 c =
 
 choose-requires-2 : tie.Need-choose-requires-2
 choose-requires-2 c κs =
-    (first (c .before .before .before) .left, (omega (arith, (c .before .before .before .before .before .before) .pre .1, first (c .before .before .before) .place), omega (arith, (c .before .before .before .before .before .before) .pre .1, first (c .before .before .before) .place)))
+    record {
+      room = first (c .before .before .before) .left;
+      firstBelow = omega (arith, (c .before .before .before .before .before .before) .pre .1, first (c .before .before .before) .place);
+      secondBelow = omega (arith, (c .before .before .before .before .before .before) .pre .1, first (c .before .before .before) .place);
+    }
 
 returns : tie.Need-returns
 unfolding either

@@ -24,7 +24,11 @@ sub-unequal-halves c =
 unequal-halves-requires : tie.Need-unequal-halves-requires
 unequal-halves-requires c κs =
     let s = (c .before .before .before) in
-    (room-less (s .args .w) _ _ (omega (arith, s .pre .1)) (s .pre .0), (omega (arith, s .pre .1), omega (arith, s .pre .1)))
+    record {
+      room = room-less (s .args .w) _ _ (omega (arith, s .pre .1)) (s .pre .0);
+      firstBelow = omega (arith, s .pre .1);
+      secondBelow = omega (arith, s .pre .1);
+    }
 
 -- behind the comparison
 

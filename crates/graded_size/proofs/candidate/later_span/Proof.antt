@@ -26,7 +26,13 @@ add-word : tie.Need-add-word
 add-word c = omega (arith, digits-most (c .before .before .before .args .p) (c .before .before .before .pre))
 
 add-size-requires : tie.Need-add-size-requires
-add-size-requires c κs = let p = c .before .before .before .args .p in let f = c .before .before .before .pre in (omega (arith, f .n-most), omega (arith, middle-span p, middle-small p f))
+add-size-requires c κs =
+    let p = c .before .before .before .args .p in
+    let f = c .before .before .before .pre in
+    record {
+      few = omega (arith, f .n-most);
+      small = omega (arith, middle-span p, middle-small p f);
+    }
 
 add-middle : tie.Need-add-middle
 add-middle c = let p = c .before .before .before .before .args .p in let f = c .before .before .before .before .pre in omega (arith, c .add-size .ensures, middle-span p, middle-small p f)

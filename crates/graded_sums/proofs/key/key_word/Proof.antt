@@ -12,7 +12,10 @@ use Rattle.graded_sums.proofs.key.key_word.Tie as tie
 
 copies-requires : tie.Need-copies-requires
 copies-requires c κs =
-    (room-less ((c .before .before .args) .w) _ _ (omega arith) ((c .before .before) .pre .0), omega (arith, (c .before .before) .pre .1))
+    record {
+      room = room-less ((c .before .before .args) .w) _ _ (omega arith) ((c .before .before) .pre .0);
+      below = omega (arith, (c .before .before) .pre .1);
+    }
 
 add-emit : tie.Need-add-emit
 add-emit c =

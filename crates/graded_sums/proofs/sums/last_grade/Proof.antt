@@ -58,7 +58,10 @@ add-complements c =
 
 complements-requires : tie.Need-complements-requires
 complements-requires c κs =
-    (counted (c .before .before .before .before .before) .left, omega (arith, (c .before .before .sum-before) .ensures))
+    record {
+      room = counted (c .before .before .before .before .before) .left;
+      below = omega (arith, (c .before .before .sum-before) .ensures);
+    }
 
 returns : tie.Need-returns
 returns c =

@@ -20,7 +20,10 @@ add-result c =
 
 add-size-requires : tie.Need-add-size-requires
 add-size-requires c κs =
-    omega (arith, (c .before) .pre .n-most, few-gates ((c .before .args) .p) ((c .before) .pre))
+    record {
+      few = omega (arith, (c .before) .pre .n-most, few-gates ((c .before .args) .p) ((c .before) .pre));
+      small = omega (arith, (c .before) .pre .n-most, few-gates ((c .before .args) .p) ((c .before) .pre));
+    }
 
 add-result-2 : tie.Need-add-result-2
 add-result-2 c =

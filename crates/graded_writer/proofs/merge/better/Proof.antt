@@ -20,7 +20,11 @@ add-choose c =
 choose-requires : tie.Need-choose-requires
 choose-requires c κs =
     let e = (c .before .key-span) .ensures in
-    (room-less ((c .before .before .before .args) .w) _ _ (omega (arith, e)) ((c .before .before .before) .pre .1 .0), (omega (arith, e, (c .before .before .before) .pre .1 .1 .0), omega (arith, e, (c .before .before .before) .pre .1 .1 .1)))
+    record {
+      room = room-less ((c .before .before .before .args) .w) _ _ (omega (arith, e)) ((c .before .before .before) .pre .1 .0);
+      firstBelow = omega (arith, e, (c .before .before .before) .pre .1 .1 .0);
+      secondBelow = omega (arith, e, (c .before .before .before) .pre .1 .1 .1);
+    }
 
 returns : tie.Need-returns
 returns c =

@@ -7,7 +7,13 @@ use Rattle.gate_words.proofs.writer.Writer.complements.Statement.{state
 use Rattle.gate_words.proofs.writer.Writer.complements.Tie as tie
 
 each-requires : tie.Need-each-requires
-each-requires c κs = let p = c .before .before .pre in (p .0, (omega (arith, operand-counts), p .1))
+each-requires c κs =
+    let p = c .before .before .pre in
+    record {
+      room = p .room;
+      one = omega (arith, operand-counts);
+      below = p .below;
+    }
 
 same-length : tie.Need-same-length
 same-length c = omega arith

@@ -24,7 +24,7 @@ loop-holds c =
       omega arith,
       goes-as (a .self) (a .table .now) (each (a .kind) (a .x) (a .digits)) (a .self) (a .table .now) _ _
           (sym (ap (λ (n : ℕ). each (a .kind) n (a .digits - 0)) (add-zero (a .x)) ∙ ap (each (a .kind) (a .x)) (sub-zero (a .digits))))
-          (goes-start (a .self) (a .table .now) (each (a .kind) (a .x) (a .digits)) (a .digits) (s .pre .0)),
+          (goes-start (a .self) (a .table .now) (each (a .kind) (a .x) (a .digits)) (a .digits) (s .pre .room)),
     )
 
 add-emit : tie.Need-add-emit Inv-loop μ-loop
@@ -36,7 +36,7 @@ emit-requires c κs =
     let a = s .args in
     let l = c .before .before .loop in
     goes-room (a .self) (a .table .now) (each (a .kind) (a .x) (a .digits)) (l .w) (l .table) (each (a .kind) (a .x + l .i) (a .digits - l .i)) 1 (a .digits) (l .inv .1)
-    (omega (arith, length-each (a .kind) (a .x + l .i) (a .digits - l .i))) (omega (arith, length-each (a .kind) (a .x) (a .digits))) (s .pre .0)
+    (omega (arith, length-each (a .kind) (a .x + l .i) (a .digits - l .i))) (omega (arith, length-each (a .kind) (a .x) (a .digits))) (s .pre .room)
 
 add-i : tie.Need-add-i Inv-loop μ-loop
 add-i c = omega arith
@@ -53,7 +53,7 @@ loop-again c =
       omega arith,
       goes-on (a .self) (a .table .now) (each (a .kind) (a .x) (a .digits)) (l .w) (l .table) _ _ (e .last .1 .0) (e .result)
           (goes-as (a .self) (a .table .now) (each (a .kind) (a .x) (a .digits)) (l .w) (l .table) _ _ (each-step (a .kind) (a .x) (l .i) (a .digits) (c .before .before .before .before .loop-test .taken)) (l .inv .1))
-          (one-wrote (l .w) (l .table) (e .last .1 .0) (e .result) (a .x + l .i) 0 0 (a .kind) (s .pre .1 .0) (e .ensures)),
+          (one-wrote (l .w) (l .table) (e .last .1 .0) (e .result) (a .x + l .i) 0 0 (a .kind) (s .pre .one) (e .ensures)),
     )
 
 same-length : tie.Need-same-length Inv-loop μ-loop
