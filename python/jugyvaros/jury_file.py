@@ -66,7 +66,7 @@ def parse(data: bytes) -> JuryFile:
     """The jury in a file's bytes."""
     lines = list(_lines(_text(data)))
     if not lines:
-        raise BadJury(1, "the file says nothing; begin with 'grades' or 'ranking'")
+        raise BadJury(1, "the file has no jury; begin with 'grades' or 'ranking'")
     return _ranked(lines) if lines[0][1][0] == "ranking" else _graded(lines)
 
 
@@ -112,7 +112,7 @@ def _head(number: int, words: Sequence[str]) -> tuple[int, list[str]]:
     said, colon, named = " ".join(words).partition(":")
     before, names = said.split(), named.split()
     if len(before) != 2 or before[0] != "grades":
-        raise BadJury(number, "the first line is to say 'grades' and how many grades there are, "
+        raise BadJury(number, "the first line must be 'grades' and how many grades there are, "
                               "or 'ranking' and the candidates' names")
     grades = _numbers(number, before[1:])[0]
     if not 2 <= grades <= MOST_GRADES:
@@ -125,7 +125,7 @@ def _head(number: int, words: Sequence[str]) -> tuple[int, list[str]]:
 def _grades(number: int, words: Sequence[str], grades: int, expected: int | None, by: str) -> list[int]:
     ballot = _numbers(number, words)
     if expected is not None and len(ballot) != expected:
-        raise BadJury(number, f"{len(ballot)} grades, but the {by} are of {expected} candidates")
+        raise BadJury(number, f"{len(ballot)} grades, but the {by} have {expected} candidates")
     if len(ballot) > MOST_CANDIDATES:
         raise BadJury(number, f"{len(ballot)} grades, but there are at most {MOST_CANDIDATES} candidates")
     for grade in ballot:
@@ -139,7 +139,7 @@ def _check_names(number: int, names: Sequence[str], what: str) -> None:
         raise BadJury(number, f"{what} followed by the names of 1 to {MOST_CANDIDATES} candidates, not {len(names)}")
     for name in names:
         if "=" in name or ">" in name:
-            raise BadJury(number, f"'{name}' holds a sign that stands between names")
+            raise BadJury(number, f"'{name}' has a = or >, which separate names")
         if names.count(name) > 1:
             raise BadJury(number, f"two candidates are called '{name}'")
 
@@ -159,9 +159,9 @@ def _places(number: int, words: Sequence[str], names: Sequence[str]) -> list[int
     for place, group in enumerate(" ".join(words).split(">")):
         for name in map(str.strip, group.split("=")):
             if name not in names:
-                raise BadJury(number, f"'{name}' is none of the candidates: {' '.join(names)}")
+                raise BadJury(number, f"'{name}' is not one of the candidates: {' '.join(names)}")
             if name in places:
-                raise BadJury(number, f"'{name}' stands twice")
+                raise BadJury(number, f"'{name}' is named twice")
             places[name] = place
     return [places.get(name, len(names)) for name in names]
 
@@ -171,4 +171,4 @@ def _check_number(lines: Sequence[tuple[int, list[str]]]) -> None:
     if len(lines) > 1 + MOST_BALLOTS:
         raise BadJury(lines[MOST_BALLOTS + 1][0], f"there are at most {MOST_BALLOTS} ballots")
     if len(lines) == 1:
-        raise BadJury(lines[0][0], "no ballot follows")
+        raise BadJury(lines[0][0], "no ballot follows this line")

@@ -17,7 +17,7 @@ REASONS = {**WORDS, **SHEET}
 
 ADVICE = {
     1: "take 1 to 8 candidates, 2 to 7 grades or 0 for a ranking, and 1 to 255 ballots",
-    2: "hand over whole gates, four numbers each, at least one for each candidate",
+    2: "pass whole gates, four numbers each, at least one for each candidate",
     3: "a kind is 0 to 7, operands in use name earlier wires, the others are 0",
     4: "a graded ballot has candidates x grades bytes, a ranked one candidates x candidates",
     5: "every ballot byte is 0 or 1",
@@ -28,21 +28,21 @@ ADVICE = {
     10: "the board has one byte for each conditional gate and each candidate",
     11: "a candidate is never before itself, and of two at most one is before the other",
     12: "if one candidate is before another, every third is after the first or before the second",
-    13: "start from an empty urn, and change it by admitting and withdrawing only",
+    13: "start from an empty urn, and change it only by admitting and withdrawing",
     14: "jurors are numbered 1 to 255, and each is in once",
     15: "make the urn with more slots, or withdraw a ballot first",
-    16: "take 2 to 5 trustees",
-    17: "deal for this list and these ballots",
+    16: "there are 2 to 5 trustees",
+    17: "make a dealing for this list and these ballots",
     18: "deal again: all shares are bits, and they add up to the ballots and to the products",
     19: "dispatch 1 to 8 juries at a time",
     20: "give each jury 1 to 65,536 gates a round",
     21: "a run is 12 bytes; start a new file for the next season",
     22: "remove that run from the file",
     23: "write a kind and its operands in decimal, single spaces, a line feed after each line",
-    24: "lend a longer output",
-    200: "take the levels that the core writes for this list",
+    24: "pass a longer output",
+    200: "use the levels that the core writes for this list",
     201: "the rounds of a list are 0 to the largest of its levels",
-    202: "hand over two bits for each conditional gate, 0 where a sum is not known yet",
+    202: "pass two bits for each conditional gate, 0 if a sum is not known yet",
 }
 
 

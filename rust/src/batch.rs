@@ -57,8 +57,8 @@ pub fn run(
         .map_err(|refusal| located(shape, ballots, refusal))
 }
 
-/// For a fault in ballots, the core answers the first jury with it as the place. Counting that jury alone tells where in its
-/// ballots the fault is.
+/// For a fault in ballots, the core answers the first jury with it as the place. Counting that jury alone tells where
+/// in its ballots the fault is.
 fn located(shape: Shape, ballots: &[u64], refusal: Refusal) -> JuryRefusal {
     match refusal.reason {
         Reason::BallotRow | Reason::NotAsymmetric | Reason::NotWeakOrder => {

@@ -24,8 +24,8 @@ runAlone j c =
     (laneOf j (c .board))
 
 -- Each jury of an accepted call has what its single run gives: the answer, and its bits of wire table and board. Both
--- wire tables are zeros by then; the contract of `batch_lanes::step::run` says that before each jury's wires were
--- those of its single run.
+-- wire tables are zeros by then; before that each jury's wires were those of its single run, says the contract of
+-- `batch_lanes::step::run`.
 abbrev pub EachAsAlone : Type 0
 EachAsAlone =
     (c : Call) (size : Size) → batchResult c .answer ≡ accepted size → (j : ℕ) → j < laneCount

@@ -81,7 +81,7 @@ fn test_jury(
     }
 }
 
-// The verdict of a call, where this is its first bad jury if there is one.
+// The verdict if a jury's tests gave this answer: its reason, with the jury as place.
 fn verdict_of(answer: Answer, jury: usize) -> JuriesVerdict
     ensures { λ r. ⌜ verdictReason r ≡ atJury jury (refusalIn answer) ⌝ }
 {

@@ -58,7 +58,7 @@ BoardsLong given [] t = Unit {0}
 BoardsLong given (s ∷ ss) t = (length (juryBoard given s (piecesOf s t)) ≡ conditionalIn s t + s .candidates)
     × BoardsLong given ss (behind s t)
 
--- A call between two rounds: t is what was lent, no jury is refused, and each was given so many gates, or all its
+-- A call between two rounds: t is what was lent, no jury is refused, and each was given `given` gates, or all its
 -- gates if it has fewer. `wires` and `boards` are what the two tables hold then; then come each jury's number of
 -- conditional gates, and of bits shown so far.
 pub record RoundState (given : ℕ) (ss : List JuryHeader) (t : Tables) (conditional wires boards shown : List ℕ) : Type
@@ -71,7 +71,6 @@ pub record RoundState (given : ℕ) (ss : List JuryHeader) (t : Tables) (conditi
   pub shownAre : shown ≡ eightOf (juryShown given) ss t
   pub long : BoardsLong given ss t
 
--- How many rounds a jury of G gates takes: G
--- S, rounded up.
+-- How many rounds a jury of G gates takes: G divided by S, rounded up.
 unfoldable pub roundsFor : ℕ → ℕ → ℕ
 roundsFor gates quantum = (gates + (quantum - 1)) / quantum

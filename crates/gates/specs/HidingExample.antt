@@ -1,5 +1,5 @@
--- Demand 3 on one list: different inputs, equal outputs, two tapes, one board. The list is a single conditional gate,
--- wire 0 and wire 1.
+-- Demand 3 on one list: different inputs, equal outputs, two tapes, one board. The list has one gate, a conditional
+-- one on wire 0 and wire 1.
 use mathlib.Core.Path.{_≡_, refl}
 use mathlib.Core.List.{List, [], _∷_, zipWith}
 use Prim.Native.Nat.{ℕ}

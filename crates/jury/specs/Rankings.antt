@@ -52,6 +52,6 @@ notWeakOrderAfter k xs b i = someBelow k (λ j. before k xs b i j && neitherAfte
 unfoldable pub notWeakOrder : ℕ → List ℕ → ℕ → Bool
 notWeakOrder k xs b = someBelow k (notWeakOrderAfter k xs b)
 
--- The first ballot of which that holds.
+-- The first ballot for which that holds.
 unfoldable pub firstNotWeakOrder : ℕ → ℕ → List ℕ → Place
 firstNotWeakOrder k n xs = firstOver n (λ b. cond (notWeakOrder k xs b) (At b) Nowhere)

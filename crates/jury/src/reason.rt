@@ -62,7 +62,7 @@ impl Refusal {
         }
     }
 
-    // The place of a reason, 0 where none is named.
+    // The place of a reason, 0 if it has none.
     pub fn place(self) -> usize
         ensures { λ r. ⌜ r ≡ (reasonOf self) .place ⌝ }
     {

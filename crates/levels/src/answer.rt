@@ -34,7 +34,7 @@ impl LevelRefusal {
         }
     }
 
-    // The place of a reason, 0 where none is named.
+    // The place of a reason, 0 if it has none.
     pub fn place(self) -> usize
         ensures { λ r. ⌜ r ≡ (levelReasonOf self) .place ⌝ }
     {

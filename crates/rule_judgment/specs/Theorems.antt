@@ -1,4 +1,4 @@
--- What holds of full majority judgment, as statements; proofs/Theorems.antt has a proof of each.
+-- What holds for full majority judgment, as statements; proofs/Theorems.antt has a proof of each.
 use mathlib.Core.Path.{_≡_}
 use mathlib.Core.Logic.{_↔_, _≢_}
 use mathlib.Core.List.{List, []}

@@ -1,4 +1,4 @@
--- What holds of Schulze's rule, as statements; proofs/Theorems.antt has a proof of each.
+-- What holds for Schulze's rule, as statements; proofs/Theorems.antt has a proof of each.
 use mathlib.Core.Path.{_≡_}
 use mathlib.Core.Logic.{_≢_}
 use Prim.Native.Nat.{ℕ, _<_}

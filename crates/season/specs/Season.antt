@@ -49,7 +49,7 @@ firstRuns (suc n) bytes = runOf (take runBytes bytes) ∷ firstRuns n (drop runB
 unfoldable pub runsIn : List ℕ → List Run
 runsIn bytes = firstRuns (length bytes / runBytes) bytes
 
--- How many of the lowest binary digits of a number are 1.
+-- How many of the lowest `digits` binary digits of a number are 1.
 unfoldable pub onesIn : ℕ → ℕ → ℕ
 onesIn zero m = 0
 onesIn (suc digits) m = m % 2 + onesIn digits (m / 2)

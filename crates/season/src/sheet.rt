@@ -44,7 +44,7 @@ impl Refusal {
         }
     }
 
-    // Its place, 0 where none is named.
+    // Its place, 0 if it has none.
     pub fn place(self) -> usize
         ensures { λ r. ⌜ r ≡ (reasonOf self) .place ⌝ }
     {

@@ -28,7 +28,7 @@ impl TextRefusal {
         }
     }
 
-    // The place of a reason, 0 where none is named.
+    // The place of a reason, 0 if it has none.
     pub fn place(self) -> usize
         ensures { λ r. ⌜ r ≡ (textReasonOf self) .place ⌝ }
     {

@@ -68,7 +68,7 @@ partsIn c p = ballotsOf (inputsIn c) (c .lent .dealing) p
 abbrev pub dealtIn : Call → ℕ → List ℕ
 dealtIn c p = dealtOf (gatesOf (c .table)) (c .lent .dealing) p
 
--- The start of trustee p on these tables, and its round r, are accepted and leave what it holds in the election
+-- The start of trustee p on these tables, and its round r, are accepted and leave what it holds when all run
 -- together.
 pub record StartOf (c : Call) (p : ℕ) (ws published : List ℕ) : Type 0 where
   pub answer : startOutcome (c .shape) (c .table) (c .trustees) p (partsIn c p) (dealtIn c p) ws published

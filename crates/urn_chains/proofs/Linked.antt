@@ -31,7 +31,7 @@ pub data FreeLinked (b : ℕ) (slots : List Slot) : List ℕ → Type 0 where
   none : FreeLinked b slots []
   more : {i : ℕ} {is : List ℕ} → slotAt slots i ≡ freeSlot b (firstFree is) → FreeLinked b slots is → FreeLinked b slots (i ∷ is)
 
--- one slot is written anew
+-- one slot is written
 pub at-set : (slots : List Slot) (i : ℕ) (s : Slot) → i < length slots → slotAt (set slots i s) i ≡ s
 unfolding slotAt
 at-set slots i s h = getD-set-same slots i s _ h

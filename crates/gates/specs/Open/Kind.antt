@@ -31,7 +31,7 @@ unfoldable pub choose : ℕ → ℕ → ℕ → ℕ
 choose a b c = cond (eqb a 0) c b
 
 -- The value of a kind from the values of its operands. Of two bits, the smaller is their conjunction and the larger
--- their disjunction. A number above 7 is no kind; where it has to have a value, that is 0.
+-- their disjunction. A number above 7 is no kind; if it needs a value, that is 0.
 unfoldable pub valueOf : ℕ → ℕ → ℕ → ℕ → ℕ
 valueOf kind a b c =
     getD (0 ∷ 1 ∷ a ∷ (1 - a) ∷ min a b ∷ max a b ∷ differ a b ∷ choose a b c ∷ []) kind 0

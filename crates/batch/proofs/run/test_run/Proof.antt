@@ -18,7 +18,7 @@ use Rattle.batch.proofs.Reasons.{by-test, by-ballots, by-lent}
 use Rattle.batch.proofs.run.test_run.Statement.{statement}
 use Rattle.batch.proofs.run.test_run.Tie as tie
 
--- The call that this is, from where the function starts.
+-- This call, by its arguments at the start.
 abbrev call : tie.Start → Call
 call s =
     let a = s .args in

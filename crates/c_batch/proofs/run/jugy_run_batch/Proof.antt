@@ -12,7 +12,7 @@ use Rattle.batch.specs.Run.{batchResult}
 use Rattle.c_batch.proofs.run.jugy_run_batch.Statement.{statement}
 use Rattle.c_batch.proofs.run.jugy_run_batch.Tie as tie
 
--- The call that this is, from where the function starts.
+-- This call, by its arguments at the start.
 abbrev call : tie.Start → Call
 call s =
     let a = s .args in

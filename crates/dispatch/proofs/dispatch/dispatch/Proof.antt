@@ -22,7 +22,7 @@ use Rattle.dispatch.proofs.Whole.{bad-count, bad-quantum, by-juries, re
 use Rattle.dispatch.proofs.dispatch.dispatch.Statement.{statement}
 use Rattle.dispatch.proofs.dispatch.dispatch.Tie as tie
 
--- The call that this is, from where the function starts.
+-- This call, by its arguments at the start.
 abbrev call : tie.Start → Call
 call s =
     let a = s .args in

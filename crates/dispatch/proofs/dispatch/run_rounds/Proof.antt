@@ -26,7 +26,7 @@ Inv-loop count headers conditional quantum lists ballots tapes wires₀ boards�
 abbrev μ-loop : tie.MeasureT-loop
 μ-loop count headers conditional quantum lists ballots tapes wires₀ boards₀ most shown₀ done₀ wires boards shown done = most - done
 
--- From a round to where the function starts.
+-- From a round back to where the function starts.
 abbrev begun : tie.In-loop Inv-loop μ-loop → tie.Start Inv-loop μ-loop
 begun c = c .before .before .before .before .before .before .before .before
 

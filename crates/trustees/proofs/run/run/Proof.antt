@@ -20,7 +20,7 @@ use Rattle.trustees.proofs.Sums.{Ready, call-ready, opened-closing}
 use Rattle.trustees.proofs.run.run.Statement.{statement}
 use Rattle.trustees.proofs.run.run.Tie as tie
 
--- The call that this is, from where the function starts.
+-- This call, by its arguments at the start.
 abbrev call : tie.Start → Call
 call s =
     let a = s .args in

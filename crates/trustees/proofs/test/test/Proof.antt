@@ -17,7 +17,7 @@ use Rattle.trustees.proofs.Reasons.{by-test, by-ballots, by-parts, smal
 use Rattle.trustees.proofs.test.test.Statement.{statement}
 use Rattle.trustees.proofs.test.test.Tie as tie
 
--- The call that this is, from where the function starts.
+-- This call, by its arguments at the start.
 abbrev call : tie.Start → Call
 call s =
     let a = s .args in
