@@ -14,7 +14,7 @@ use Rattle.gate_words.specs.Gates.{copyOf, notOf, andOf, orOf, xorOf, muxOf}
 use Rattle.gate_words.specs.Choice.{choose, masked}
 use Rattle.gate_words.specs.Comparison.{firstDigit, compareWords, differences, above}
 use Rattle.gate_words.specs.Adder.{fullAdder, halfAdder}
-use Rattle.gate_words.specs.Counter.{level, adders, levelSum, countLevels, countDigits, counter, countSize}
+use Rattle.gate_words.specs.Counter.{level, adders, levelSum, countLevels, countDigitsAs, countDigits, counter, countSize}
 use Rattle.ranked_circuit.specs.Blocks.{compare, strictly, order, orderEnd, smaller, larger, largerIf}
 use Rattle.ranked_circuit.specs.Contests.{meeting}
 use Rattle.ranked_circuit.specs.RankedList.{rankedList}
@@ -98,7 +98,7 @@ levels-cost n at d m (suc r) =
     omega (arith, count-append (level n at (at + d) d 0 (m - 1)) (countLevels (n + 3 * t) (n + 2) 3 t 0 r), level-cost n at (at + d) d (m - 1), levels-cost (n + 3 * t) (n + 2) 3 t r)
 
 digits-cost : (n at m r : ℕ) → conditionalCount (countDigits n at m 0 r) ≡ 0
-unfolding countDigits
+unfolding countDigitsAs
 digits-cost n at m zero = free (copyOf at) [] (marks .2) ∙ count-nil
 digits-cost n at m (suc r) =
     free (copyOf (levelSum n at (m - 1) 0)) (countDigits (n + 3 * adders (m - 1) 0) (n + 2) (adders (m - 1) 0) 0 r) (marks .2) ∙ digits-cost (n + 3 * adders (m - 1) 0) (n + 2) (adders (m - 1) 0) r

@@ -41,14 +41,15 @@ candidate-requires : tie.Need-candidate-requires Inv-loop μ-loop
 candidate-requires c κs =
     let a = (c .before .before .before .before .args) in
     let l = (c .before .before .loop) in
-    let q = one-more (c .before) in (
-      (c .before .before .before .before) .pre .0,
-      (
-        goes-room (a .w) (a .table .now) (candidates (a .p) (a .w .wire) 0 (a .p .candidates)) (l .next) (l .table) (candidates (a .p) (l .next .wire) (l .c) (a .p .candidates - l .c)) _ (a .p .candidates * candidateSpan (a .p)) (l .inv .3)
-            (omega (arith, q .1, q .2)) (omega (arith, candidates-block (a .p) ((c .before .before .before .before) .pre .0) (a .w .wire) 0 (a .p .candidates) ((c .before .before .before .before) .pre .1 .1) (omega arith) .long)) ((c .before .before .before .before) .pre .1 .0),
-        (l .inv .1, q .0),
-      ),
-    )
+    let s = c .before .before .before .before in
+    let q = one-more (c .before) in
+    record {
+      planned = s .pre .0;
+      candidate = q .0;
+      inputs = l .inv .1;
+      room = goes-room (a .w) (a .table .now) (candidates (a .p) (a .w .wire) 0 (a .p .candidates)) (l .next) (l .table) (candidates (a .p) (l .next .wire) (l .c) (a .p .candidates - l .c)) _ (a .p .candidates * candidateSpan (a .p)) (l .inv .3)
+          (omega (arith, q .1, q .2)) (omega (arith, candidates-block (a .p) (s .pre .0) (a .w .wire) 0 (a .p .candidates) (s .pre .1 .1) (omega arith) .long)) (s .pre .1 .0);
+    }
 
 add-c : tie.Need-add-c Inv-loop μ-loop
 add-c c =
