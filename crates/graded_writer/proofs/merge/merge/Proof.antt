@@ -16,7 +16,13 @@ contest-requires : tie.Need-contest-requires
 contest-requires c κs =
     let s = (c .before .before .before) in
     let q = s .pre .1 .1 .0 in
-    (s .pre .0, (room-less (s .args .w) _ _ (omega arith) (s .pre .1 .0), (q .0, q .1, omega (arith, (c .high-digits) .ensures, high-leaves (s .args .p) (s .args .l + s .args .m)))))
+    record {
+      plan = s .pre .0;
+      room = room-less (s .args .w) _ _ (omega arith) (s .pre .1 .0);
+      firstBelow = q .0;
+      secondBelow = q .1;
+      cut = omega (arith, (c .high-digits) .ensures, high-leaves (s .args .p) (s .args .l + s .args .m));
+    }
 
 -- behind the contest, its verdict, and the first group
 
