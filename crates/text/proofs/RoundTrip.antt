@@ -187,4 +187,13 @@ text-memory =
         empties = λ length e. tt;
         lengths = (read-length s text output, tt);
       };
+      writes-its-length = λ s table output n e.
+          let p = outcome-accepted (firstOf (textReasons s table output)) (length (textOf (gatesOf table))) n e in
+          (p .1, sym (text-accepted s table output (p .0) .1) ∙ ap (λ (m : ℕ). textOf (gatesOf table) ++ drop m output) (p .1));
+      reads-its-length = λ s text output n e.
+          let p = outcome-accepted (firstOf (readReasons s text output)) (4 * length (linesOf text)) n e in
+          let ns = numbersOf (gatesIn (linesOf text)) in
+          let many = gates-many (linesOf text) 0 (read-passed s text output (p .0) .all-gates) in
+          let long : length ns ≡ n = omega (arith, length-numbers (gatesIn (linesOf text)), many, p .1) in
+          (long, sym (read-accepted s text output (p .0) .1) ∙ ap (λ (m : ℕ). ns ++ drop m output) long);
     }
