@@ -1,10 +1,10 @@
 -- Tables that are filled from the front.
 -- Assumes nothing.
-use mathlib.Core.Path.{_≡_, _∙_, ap}
+use mathlib.Core.Path.{_≡_, _∙_, refl, ap}
 use mathlib.Core.List.{List, [], _∷_, _++_, append-nil}
-use Prim.Native.Nat.{ℕ, suc, _+_}
+use Prim.Native.Nat.{ℕ, zero, suc, _+_}
 use native.Mathlib.Omega.{arith}
-use lib.ListN.{length, set, drop, replicate, drop-of-length-le}
+use lib.ListN.{length, getD, set, drop, replicate, drop-of-length-le}
 use lib.Seq.{sets}
 
 -- storing two lists one behind the other
@@ -18,3 +18,9 @@ all-emptied n xs e =
     ap (λ (r : List ℕ). replicate n 0 ++ r) (drop-of-length-le xs {i = n} (omega arith))
     ∙ append-nil (replicate n 0)
     ∙ ap (λ (k : ℕ). replicate k 0) e
+
+-- zeros at every place
+pub zeros-at : (n i : ℕ) → _≡_ {A = ℕ} (getD (replicate n 0) i 0) 0
+zeros-at zero i = refl
+zeros-at (suc n) zero = refl
+zeros-at (suc n) (suc i) = zeros-at n i

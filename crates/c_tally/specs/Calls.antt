@@ -6,7 +6,7 @@ use Rattle.tally.specs.Count.{countReason, plainClosing}
 use Rattle.tally.specs.Measure.{measureOutcome}
 use Rattle.tally.specs.Run.{RunResult, runResult}
 use Rattle.tally.specs.Test.{testOutcome}
-use Rattle.tally.specs.Write.{writeOutcome, written}
+use Rattle.tally.specs.Write.{writeOutcome, writeResult}
 use Rattle.c_answers.specs.Numbers.{sizeAnswer, measureAnswer, countAnswer, sizeNumbers, measureNumbers, answerNumbers}
 use Rattle.c_answers.specs.Numbers.{CallResult, callResult}
 
@@ -15,7 +15,7 @@ measureCall s answer = callResult measureAnswer (measureNumbers (measureOutcome 
 
 abbrev pub writeCall : (s : Shape) (table answer : List ℕ) → CallResult
 writeCall s table answer =
-    callResult sizeAnswer (sizeNumbers (writeOutcome s table)) answer (table ∷ []) (written s table ∷ [])
+    callResult sizeAnswer (sizeNumbers (writeOutcome s table)) answer (table ∷ []) (writeResult s table ∷ [])
 
 abbrev pub testCall : (s : Shape) (table answer : List ℕ) → CallResult
 testCall s table answer = callResult sizeAnswer (sizeNumbers (testOutcome s table)) answer [] []

@@ -1,7 +1,7 @@
 -- The pair of calls of `Examples`: each jury's pieces are those of one of tally's example runs.
 -- Assumes nothing.
 use mathlib.Core.Path.{_≡_, _∙_, refl, sym, ap, subst}
-use mathlib.Core.Option.{Option, none}
+use mathlib.Core.Option.{none}
 use mathlib.Core.List.{List, [], _∷_, _++_}
 use Prim.Native.Nat.{ℕ, zero, suc, _≤_}
 use native.Mathlib.Omega.{arith}
@@ -11,18 +11,16 @@ use Rattle.gates.specs.Board.{conditionalCount}
 use Rattle.gates.specs.HidingExample.{oneGate, one-gate-tested}
 use Rattle.gates.proofs.Evaluating.{accepted-list}
 use Rattle.jury.specs.Shape.{isRanking, columns, ballotBytes}
-use Rattle.jury.specs.Reason.{Reason, firstOf}
+use Rattle.jury.specs.Reason.{firstOf}
 use Rattle.tally.specs.Answer.{accepted}
 use Rattle.tally.specs.Run.{RunResult, runReasons, runResult}
 use Rattle.tally.specs.Examples.{oneBallot}
 use Rattle.tally.proofs.Examples.{pair-of-runs}
 use Rattle.tally.proofs.RunReasons.{run-passed}
 use Rattle.tally.proofs.Hiding.{ran-accepted, run-answer}
-use Rattle.dispatch_rounds.specs.declared.header.JuryHeader.{JuryHeader}
 use Rattle.dispatch_rounds.specs.Tables.{Tables, lent, shapeOf, fitting, pieceOf, listOf, conditionalIn, piecesOf, behind, through}
 use Rattle.dispatch_rounds.specs.Reasons.{reasonsOf, atJury, juryReasons}
 use Rattle.dispatch_rounds.specs.Rounds.{eightOf, roundsFor}
-use Rattle.dispatch.specs.Call.{Call, juriesIn}
 use Rattle.dispatch.specs.Reasons.{dispatchReasons}
 use Rattle.dispatch.specs.Result.{runBoard, zeroWires, DispatchResult, dispatchResultAfter, dispatchResult}
 use Rattle.dispatch.specs.Examples.{oneHeader, oneJury, twoJuries, PairOfCalls}

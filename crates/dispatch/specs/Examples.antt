@@ -1,9 +1,9 @@
 -- Demand 3 on two concrete calls: a jury of one has the board of a jury of the other, though ballots, masks, quanta and
--- neighbours differ. Each jury has one candidate, two grades and one ballot; the list is a stranger's, one gate that says
--- whether wire 0 and wire 1 are both 1.
+-- neighbours differ. Each jury has one candidate, two grades and one ballot; the list is a stranger's, one gate that
+-- says whether wire 0 and wire 1 are both 1.
 use mathlib.Core.Path.{_≡_}
 use mathlib.Core.Option.{none}
-use mathlib.Core.List.{List, [], _∷_, _++_}
+use mathlib.Core.List.{[], _∷_, _++_}
 use Prim.Native.Nat.{ℕ}
 use lib.ListN.{replicate}
 use Rattle.gates.specs.HidingExample.{oneGate}

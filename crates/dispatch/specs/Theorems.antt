@@ -128,8 +128,8 @@ AcceptedAsAll =
     (c : Call) → (dispatchResult c .reason ≡ none)
     ↔ (JuriesFit c × QuantumFits c × ((j : ℕ) → j < length (juriesIn c) → RunsAt j (juriesIn c) (c .tables)))
 
--- A refusal is 19 at place 0 where the number of juries does not fit, else 20 at place 0 where the quantum does not, else
--- the reason of the first jury that is turned away. It answers no rounds.
+-- A refusal is 19 at place 0 where the number of juries does not fit, else 20 at place 0 where the quantum does not,
+-- else the reason of the first jury that is turned away. It answers no rounds.
 pub record Refusals : Type 0 where
   pub named : (c : Call) (r : Reason) → dispatchResult c .reason ≡ some r
       → ((¬ JuriesFit c) × (r ≡ reasonAt 19 0))

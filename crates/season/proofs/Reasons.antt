@@ -11,7 +11,7 @@ use lib.ListN.{length}
 use borrow.Author.Tests.{eq-eqb, ne-eqb, le-leb, lt-leb}
 use Rattle.gates.specs.declared.place.Place.{Place}
 use Rattle.gates.specs.declared.place.Place.the-variants.{At, Nowhere}
-use Rattle.jury.specs.Reason.{Reason, reasonAt, unless, foundAt, firstOf}
+use Rattle.jury.specs.Reason.{Reason, unless, foundAt, firstOf}
 use Rattle.basics.proofs.Flags.{and-both, and-first-fails, and-second-fails}
 use Rattle.season.specs.declared.sheet.Totals.{Totals}
 use Rattle.season.specs.declared.sheet.Refusal.{Refusal}

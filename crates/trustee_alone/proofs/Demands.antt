@@ -15,7 +15,7 @@ use Rattle.jury.specs.Shape.{ballotBytes}
 use Rattle.jury.specs.Reason.{Reason, firstOf}
 use Rattle.tally.specs.Answer.{refused, accepted, Size, sizeOf}
 use Rattle.tally.specs.SaysWhoWins.{SaysWhoWins}
-use Rattle.levels.proofs.Reasons.{some-bytes}
+use Rattle.jury.proofs.Limits.{some-bytes}
 use Rattle.trustee_shares.specs.Shares.{part, Held}
 use Rattle.trustee_shares.specs.Views.{joined, othersOf, Dealing, ballotsOf, dealtOf, wirePartsOf, publishedOf, View, viewOf}
 use Rattle.trustee_shares.proofs.Accuracy.{opened-same}

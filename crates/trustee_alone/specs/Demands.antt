@@ -72,12 +72,14 @@ partsAtEnd c = holdingsIn c (suc (roundsIn c)) .wireParts
 abbrev pub publishedAtEnd : Call → List ℕ
 publishedAtEnd c = joined (c .trustees) (holdingsIn c (suc (roundsIn c)) .published)
 
--- The closing bytes, which whoever has the published bits can form: the sums of the last k bits of each trustee's piece.
+-- The closing bytes, which whoever has the published bits can form: the sums of the last k bits of each trustee's
+-- piece.
 unfoldable pub closingHeard : Call → List ℕ
 closingHeard c =
     let factors = 2 * conditionalCount (gatesOf (c .table)) in
     let k = c .shape .candidates in
-    eightBytes (tabulate k (λ j. opened (c .trustees) (λ p. part (piece (factors + k) (publishedAtEnd c) p) (factors + j))))
+    let bit : ℕ → ℕ → ℕ = λ j p. part (piece (factors + k) (publishedAtEnd c) p) (factors + j) in
+    eightBytes (tabulate k (λ j. opened (c .trustees) (bit j)))
 
 -- Trustees apart, as a way to tally: what the trustees but q hold and see is theirs, and every published bit.
 abbrev pub apart : Way
@@ -94,8 +96,8 @@ apart =
       };
     }
 
--- They end as the one call of request 2.7 does on the joined tables: after the rounds 0 to R each holds the wire parts of
--- that call, what they published is what it leaves, and the closing bytes are its eight.
+-- They end as the one call of request 2.7 does on the joined tables: after the rounds 0 to R each holds the wire parts
+-- of that call, what they published is what it leaves, and the closing bytes are its eight.
 pub record AsTheOneCall (c : Call) : Type 0 where
   pub same-parts : (p : ℕ) → p < c .trustees → partsAtEnd c p ≡ wirePartsIn c p
   pub same-published : publishedAtEnd c ≡ trusteesResult c .published

@@ -34,16 +34,16 @@ pub record Memory (c : Call) : Type 0 where
       (parts ∷ [])
   pub zeros : (r : Reason) → trusteesResult c .answer ≡ refused r → trusteesResult c .closing ≡ replicate 8 0
 
--- A way in which trustees tally an election: by trustee the parts of all wires, all that is published, the closing bytes
--- that come of it, and what the trustees but q hold and see. Demands 2 and 3 are said of any such way.
+-- A way in which trustees tally an election: by trustee the parts of all wires, all that is published, the closing
+-- bytes that come of it, and what the trustees but q hold and see. Demands 2 and 3 are said of any such way.
 pub record Way : Type 0 where
   pub parts : Call → Held
   pub published : Call → List ℕ
   pub closing : Call → List ℕ
   pub view : (q : ℕ) → Call → View
 
--- The one call on the joined tables. It leaves zeros for wire parts; that it filled the table with these parts before is
--- what the contract of `trustee_gates::evaluate::evaluate` says.
+-- The one call on the joined tables. It leaves zeros for wire parts; that it filled the table with these parts before
+-- is what the contract of `trustee_gates::evaluate::evaluate` says.
 abbrev pub inOneCall : Way
 inOneCall =
     record {

@@ -10,7 +10,7 @@ use Rattle.jury.specs.Reason.{reasonOf, reasonAt}
 use Rattle.basics.proofs.Flags.{T-true}
 use Rattle.jury.proofs.Constructed.{shape-is, outside-is}
 use Rattle.tally.specs.Answer.{outcomeOf}
-use Rattle.tally.specs.Write.{writeOutcome, written}
+use Rattle.tally.specs.Write.{writeOutcome, writeResult}
 use Rattle.tally.proofs.OwnList.{own-list-holds}
 use Rattle.tally.proofs.Writing.{write-refused, outside as outside-write}
 use Rattle.c_answers.specs.Numbers.{shapeOf, sizeNumbers}
@@ -23,7 +23,7 @@ unfolding shapeOf
 returns c =
     let a = c .before .before .before .args in
     let s = shapeOf (a .candidates) (a .grades) (a .ballots) in (
-      short-call 4 (a .answer .now) (c .if1 .taken) (sizeNumbers (writeOutcome s (a .table .now))) (a .table .now ∷ []) (written s (a .table .now) ∷ []),
+      short-call 4 (a .answer .now) (c .if1 .taken) (sizeNumbers (writeOutcome s (a .table .now))) (a .table .now ∷ []) (writeResult s (a .table .now) ∷ []),
       λ t. own-list-holds s (T-true (withinLimits s) t),
     )
 
@@ -53,7 +53,7 @@ returns-2 c =
     let outside = outside-is (withinLimits s) s (sym (made .new .ensures .0) ∙ told .enum-told .given .1) in
     let refusal = write-refused s (a .table .now) (reasonAt 1 0) (outside-write s (a .table .now) outside) in (
       put-call 4 (a .answer .now) (long .if1 .left) (sizeNumbers (writeOutcome s (a .table .now))) _ _ _ (c .before .before .put-size .ensures)
-          (ap sizeNumbers (sym (refusal .0))) (a .table .now ∷ []) (written s (a .table .now) ∷ []) _ (ap (λ (z : List ℕ). z ∷ []) (sym (refusal .1))),
+          (ap sizeNumbers (sym (refusal .0))) (a .table .now ∷ []) (writeResult s (a .table .now) ∷ []) _ (ap (λ (z : List ℕ). z ∷ []) (sym (refusal .1))),
       λ t. own-list-holds s (T-true (withinLimits s) t),
     )
 
@@ -81,8 +81,8 @@ returns-3 c =
     let same = shape-is (withinLimits s) s (known .shape .given .0 .0) (sym (made .new .ensures .0) ∙ known .shape .given .1) in
     let wrote = outcome .write .ensures in (
       put-call 4 (a .answer .now) (long .if1 .left) (sizeNumbers (writeOutcome s (a .table .now))) _ _ _ (c .before .before .put-size2 .ensures)
-          (ap sizeNumbers (wrote .answers ∙ ap (λ (z : Shape). writeOutcome z (a .table .now)) same)) (a .table .now ∷ []) (written s (a .table .now) ∷ []) _
-          (ap (λ (z : List ℕ). z ∷ []) (wrote .leaves ∙ ap (λ (z : Shape). written z (a .table .now)) same)),
+          (ap sizeNumbers (wrote .answers ∙ ap (λ (z : Shape). writeOutcome z (a .table .now)) same)) (a .table .now ∷ []) (writeResult s (a .table .now) ∷ []) _
+          (ap (λ (z : List ℕ). z ∷ []) (wrote .leaves ∙ ap (λ (z : Shape). writeResult z (a .table .now)) same)),
       λ t. own-list-holds s (T-true (withinLimits s) t),
     )
 
