@@ -45,14 +45,14 @@ static void set_up(const size_t *shape) {
     j = jury_of(shape);
     for (op = 0; op < OPS; op++) {
         call_afresh(IN_C);
-        size_t *said = copy_of(answer, sizeof answer);
+        size_t *outcome = copy_of(answer, sizeof answer);
         uint32_t *table = copy_of(j.table, 16 * j.gates);
         uint8_t *wires = copy_of(j.wires, j.inputs + j.gates), *board = copy_of(j.board, j.marks + j.k);
         call_afresh(CORE);
-        if (memcmp(said, answer, sizeof answer) || memcmp(table, j.table, 16 * j.gates) || memcmp(wires, j.wires, j.inputs + j.gates)
+        if (memcmp(outcome, answer, sizeof answer) || memcmp(table, j.table, 16 * j.gates) || memcmp(wires, j.wires, j.inputs + j.gates)
             || memcmp(board, j.board, j.marks + j.k))
             fail_at(&j, "the two differ");
-        free(said), free(table), free(wires), free(board);
+        free(outcome), free(table), free(wires), free(board);
     }
 }
 

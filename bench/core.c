@@ -2,13 +2,13 @@
 #include "../tests/library_c/kinds.h"
 #include <string.h>
 
-struct said {
+struct outcome {
     size_t reason, place, gates, conditional;
 };
 
-static struct said refused(size_t reason, size_t place) { return (struct said){reason, place, 0, 0}; }
+static struct outcome refused(size_t reason, size_t place) { return (struct outcome){reason, place, 0, 0}; }
 
-static size_t put(struct said s, size_t *answer) {
+static size_t put(struct outcome s, size_t *answer) {
     answer[0] = s.reason;
     answer[1] = s.place;
     answer[2] = s.gates;
@@ -440,20 +440,20 @@ size_t core_write(size_t k, size_t d, size_t n, uint32_t *table, size_t table_le
         emit(&w, ONE, 0, 0, 0);
     else
         circuit(&w, &p);
-    return put((struct said){0, 0, w.wire - p.inputs, w.conditional}, answer);
+    return put((struct outcome){0, 0, w.wire - p.inputs, w.conditional}, answer);
 }
 
 /* ---- testing */
 
 static int good_operand(int used, uint32_t x, size_t own) { return used ? x < own : x == 0; }
 
-static struct said test(size_t k, size_t d, size_t n, const uint32_t *table, size_t length) {
+static struct outcome test(size_t k, size_t d, size_t n, const uint32_t *table, size_t length) {
     if (!within(k, d, n))
         return refused(1, 0);
     size_t gates = length / 4, own = n * k * d;
     if (length % 4 || gates < k || gates > 1048576)
         return refused(2, 0);
-    struct said s = {0, 0, gates, 0};
+    struct outcome s = {0, 0, gates, 0};
     for (size_t g = 0; g < gates; g++, own++) {
         const uint32_t *gate = table + 4 * g;
         if (gate[0] > 7)
@@ -484,7 +484,7 @@ static size_t first_above_one(const uint8_t *bytes, size_t length) {
 }
 
 /* Reasons 4 to 6; reason 0 where there is none. */
-static struct said test_ballots(size_t k, size_t d, size_t n, const uint8_t *ballots, size_t length) {
+static struct outcome test_ballots(size_t k, size_t d, size_t n, const uint8_t *ballots, size_t length) {
     if (length != n * k * d)
         return refused(4, 0);
     size_t bad = first_above_one(ballots, length);
@@ -513,8 +513,8 @@ static uint8_t value(uint32_t kind, uint8_t a, uint8_t b, uint8_t c) {
     }
 }
 
-/* Reasons 7 to 10 of a run whose list has been tested; what was said of the list where there is none. */
-static struct said test_lent(struct said s, size_t k, size_t inputs, const uint8_t *tape, size_t tape_length,
+/* Reasons 7 to 10 of a run whose list has been tested; what was answered of the list where there is none. */
+static struct outcome test_buffers(struct outcome s, size_t k, size_t inputs, const uint8_t *tape, size_t tape_length,
                              size_t wires_length, size_t board_length) {
     if (tape_length != s.conditional)
         return refused(7, 0);
@@ -527,7 +527,7 @@ static struct said test_lent(struct said s, size_t k, size_t inputs, const uint8
 }
 
 /* Evaluates the gates behind the ballots' wires, fills the board and empties the wires. */
-static void evaluate(struct said s, size_t k, size_t inputs, const uint32_t *table, const uint8_t *tape, uint8_t *wires,
+static void evaluate(struct outcome s, size_t k, size_t inputs, const uint32_t *table, const uint8_t *tape, uint8_t *wires,
                      uint8_t *board) {
     size_t shown = 0;
     for (size_t g = 0; g < s.gates; g++) {
@@ -548,13 +548,13 @@ size_t core_run(size_t k, size_t d, size_t n, const uint32_t *table, size_t tabl
                 uint8_t *board, size_t board_length, size_t *answer, size_t answer_length) {
     if (answer_length < 4)
         return 255;
-    struct said s = test(k, d, n, table, table_length);
+    struct outcome s = test(k, d, n, table, table_length);
     if (s.reason)
         return put(s, answer);
-    struct said b = test_ballots(k, d, n, ballots, ballots_length);
+    struct outcome b = test_ballots(k, d, n, ballots, ballots_length);
     if (b.reason)
         return put(b, answer);
-    s = test_lent(s, k, ballots_length, tape, tape_length, wires_length, board_length);
+    s = test_buffers(s, k, ballots_length, tape, tape_length, wires_length, board_length);
     if (s.reason)
         return put(s, answer);
     memcpy(wires, ballots, ballots_length);
@@ -590,7 +590,7 @@ size_t core_count(size_t k, size_t d, size_t n, const uint8_t *ballots, size_t b
                   size_t answer_length) {
     if (answer_length < 10)
         return 255;
-    struct said s = within(k, d, n) ? test_ballots(k, d, n, ballots, ballots_length) : refused(1, 0);
+    struct outcome s = within(k, d, n) ? test_ballots(k, d, n, ballots, ballots_length) : refused(1, 0);
     answer[0] = s.reason;
     answer[1] = s.place;
     for (size_t i = 0; i < 8; i++)

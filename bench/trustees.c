@@ -42,7 +42,7 @@ static inline uint8_t part_of_kind(size_t p, uint32_t kind, uint8_t a, uint8_t b
 __attribute__((noinline)) static int tally(size_t k, size_t d, size_t n, const uint32_t *table, size_t gates,
                                            const uint8_t *ballots, size_t t, const uint8_t *parts, const uint8_t *dealt,
                                            uint8_t *wires, uint8_t *published, size_t *closing) {
-    struct said s = test(k, d, n, table, 4 * gates);
+    struct outcome s = test(k, d, n, table, 4 * gates);
     size_t I = n * k * d, C = s.conditional, W = I + gates, D = 3 * C, P = 2 * C + k, i = 0;
     if (s.reason || test_ballots(k, d, n, ballots, I).reason || !dealing_is_good(t, I, C, ballots, parts, dealt))
         return 0;

@@ -64,14 +64,14 @@ static void set_up(size_t count) {
         if (urn_admit(K, D, urn, length, juror, ballot, K * D, answer, JUGY_URN_ANSWER))
             fail("not admitted");
     memcpy(before, urn, length);
-    size_t said[JUGY_URN_ANSWER];
+    size_t outcome[JUGY_URN_ANSWER];
     uint8_t after[sizeof urn];
     if (call(IN_C))
         fail("C refuses");
-    memcpy(said, answer, sizeof said), memcpy(after, urn, length), memcpy(urn, before, length);
+    memcpy(outcome, answer, sizeof outcome), memcpy(after, urn, length), memcpy(urn, before, length);
     if (call(CORE))
         fail("the core refuses");
-    if (memcmp(said, answer, sizeof said) || memcmp(after, urn, length))
+    if (memcmp(outcome, answer, sizeof outcome) || memcmp(after, urn, length))
         fail("the two differ");
     put_back();
     if (op != EMPTY && memcmp(urn, before, length))

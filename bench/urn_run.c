@@ -48,12 +48,12 @@ static size_t core_run_urn(size_t k, size_t d, size_t n, const uint32_t *table, 
     size_t ballots = ballots_in(k, d, urn, urn_length), inputs = n * k * d;
     if (ballots == 256)
         return put(refused(13, 0), answer);
-    struct said s = test(k, d, n, table, table_length);
+    struct outcome s = test(k, d, n, table, table_length);
     if (s.reason)
         return put(s, answer);
     if (ballots != n)
         return put(refused(4, 0), answer);
-    s = test_lent(s, k, inputs, tape, tape_length, wires_length, board_length);
+    s = test_buffers(s, k, inputs, tape, tape_length, wires_length, board_length);
     if (s.reason)
         return put(s, answer);
     uint8_t *to = wires;
@@ -79,14 +79,14 @@ static size_t call(int way) {
 }
 
 static void set_up(const size_t *shape) {
-    size_t said[JUGY_URN_ANSWER];
+    size_t outcome[JUGY_URN_ANSWER];
     j = jury_of(shape);
     length = (j.n + 2) * (2 + j.k * j.d), urn = lent(length);
-    if (jugy_empty_urn(j.k, j.d, urn, length, said, JUGY_URN_ANSWER))
+    if (jugy_empty_urn(j.k, j.d, urn, length, outcome, JUGY_URN_ANSWER))
         fail_at(&j, "no urn");
     /* the last to be admitted comes first */
     for (size_t i = j.n; i--;)
-        if (jugy_admit(j.k, j.d, urn, length, i + 1, j.ballots + i * j.k * j.d, j.k * j.d, said, JUGY_URN_ANSWER))
+        if (jugy_admit(j.k, j.d, urn, length, i + 1, j.ballots + i * j.k * j.d, j.k * j.d, outcome, JUGY_URN_ANSWER))
             fail_at(&j, "not admitted");
     uint8_t *board = NULL, *zeros = filled(j.inputs + j.gates, 0);
     for (int way = 0; way < WAYS; way++) {

@@ -1,10 +1,10 @@
 -- Tables that are filled from the front.
 -- Assumes nothing.
-use mathlib.Core.Path.{_≡_, _∙_, ap}
+use mathlib.Core.Path.{_≡_, _∙_, refl, ap}
 use mathlib.Core.List.{List, [], _∷_, _++_, append-nil}
-use Prim.Native.Nat.{ℕ, suc, _+_}
+use Prim.Native.Nat.{ℕ, zero, suc, _+_}
 use native.Mathlib.Omega.{arith}
-use lib.ListN.{length, set, drop, replicate, drop-of-length-le}
+use lib.ListN.{length, getD, set, drop, replicate, drop-of-length-le}
 use lib.Seq.{sets}
 
 -- storing two lists one after the other
@@ -22,3 +22,9 @@ all-emptied n xs e =
 -- what the kit's `bytes::copy` leaves: the second of its two clauses, which have no names
 pub copied : {count left : Type 0} → count × left → left
 copied clauses = clauses .1
+
+-- zeros at every place
+pub zeros-at : (n i : ℕ) → _≡_ {A = ℕ} (getD (replicate n 0) i 0) 0
+zeros-at zero i = refl
+zeros-at (suc n) zero = refl
+zeros-at (suc n) (suc i) = zeros-at n i

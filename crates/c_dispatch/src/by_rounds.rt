@@ -1,6 +1,6 @@
 // The dispatcher, for C.
 use c_answers::array::SHORT_ANSWER;
-use c_answers::array::put;
+use c_answers::array::put_eight;
 use dispatch::dispatch::Dispatched;
 use dispatch::verdict::JuriesVerdict;
 use dispatch_rounds::header::JuryHeader;
@@ -54,24 +54,6 @@ fn headers_in(numbers: &[usize]) -> [JuryHeader; 8]
     ]
 }
 
-// Reason and place, then the eight numbers of rounds.
-fn ten(reason: usize, place: usize, rounds: [usize; 8]) -> [usize; 10]
-    ensures { λ r. ⌜ r ≡ reason ∷ place ∷ rounds ⌝ }
-{
-    [
-        reason,
-        place,
-        rounds[0],
-        rounds[1],
-        rounds[2],
-        rounds[3],
-        rounds[4],
-        rounds[5],
-        rounds[6],
-        rounds[7],
-    ]
-}
-
 // Puts the answer of the dispatcher, and returns its status.
 fn put_rounds(outcome: Dispatched, answer: &mut [usize]) -> usize
     requires { ⌜ dispatchAnswer ≤ length (now answer) ⌝ }
@@ -82,17 +64,8 @@ fn put_rounds(outcome: Dispatched, answer: &mut [usize]) -> usize
     let verdict = outcome.verdict;
     let rounds = outcome.rounds;
     match verdict {
-        JuriesVerdict::Accepted => {
-            let numbers = ten(0, 0, rounds);
-            put(&numbers, answer);
-            0
-        }
-        JuriesVerdict::Refused { reason, jury } => {
-            let number = reason.number();
-            let numbers = ten(number, jury, rounds);
-            put(&numbers, answer);
-            number
-        }
+        JuriesVerdict::Accepted => put_eight(0, 0, rounds, answer),
+        JuriesVerdict::Refused { reason, jury } => put_eight(reason.number(), jury, rounds, answer),
     }
 }
 

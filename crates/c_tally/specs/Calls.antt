@@ -7,7 +7,7 @@ use Rattle.tally.specs.Count.{countReason, plainClosing}
 use Rattle.tally.specs.Measure.{measureOutcome}
 use Rattle.tally.specs.Run.{RunResult, runResult}
 use Rattle.tally.specs.Test.{testOutcome}
-use Rattle.tally.specs.Write.{writeOutcome, written, HoldsWithin}
+use Rattle.tally.specs.Write.{writeOutcome, writeResult, HoldsWithin}
 use Rattle.c_answers.specs.Numbers.{sizeAnswer, measureAnswer, countAnswer, sizeNumbers, measureNumbers, answerNumbers}
 use Rattle.c_answers.specs.Numbers.{CallResult, callResult}
 
@@ -16,7 +16,7 @@ measureCall s answer = callResult measureAnswer (measureNumbers (measureOutcome 
 
 abbrev pub writeCall : (s : Shape) (table answer : List ℕ) → CallResult
 writeCall s table answer =
-    callResult sizeAnswer (sizeNumbers (writeOutcome s table)) answer (table ∷ []) (written s table ∷ [])
+    callResult sizeAnswer (sizeNumbers (writeOutcome s table)) answer (table ∷ []) (writeResult s table ∷ [])
 
 -- What writing promises besides: what holds of the list of a shape within the limits.
 pub record WriteLeaves (s : Shape) (table answer : List ℕ) (left : CallResult) : Type 0 where

@@ -1,11 +1,18 @@
 -- What each layer proved.
 -- Assumes nothing.
+use mathlib.Core.List.{List, [], _∷_}
+use Prim.Native.Nat.{ℕ}
+use Rattle.jury.specs.Reason.{reasonAt}
 use Rattle.rule_judgment.proofs.Theorems.{bytes-say, somebody, gauge-alone}
 use Rattle.rule_schulze.proofs.Theorems.{schulze-holds}
+use Rattle.tally.specs.Answer.{hasNumberIn}
+use Rattle.tally.specs.Memory.{Each}
+use Rattle.tally.proofs.Numbering.{All, first-fine, unless-fine, found-fine, outcome-fine, refused-fine}
 use Rattle.tally.proofs.Demands.{three-demands}
+use Rattle.season.specs.Season.{sheetReasons, totalsOf, runsIn}
 use Rattle.tally.proofs.Monotone.{monotone-on-gates}
 use Rattle.text.proofs.RoundTrip.{round-trip, text-memory}
-use Rattle.season.proofs.Reasons.{sheet-memory, sheet-sums}
+use Rattle.season.proofs.Reasons.{sheet-sums}
 use Rattle.urn.proofs.UrnMemory.{urn-memory}
 use Rattle.urn.proofs.UrnTheorems.{urn-holds, previews-tell}
 use Rattle.urn_run.proofs.Theorems.{urn-run-holds}
@@ -15,7 +22,21 @@ use Rattle.trustee_alone.proofs.Demands as alone
 use Rattle.dispatch.proofs.Theorems.{dispatching}
 use Rattle.batch.proofs.Theorems.{each-as-alone, accepted-as-all, batch-memory, batch-accuracy, batch-hiding}
 use Rattle.batch.proofs.Refusals.{refused-as-alone, fault-as-alone}
-use Rattle.demands.specs.Demands.{AllDemands}
+use Rattle.demands.specs.Demands.{SheetMemory, AllDemands}
+
+sheet-memory : SheetMemory
+unfolding All sheetReasons hasNumberIn reasonAt Each
+sheet-memory bytes =
+    let ns : List ℕ = 21 ∷ 22 ∷ [] in
+    record {
+      number = λ r e.
+          refused-fine ns _ r
+          (outcome-fine ns _ (totalsOf (runsIn bytes))
+          (first-fine ns (sheetReasons bytes) (unless-fine ns _ 21 tt, (found-fine ns 22 _ (λ i. tt), tt)))) e;
+      refusal = λ r e. tt;
+      empties = λ values e. tt;
+      lengths = tt;
+    }
 
 pub all-demands : AllDemands
 all-demands =

@@ -2,19 +2,22 @@
 -- contracts equate with answers and all that is lent. That a call ends, and reads and writes only inside what it was
 -- lent, is part of what is proved for every function.
 use mathlib.Core.Path.{_≡_}
-use mathlib.Core.List.{List}
+use mathlib.Core.List.{List, [], _∷_}
 use Prim.Native.Nat.{ℕ}
 use Rattle.jury.specs.declared.shape.Shape.{Shape}
 use Rattle.rule_judgment.specs.Theorems.{BytesSay, GaugeKept, SomebodyWins}
 use Rattle.rule_schulze.specs.Theorems.{SchulzeHolds}
-use Rattle.tally.specs.Answer.{accepted, Size}
+use Rattle.jury.specs.Reason.{firstOf}
+use Rattle.tally.specs.Answer.{accepted, outcome, Size}
+use Rattle.tally.specs.Memory.{KeepsMemory}
 use Rattle.tally.specs.Write.{writeOutcome}
 use Rattle.tally.specs.Hiding.{RunTellsNoMore}
 use Rattle.tally.specs.Demands as run
 use Rattle.tally.specs.Monotone.{MonotoneOnGates}
 use Rattle.text.specs.RoundTrip.{RoundTrip}
 use Rattle.text.specs.Demands.{TextMemory}
-use Rattle.season.specs.Theorems.{SheetMemory, SheetSums}
+use Rattle.season.specs.Season.{sheetReasons, totalsOf, runsIn}
+use Rattle.season.specs.Theorems.{SheetSums}
 use Rattle.urn.specs.Memory.{UrnMemory}
 use Rattle.urn.specs.Theorems.{UrnHolds, PreviewsTell}
 use Rattle.urn_run.specs.Theorems.{UrnRunHolds}
@@ -24,6 +27,13 @@ use Rattle.trustee_alone.specs.Demands as alone
 use Rattle.dispatch.specs.Theorems.{Dispatching}
 use Rattle.batch.specs.Theorems.{EachAsAlone, AcceptedAsAll, RefusedAsAlone, FaultAsAlone}
 use Rattle.batch.specs.Theorems.{BatchMemory, BatchAccuracy, BatchHiding}
+
+-- The crate of the season sheet knows no answers of the core, so its instance is here: it is lent nothing to write to,
+-- and refuses with 21 or 22.
+abbrev pub SheetMemory : Type 0
+SheetMemory =
+    (bytes : List ℕ)
+    → KeepsMemory (21 ∷ 22 ∷ []) (outcome (firstOf (sheetReasons bytes)) (totalsOf (runsIn bytes))) [] []
 
 -- The demand [memory] for the five entry points, the calls on text, the season sheet, the urn, and 64 juries. For the
 -- other calls it is in the records below.

@@ -1,3 +1,4 @@
 pub mod JuryTests
 pub mod Whole
 pub mod Theorems
+pub mod Examples

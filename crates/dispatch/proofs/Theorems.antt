@@ -11,6 +11,9 @@ use native.Mathlib.Omega.{arith}
 use lib.Dec.{T, eqb, leb}
 use lib.ListN.{length, getD, drop, replicate, length-append, length-drop, length-replicate}
 use lib.Seq.{take-at, drop-at}
+use borrow.Author.Tests.{leb-true, le-leb}
+use Rattle.basics.proofs.Cases.{below-or-not}
+use Rattle.basics.proofs.Flags.{and-first, and-second, and-both}
 use Rattle.gates.specs.Gate.{gatesOf}
 use Rattle.gates.specs.Wires.{wiresOf}
 use Rattle.gates.specs.Board.{boardOf}
@@ -25,6 +28,7 @@ use Rattle.tally.specs.SaysWhoWins.{SaysWhoWins}
 use Rattle.tally.specs.Memory.{Each}
 use Rattle.tally.specs.Demands.{listIn}
 use Rattle.tally.proofs.Numbering.{run-number}
+use Rattle.tally.proofs.TestReasons.{never}
 use Rattle.tally.proofs.RunReasons.{outcome-refused, ran-by}
 use Rattle.tally.proofs.Demands.{run-lengths, three-demands}
 use Rattle.dispatch_rounds.specs.declared.header.JuryHeader.{JuryHeader}
@@ -35,8 +39,8 @@ use Rattle.dispatch.specs.Reasons.{dispatchReasons}
 use Rattle.dispatch_rounds.specs.Rounds.{eightOf, roundsFor}
 use Rattle.dispatch.specs.Result.{runBoard, zeroWires, DispatchResult, dispatchResultAfter, dispatchResult}
 use Rattle.dispatch.specs.inner.Rounds.{wireBytes}
-use Rattle.dispatch.specs.NoIdleRound.{juryAt}
-use Rattle.dispatch.specs.Theorems.{tablesFrom, piecesAt, runAt, RunsAt, jury, pieces, piecesAfter, RoundsExact, AcceptedJury, EachJury, FirstRefused, Refusals, DispatchMemory, Untouched, Dispatching}
+use Rattle.dispatch.specs.NoIdleRound.{juryAt, AllDone, NoIdleRound}
+use Rattle.dispatch.specs.Theorems.{tablesFrom, piecesAt, runAt, RunsAt, jury, pieces, piecesAfter, RoundsExact, RoundsOfCall, AcceptedJury, EachJury, FirstRefused, JuriesFit, QuantumFits, AcceptedAsAll, Refusals, DispatchMemory, Untouched, Dispatching}
 use Rattle.dispatch_rounds.proofs.Pieces.{oneOf, piece-fits}
 use Rattle.dispatch_rounds.proofs.Passed.{Passed, jury-passed, first-accepted}
 use Rattle.dispatch_rounds.proofs.MidRound.{padding}
@@ -77,6 +81,15 @@ exact =
       where
         not-most : (a b : ℕ) → (a ≤ b → ⊥) → b < a
         not-most a b g = omega (arith, g)
+
+-- a number between two others, as a flag and as a fact
+between : (least n most : ℕ) → (leb least n && leb n most) ≡ true → (least ≤ n) × (n ≤ most)
+between least n most e = (leb-true least n (and-first (leb least n) (leb n most) e), leb-true n most (and-second (leb least n) (leb n most) e))
+
+outside : (least n most : ℕ) → (leb least n && leb n most) ≡ false → ¬ ((least ≤ n) × (n ≤ most))
+outside least n most e h =
+    let yes = and-both (leb least n) (leb n most) (le-leb least n (h .0)) (le-leb n most (h .1)) in
+    let z : _≡_ {A = ℕ} 0 1 = cc in absurd (omega arith)
 
 -- an accepted call refuses no jury
 reason-is : (o : Option Reason) (c : Call) → dispatchResultAfter o c .reason ≡ o
@@ -357,11 +370,94 @@ refusals =
 
     name : (c : Call) (r : Reason) (a b : Bool) → (leb 1 (c .count) && leb (c .count) 8) ≡ a
         → (leb 1 (c .quantum) && leb (c .quantum) 65536) ≡ b → firstOf (dispatchReasons c) ≡ some r
-        → (r ≡ reasonAt 19 0) ⊎ (r ≡ reasonAt 20 0) ⊎ FirstRefused (juriesIn c) (c .tables) r
-    name c r false b p q e = inl (same-reason r (reasonAt 19 0) (sym e ∙ bad-count c p))
-    name c r true false p q e = inr (inl (same-reason r (reasonAt 20 0) (sym e ∙ bad-quantum c p q)))
+        → ((¬ JuriesFit c) × (r ≡ reasonAt 19 0)) ⊎ (JuriesFit c × (¬ QuantumFits c) × (r ≡ reasonAt 20 0))
+        ⊎ (JuriesFit c × QuantumFits c × FirstRefused (juriesIn c) (c .tables) r)
+    name c r false b p q e = inl (outside 1 (c .count) 8 p, same-reason r (reasonAt 19 0) (sym e ∙ bad-count c p))
+    name c r true false p q e =
+        inr (inl (between 1 (c .count) 8 p, outside 1 (c .quantum) 65536 q, same-reason r (reasonAt 20 0) (sym e ∙ bad-quantum c p q)))
     name c r true true p q e =
-        inr (inr (of-run (juriesIn c) (c .tables) r (found-at 0 (juriesIn c) (c .tables) r (sym (by-juries c p q) ∙ e))))
+        inr (inr (between 1 (c .count) 8 p, between 1 (c .quantum) 65536 q, of-run (juriesIn c) (c .tables) r (found-at 0 (juriesIn c) (c .tables) r (sym (by-juries c p q) ∙ e))))
+
+-- a call is accepted where all its juries are
+accepted-as-all : AcceptedAsAll
+accepted-as-all c = (
+  λ e. let f = limits (leb 1 (c .count) && leb (c .count) 8) (leb 1 (c .quantum) && leb (c .quantum) 65536) refl refl (no-reason c none e) in
+      (f .0, f .1, λ (j : ℕ) h. run-accepted (juriesIn c) (c .tables) j (accepted-at 0 j (juriesIn c) (c .tables) (juries-pass c e) h)),
+  λ h. back (dispatchResult c .reason) refl h,
+)
+  where
+    limits : (a b : Bool) → (leb 1 (c .count) && leb (c .count) 8) ≡ a → (leb 1 (c .quantum) && leb (c .quantum) 65536) ≡ b
+        → firstOf (dispatchReasons c) ≡ none → JuriesFit c × QuantumFits c
+    limits false b p q e = let f = sym (bad-count c p) ∙ e in let z : _≡_ {A = ℕ} 0 1 = cc in absurd (omega arith)
+    limits true false p q e = let f = sym (bad-quantum c p q) ∙ e in let z : _≡_ {A = ℕ} 0 1 = cc in absurd (omega arith)
+    limits true true p q e = (between 1 (c .count) 8 p, between 1 (c .quantum) 65536 q)
+
+    back : (o : Option Reason) → dispatchResult c .reason ≡ o
+        → JuriesFit c × QuantumFits c × ((j : ℕ) → j < length (juriesIn c) → RunsAt j (juriesIn c) (c .tables)) → dispatchResult c .reason ≡ none
+    back none e h = e
+    back (some r) e h =
+        ⊎-elim (λ x. absurd (x .0 (h .0)))
+        (⊎-elim (λ x. absurd (x .1 (h .1)))
+        (λ x. never (sizeOf (gatesOf (piecesAt (r .place) (juriesIn c) (c .tables) .lists))) (x .2 .its) (sym (x .2 .run) ∙ h .2 (r .place) (x .2 .among))))
+        (refusals .named c r e)
+
+-- the place of the largest of some numbers
+largest-at : (n : ℕ) (g : ℕ → ℕ) → (j : ℕ) × (j < suc n) × ((i : ℕ) → i < suc n → g i ≤ g j)
+largest-at zero g = (0, omega arith, λ (i : ℕ) h. let e : i ≡ 0 = omega arith in subst (λ (k : ℕ). g k ≤ g 0) (sym e) (omega arith))
+largest-at (suc n) g = go (largest-at n g)
+  where
+    last : (m i : ℕ) → i < suc (suc n) → ((k : ℕ) → k < suc n → g k ≤ m) → g (suc n) ≤ m → g i ≤ m
+    last m i h before at =
+        ⊎-elim (λ (l : i < suc n). before i l)
+        (λ (l : suc n ≤ i). let e : i ≡ suc n = omega arith in subst (λ (k : ℕ). g k ≤ m) (sym e) at) (below-or-not i (suc n))
+
+    go : (j : ℕ) × (j < suc n) × ((i : ℕ) → i < suc n → g i ≤ g j) → (j : ℕ) × (j < suc (suc n)) × ((i : ℕ) → i < suc (suc n) → g i ≤ g j)
+    go b =
+        ⊎-elim (λ (l : g (b .0) < g (suc n)). (suc n, omega arith, λ (i : ℕ) h. last (g (suc n)) i h (λ (k : ℕ) m. omega (arith, b .2 k m)) (omega arith)))
+        (λ (l : g (suc n) ≤ g (b .0)). (b .0, omega (arith, b .1), λ (i : ℕ) h. last (g (b .0)) i h (b .2) l))
+        (below-or-not (g (b .0)) (g (suc n)))
+
+-- the rounds of the jury that takes most
+module _ (c : Call) (j : ℕ) (a : AcceptedJury c j) where
+  abbrev its : ℕ → ℕ
+  its i = getD (dispatchResult c .rounds) i 0
+
+  least : 1 ≤ c .quantum
+  least = accepted-as-all c .0 (a .accepts) .1 .0
+
+  found : (i : ℕ) × (i < suc (length (juriesIn c) - 1)) × ((k : ℕ) → k < suc (length (juriesIn c) - 1) → its k ≤ its i)
+  found = largest-at (length (juriesIn c) - 1) its
+
+  longest-among : found .0 < length (juriesIn c)
+  longest-among = omega (arith, found .1, a .among)
+
+  takes : (i : ℕ) → i < length (juriesIn c) → its i ≡ roundsFor (jury c i .gates) (c .quantum)
+  takes i h = each-jury c i (a .accepts) h .rounds
+
+  most : (i : ℕ) → i < length (juriesIn c) → its i ≤ its (found .0)
+  most i h = found .2 i (omega (arith, h))
+
+  all-done : AllDone (c .quantum) (its (found .0)) (juriesIn c)
+  all-done i h = rounds-most (jury c i .gates) (c .quantum) (its (found .0)) least .0 (omega (arith, takes i h, most i h))
+
+  none-idle : NoIdleRound (c .quantum) (its (found .0)) (juriesIn c)
+  none-idle r h =
+      (found .0, longest-among, exact .given (jury c (found .0) .gates) (c .quantum) r least .1 (omega (arith, h, takes (found .0) longest-among)))
+
+  no-other : (n : ℕ) → AllDone (c .quantum) n (juriesIn c) → NoIdleRound (c .quantum) n (juriesIn c) → n ≡ its (found .0)
+  no-other n done idle =
+      ⊎-elim
+      (λ (l : n < its (found .0)).
+      let few = rounds-most (jury c (found .0) .gates) (c .quantum) n least .1 (done (found .0) longest-among) in
+      absurd (omega (arith, l, few, takes (found .0) longest-among)))
+      (λ (l : its (found .0) ≤ n).
+      ⊎-elim (λ (k : its (found .0) < n). let g = idle (its (found .0)) k in absurd (omega (arith, g .2, all-done (g .0) (g .1))))
+      (λ (k : n ≤ its (found .0)). omega (arith, l, k)) (below-or-not (its (found .0)) n))
+      (below-or-not n (its (found .0)))
+
+  rounds-of-call : RoundsOfCall c
+  rounds-of-call =
+      record { longest = found .0; among = longest-among; most = most; all-done = all-done; none-idle = none-idle; no-other = no-other }
 
 -- no length changes
 lengths : (c : Call) → (length (dispatchResult c .wires) ≡ length (c .tables .wires)) × (length (dispatchResult c .boards) ≡ length (c .tables .boards))
@@ -409,7 +505,7 @@ numbers = 19 ∷ 20 ∷ 1 ∷ 2 ∷ 3 ∷ 4 ∷ 5 ∷ 6 ∷ 11 ∷ 12 ∷ 7 ∷ 
 
 number : (c : Call) (r : Reason) → dispatchResult c .reason ≡ some r → T (hasNumberIn numbers r)
 unfolding hasNumberIn reasonAt
-number c r e = ⊎-elim (own 19 tt) (⊎-elim (own 20 tt) of-jury) (refusals .named c r e)
+number c r e = ⊎-elim (λ x. own 19 tt (x .1)) (⊎-elim (λ x. own 20 tt (x .2)) (λ x. of-jury (x .2))) (refusals .named c r e)
   where
     own : (n : ℕ) → T (hasNumberIn numbers (reasonAt n 0)) → r ≡ reasonAt n 0 → T (hasNumberIn numbers r)
     own n h q = subst (λ (x : Reason). T (hasNumberIn numbers x)) (sym q) h
@@ -507,8 +603,10 @@ pub dispatching : Dispatching
 dispatching =
     record {
       exact = exact;
+      rounds = rounds-of-call;
       memory = memory;
       untouched = untouched;
+      accepted-as-all = accepted-as-all;
       refusals = refusals;
       each = each;
       same = λ (c c′ : Call) (j i : ℕ) a a′ inputs.

@@ -4,3 +4,4 @@ pub mod Result
 pub mod NoIdleRound
 pub mod inner
 pub mod Theorems
+pub mod Examples

@@ -20,7 +20,7 @@ use Rattle.dispatch_rounds.specs.Tables.{Tables, lent, shapeOf, piecesOf, behin
 use Rattle.dispatch_rounds.specs.Rounds.{roundsFor}
 use Rattle.dispatch.specs.Call.{Call, juriesIn}
 use Rattle.dispatch.specs.Result.{runBoard, dispatchResult}
-use Rattle.dispatch.specs.NoIdleRound.{juryAt}
+use Rattle.dispatch.specs.NoIdleRound.{juryAt, AllDone, NoIdleRound}
 
 -- The tables without the pieces of the first j juries.
 unfoldable pub tablesFrom : ℕ → List JuryHeader → Tables → Tables
@@ -80,6 +80,19 @@ pub record EachJury (c : Call) (j : ℕ) : Type 0 where
   pub emptied : piecesAfter c j .wires ≡ replicate (length (pieces c j .wires)) 0
   pub board : piecesAfter c j .boards ≡ runBoard (jury c j) (pieces c j)
 
+-- The rounds of an accepted call are those of the jury that needs most. After them every jury has done all its gates; in
+-- each of them some jury gets a gate; and no other number of rounds has both properties. So these are the rounds in the
+-- contract of `run_rounds`.
+pub record RoundsOfCall (c : Call) : Type 0 where
+  pub longest : ℕ
+  pub among : longest < length (juriesIn c)
+  pub most : (j : ℕ) → j < length (juriesIn c)
+      → getD (dispatchResult c .rounds) j 0 ≤ getD (dispatchResult c .rounds) longest 0
+  pub all-done : AllDone (c .quantum) (getD (dispatchResult c .rounds) longest 0) (juriesIn c)
+  pub none-idle : NoIdleRound (c .quantum) (getD (dispatchResult c .rounds) longest 0) (juriesIn c)
+  pub no-other : (n : ℕ) → AllDone (c .quantum) n (juriesIn c) → NoIdleRound (c .quantum) n (juriesIn c)
+      → n ≡ getD (dispatchResult c .rounds) longest 0
+
 -- Jury j of one call and jury i of another agree in header, list, ballots and tape.
 pub record SameInputs (c c′ : Call) (j i : ℕ) : Type 0 where
   pub header : jury c j ≡ jury c′ i
@@ -102,10 +115,26 @@ pub record FirstRefused (ss : List JuryHeader) (t : Tables) (r : Reason) : Type 
   pub number : r .number ≡ its .number
   pub run : runAt (r .place) ss t .answer ≡ refused its
 
--- A refusal is 19 or 20 at place 0, or the reason of the first jury that is refused. It answers no rounds.
+-- One to eight juries, and a quantum of 1 to 65,536 gates.
+abbrev pub JuriesFit : Call → Type 0
+JuriesFit c = (1 ≤ c .count) × (c .count ≤ 8)
+
+abbrev pub QuantumFits : Call → Type 0
+QuantumFits c = (1 ≤ c .quantum) × (c .quantum ≤ 65536)
+
+-- A call is accepted iff both numbers fit and an undivided run on each jury's pieces is accepted.
+abbrev pub AcceptedAsAll : Type 0
+AcceptedAsAll =
+    (c : Call) → (dispatchResult c .reason ≡ none)
+    ↔ (JuriesFit c × QuantumFits c × ((j : ℕ) → j < length (juriesIn c) → RunsAt j (juriesIn c) (c .tables)))
+
+-- A refusal is 19 at place 0 if the number of juries does not fit, else 20 at place 0 if the quantum does not, else the
+-- reason of the first jury that is refused. It answers no rounds.
 pub record Refusals : Type 0 where
   pub named : (c : Call) (r : Reason) → dispatchResult c .reason ≡ some r
-      → (r ≡ reasonAt 19 0) ⊎ (r ≡ reasonAt 20 0) ⊎ FirstRefused (juriesIn c) (c .tables) r
+      → ((¬ JuriesFit c) × (r ≡ reasonAt 19 0))
+      ⊎ (JuriesFit c × (¬ QuantumFits c) × (r ≡ reasonAt 20 0))
+      ⊎ (JuriesFit c × QuantumFits c × FirstRefused (juriesIn c) (c .tables) r)
   pub no-rounds : (c : Call) (r : Reason) → dispatchResult c .reason ≡ some r → dispatchResult c .rounds ≡ replicate 8 0
 
 -- Demand 1. The call may write to two tables. It empties each jury's piece of the wires (`EachJury`), not the whole
@@ -126,8 +155,10 @@ pub record Untouched (c : Call) : Type 0 where
 
 pub record Dispatching : Type 0 where
   pub exact : RoundsExact
+  pub rounds : (c : Call) (j : ℕ) → AcceptedJury c j → RoundsOfCall c
   pub memory : (c : Call) → DispatchMemory c
   pub untouched : (c : Call) → Untouched c
+  pub accepted-as-all : AcceptedAsAll
   pub refusals : Refusals
   pub each : (c : Call) (j : ℕ) → AcceptedJury c j → EachJury c j
   pub same : (c c′ : Call) (j i : ℕ) → AcceptedJury c j → AcceptedJury c′ i → SameInputs c c′ j i → SameJury c c′ j i

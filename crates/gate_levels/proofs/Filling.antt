@@ -23,7 +23,8 @@ use Rattle.gate_levels.specs.Levels.{wireLevel, gateLevel, levelsFrom, l
 use Rattle.gate_levels.specs.inner.Filling.{LevelReady}
 use Rattle.gate_levels.specs.Compared.{sameNumbers, compared}
 use Rattle.gate_levels.specs.declared.level.Compared.the-variants.{Own, Other}
-use Rattle.gate_levels.proofs.Laws.{Below, operands-below, levels-keep, gate-level-same, largest-most, largest-more, gate-most}
+use Rattle.gates.proofs.Reading.{Below, operands-below}
+use Rattle.gate_levels.proofs.Laws.{levels-keep, gate-level-same, largest-most, largest-more, gate-most}
 
 -- lists of the same numbers
 pub same-refl : (xs : List ℕ) → sameNumbers xs xs ≡ true

@@ -6,42 +6,17 @@ use mathlib.Core.List.{List, [], _∷_, _++_}
 use Prim.Native.Nat.{ℕ, zero, suc, _+_, _-_, _≤_, _<_, max}
 use native.Mathlib.Nat.{add-zero, add-suc}
 use native.Mathlib.Omega.{arith}
-use lib.Dec.{T, ltb}
+use lib.Dec.{ltb}
 use lib.ListN.{length, getD, length-append, List·getD-append}
 use lib.Seq.{getD-append-seam}
-use borrow.Author.Tests.{ltb-true, ltb-false}
-use Rattle.gates.specs.Kind.{operandsOf, conditionalOf}
+use borrow.Author.Tests.{ltb-false}
+use Rattle.gates.specs.Kind.{conditionalOf}
 use Rattle.gates.specs.Gate.{Gate}
 use Rattle.gates.specs.Board.{conditionalCount}
-use Rattle.gates.specs.Test.{goodGate}
-use Rattle.gates.proofs.Goodness.{good-gate}
-use Rattle.gates.proofs.Reading.{good-unused}
+use Rattle.gates.proofs.Reading.{Below, operands-below}
 use Rattle.gates.proofs.Counting.{count-cons}
 use Rattle.gates.proofs.Laws.{AllGood}
 use Rattle.gate_levels.specs.Levels.{wireLevel, gateLevel, levelsFrom, levelsOf, largest, roundsOf}
-
--- All operands of a good gate are below its own wire; an unused one is 0.
-pub record Below (own : ℕ) (g : Gate) : Type 0 where
-  pub a-below : g .a < own
-  pub b-below : g .b < own
-  pub c-below : g .c < own
-
-below-by : (own x i n : ℕ) → 0 < own → (i < n → x < own) → (ltb i n ≡ false → x ≡ 0) → x < own
-below-by own x i n pos used unused = go (ltb i n) refl
-  where
-    go : (b : Bool) → ltb i n ≡ b → x < own
-    go true e = used (ltb-true i n e)
-    go false e = omega (arith, unused e)
-
-pub operands-below : (own : ℕ) (g : Gate) → 0 < own → T (goodGate own g) → Below own g
-operands-below own g pos good =
-    let f = good-gate own g good in
-    let u = good-unused own g good in
-    record {
-      a-below = below-by own (g .a) 0 (operandsOf (g .kind)) pos (f .a-below) (u .a-zero);
-      b-below = below-by own (g .b) 1 (operandsOf (g .kind)) pos (f .b-below) (u .b-zero);
-      c-below = below-by own (g .c) 2 (operandsOf (g .kind)) pos (f .c-below) (u .c-zero);
-    }
 
 -- Levels that are there stay, and each gate adds one.
 pub levels-keep : (inputs : ℕ) (ls : List ℕ) (gs : List Gate) (i : ℕ) → i < length ls → getD (levelsFrom inputs ls gs) i 0 ≡ getD ls i 0

@@ -7,13 +7,13 @@ use Prim.Native.Nat.{ℕ, suc, _+_, _*_, _%_, _<_}
 use native.Mathlib.Omega.{arith}
 use lib.Dec.{T, ltb, eqb→eq}
 use lib.ListN.{length, getD}
-use borrow.Author.Tests.{lt-ltb, eq-eqb}
+use borrow.Author.Tests.{ltb-true, lt-ltb, eq-eqb}
 use Rattle.gates.specs.Open.Kind.{operandsOf}
 use Rattle.gates.specs.Open.Gate.{Gate, gatesOf, numbersOf}
 use Rattle.gates.specs.Open.Step.{gateAt}
 use Rattle.gates.specs.Open.Test.{goodOperand, goodGate, firstBad}
 use Rattle.gates.specs.declared.place.Place.the-variants.{At, Nowhere}
-use Rattle.gates.proofs.Goodness.{and-left, and-right}
+use Rattle.gates.proofs.Goodness.{and-left, and-right, good-gate}
 
 -- gate g by its four numbers
 pub gate-numbers : (t : List ℕ) (g : ℕ) → gateAt t g ≡ record { kind = getD t (4 * g) 0; a = getD t (4 * g + 1) 0; b = getD t (4 * g + 2) 0; c = getD t (4 * g + 3) 0 }
@@ -86,3 +86,26 @@ good-by own g pos known u =
       below-by (ltb 1 n) own (g .b) pos (u .b-zero),
       below-by (ltb 2 n) own (g .c) pos (u .c-zero),
     )
+
+-- all operands of a good gate are below its own wire, 0 being below any
+pub record Below (own : ℕ) (g : Gate) : Type 0 where
+  pub a-below : g .a < own
+  pub b-below : g .b < own
+  pub c-below : g .c < own
+
+operand-below : (own x i n : ℕ) → 0 < own → (i < n → x < own) → (ltb i n ≡ false → x ≡ 0) → x < own
+operand-below own x i n pos used unused = go (ltb i n) refl
+  where
+    go : (b : Bool) → ltb i n ≡ b → x < own
+    go true e = used (ltb-true i n e)
+    go false e = omega (arith, unused e)
+
+pub operands-below : (own : ℕ) (g : Gate) → 0 < own → T (goodGate own g) → Below own g
+operands-below own g pos good =
+    let f = good-gate own g good in
+    let u = good-unused own g good in
+    record {
+      a-below = operand-below own (g .a) 0 (operandsOf (g .kind)) pos (f .a-below) (u .a-zero);
+      b-below = operand-below own (g .b) 1 (operandsOf (g .kind)) pos (f .b-below) (u .b-zero);
+      c-below = operand-below own (g .c) 2 (operandsOf (g .kind)) pos (f .c-below) (u .c-zero);
+    }

@@ -4,7 +4,7 @@ use mathlib.Core.Path.{_≡_, _∙_, sym, ap, subst}
 use mathlib.Core.Bool.{Bool, true, false, cond, _&&_, true≢false}
 use mathlib.Core.Logic.{_⊎_, ⊎-elim}
 use Prim.Native.Nat.{ℕ, _≤_, _<_, _*_, _^_}
-use native.Mathlib.Nat.{mul-le-mul}
+use native.Mathlib.Nat.{mul-le-mul, mul-pos}
 use native.Mathlib.Omega.{arith}
 use lib.Dec.{T, leb}
 use borrow.Author.Tests.{leb-true, le-leb, ne-eqb}
@@ -136,6 +136,25 @@ bounds s e = ⊎-elim graded rank (kinds s e)
 
 pub bounds-T : (s : Shape) → T (withinLimits s) → Bounds s
 bounds-T s h = bounds s (T-true (withinLimits s) h)
+
+-- a shape within its limits has ballot bytes, graded or ranked
+pub some-bytes : (s : Shape) → withinLimits s ≡ true → 1 ≤ ballotBytes s
+some-bytes s e = ⊎-elim graded rank (kinds s e)
+  where
+    graded : gradedLimits s ≡ true → 1 ≤ ballotBytes s
+    graded g =
+        let w = within s g in
+        let rows : 0 < s .ballots * s .candidates = mul-pos (w .n-least) (w .k-least) in
+        let d : 0 < s .grades = omega (arith, w .d-least) in
+        let all : 0 < s .ballots * s .candidates * s .grades = mul-pos rows d in
+        omega (arith, bytes-are s w)
+
+    rank : rankedLimits s ≡ true → 1 ≤ ballotBytes s
+    rank r =
+        let w = ranked s r in
+        let rows : 0 < s .ballots * s .candidates = mul-pos (w .n-least) (w .k-least) in
+        let all : 0 < s .ballots * s .candidates * s .candidates = mul-pos rows (w .k-least) in
+        omega (arith, ranked-bytes s (w .ranking))
 
 -- ballots of either kind have few bytes
 pub inputs-bound : (s : Shape) → Bounds s → ballotBytes s ≤ 16320

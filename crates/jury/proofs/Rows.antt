@@ -5,10 +5,11 @@ use mathlib.Core.Logic.{⊎-elim}
 use mathlib.Core.List.{List, [], _++_, map}
 use Prim.Native.Nat.{ℕ, _+_, _-_, _≤_, _<_}
 use native.Mathlib.Omega.{arith}
-use lib.ListN.{length, getD, take, replicate, length-take, length-map, length-append, length-replicate, getD-replicate, List·getD-map, List·getD-append, List·getD-eq-default}
+use lib.ListN.{length, getD, take, replicate, length-take, length-map, length-append, List·getD-map, List·getD-append, List·getD-eq-default}
 use lib.Seq.{getD-take, getD-append-add, take-nil, length-take-le}
 use Rattle.jury.specs.ClosingBytes.{eightBytes}
 use Rattle.jury.specs.inner.Counts.{rowsIn}
+use Rattle.basics.proofs.Tables.{zeros-at}
 use Rattle.basics.proofs.Cases.{below-or-not}
 
 pub rows-length : (k d : ℕ) (counts : List (List ℕ)) → k ≤ length counts → length (rowsIn k d counts) ≡ k
@@ -21,9 +22,6 @@ row-at k d counts i h =
     ap (λ (e : List ℕ). getD (map (take d) (take k counts)) i e) (sym (take-nil d))
     ∙ List·getD-map (take d) (take k counts) i []
     ∙ ap (take d) (getD-take k counts i [] h)
-
-zeros-at : (n i : ℕ) → _≡_ {A = ℕ} (getD (replicate n 0) i 0) 0
-zeros-at n i = ⊎-elim (λ l. getD-replicate n i 0 0 l) (λ l. List·getD-eq-default (replicate n 0) 0 {n = i} (omega (arith, length-replicate {A = ℕ} n 0))) (below-or-not i n)
 
 -- eight bytes are the bytes given, and 0 past their end
 pub eight-at : (bytes : List ℕ) (j : ℕ) → j < 8 → getD (eightBytes bytes) j 0 ≡ getD bytes j 0

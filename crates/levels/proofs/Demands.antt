@@ -26,7 +26,8 @@ use Rattle.tally.proofs.TestReasons.{test-passed}
 use Rattle.levels.specs.Answer.{Depths, depthsOf}
 use Rattle.levels.specs.Levels.{levelsReasons, levelsOutcome, levelsWritten, LevelsResult}
 use Rattle.levels.specs.Demands.{Memory, OperandBelow, Depth, Demands}
-use Rattle.levels.proofs.Reasons.{outcome-refused, outcome-accepted, ListFacts, list-facts, both-passed, call-refused, call-accepted}
+use Rattle.tally.proofs.RunReasons.{outcome-refused, accepted-values}
+use Rattle.levels.proofs.Reasons.{ListFacts, list-facts, both-passed, call-refused, call-accepted}
 use Rattle.tally.proofs.Numbering.{All, first-fine, both, unless-fine, list-fine, outcome-fine, refused-fine}
 
 numbers : List ℕ
@@ -52,7 +53,7 @@ refused-by s table levels r e = outcome-refused (firstOf (levelsReasons s table 
 
 accepted-by : (s : Shape) (table levels : List ℕ) (depths : Depths) → levelsOutcome s table levels ≡ accepted depths → (firstOf (levelsReasons s table levels) ≡ none) × (depthsOf (ballotBytes s) (gatesOf table) ≡ depths)
 unfolding levelsOutcome
-accepted-by s table levels depths e = outcome-accepted (firstOf (levelsReasons s table levels)) (depthsOf (ballotBytes s) (gatesOf table)) depths e
+accepted-by s table levels depths e = accepted-values (firstOf (levelsReasons s table levels)) (depthsOf (ballotBytes s) (gatesOf table)) depths e
 
 written-length : (s : Shape) (table levels : List ℕ) → length (levelsWritten s table levels) ≡ length levels
 written-length s table levels = go (firstOf (levelsReasons s table levels)) refl

@@ -2,11 +2,9 @@
 -- Assumes nothing.
 use mathlib.Core.Path.{_≡_, _∙_, refl, sym, ap}
 use mathlib.Core.Bool.{Bool, true, false}
-use mathlib.Core.Logic.{⊎-elim}
 use mathlib.Core.Option.{Option, none, some}
 use mathlib.Core.List.{List, [], _∷_}
-use Prim.Native.Nat.{ℕ, _*_, _≤_, _<_}
-use native.Mathlib.Nat.{mul-pos}
+use Prim.Native.Nat.{ℕ, _≤_}
 use native.Mathlib.Omega.{arith}
 use lib.Dec.{eqb}
 use lib.ListN.{length}
@@ -18,44 +16,15 @@ use Rattle.gates.specs.declared.place.Place.the-variants.{Nowhere}
 use Rattle.gates.proofs.Evaluating.{accepted-list}
 use Rattle.gate_levels.specs.Levels.{levelsOf, roundsOf}
 use Rattle.jury.specs.declared.shape.Shape.{Shape}
-use Rattle.jury.specs.Shape.{gradedLimits, rankedLimits, withinLimits, ballotBytes}
+use Rattle.jury.specs.Shape.{withinLimits, ballotBytes}
 use Rattle.jury.specs.Reason.{Reason, reasonAt, unless, firstOf}
-use Rattle.jury.proofs.Limits.{within, bytes-are, ranked, ranked-bytes, kinds}
+use Rattle.jury.proofs.Limits.{some-bytes}
 use Rattle.tally.specs.Answer.{Outcome, refused, accepted, outcome, sizeOf}
 use Rattle.tally.specs.Test.{testReasons, testOutcome}
 use Rattle.tally.proofs.TestReasons.{orElse, first-append, TestPassed}
+use Rattle.tally.proofs.RunReasons.{outcome-refused}
 use Rattle.levels.specs.Answer.{Depths, depthsOf}
 use Rattle.levels.specs.Levels.{levelsReasons, levelsOutcome, afterwards, levelsWritten, LevelsResult, levelsResult}
-
--- a refusal is the first reason that applies
-pub outcome-refused : {A : Type 0} (o : Option Reason) (v : A) (r : Reason) → outcome o v ≡ refused r → o ≡ some r
-unfolding outcome
-outcome-refused none v r e = let z : _≡_ {A = ℕ} 0 1 = cc in absurd (omega arith)
-outcome-refused (some q) v r e = let p : q ≡ r = cc in ap {B = Option Reason} some p
-
-pub outcome-accepted : {A : Type 0} (o : Option Reason) (v w : A) → outcome o v ≡ accepted w → (o ≡ none) × (v ≡ w)
-unfolding outcome
-outcome-accepted none v w e = (refl, cc)
-outcome-accepted (some q) v w e = let z : _≡_ {A = ℕ} 0 1 = cc in absurd (omega arith)
-
--- a shape within its limits has ballot bytes, graded or ranked
-pub some-bytes : (s : Shape) → withinLimits s ≡ true → 1 ≤ ballotBytes s
-some-bytes s e = ⊎-elim graded rank (kinds s e)
-  where
-    graded : gradedLimits s ≡ true → 1 ≤ ballotBytes s
-    graded g =
-        let w = within s g in
-        let rows : 0 < s .ballots * s .candidates = mul-pos (w .n-least) (w .k-least) in
-        let d : 0 < s .grades = omega (arith, w .d-least) in
-        let all : 0 < s .ballots * s .candidates * s .grades = mul-pos rows d in
-        omega (arith, bytes-are s w)
-
-    rank : rankedLimits s ≡ true → 1 ≤ ballotBytes s
-    rank r =
-        let w = ranked s r in
-        let rows : 0 < s .ballots * s .candidates = mul-pos (w .n-least) (w .k-least) in
-        let all : 0 < s .ballots * s .candidates * s .candidates = mul-pos rows (w .k-least) in
-        omega (arith, ranked-bytes s (w .ranking))
 
 -- what an accepted test says about the list
 pub record ListFacts (s : Shape) (table : List ℕ) (gates conditional : ℕ) : Type 0 where

@@ -25,7 +25,7 @@ use Rattle.tally.proofs.Rules.{closing-length}
 use Rattle.tally.specs.Answer.{refused, accepted, outcome, Size, sizeOf, outcomeOf}
 use Rattle.tally.specs.declared.answer.Answer.the-variants as answer
 use Rattle.tally.specs.Run.{runResult}
-use Rattle.tally.specs.Write.{writeReasons, writeOutcome, written}
+use Rattle.tally.specs.Write.{writeReasons, writeOutcome, writeResult}
 use Rattle.tally.specs.Demands.{listIn}
 use Rattle.tally.proofs.TestReasons.{orElse, first-append}
 use Rattle.tally.proofs.Writing.{WritePassed, write-passed, write-refused, outside, write-length, list-in}
@@ -150,10 +150,10 @@ module _ (s : Shape) (table tape wires board : List ℕ) (l : Buffers table tape
   pub gates-few : g ≤ 4000
   gates-few = omega (arith, passed .room, gates-own, l .tableLength)
 
-  pub list-fits : 4 * g ≤ length (written s table)
+  pub list-fits : 4 * g ≤ length (writeResult s table)
   list-fits = omega (arith, passed .room, gates-own, write-length s table)
 
-  pub write-cut : (list : List ℕ) → list ≡ take (4 * g) (written s table) → Cut s list g c tape wires board
+  pub write-cut : (list : List ℕ) → list ≡ take (4 * g) (writeResult s table) → Cut s list g c tape wires board
   write-cut list f =
       record {
         within = true-T (withinLimits s) (passed .within);
@@ -167,7 +167,7 @@ module _ (s : Shape) (table tape wires board : List ℕ) (l : Buffers table tape
         boardLength = l .boardLength;
       }
     where
-      own-numbers : take (4 * g) (written s table) ≡ numbersOf (ownList s)
+      own-numbers : take (4 * g) (writeResult s table) ≡ numbersOf (ownList s)
       own-numbers = unfold listIn in (list-in s table (record { gates = g; conditional = c }) passed)
 
   pub by-the-run : (input : List ℕ) → s ≡ shapeIn input → runOutcome s (ballotsIn input) ≡ rehearsalOutcome input table

@@ -1,7 +1,6 @@
--- What the sheet answers, from the outcomes of its tests, and the numbers of its refusals.
+-- What the sheet answers, from the outcomes of its tests.
 -- Assumes nothing.
 use mathlib.Core.Path.{_≡_, _∙_, refl, sym, ap}
-use mathlib.Core.Logic.{_⊎_, inl, inr}
 use mathlib.Core.Bool.{Bool, true, false, _&&_}
 use mathlib.Core.Option.{Option, none, some}
 use mathlib.Core.List.{List, [], _∷_, _++_}
@@ -12,7 +11,7 @@ use lib.ListN.{length}
 use borrow.Author.Tests.{eq-eqb, ne-eqb, le-leb, lt-leb}
 use Rattle.gates.specs.declared.place.Place.{Place}
 use Rattle.gates.specs.declared.place.Place.the-variants.{At, Nowhere}
-use Rattle.jury.specs.Reason.{Reason, reasonAt, unless, foundAt, firstOf}
+use Rattle.jury.specs.Reason.{Reason, unless, foundAt, firstOf}
 use Rattle.basics.proofs.Flags.{and-both, and-first-fails, and-second-fails}
 use Rattle.season.specs.declared.sheet.Totals.{Totals}
 use Rattle.season.specs.declared.sheet.Refusal.{Refusal}
@@ -20,7 +19,7 @@ use Rattle.season.specs.declared.sheet.Refusal.the-variants.{Length, Bad
 use Rattle.season.specs.declared.sheet.Answer.the-variants.{Accepted, Refused}
 use Rattle.season.specs.Season.{runBytes, mostRuns, runsIn, firstBadRun, totalsOf, sheetReasons, reasonOf, reasonFor, totalsFor, totalsAfter, sumOver, Sheet}
 use Rattle.season.specs.declared.run.Run.{Run}
-use Rattle.season.specs.Theorems.{SheetMemory, SheetSums}
+use Rattle.season.specs.Theorems.{SheetSums}
 
 -- the answer of both tests
 unfoldable pub judged : Bool → Place → Option Reason
@@ -60,17 +59,6 @@ module _ (bytes : List ℕ) where
   pub accepted-is : (t : Totals) → firstOf (sheetReasons bytes) ≡ none → t ≡ totalsOf (runsIn bytes) → Sheet bytes (Accepted t)
   unfolding reasonFor totalsFor totalsAfter
   accepted-is t e h = record { reason = sym e; totals = ap some h ∙ sym (ap (λ (o : Option Reason). totalsAfter o (totalsOf (runsIn bytes))) e) }
-
-judged-number : (size : Bool) (run : Place) (r : Reason) → judged size run ≡ some r → (r .number ≡ 21) ⊎ (r .number ≡ 22)
-unfolding judged unless foundAt firstOf reasonAt
-judged-number false run r e = let h : reasonAt 21 0 ≡ r = cc in inl (ap (λ (x : Reason). x .number) (sym h))
-judged-number true (At i) r e = let h : reasonAt 22 i ≡ r = cc in inr (ap (λ (x : Reason). x .number) (sym h))
-judged-number true Nowhere r e = let z : _≡_ {A = ℕ} 0 1 = cc in absurd (omega arith)
-
-pub sheet-memory : SheetMemory
-sheet-memory = record {
-  number = λ bytes r e. judged-number (eqb (length bytes % runBytes) 0 && leb (length bytes) (mostRuns * runBytes)) (firstBadRun 0 (runsIn bytes)) r (sym (judged-by bytes _ _ refl refl) ∙ e);
-}
 
 sum-joined : (f : Run → ℕ) (rs qs : List Run) → sumOver f (rs ++ qs) ≡ sumOver f rs + sumOver f qs
 unfolding sumOver

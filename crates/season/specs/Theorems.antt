@@ -1,18 +1,12 @@
 -- What holds for the sheet.
 use mathlib.Core.Path.{_≡_}
-use mathlib.Core.Logic.{_⊎_}
 use mathlib.Core.Option.{none, some}
 use mathlib.Core.List.{List, _++_}
 use Prim.Native.Nat.{ℕ, _+_}
-use Rattle.jury.specs.Reason.{Reason, firstOf}
+use Rattle.jury.specs.Reason.{firstOf}
 use Rattle.season.specs.Season.{sheetReasons, sumOver, totalsOf, runsIn, totalsFor, Sheet}
 use Rattle.season.specs.declared.run.Run.{Run}
 use Rattle.season.specs.declared.sheet.Answer.{Answer}
-
--- The demand [memory]: nothing is lent for writing, and a refusal has one of the two numbers.
-pub record SheetMemory : Type 0 where
-  pub number : (bytes : List ℕ) (r : Reason) → firstOf (sheetReasons bytes) ≡ some r
-      → (r .number ≡ 21) ⊎ (r .number ≡ 22)
 
 -- An accepted sheet has the totals of its runs, and each total of two seasons in one sheet is the sum of both.
 pub record SheetSums : Type 0 where

@@ -27,7 +27,7 @@ use Rattle.gates.proofs.Evaluating.{accepted-list}
 use Rattle.tally.specs.Answer.{Outcome, refused, accepted, outcome, Size, sizeOf}
 use Rattle.tally.specs.Test.{testReasons, testOutcome}
 use Rattle.tally.specs.Run.{RunResult, bufferReasons, runReasons, runResultAfter, runResult}
-use Rattle.tally.proofs.TestReasons.{orElse, first-append, never, TestPassed, test-passed}
+use Rattle.tally.proofs.TestReasons.{orElse, first-append, TestPassed, test-passed}
 
 -- what the tests 7 to 10 answer, from their outcomes
 unfoldable pub lentFound : Bool → Place → Bool → Bool → Option Reason
@@ -98,10 +98,14 @@ unfolding outcome
 outcome-refused none values r e = let z : _≡_ {A = ℕ} 0 1 = cc in absurd (omega arith)
 outcome-refused (some q) values r e = let same : q ≡ r = cc in ap some same
 
-pub outcome-accepted : (o : Option Reason) (values size : Size) → outcome o values ≡ accepted size → o ≡ none
+-- where it is accepted there is none, and the values are those told
+pub accepted-values : {A : Type 0} (o : Option Reason) (v w : A) → outcome o v ≡ accepted w → (o ≡ none) × (v ≡ w)
 unfolding outcome
-outcome-accepted none values size e = refl
-outcome-accepted (some q) values size e = never size q e
+accepted-values none v w e = (refl, cc)
+accepted-values (some q) v w e = let z : _≡_ {A = ℕ} 0 1 = cc in absurd (omega arith)
+
+pub outcome-accepted : (o : Option Reason) (values size : Size) → outcome o values ≡ accepted size → o ≡ none
+outcome-accepted o values size e = accepted-values o values size e .0
 
 module _ (s : Shape) (table ballots tape wires board : List ℕ) where
   pub run-first : firstOf (runReasons s table ballots tape wires board)

@@ -17,7 +17,7 @@ use Rattle.jury.specs.Shape.{withinLimits}
 use Rattle.jury.specs.Reason.{Reason, reasonAt, unless, firstOf}
 use Rattle.tally.specs.OwnList.{ownList}
 use Rattle.tally.specs.Answer.{refused, accepted, outcome, Size, sizeOf}
-use Rattle.tally.specs.Write.{writeReasons, writeOutcome, writtenAfter, written}
+use Rattle.tally.specs.Write.{writeReasons, writeOutcome, writeResultAfter, writeResult}
 use Rattle.tally.specs.Demands.{listIn}
 use Rattle.tally.proofs.TestReasons.{never}
 
@@ -30,9 +30,9 @@ module _ (s : Shape) (table : List ℕ) where
   reasons-by within long e f = rw (e, f)
 
   -- the answer and the table, by the first reason that applies
-  pub write-refused : (r : Reason) → firstOf (writeReasons s table) ≡ some r → (writeOutcome s table ≡ refused r) × (written s table ≡ table)
-  unfolding writeOutcome outcome written writtenAfter
-  write-refused r e = (ap (λ (o : Option Reason). outcome o (sizeOf (ownList s))) e, ap (λ (o : Option Reason). writtenAfter o (numbersOf (ownList s)) table) e)
+  pub write-refused : (r : Reason) → firstOf (writeReasons s table) ≡ some r → (writeOutcome s table ≡ refused r) × (writeResult s table ≡ table)
+  unfolding writeOutcome outcome writeResult writeResultAfter
+  write-refused r e = (ap (λ (o : Option Reason). outcome o (sizeOf (ownList s))) e, ap (λ (o : Option Reason). writeResultAfter o (numbersOf (ownList s)) table) e)
 
   pub outside : withinLimits s ≡ false → firstOf (writeReasons s table) ≡ some (reasonAt 1 0)
   unfolding by unless firstOf
@@ -47,9 +47,9 @@ module _ (s : Shape) (table : List ℕ) where
   fits e f = reasons-by true true e f
 
   pub write-accepted : firstOf (writeReasons s table) ≡ none
-      → (writeOutcome s table ≡ accepted (sizeOf (ownList s))) × (written s table ≡ numbersOf (ownList s) ++ drop (length (numbersOf (ownList s))) table)
-  unfolding writeOutcome outcome written writtenAfter
-  write-accepted e = (ap (λ (o : Option Reason). outcome o (sizeOf (ownList s))) e, ap (λ (o : Option Reason). writtenAfter o (numbersOf (ownList s)) table) e)
+      → (writeOutcome s table ≡ accepted (sizeOf (ownList s))) × (writeResult s table ≡ numbersOf (ownList s) ++ drop (length (numbersOf (ownList s))) table)
+  unfolding writeOutcome outcome writeResult writeResultAfter
+  write-accepted e = (ap (λ (o : Option Reason). outcome o (sizeOf (ownList s))) e, ap (λ (o : Option Reason). writeResultAfter o (numbersOf (ownList s)) table) e)
 
   -- an accepted write, as facts
   pub record WritePassed (size : Size) : Type 0 where
@@ -88,14 +88,14 @@ module _ (s : Shape) (table : List ℕ) where
   gates-in size p = ap gatesOf (list-in size p) ∙ read-whole (ownList s)
 
   -- no write changes the length
-  long-after : (o : Option Reason) → firstOf (writeReasons s table) ≡ o → length (written s table) ≡ length table
+  long-after : (o : Option Reason) → firstOf (writeReasons s table) ≡ o → length (writeResult s table) ≡ length table
   long-after (some r) e = ap length (write-refused r e .1)
   long-after none e =
       let ns = numbersOf (ownList s) in
       let p = write-passed (sizeOf (ownList s)) (write-accepted e .0) in
       ap length (write-accepted e .1) ∙ omega (arith, length-append ns (drop (length ns) table), length-drop (length ns) table, length-numbers (ownList s), p .room)
 
-  pub write-length : length (written s table) ≡ length table
+  pub write-length : length (writeResult s table) ≡ length table
   write-length = long-after (firstOf (writeReasons s table)) refl
 
   -- storing the list's numbers leaves the table that the definition names

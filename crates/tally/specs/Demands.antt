@@ -18,7 +18,7 @@ use Rattle.tally.specs.Memory.{KeepsMemory, BoardKeepsMemory}
 use Rattle.tally.specs.Count.{countReason, plainClosing, countOutcome}
 use Rattle.tally.specs.Measure.{measureOutcome}
 use Rattle.tally.specs.Test.{testOutcome}
-use Rattle.tally.specs.Write.{writeOutcome, written}
+use Rattle.tally.specs.Write.{writeOutcome, writeResult}
 use Rattle.tally.specs.Run.{BoardCall, runResult}
 use Rattle.tally.specs.Hiding.{closingBytes, RunTellsNoMore}
 
@@ -26,7 +26,7 @@ use Rattle.tally.specs.Hiding.{closingBytes, RunTellsNoMore}
 pub record Memory : Type 0 where
   pub measure : (s : Shape) → KeepsMemory (1 ∷ []) (measureOutcome s) [] []
   pub write : (s : Shape) (table : List ℕ)
-      → KeepsMemory (1 ∷ 2 ∷ []) (writeOutcome s table) (record { before = table; after = written s table } ∷ []) []
+      → KeepsMemory (1 ∷ 2 ∷ []) (writeOutcome s table) (record { before = table; after = writeResult s table } ∷ []) []
   pub test : (s : Shape) (table : List ℕ) → KeepsMemory (1 ∷ 2 ∷ 3 ∷ []) (testOutcome s table) [] []
   pub run : (s : Shape) (table ballots tape wires board : List ℕ)
       → BoardKeepsMemory (1 ∷ 2 ∷ 3 ∷ 4 ∷ 5 ∷ 6 ∷ 11 ∷ 12 ∷ 7 ∷ 8 ∷ 9 ∷ 10 ∷ []) wires board
@@ -36,7 +36,7 @@ pub record Memory : Type 0 where
 
 -- The list that was written: the first 4G numbers of the table after an accepted write.
 unfoldable pub listIn : Shape → Size → List ℕ → List ℕ
-listIn s size table = take (4 * size .gates) (written s table)
+listIn s size table = take (4 * size .gates) (writeResult s table)
 
 -- Demand 2 for a kind of call, with the list that the core writes for a shape. It holds after an accepted write into
 -- a table with any old contents; G and C are what the write answered. `Good` says which inputs are in order.

@@ -24,12 +24,12 @@ unfoldable pub writeOutcome : Shape → List ℕ → Outcome Size
 writeOutcome s table = outcome (firstOf (writeReasons s table)) (sizeOf (ownList s))
 
 -- The table afterwards: the list's numbers, then the old contents; after a refusal, only the old contents.
-unfoldable pub writtenAfter : Option Reason → List ℕ → List ℕ → List ℕ
-writtenAfter (some r) numbers table = table
-writtenAfter none numbers table = numbers ++ drop (length numbers) table
+unfoldable pub writeResultAfter : Option Reason → List ℕ → List ℕ → List ℕ
+writeResultAfter (some r) numbers table = table
+writeResultAfter none numbers table = numbers ++ drop (length numbers) table
 
-unfoldable pub written : Shape → List ℕ → List ℕ
-written s table = writtenAfter (firstOf (writeReasons s table)) (numbersOf (ownList s)) table
+unfoldable pub writeResult : Shape → List ℕ → List ℕ
+writeResult s table = writeResultAfter (firstOf (writeReasons s table)) (numbersOf (ownList s)) table
 
 -- What holds for the own list of a shape within its limits.
 pub record OwnListHolds (s : Shape) : Type 0 where
@@ -47,5 +47,5 @@ HoldsWithin s = T (withinLimits s) → OwnListHolds s
 -- What the entry point promises of its answer and of the table.
 pub record Writes (s : Shape) (before : List ℕ) (answer : Outcome Size) (after : List ℕ) : Type 0 where
   pub answers : answer ≡ writeOutcome s before
-  pub leaves : after ≡ written s before
+  pub leaves : after ≡ writeResult s before
   pub own-list : HoldsWithin s

@@ -5,7 +5,6 @@ use mathlib.Core.Bool.{Bool, true, false, _&&_}
 use mathlib.Core.Option.{Option, none, some}
 use mathlib.Core.List.{List, [], _∷_, _++_}
 use Prim.Native.Nat.{ℕ, _*_, _≤_, _<_}
-use native.Mathlib.Omega.{arith}
 use lib.Dec.{leb}
 use lib.ListN.{length, drop}
 use borrow.Author.Tests.{le-leb, lt-leb}
@@ -30,12 +29,6 @@ pub same-text : {answer answer′ : Outcome ℕ} {output output′ : List ℕ} �
     → _≡_ {A = TextResult} (record { answer = answer; output = output }) (record { answer = answer′; output = output′ })
 same-text {answer} {answer′} {output} {output′} e =
     ap (λ (z : Outcome ℕ). record { answer = z; output = output }) (e .0) ∙ ap (λ (z : List ℕ). record { answer = answer′; output = z }) (e .1)
-
--- no reason applies to an accepted call
-pub outcome-accepted : {A : Type 0} (o : Option Reason) (v w : A) → outcome o v ≡ accepted w → (o ≡ none) × (v ≡ w)
-unfolding outcome
-outcome-accepted none v w e = (refl, cc)
-outcome-accepted (some q) v w e = let z : _≡_ {A = ℕ} 0 1 = cc in absurd (omega arith)
 
 module _ (s : Shape) (table output : List ℕ) where
   -- the reasons of writing by those of the test and the room

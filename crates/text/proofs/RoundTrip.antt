@@ -28,14 +28,14 @@ use Rattle.tally.specs.Answer.{accepted, outcome, sizeOf}
 use Rattle.tally.specs.Test.{testReasons, testOutcome}
 use Rattle.tally.proofs.TestReasons.{orElse, first-append, test-passed, test-passed-back}
 use Rattle.tally.specs.Memory.{Each}
-use Rattle.tally.proofs.RunReasons.{outcome-refused}
+use Rattle.tally.proofs.RunReasons.{outcome-refused, accepted-values}
 use Rattle.text.proofs.Numbering.{text-number, read-number}
 use Rattle.text.specs.Text.{textOf, linesOf, firstMalformed, gatesIn}
 use Rattle.text.specs.Write.{textReasons, textOutcome, textWritten}
 use Rattle.text.specs.Read.{readReasons, readOutcome, numbersRead}
 use Rattle.text.specs.RoundTrip.{RoundTrip}
 use Rattle.text.specs.Demands.{TextMemory}
-use Rattle.text.proofs.Reasons.{outcome-accepted, text-good, text-refused, text-accepted, numbers-good, read-refused, read-accepted}
+use Rattle.text.proofs.Reasons.{text-good, text-refused, text-accepted, numbers-good, read-refused, read-accepted}
 use Rattle.text.proofs.Whole.{gates-many, text-is, all-writable, text-lines}
 
 impossible : {P : Type 0} (r : Reason) → some r ≡ none → P
@@ -86,7 +86,7 @@ unfolding textOutcome
 back s table output numbers n e room =
     let gs = gatesOf table in
     let text = textOf gs in
-    let p = outcome-accepted (firstOf (textReasons s table output)) (length text) n e in
+    let p = accepted-values (firstOf (textReasons s table output)) (length text) n e in
     let t = test-passed s table (sizeOf gs) (test-accepted s table (test-none s table output (p .0))) in
     let f = accepted-list (ballotBytes s) (s .candidates) table _ _ (t .tests) in
     let bound : ballotBytes s ≤ 16320 = inputs-bound s (bounds s (t .within)) in
@@ -109,7 +109,7 @@ unfolding readOutcome
 forth s text numbers output n e room =
     let gs = gatesIn (linesOf text) in
     let ns = numbersOf gs in
-    let p = outcome-accepted (firstOf (readReasons s text numbers)) (4 * length (linesOf text)) n e in
+    let p = accepted-values (firstOf (readReasons s text numbers)) (4 * length (linesOf text)) n e in
     let f = read-passed s text numbers (p .0) in
     let many = gates-many (linesOf text) 0 (f .all-gates) in
     let long : length ns ≡ n = omega (arith, length-numbers gs, many, p .1) in
@@ -187,4 +187,13 @@ text-memory =
         empties = λ length e. tt;
         lengths = (read-length s text output, tt);
       };
+      writes-its-length = λ s table output n e.
+          let p = accepted-values (firstOf (textReasons s table output)) (length (textOf (gatesOf table))) n e in
+          (p .1, sym (text-accepted s table output (p .0) .1) ∙ ap (λ (m : ℕ). textOf (gatesOf table) ++ drop m output) (p .1));
+      reads-its-length = λ s text output n e.
+          let p = accepted-values (firstOf (readReasons s text output)) (4 * length (linesOf text)) n e in
+          let ns = numbersOf (gatesIn (linesOf text)) in
+          let many = gates-many (linesOf text) 0 (read-passed s text output (p .0) .all-gates) in
+          let long : length ns ≡ n = omega (arith, length-numbers (gatesIn (linesOf text)), many, p .1) in
+          (long, sym (read-accepted s text output (p .0) .1) ∙ ap (λ (m : ℕ). ns ++ drop m output) long);
     }

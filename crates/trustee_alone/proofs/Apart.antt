@@ -7,8 +7,7 @@ use mathlib.Core.Option.{none}
 use mathlib.Core.List.{List, [], _∷_}
 use Prim.Native.Nat.{ℕ, zero, suc, _+_, _*_, _≤_, _<_}
 use native.Mathlib.Omega.{arith}
-use lib.Dec.{leb}
-use lib.ListN.{length, getD, take, drop, replicate, length-append, length-replicate}
+use lib.ListN.{length, take, drop, replicate, length-append, length-replicate}
 use lib.Seq.{getD-drop}
 use borrow.Author.Tests.{eq-eqb, le-leb, lt-ltb}
 use Rattle.gates.specs.Gate.{gatesOf}
@@ -20,11 +19,12 @@ use Rattle.jury.specs.Reason.{firstOf}
 use Rattle.tally.specs.Answer.{sizeOf}
 use Rattle.tally.specs.Test.{testReasons}
 use Rattle.levels.specs.Answer.{depthsOf}
-use Rattle.trustee_shares.specs.Shares.{opened, part, Held}
+use Rattle.trustee_shares.specs.Shares.{part, Held}
 use Rattle.trustee_shares.specs.Views.{piece, ballotsOf, dealtOf, GoodDealing}
 use Rattle.trustee_shares.proofs.Tables.{length-piece}
 use Rattle.trustee_gates.specs.Dealing.{onlyBits}
-use Rattle.trustee_gates.proofs.Tests.{all-pass}
+use Rattle.trustee_gates.proofs.Parity.{opened-bit}
+use Rattle.trustee_gates.proofs.Dealt.{only-bits-back}
 use Rattle.trustee_rounds.specs.Rounds.{enters, publishes, startWires, startPublished}
 use Rattle.trustee_rounds.specs.Together.{sumsFrom, sumsOf, turnOf, wiresAfter, publishedAfter, holdingsAfter}
 use Rattle.trustee_rounds.proofs.Publishing.{length-sums}
@@ -52,15 +52,6 @@ piece-bits : (size : ℕ) (xs : List ℕ) (p : ℕ) → Bits xs → Bits (piece 
 unfolding piece
 piece-bits size xs p b = take-bits size (drop (p * size) xs) (drop-bits (p * size) xs b)
 
-only : (xs : List ℕ) → Bits xs → onlyBits xs ≡ true
-unfolding onlyBits
-only xs b = sym (all-pass (λ j. leb (getD xs j 0) 1) (length xs) (λ (i : ℕ) h. le-leb (getD xs i 0) 1 (b i)))
-
--- sums modulo 2 are bits
-opened-bit : (t : ℕ) (f : ℕ → ℕ) → opened t f ≤ 1
-unfolding opened
-opened-bit t f = omega arith
-
 sums-bits : (t n j : ℕ) (published : Held) → Bits (sumsFrom t n j published)
 unfolding sumsFrom
 sums-bits t zero j published i = omega arith
@@ -85,11 +76,11 @@ module _ (c : Call) (passed : CallPassed c) (p : ℕ) (l : p < c .trustees) wher
 
   parts-bits : onlyBits (ballotsOf (ballotBytes (c .shape)) (c .lent .dealing) p) ≡ true
   unfolding ballotsOf
-  parts-bits = only (piece (ballotBytes (c .shape)) (c .lent .dealing .ballotParts) p) (piece-bits (ballotBytes (c .shape)) (c .lent .dealing .ballotParts) p (good .ballot-bits))
+  parts-bits = only-bits-back (piece (ballotBytes (c .shape)) (c .lent .dealing .ballotParts) p) (piece-bits (ballotBytes (c .shape)) (c .lent .dealing .ballotParts) p (good .ballot-bits))
 
   dealt-bits : onlyBits (dealtOf (gatesOf (c .table)) (c .lent .dealing) p) ≡ true
   unfolding dealtOf
-  dealt-bits = only (piece (3 * conditionalCount (gatesOf (c .table))) (c .lent .dealing .dealerParts) p) (piece-bits (3 * conditionalCount (gatesOf (c .table))) (c .lent .dealing .dealerParts) p (good .dealer-bits))
+  dealt-bits = only-bits-back (piece (3 * conditionalCount (gatesOf (c .table))) (c .lent .dealing .dealerParts) p) (piece-bits (3 * conditionalCount (gatesOf (c .table))) (c .lent .dealing .dealerParts) p (good .dealer-bits))
 
   fits : (ws published : List ℕ) → length ws ≡ ballotBytes (c .shape) + length (gatesOf (c .table)) → length published ≡ 2 * conditionalCount (gatesOf (c .table)) + c .shape .candidates
       → tablesFit (ballotBytes (c .shape)) (c .shape .candidates) (sizeOf (gatesOf (c .table))) (dealtOf (gatesOf (c .table)) (c .lent .dealing) p) ws published ≡ true
@@ -136,7 +127,7 @@ module _ (c : Call) (passed : CallPassed c) (p : ℕ) (l : p < c .trustees) wher
   unfolding heardBefore sumsOf
   heard-bits r =
       let all = holdingsAfter (c .trustees) (ballotBytes (c .shape)) (gatesOf (c .table)) (c .shape .candidates) (c .lent .dealing) r .published in
-      only (sumsFrom (c .trustees) (2 * conditionalCount (gatesOf (c .table))) 0 all) (sums-bits (c .trustees) (2 * conditionalCount (gatesOf (c .table))) 0 all)
+      only-bits-back (sumsFrom (c .trustees) (2 * conditionalCount (gatesOf (c .table))) 0 all) (sums-bits (c .trustees) (2 * conditionalCount (gatesOf (c .table))) 0 all)
 
   -- a round
   round-passes : (r : ℕ) → r ≤ roundsOf (ballotBytes (c .shape)) (gatesOf (c .table))

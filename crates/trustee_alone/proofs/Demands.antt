@@ -1,6 +1,7 @@
--- Trustees apart end as the single call does, and send only what follows from their own tables and the sums.
+-- Trustees apart end as the single call does, so its demands hold for them; they send only what follows from their own
+-- tables and the sums.
 -- Assumes nothing.
-use mathlib.Core.Path.{_≡_, _∙_, refl, sym, ap}
+use mathlib.Core.Path.{_≡_, _∙_, refl, sym, ap, subst}
 use mathlib.Core.Option.{Option, none, some}
 use mathlib.Core.List.{List}
 use Prim.Native.Nat.{ℕ, suc, _*_, _<_}
@@ -12,22 +13,24 @@ use Rattle.gates.proofs.Evaluating.{accepted-list}
 use Rattle.gate_levels.specs.Levels.{roundsOf}
 use Rattle.jury.specs.Shape.{ballotBytes}
 use Rattle.jury.specs.Reason.{Reason, firstOf}
-use Rattle.jury.specs.ClosingBytes.{eightBytes}
-use Rattle.basics.proofs.Tabulate.{tabulate-cong}
-use Rattle.tally.specs.Answer.{refused, accepted, Size}
-use Rattle.levels.proofs.Reasons.{some-bytes}
-use Rattle.trustee_shares.specs.Shares.{opened, part, Held}
-use Rattle.trustee_shares.specs.Views.{joined, Dealing, ballotsOf, dealtOf, wirePartsOf, closingParts, publishedOf}
+use Rattle.tally.specs.Answer.{refused, accepted, Size, sizeOf}
+use Rattle.tally.specs.SaysWhoWins.{SaysWhoWins}
+use Rattle.jury.proofs.Limits.{some-bytes}
+use Rattle.trustee_shares.specs.Shares.{part, Held}
+use Rattle.trustee_shares.specs.Views.{joined, othersOf, Dealing, ballotsOf, dealtOf, wirePartsOf, publishedOf, View, viewOf}
 use Rattle.trustee_shares.proofs.Accuracy.{opened-same}
-use Rattle.trustee_shares.proofs.Tables.{length-piece, joined-cong}
+use Rattle.trustee_shares.proofs.Tables.{length-piece, joined-cong, others-cong}
 use Rattle.trustee_rounds.specs.Rounds.{Turn, enters, publishes, closes}
 use Rattle.trustee_rounds.specs.Together.{sumsOf, turnOf, wiresAfter, publishedAfter}
 use Rattle.trustee_rounds.proofs.Together.{rounds-make-the-tally}
-use Rattle.trustees.specs.Call.{Call}
+use Rattle.trustees.specs.Call.{Call, dealtAs, wirePartsIn, publishedIn, viewIn}
 use Rattle.trustees.specs.Reasons.{trusteesReasons}
 use Rattle.trustees.specs.Result.{TrusteesResult, trusteesResultAfter, trusteesResult, closingSums}
+use Rattle.trustees.specs.Demands.{inOneCall, Accuracy, OwnList, Hidden, Tallies}
 use Rattle.trustees.proofs.Reasons.{CallPassed, call-passed, result-by}
-use Rattle.trustee_alone.specs.Demands.{roundsIn, holdingsIn, AsTheOneCall, OwnTablesOnly, Demands}
+use Rattle.trustees.proofs.Sums.{call-ready, opened-closing}
+use Rattle.trustees.proofs.Demands as one-call
+use Rattle.trustee_alone.specs.Demands.{roundsIn, holdingsIn, partsAtEnd, publishedAtEnd, closingHeard, apart, AsTheOneCall, OwnTablesOnly, Demands}
 use Rattle.trustee_alone.proofs.Memory.{memory}
 use Rattle.trustee_alone.proofs.Apart.{calls-of}
 
@@ -45,12 +48,6 @@ own-tables-only t inputs k gs d e r one other p f g w q =
     ap (λ (u : Turn). X u (one .wireParts p) (one .published p)) same
     ∙ ap (λ (ws : List ℕ). X (turnOf t inputs gs e r (other .published) p) ws (one .published p)) w
     ∙ ap (λ (l : List ℕ). X (turnOf t inputs gs e r (other .published) p) (other .wireParts p) l) q
-
-sums-same : (t k : ℕ) (f g : Held) → ((p : ℕ) → p < t → f p ≡ g p) → closingSums t k f ≡ closingSums t k g
-unfolding closingSums
-sums-same t k f g e =
-    ap eightBytes (tabulate-cong k (λ j. opened t (λ p. part (closingParts k (f p)) j)) (λ j. opened t (λ p. part (closingParts k (g p)) j))
-    (λ (j : ℕ) h. opened-same t (λ p. part (closingParts k (f p)) j) (λ p. part (closingParts k (g p)) j) (λ (p : ℕ) l. ap (λ (ws : List ℕ). part (closingParts k ws) j) (e p l))))
 
 module _ (c : Call) (size : Size) (yes : trusteesResult c .answer ≡ accepted size) where
   none-applies : firstOf (trusteesReasons c) ≡ none
@@ -80,31 +77,103 @@ module _ (c : Call) (size : Size) (yes : trusteesResult c .answer ≡ accepted s
       rounds-make-the-tally (c .trustees) (ballotBytes (c .shape)) (c .shape .candidates) (gatesOf (c .table)) (c .lent .dealing) (some-bytes (c .shape) (passed .test .within)) (f .enough) (f .good)
       (λ (q : ℕ) h. length-piece (c .trustees) (ballotBytes (c .shape)) (c .lent .dealing .ballotParts) q (passed .parts .tables .ballot-length ∙ ap (λ (n : ℕ). c .trustees * n) long) h) p l
 
+  -- the plain ballots are as long as the inputs
+  same-parts : (p : ℕ) → p < c .trustees → partsAtEnd c p ≡ wirePartsIn c p
+  same-parts p l = made p l .0 ∙ ap (λ (n : ℕ). wirePartsOf (c .trustees) n (gatesOf (c .table)) (c .lent .dealing) p) (sym long)
+
+  joined-is : publishedAtEnd c ≡ joined (c .trustees) (publishedIn c)
+  joined-is =
+      joined-cong (c .trustees) (holdingsIn c (suc (roundsIn c)) .published) (publishedIn c)
+      (λ (p : ℕ) l. made p l .1 ∙ ap (λ (n : ℕ). publishedOf (c .trustees) n (gatesOf (c .table)) (c .shape .candidates) (c .lent .dealing) p) (sym long))
+
+  -- the sums that are heard are those that the one call opens
+  opens : closingHeard c ≡ closingSums (c .trustees) (c .shape .candidates) (wirePartsIn c)
+  unfolding closingHeard sizeOf
+  opens =
+      opened-closing c (sizeOf (gatesOf (c .table))) (call-ready c (sizeOf (gatesOf (c .table))) refl passed) (publishedAtEnd c) joined-is
+
   pub as-the-one-call : AsTheOneCall c
   as-the-one-call =
-      let t = c .trustees in
-      let gs = gatesOf (c .table) in
-      let k = c .shape .candidates in
-      let d = c .lent .dealing in
-      let held = holdingsIn c (suc (roundsIn c)) in
       record {
-        same-published = joined-cong t (held .published) (publishedOf t (ballotBytes (c .shape)) gs k d) (λ (p : ℕ) l. made p l .1)
-            ∙ ap (λ (n : ℕ). joined t (publishedOf t n gs k d)) (sym long) ∙ sym (ap (λ (x : TrusteesResult). x .published) is ∙ published-after);
-        same-closing = sums-same t k (held .wireParts) (wirePartsOf t (ballotBytes (c .shape)) gs d) (λ (p : ℕ) l. made p l .0)
-            ∙ ap (λ (n : ℕ). closingSums t k (wirePartsOf t n gs d)) (sym long) ∙ sym (ap (λ (x : TrusteesResult). x .closing) is ∙ closing-after);
+        same-parts = same-parts;
+        same-published = joined-is ∙ sym (ap (λ (x : TrusteesResult). x .published) is ∙ published-after);
+        same-closing = opens ∙ sym (ap (λ (x : TrusteesResult). x .closing) is ∙ closing-after);
       }
     where
-      published-after : trusteesResultAfter none c .published ≡ joined (c .trustees) (publishedOf (c .trustees) (length (c .ballots)) (gatesOf (c .table)) (c .shape .candidates) (c .lent .dealing))
+      published-after : trusteesResultAfter none c .published ≡ joined (c .trustees) (publishedIn c)
       published-after = unfold trusteesResultAfter in refl
 
-      closing-after : trusteesResultAfter none c .closing ≡ closingSums (c .trustees) (c .shape .candidates) (wirePartsOf (c .trustees) (length (c .ballots)) (gatesOf (c .table)) (c .lent .dealing))
+      closing-after : trusteesResultAfter none c .closing ≡ closingSums (c .trustees) (c .shape .candidates) (wirePartsIn c)
       closing-after = unfold trusteesResultAfter in refl
+
+  -- and what the others hold and see is the same
+  pub same-view : (q : ℕ) → apart .view q c ≡ viewIn q c
+  unfolding viewOf
+  same-view q =
+      let seen : ℕ → List (List ℕ) → List ℕ → View = λ n parts published. record {
+        ballotParts = othersOf (c .trustees) q (ballotsOf n (c .lent .dealing));
+        dealerParts = othersOf (c .trustees) q (dealtOf (gatesOf (c .table)) (c .lent .dealing));
+        wireParts = parts;
+        published = published;
+      } in
+      let held = othersOf (c .trustees) q (partsAtEnd c) in
+      let final = othersOf (c .trustees) q (wirePartsIn c) in
+      ap (λ (n : ℕ). seen n held (publishedAtEnd c)) (sym long)
+      ∙ ap (λ (parts : List (List ℕ)). seen (length (c .ballots)) parts (publishedAtEnd c)) (others-cong (c .trustees) q (partsAtEnd c) (wirePartsIn c) (λ (p : ℕ) l n. same-parts p l))
+      ∙ ap (λ (bits : List ℕ). seen (length (c .ballots)) final bits) joined-is
+
+-- demands 2 and 3 of the one call are those of trustees apart
+apart-accuracy : (c : Call) (size : Size) → trusteesResult c .answer ≡ accepted size → Accuracy apart c size
+apart-accuracy c size e =
+    let a = one-call.demands .tallies .accuracy c size e in
+    let s = as-the-one-call c size e in
+    record {
+      own-size = a .own-size;
+      every-wire = λ (x : ℕ) h.
+          opened-same (c .trustees) (λ p. part (partsAtEnd c p) x) (λ p. part (wirePartsIn c p) x) (λ (p : ℕ) l. ap (λ (ws : List ℕ). part ws x) (s .same-parts p l))
+          ∙ a .every-wire x h;
+      last-wires = s .same-closing ∙ a .last-wires;
+      plain-run = λ tape wires board run f. s .same-closing ∙ a .plain-run tape wires board run f;
+    }
+
+apart-own-list : (c : Call) (size : Size) → trusteesResult c .answer ≡ accepted size → OwnList inOneCall c → OwnList apart c
+apart-own-list c size e o =
+    let s = as-the-one-call c size e in
+    record {
+      plain-count = s .same-closing ∙ o .plain-count;
+      says-who-wins = subst (SaysWhoWins (c .shape) (c .ballots)) (sym (s .same-closing)) (o .says-who-wins);
+    }
+
+apart-hidden : (c c′ : Call) → Hidden inOneCall c c′ → Hidden apart c c′
+apart-hidden c c′ h =
+    record {
+      same-view = λ (q : ℕ) l d accept.
+          let one = h .same-view q l d accept in
+          let here = same-view (dealtAs c d) _ accept q in (
+            one .0,
+            (one .1 .0, here ∙ one .1 .1 ∙ sym (same-view (dealtAs c′ (one .0)) _ (one .1 .0) q)),
+            λ (e : Dealing) f. one .2 e (f .0, sym here ∙ f .1 ∙ same-view (dealtAs c′ e) _ (f .0) q),
+          );
+      sees-the-table = λ (q : ℕ) d accept. refl;
+    }
+
+tallies : Tallies apart
+tallies =
+    record {
+      accuracy = apart-accuracy;
+      own-list = λ c table size answer w own e. apart-own-list c answer e (one-call.demands .tallies .own-list c table size answer w own e);
+      hiding = λ c c′ first second shape table trustees a b closing.
+          apart-hidden c c′
+          (one-call.demands .tallies .hiding c c′ first second shape table trustees a b
+          (sym (as-the-one-call c first a .same-closing) ∙ closing ∙ as-the-one-call c′ second b .same-closing));
+    }
 
 pub demands : Demands
 demands =
     record {
       memory = memory;
       own-tables-only = own-tables-only;
+      tallies = tallies;
       as-the-one-call = as-the-one-call;
       calls = λ c size e p l. calls-of c (passed c size e) p l;
     }

@@ -21,7 +21,7 @@ use Rattle.tally.specs.Memory.{Each}
 use Rattle.basics.proofs.Flags.{and-first, and-second}
 use Rattle.levels.specs.Answer.{depthsOf}
 use Rattle.levels.specs.Levels.{afterwards}
-use Rattle.levels.proofs.Reasons.{outcome-refused, outcome-accepted}
+use Rattle.tally.proofs.RunReasons.{outcome-refused, accepted-values}
 use Rattle.gate_levels.specs.Levels.{roundsOf}
 use Rattle.trustee_shares.specs.Views.{closingParts}
 use Rattle.trustee_rounds.specs.Rounds.{enters, publishes, closes, startWires, startPublished}
@@ -110,7 +110,7 @@ finish-empties : (s : Shape) (table ws : List ℕ) (size : Size) → finishOutco
 unfolding finishOutcome finishedWires
 finish-empties s table ws size e =
     let o = firstOf (finishReasons s table ws) in
-    sym (left-new o (replicate (length ws) 0) ws (outcome-accepted o (sizeOf (gatesOf table)) size e .0))
+    sym (left-new o (replicate (length ws) 0) ws (accepted-values o (sizeOf (gatesOf table)) size e .0))
 
 -- no call changes a length
 pub length-closes : (round last conditional k : ℕ) (ws published : List ℕ) → length (closes round last conditional k ws published) ≡ length published

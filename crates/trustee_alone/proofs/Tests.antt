@@ -51,9 +51,6 @@ both-passed xs ys e = go (firstOf xs) refl
 pub and-both : (a b c : Bool) → a ≡ true → b ≡ c → (a && b) ≡ c
 and-both a b c e f = rw (e, f) refl
 
-pub and-not : (a b : Bool) → a ≡ false → (a && b) ≡ false
-and-not a b e = rw e
-
 -- what is answered and left
 pub outcome-some : {A : Type 0} (o : Option Reason) (v : A) (r : Reason) → o ≡ some r → refused r ≡ outcome o v
 unfolding outcome

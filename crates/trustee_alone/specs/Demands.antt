@@ -8,13 +8,17 @@ use Rattle.gates.specs.Board.{conditionalCount}
 use Rattle.gate_levels.specs.Levels.{levelsOf, roundsOf}
 use Rattle.jury.specs.declared.shape.Shape.{Shape}
 use Rattle.jury.specs.Shape.{ballotBytes}
+use Rattle.jury.specs.ClosingBytes.{eightBytes}
+use Rattle.basics.specs.Lists.{tabulate}
 use Rattle.tally.specs.Answer.{accepted, Size, sizeOf}
 use Rattle.tally.specs.Memory.{Lent, KeepsMemory}
 use Rattle.levels.specs.Answer.{depthsOf}
-use Rattle.trustee_shares.specs.Views.{joined, Dealing, ballotsOf, dealtOf}
+use Rattle.trustee_shares.specs.Shares.{opened, part, Held}
+use Rattle.trustee_shares.specs.Views.{piece, joined, othersOf, Dealing, ballotsOf, dealtOf}
 use Rattle.trustee_rounds.specs.Together.{sumsOf, Holdings, publishedAfter, holdingsAfter}
-use Rattle.trustees.specs.Call.{Call}
-use Rattle.trustees.specs.Result.{trusteesResult, closingSums}
+use Rattle.trustees.specs.Call.{Call, wirePartsIn}
+use Rattle.trustees.specs.Result.{trusteesResult}
+use Rattle.trustees.specs.Demands.{Way, Tallies}
 use Rattle.trustee_alone.specs.Start.{startOutcome, startedWires, startedPublished}
 use Rattle.trustee_alone.specs.Rounds.{roundOutcome, roundedWires, roundedPublished}
 use Rattle.trustee_alone.specs.Finish.{finishOutcome, finishedWires}
@@ -53,20 +57,50 @@ holdingsIn c r =
 unfoldable pub heardBefore : Call → ℕ → List ℕ
 heardBefore c r = sumsOf (c .trustees) (conditionalCount (gatesOf (c .table))) (holdingsIn c r .published)
 
--- Trustees apart end as the single call of request 2.7 does on the joined tables: after the rounds 0 to R their
--- published bits, trustee after trustee, are that call's, and the sums of their closing bits its eight bytes. So its
--- accuracy and hiding are theirs.
-pub record AsTheOneCall (c : Call) : Type 0 where
-  pub same-published : joined (c .trustees) (holdingsIn c (suc (roundsIn c)) .published) ≡ trusteesResult c .published
-  pub same-closing : closingSums (c .trustees) (c .shape .candidates) (holdingsIn c (suc (roundsIn c)) .wireParts)
-      ≡ trusteesResult c .closing
-
 -- What trustee p brings: its parts of the ballots, and its triples.
-abbrev pub partsIn : Call → ℕ → List ℕ
+abbrev pub partsIn : Call → Held
 partsIn c p = ballotsOf (inputsIn c) (c .lent .dealing) p
 
-abbrev pub dealtIn : Call → ℕ → List ℕ
+abbrev pub dealtIn : Call → Held
 dealtIn c p = dealtOf (gatesOf (c .table)) (c .lent .dealing) p
+
+-- What all hold and have published, trustee after trustee, when the rounds 0 to R are done.
+abbrev pub partsAtEnd : Call → Held
+partsAtEnd c = holdingsIn c (suc (roundsIn c)) .wireParts
+
+abbrev pub publishedAtEnd : Call → List ℕ
+publishedAtEnd c = joined (c .trustees) (holdingsIn c (suc (roundsIn c)) .published)
+
+-- The closing bytes, which anyone can compute from the published bits: the sums of the last k bits of each trustee's
+-- piece.
+unfoldable pub closingHeard : Call → List ℕ
+closingHeard c =
+    let factors = 2 * conditionalCount (gatesOf (c .table)) in
+    let k = c .shape .candidates in
+    let bit : ℕ → ℕ → ℕ = λ j p. part (piece (factors + k) (publishedAtEnd c) p) (factors + j) in
+    eightBytes (tabulate k (λ j. opened (c .trustees) (bit j)))
+
+-- Trustees apart, as a way to tally. The trustees except q see what they hold, and every published bit.
+abbrev pub apart : Way
+apart =
+    record {
+      parts = partsAtEnd;
+      published = publishedAtEnd;
+      closing = closingHeard;
+      view = λ q c. record {
+        ballotParts = othersOf (c .trustees) q (partsIn c);
+        dealerParts = othersOf (c .trustees) q (dealtIn c);
+        wireParts = othersOf (c .trustees) q (partsAtEnd c);
+        published = publishedAtEnd c;
+      };
+    }
+
+-- Trustees apart end as the single call of request 2.7 does on the joined tables: after the rounds 0 to R each holds the
+-- wire parts of that call, they have published what it leaves, and the closing bytes are its eight.
+pub record AsTheOneCall (c : Call) : Type 0 where
+  pub same-parts : (p : ℕ) → p < c .trustees → partsAtEnd c p ≡ wirePartsIn c p
+  pub same-published : publishedAtEnd c ≡ trusteesResult c .published
+  pub same-closing : closingHeard c ≡ trusteesResult c .closing
 
 -- The start of trustee p on these tables, and its round r, are accepted and leave what it holds when all run
 -- together.
@@ -106,9 +140,11 @@ OwnTablesOnly =
     → one .wireParts p ≡ other .wireParts p → one .published p ≡ other .published p
     → publishedAfter t inputs gs k d r one p ≡ publishedAfter t inputs gs k e r other p
 
+-- Demands 2 and 3 of `apart` are those of the one call, for the elections that it accepts.
 pub record Demands : Type 0 where
   pub memory : Memory
   pub own-tables-only : OwnTablesOnly
+  pub tallies : Tallies apart
   pub as-the-one-call : (c : Call) (size : Size) → trusteesResult c .answer ≡ accepted size → AsTheOneCall c
   pub calls : (c : Call) (size : Size) → trusteesResult c .answer ≡ accepted size
       → (p : ℕ) → p < c .trustees → CallsOf c p

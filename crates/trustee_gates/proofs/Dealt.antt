@@ -27,7 +27,7 @@ only-bits xs e i = go (ltb i (length xs)) refl
     go true is = leb-true (getD xs i 0) 1 (each-passes (λ j. leb (getD xs j 0) 1) (length xs) e i (ltb-true i (length xs) is))
     go false is = let z : getD xs i 0 ≡ 0 = List·getD-eq-default xs 0 {n = i} (ltb-false i (length xs) is) in omega arith
 
-only-bits-back : (xs : List ℕ) → Bits xs → onlyBits xs ≡ true
+pub only-bits-back : (xs : List ℕ) → Bits xs → onlyBits xs ≡ true
 unfolding onlyBits
 only-bits-back xs b = sym (all-pass (λ j. leb (getD xs j 0) 1) (length xs) (λ (i : ℕ) h. le-leb (getD xs i 0) 1 (b i)))
 

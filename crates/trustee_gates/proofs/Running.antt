@@ -6,11 +6,10 @@ use mathlib.Core.List.{List, [], _∷_, _++_}
 use Prim.Native.Nat.{ℕ, suc, _+_, _*_, _≤_, _<_}
 use native.Mathlib.Nat.{add-zero, add-suc}
 use native.Mathlib.Omega.{arith}
-use lib.Dec.{T, ltb}
+use lib.Dec.{T}
 use lib.ListN.{length, take, drop, set, length-append, drop-of-length-le}
 use lib.Seq.{getD-take, take-all, length-take-le, take-suc-set, sets}
-use borrow.Author.Tests.{ltb-true}
-use Rattle.gates.specs.Kind.{operandsOf, conditionalOf}
+use Rattle.gates.specs.Kind.{conditionalOf}
 use Rattle.gates.specs.Gate.{Gate, gatesOf}
 use Rattle.gates.specs.Board.{conditionalCount}
 use Rattle.gates.specs.inner.Step.{gateAt}
@@ -18,7 +17,7 @@ use Rattle.gates.specs.Test.{goodGate, firstBad}
 use Rattle.gates.specs.declared.place.Place.the-variants.{Nowhere}
 use Rattle.gates.proofs.Table.{gates-from}
 use Rattle.gates.proofs.Goodness.{good-gate}
-use Rattle.gates.proofs.Reading.{good-unused}
+use Rattle.gates.proofs.Reading.{Below, operands-below}
 use Rattle.gates.proofs.Counting.{count-most}
 use Rattle.gates.proofs.Laws.{AllGood, all-good}
 use Rattle.trustee_shares.specs.Shares.{part, firstFactor, secondFactor, maskedFirst, maskedSecond, Held, openedFirst, openedSecond, newPart, markOf, partsOf}
@@ -31,29 +30,6 @@ use Rattle.trustee_gates.specs.Tables.{eachPuts}
 use Rattle.trustee_gates.specs.Gate.{gateOf, GateReady}
 use Rattle.trustee_gates.proofs.Puts.{length-puts, puts-at}
 use Rattle.trustee_shares.proofs.Publishing.{mark-none}
-
--- all operands of a good gate are below its own wire; an unused one is 0
-pub record Below (own : ℕ) (g : Gate) : Type 0 where
-  pub a-below : g .a < own
-  pub b-below : g .b < own
-  pub c-below : g .c < own
-
-below-by : (own x i n : ℕ) → 0 < own → (i < n → x < own) → (ltb i n ≡ false → x ≡ 0) → x < own
-below-by own x i n pos used unused = go (ltb i n) refl
-  where
-    go : (b : Bool) → ltb i n ≡ b → x < own
-    go true e = used (ltb-true i n e)
-    go false e = omega (arith, unused e)
-
-pub operands-below : (own : ℕ) (g : Gate) → 0 < own → T (goodGate own g) → Below own g
-operands-below own g pos good =
-    let f = good-gate own g good in
-    let u = good-unused own g good in
-    record {
-      a-below = below-by own (g .a) 0 (operandsOf (g .kind)) pos (f .a-below) (u .a-zero);
-      b-below = below-by own (g .b) 1 (operandsOf (g .kind)) pos (f .b-below) (u .b-zero);
-      c-below = below-by own (g .c) 2 (operandsOf (g .kind)) pos (f .c-below) (u .c-zero);
-    }
 
 -- equal parts of the operands give equal bits
 pub record SameParts (t : ℕ) (held held′ : Held) (g : Gate) : Type 0 where

@@ -18,7 +18,7 @@ use Rattle.trustee_shares.specs.Views.{closingParts}
 use Rattle.trustee_rounds.specs.Rounds.{Turn, heardPart, entersGate, enters, publishesGate, publishes, closes}
 
 -- no pass changes a length
-length-cond : (b : Bool) (new old : List ℕ) → length new ≡ length old → length (cond b new old) ≡ length old
+pub length-cond : (b : Bool) (new old : List ℕ) → length new ≡ length old → length (cond b new old) ≡ length old
 length-cond true new old e = e
 length-cond false new old e = refl
 

@@ -12,7 +12,8 @@ use borrow.Author.Tests.{ltb-true, ltb-false, lt-ltb, le-ltb, eqb-true, eqb-fals
 use Rattle.gates.specs.Kind.{conditionalOf}
 use Rattle.gates.specs.Gate.{Gate}
 use Rattle.gate_levels.specs.Levels.{wireLevel, gateLevel}
-use Rattle.gate_levels.proofs.Laws.{Below, operand-levels}
+use Rattle.gates.proofs.Reading.{Below}
+use Rattle.gate_levels.proofs.Laws.{operand-levels}
 use Rattle.trustee_shares.specs.Shares.{part, productPart, partOfKind, Held, openedFirst, openedSecond, newPart, markOf}
 use Rattle.trustee_shares.proofs.Exchange.{ignores}
 use Rattle.trustee_rounds.specs.Rounds.{Turn, heardPart, entersGate, enters}

@@ -1,7 +1,7 @@
 -- The passes over a list, gate by gate: doing a gate and then the rest is doing all that was left.
 -- Assumes nothing.
 use mathlib.Core.Path.{_≡_, _∙_, refl, sym, ap, subst}
-use mathlib.Core.Bool.{Bool, true, false, cond, _&&_}
+use mathlib.Core.Bool.{true, cond, _&&_}
 use mathlib.Core.List.{List, [], _∷_}
 use Prim.Native.Nat.{ℕ, suc, _+_, _*_, _≤_, _<_}
 use native.Mathlib.Nat.{add-suc}
@@ -18,7 +18,7 @@ use Rattle.gates.specs.declared.place.Place.the-variants.{Nowhere}
 use Rattle.gates.proofs.Table.{gates-from}
 use Rattle.gates.proofs.Goodness.{good-gate}
 use Rattle.gates.proofs.Laws.{AllGood, all-good}
-use Rattle.gate_levels.proofs.Laws.{Below, operands-below}
+use Rattle.gates.proofs.Reading.{Below, operands-below}
 use Rattle.trustee_shares.specs.Shares.{part, maskedFirst, maskedSecond, productPart, partOfKind, markOf}
 use Rattle.trustee_shares.specs.Views.{piece}
 use Rattle.trustee_shares.proofs.Accuracy.{count-mark, mark-one}
@@ -26,6 +26,7 @@ use Rattle.trustee_gates.specs.declared.gate.Numbers.{Numbers}
 use Rattle.trustee_gates.specs.Gate.{gateOf}
 use Rattle.trustee_rounds.specs.Rounds.{Turn, heardPart, entersGate, enters, publishesGate, publishes}
 use Rattle.trustee_rounds.specs.inner.Passes.{GateIn, PartReady, PublishReady}
+use Rattle.trustee_rounds.proofs.Closing.{length-cond}
 
 -- a table of one trustee is its own piece 0
 pub own-piece : (l : List ℕ) → piece (length l) l 0 ≡ l
@@ -109,10 +110,6 @@ pub record EnterLeft (u : Turn) (table ws₀ ws : List ℕ) (g i : ℕ) : Type 0
 
 pub enter-start : (u : Turn) (table ws : List ℕ) → firstBad (u .inputs) 0 (gatesOf table) ≡ Nowhere → length ws ≡ u .inputs + length (gatesOf table) → EnterLeft u table ws ws 0 0
 enter-start u table ws good long = record { ahead = ahead-start (u .inputs) table good; long = long; rest = refl }
-
-length-cond : (b : Bool) (new old : List ℕ) → length new ≡ length old → length (cond b new old) ≡ length old
-length-cond true new old e = e
-length-cond false new old e = refl
 
 module _ (u : Turn) (table ws₀ ws : List ℕ) (g i : ℕ) (left : EnterLeft u table ws₀ ws g i) (pos : 1 ≤ u .inputs) (h : g < length (gatesOf table)) (n : Numbers) (is : gateOf n ≡ gateAt table g) where
   pub enter-turn : (level : ℕ) (ws′ : List ℕ) (m i′ g′ : ℕ) → level ≡ getD (u .levels) g 0

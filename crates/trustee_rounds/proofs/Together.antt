@@ -10,6 +10,7 @@ use lib.Dec.{ltb}
 use lib.ListN.{length, getD, take, drop, replicate, length-append, length-replicate, length-drop, drop-of-length-le, List·getD-append}
 use lib.Seq.{ext-getD, getD-append-add, sets, sets-eq}
 use borrow.Author.Tests.{ltb-true, ltb-false, lt-ltb, le-ltb, eq-eqb, ne-eqb}
+use Rattle.basics.proofs.Tables.{zeros-at}
 use Rattle.gates.specs.Kind.{conditionalOf}
 use Rattle.gates.specs.Gate.{Gate}
 use Rattle.gates.specs.Board.{conditionalCount}
@@ -18,7 +19,8 @@ use Rattle.gates.specs.declared.place.Place.the-variants.{Nowhere}
 use Rattle.gates.proofs.Goodness.{good-gate}
 use Rattle.gates.proofs.Laws.{AllGood, all-good}
 use Rattle.gate_levels.specs.Levels.{levelsOf, roundsOf}
-use Rattle.gate_levels.proofs.Laws.{Below, operands-below, Leveled, levels-leveled, operand-levels, largest-most}
+use Rattle.gates.proofs.Reading.{Below, operands-below}
+use Rattle.gate_levels.proofs.Laws.{Leveled, levels-leveled, operand-levels, largest-most}
 use Rattle.trustee_shares.specs.Shares.{part, Held, newPart, markOf, partsOf}
 use Rattle.trustee_shares.specs.Views.{Dealing, ballotsOf, dealtOf, wirePartsOf, maskedFactors, closingParts, publishedOf}
 use Rattle.trustee_shares.proofs.Accuracy.{part-new}
@@ -67,12 +69,6 @@ fits-list t inputs dealt final levels pos (x ∷ xs) g i held long is good level
           b-same = λ (p : ℕ) l. stays p (x .b) l (below .b-below);
           c-same = λ (p : ℕ) l. stays p (x .c) l (below .c-below);
         }
-
--- zeros at every place
-zero-at : (n i : ℕ) → _≡_ {A = ℕ} (getD (replicate n 0) i 0) 0
-zero-at zero i = refl
-zero-at (suc n) zero = refl
-zero-at (suc n) (suc i) = zero-at n i
 
 module _ (t inputs k : ℕ) (gs : List Gate) (d : Dealing) (pos : 1 ≤ inputs) (enough : k ≤ length gs) (good : firstBad inputs 0 gs ≡ Nowhere) (ballots : (p : ℕ) → p < t → length (ballotsOf inputs d p) ≡ inputs) where
   size : ℕ
@@ -143,10 +139,10 @@ module _ (t inputs k : ℕ) (gs : List Gate) (d : Dealing) (pos : 1 ≤ inputs) 
         wires-long = omega (arith, length-append b (replicate (length gs) 0), length-replicate {A = ℕ} (length gs) 0);
         input = λ (x : ℕ) h. List·getD-append b (replicate (length gs) 0) 0 x (omega arith) ∙ sym (input-final p x l h);
         gate = λ (h : ℕ) m.
-            ap (λ (n : ℕ). getD (b ++ replicate (length gs) 0) (n + h) 0) (sym long) ∙ getD-append-add b (replicate (length gs) 0) h 0 ∙ zero-at (length gs) h
+            ap (λ (n : ℕ). getD (b ++ replicate (length gs) 0) (n + h) 0) (sym long) ∙ getD-append-add b (replicate (length gs) 0) h 0 ∙ zeros-at (length gs) h
             ∙ sym (ap (λ (c : Bool). cond c (getD (final p) (inputs + h) 0) 0) (le-ltb (getD levels h 0) 0 (omega arith)));
         published-long = length-replicate {A = ℕ} (2 * conditionalCount gs + k) 0;
-        shown = first-shown p (replicate (2 * conditionalCount gs + k) 0) (λ (j : ℕ). zero-at (2 * conditionalCount gs + k) j) gs 0 0 fits;
+        shown = first-shown p (replicate (2 * conditionalCount gs + k) 0) (λ (j : ℕ). zeros-at (2 * conditionalCount gs + k) j) gs 0 0 fits;
       }
 
   -- one round

@@ -33,7 +33,7 @@ use Rattle.trustee_shares.proofs.Tables.{length-piece}
 use Rattle.trustees.specs.Call.{Call, wirePartsIn}
 use Rattle.trustees.specs.Reasons.{trusteesReasons}
 use Rattle.trustees.specs.Result.{closingSums, TrusteesResult, trusteesResultAfter, trusteesResult}
-use Rattle.trustees.specs.Demands.{Accuracy, OwnList}
+use Rattle.trustees.specs.Demands.{inOneCall, Accuracy, OwnList}
 use Rattle.trustees.proofs.Reasons.{CallPassed, call-passed, call-passed-back, result-by, passed-dealing}
 use Rattle.trustees.proofs.Sums.{Ready, call-ready}
 
@@ -111,7 +111,7 @@ module _ (c : Call) where
         after : trusteesResultAfter none c .closing ≡ closingSums (c .trustees) (c .shape .candidates) (wirePartsIn c)
         after = unfold trusteesResultAfter in refl
 
-  pub accuracy : (size : Size) → trusteesResult c .answer ≡ accepted size → Accuracy c size
+  pub accuracy : (size : Size) → trusteesResult c .answer ≡ accepted size → Accuracy inOneCall c size
   accuracy size e =
       let a = call-accepted size e in
       let p = call-passed c (a .0) in
@@ -135,7 +135,7 @@ module _ (c : Call) (table : List ℕ) (size : Size) (w : writing.WritePassed (c
       ∙ ap eightBytes (own-list-holds (c .shape) (w .within) .closing (c .ballots) (p .ballotsPassed))
       ∙ sym (plain-accepted (c .shape) (c .ballots) (p .ballotsPassed))
 
-  pub own-list : OwnList c
+  pub own-list : OwnList inOneCall c
   own-list =
       record {
         plain-count = count;

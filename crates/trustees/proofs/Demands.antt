@@ -123,8 +123,10 @@ pub demands : Demands
 demands =
     record {
       memory = memory;
-      accuracy = accuracy;
-      own-list = λ c table size answer e own a.
-          own-list c table size (writing.write-passed (c .shape) table size e) own (call-passed c (call-accepted c answer a .0));
-      hiding = views-tell-no-more;
+      tallies = record {
+        accuracy = accuracy;
+        own-list = λ c table size answer e own a.
+            own-list c table size (writing.write-passed (c .shape) table size e) own (call-passed c (call-accepted c answer a .0));
+        hiding = views-tell-no-more;
+      };
     }

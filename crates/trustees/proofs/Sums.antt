@@ -1,11 +1,9 @@
 -- The opened closing bits, and what the evaluation asks in an accepted call.
 -- Assumes nothing.
 use mathlib.Core.Path.{_≡_, _∙_, refl, sym, ap}
-use mathlib.Core.Bool.{true}
 use mathlib.Core.Logic.{⊎-elim}
 use mathlib.Core.List.{List, _++_}
 use Prim.Native.Nat.{ℕ, _+_, _-_, _*_, _≤_, _<_}
-use native.Mathlib.Nat.{mul-pos}
 use native.Mathlib.Omega.{arith}
 use lib.ListN.{length, getD, length-append, length-drop, List·getD-eq-default}
 use lib.Seq.{ext-getD, getD-append-add}
@@ -14,12 +12,11 @@ use Rattle.gates.specs.Board.{conditionalCount}
 use Rattle.gates.specs.Test.{firstBad}
 use Rattle.gates.proofs.Counting.{count-most}
 use Rattle.gates.proofs.Evaluating.{accepted-list}
-use Rattle.jury.specs.declared.shape.Shape.{Shape}
-use Rattle.jury.specs.Shape.{gradedLimits, rankedLimits, withinLimits, ballotBytes}
+use Rattle.jury.specs.Shape.{ballotBytes}
 use Rattle.basics.specs.Lists.{tabulate}
 use Rattle.jury.specs.ClosingBytes.{eightBytes}
 use Rattle.basics.proofs.Cases.{below-or-not}
-use Rattle.jury.proofs.Limits.{within, bytes-are, ranked, ranked-bytes, kinds, bounds, inputs-bound}
+use Rattle.jury.proofs.Limits.{some-bytes, bounds, inputs-bound}
 use Rattle.jury.proofs.Rows.{eight-at, eight-length}
 use Rattle.basics.proofs.Tabulate.{length-tabulate, getD-tabulate, tabulate-cong, upTo, upTo-new, upTo-old}
 use Rattle.tally.specs.Answer.{Size, sizeOf}
@@ -47,25 +44,6 @@ eight-tabulated k f =
 
     at : (j : ℕ) → j < 8 → getD (tabulate 8 (upTo k f (λ i. 0))) j 0 ≡ getD (eightBytes (tabulate k f)) j 0
     at j l = getD-tabulate 8 j (upTo k f (λ i. 0)) 0 l ∙ entry j ∙ sym (eight-at (tabulate k f) j l)
-
--- a shape within its limits has ballot bytes, graded or ranked
-some-bytes : (s : Shape) → withinLimits s ≡ true → 1 ≤ ballotBytes s
-some-bytes s e = ⊎-elim graded rank (kinds s e)
-  where
-    graded : gradedLimits s ≡ true → 1 ≤ ballotBytes s
-    graded g =
-        let w = within s g in
-        let rows : 0 < s .ballots * s .candidates = mul-pos (w .n-least) (w .k-least) in
-        let d : 0 < s .grades = omega (arith, w .d-least) in
-        let all : 0 < s .ballots * s .candidates * s .grades = mul-pos rows d in
-        omega (arith, bytes-are s w)
-
-    rank : rankedLimits s ≡ true → 1 ≤ ballotBytes s
-    rank r =
-        let w = ranked s r in
-        let rows : 0 < s .ballots * s .candidates = mul-pos (w .n-least) (w .k-least) in
-        let all : 0 < s .ballots * s .candidates * s .candidates = mul-pos rows (w .k-least) in
-        omega (arith, ranked-bytes s (w .ranking))
 
 -- what is known of an accepted call
 pub record Ready (c : Call) (size : Size) : Type 0 where

@@ -17,8 +17,8 @@ use Rattle.tally.specs.Run.{runResult}
 use Rattle.tally.specs.Hiding.{closingBytes}
 use Rattle.tally.specs.Write.{writeOutcome}
 use Rattle.tally.specs.Demands.{listIn}
-use Rattle.trustee_shares.specs.Shares.{opened, part}
-use Rattle.trustee_shares.specs.Views.{Dealing}
+use Rattle.trustee_shares.specs.Shares.{opened, part, Held}
+use Rattle.trustee_shares.specs.Views.{Dealing, View}
 use Rattle.trustees.specs.Call.{Call, dealtAs, wirePartsIn, viewIn}
 use Rattle.trustees.specs.Result.{trusteesResult}
 
@@ -34,48 +34,70 @@ pub record Memory (c : Call) : Type 0 where
       (parts ∷ [])
   pub zeros : (r : Reason) → trusteesResult c .answer ≡ refused r → trusteesResult c .closing ≡ replicate 8 0
 
--- Demand 2: the parts of every wire add up to the plain wire, and the sums answered are the closing bytes of every
--- accepted plain run, whatever its tape. The call leaves zeros for wire parts; the contract of
+-- A way in which trustees tally: each trustee's parts of all wires, everything that is published, the closing bytes, and
+-- what the trustees except q hold and see. Demands 2 and 3 are stated for any such way.
+pub record Way : Type 0 where
+  pub parts : Call → Held
+  pub published : Call → List ℕ
+  pub closing : Call → List ℕ
+  pub view : (q : ℕ) → Call → View
+
+-- The single call on the joined tables. It leaves zeros for wire parts; the contract of
 -- `trustee_gates::evaluate::evaluate` says that they were these parts before.
-pub record Accuracy (c : Call) (size : Size) : Type 0 where
+abbrev pub inOneCall : Way
+inOneCall =
+    record {
+      parts = wirePartsIn;
+      published = λ c. trusteesResult c .published;
+      closing = λ c. trusteesResult c .closing;
+      view = viewIn;
+    }
+
+-- Demand 2 for an accepted call: the parts of every wire add up to the plain wire, and the closing bytes are those of
+-- every accepted plain run, whatever its tape.
+pub record Accuracy (way : Way) (c : Call) (size : Size) : Type 0 where
   pub own-size : size ≡ sizeOf (gatesOf (c .table))
   pub every-wire : (x : ℕ) → x < length (c .ballots) + length (gatesOf (c .table))
-      → opened (c .trustees) (λ p. part (wirePartsIn c p) x) ≡ wire (wiresOf (c .ballots) (gatesOf (c .table))) x
-  pub last-wires : trusteesResult c .closing
+      → opened (c .trustees) (λ p. part (way .parts c p) x) ≡ wire (wiresOf (c .ballots) (gatesOf (c .table))) x
+  pub last-wires : way .closing c
       ≡ eightBytes (outputsOf (c .shape .candidates) (wiresOf (c .ballots) (gatesOf (c .table))))
   pub plain-run : (tape wires board : List ℕ) (run : Size)
       → runResult (c .shape) (c .table) (c .ballots) tape wires board .answer ≡ accepted run
-      → trusteesResult c .closing
+      → way .closing c
       ≡ eightBytes (closingBytes (c .shape) (runResult (c .shape) (c .table) (c .ballots) tape wires board .board))
 
--- With the own list of a shape, the sums are the plain count's bytes, and say who wins.
-pub record OwnList (c : Call) : Type 0 where
-  pub plain-count : trusteesResult c .closing ≡ plainClosing (c .shape) (c .ballots)
-  pub says-who-wins : SaysWhoWins (c .shape) (c .ballots) (trusteesResult c .closing)
+-- With the own list of a shape, they are the plain count's bytes, and say who wins.
+pub record OwnList (way : Way) (c : Call) : Type 0 where
+  pub plain-count : way .closing c ≡ plainClosing (c .shape) (c .ballots)
+  pub says-who-wins : SaysWhoWins (c .shape) (c .ballots) (way .closing c)
 
 -- Demand 3 for two calls with one shape, list and number of trustees. Whichever trustee q is left out: for each
 -- accepted dealing d of the first, exactly one accepted dealing e of the second gives the other trustees the same
--- view. Its published bits are the table that the call leaves.
-pub record Hidden (c c′ : Call) : Type 0 where
+-- view. Its published bits are the table that is published.
+pub record Hidden (way : Way) (c c′ : Call) : Type 0 where
   pub same-view : (q : ℕ) → q < c .trustees → (d : Dealing) → Accepted (dealtAs c d)
-      → ExactlyOne (λ (e : Dealing). Accepted (dealtAs c′ e) × (viewIn q (dealtAs c d) ≡ viewIn q (dealtAs c′ e)))
+      → ExactlyOne (λ (e : Dealing). Accepted (dealtAs c′ e) × (way .view q (dealtAs c d) ≡ way .view q (dealtAs c′ e)))
   pub sees-the-table : (q : ℕ) (d : Dealing) → Accepted (dealtAs c d)
-      → viewIn q (dealtAs c d) .published ≡ trusteesResult (dealtAs c d) .published
+      → way .view q (dealtAs c d) .published ≡ way .published (dealtAs c d)
 
--- It holds for all accepted calls with one shape, list and number of trustees that answer the same sums.
-abbrev pub ViewsTellNoMore : Type 0
-ViewsTellNoMore =
+-- It holds for all accepted calls with one shape, list and number of trustees that have the same closing bytes.
+abbrev pub ViewsTellNoMore : Way → Type 0
+ViewsTellNoMore way =
     (c c′ : Call) (first second : Size)
     → c .shape ≡ c′ .shape → c .table ≡ c′ .table → c .trustees ≡ c′ .trustees
     → trusteesResult c .answer ≡ accepted first
     → trusteesResult c′ .answer ≡ accepted second
-    → trusteesResult c .closing ≡ trusteesResult c′ .closing
-    → Hidden c c′
+    → way .closing c ≡ way .closing c′
+    → Hidden way c c′
+
+-- Demands 2 and 3 together.
+pub record Tallies (way : Way) : Type 0 where
+  pub accuracy : (c : Call) (size : Size) → trusteesResult c .answer ≡ accepted size → Accuracy way c size
+  pub own-list : (c : Call) (table : List ℕ) (size answer : Size)
+      → writeOutcome (c .shape) table ≡ accepted size → c .table ≡ listIn (c .shape) size table
+      → trusteesResult c .answer ≡ accepted answer → OwnList way c
+  pub hiding : ViewsTellNoMore way
 
 pub record Demands : Type 0 where
   pub memory : (c : Call) → Memory c
-  pub accuracy : (c : Call) (size : Size) → trusteesResult c .answer ≡ accepted size → Accuracy c size
-  pub own-list : (c : Call) (table : List ℕ) (size answer : Size)
-      → writeOutcome (c .shape) table ≡ accepted size → c .table ≡ listIn (c .shape) size table
-      → trusteesResult c .answer ≡ accepted answer → OwnList c
-  pub hiding : ViewsTellNoMore
+  pub tallies : Tallies inOneCall

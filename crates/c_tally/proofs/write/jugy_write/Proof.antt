@@ -11,7 +11,7 @@ use Rattle.jury.specs.Reason.{reasonOf, reasonAt}
 use Rattle.basics.proofs.Flags.{T-true}
 use Rattle.jury.proofs.Constructed.{shape-is, outside-is}
 use Rattle.tally.specs.Answer.{outcomeOf}
-use Rattle.tally.specs.Write.{writeOutcome, written}
+use Rattle.tally.specs.Write.{writeOutcome, writeResult}
 use Rattle.tally.proofs.OwnList.{own-list-holds}
 use Rattle.tally.proofs.Writing.{write-refused, outside as outside-write}
 use Rattle.c_answers.specs.Numbers.{shapeOf, sizeNumbers}
@@ -25,7 +25,7 @@ returns c =
     let a = c .before .before .before .args in
     let s = shapeOf (a .candidates) (a .grades) (a .ballots) in
     record {
-      leaves = short-call 4 (a .answer .now) (c .if1 .taken) (sizeNumbers (writeOutcome s (a .table .now))) (a .table .now ∷ []) (written s (a .table .now) ∷ []);
+      leaves = short-call 4 (a .answer .now) (c .if1 .taken) (sizeNumbers (writeOutcome s (a .table .now))) (a .table .now ∷ []) (writeResult s (a .table .now) ∷ []);
       holds = λ t. own-list-holds s (T-true (withinLimits s) t);
     }
 
@@ -56,7 +56,7 @@ returns-2 c =
     let refusal = write-refused s (a .table .now) (reasonAt 1 0) (outside-write s (a .table .now) outside) in
     record {
       leaves = put-call 4 (a .answer .now) (long .if1 .left) (sizeNumbers (writeOutcome s (a .table .now))) _ _ _ (c .before .before .put-size .ensures)
-          (ap sizeNumbers (sym (refusal .0))) (a .table .now ∷ []) (written s (a .table .now) ∷ []) _ (ap (λ (z : List ℕ). z ∷ []) (sym (refusal .1)));
+          (ap sizeNumbers (sym (refusal .0))) (a .table .now ∷ []) (writeResult s (a .table .now) ∷ []) _ (ap (λ (z : List ℕ). z ∷ []) (sym (refusal .1)));
       holds = λ t. own-list-holds s (T-true (withinLimits s) t);
     }
 
@@ -85,8 +85,8 @@ returns-3 c =
     let wrote = outcome .write .ensures in
     record {
       leaves = put-call 4 (a .answer .now) (long .if1 .left) (sizeNumbers (writeOutcome s (a .table .now))) _ _ _ (c .before .before .put-size2 .ensures)
-          (ap sizeNumbers (wrote .answers ∙ ap (λ (z : Shape). writeOutcome z (a .table .now)) same)) (a .table .now ∷ []) (written s (a .table .now) ∷ []) _
-          (ap (λ (z : List ℕ). z ∷ []) (wrote .leaves ∙ ap (λ (z : Shape). written z (a .table .now)) same));
+          (ap sizeNumbers (wrote .answers ∙ ap (λ (z : Shape). writeOutcome z (a .table .now)) same)) (a .table .now ∷ []) (writeResult s (a .table .now) ∷ []) _
+          (ap (λ (z : List ℕ). z ∷ []) (wrote .leaves ∙ ap (λ (z : Shape). writeResult z (a .table .now)) same));
       holds = λ t. own-list-holds s (T-true (withinLimits s) t);
     }
 

@@ -2,11 +2,8 @@
 -- Assumes nothing.
 use mathlib.Core.Path.{_≡_, _∙_, sym, ap}
 use mathlib.Core.Bool.{true}
-use mathlib.Core.Logic.{⊎-elim}
 use Prim.Native.Nat.{ℕ, _*_, _<_, _≤_}
-use native.Mathlib.Nat.{mul-pos, le-trans}
 use native.Mathlib.Omega.{arith}
-use lib.Dec.{lit≤}
 use lib.ListN.{length}
 use lib.Seq.{length-sets}
 use borrow.Author.Tests.{not-true, not-false}
@@ -14,11 +11,10 @@ use Rattle.gates.specs.Gate.{numbersOf}
 use Rattle.gates.specs.Test.{firstBad}
 use Rattle.gates.specs.declared.place.Place.the-variants.{Nowhere}
 use Rattle.gates.proofs.Laws.{length-numbers}
-use Rattle.jury.specs.declared.shape.Shape.{Shape}
-use Rattle.jury.specs.Shape.{gradedLimits, rankedLimits, withinLimits, ballotBytes}
+use Rattle.jury.specs.Shape.{withinLimits, ballotBytes}
 use Rattle.jury.specs.Reason.{reasonOf, reasonAt}
 use Rattle.basics.proofs.Flags.{true-T}
-use Rattle.jury.proofs.Limits.{within, ranked, bounds, kinds, bytes-are, ranked-bytes, inputs-bound}
+use Rattle.jury.proofs.Limits.{some-bytes, bounds, inputs-bound}
 use Rattle.tally.specs.Answer.{accepted}
 use Rattle.text.specs.Text.{linesOf, firstMalformed, gatesIn}
 use Rattle.text.specs.Answer.{textReasonOf, lengthOutcome}
@@ -56,22 +52,6 @@ inputs-few : (c : tie.After-ballot-bytes) → c .ballot-bytes .result < 42949672
 inputs-few c =
     let s = c .before .before .before .before .before .before .before .before .before .before .before .before .args .shape in
     omega (arith, c .ballot-bytes .ensures, inputs-bound s (bounds s (limits (c .before .before .before .before .before .before .before .before))))
-
--- a shape within the limits has a ballot byte
-some-bytes : (s : Shape) → withinLimits s ≡ true → 0 < ballotBytes s
-some-bytes s e = ⊎-elim graded rank (kinds s e)
-  where
-    graded : gradedLimits s ≡ true → 0 < ballotBytes s
-    graded g =
-        let w = within s g in
-        let q = mul-pos (mul-pos (w .n-least) (w .k-least)) (le-trans (lit≤ tt) (w .d-least)) in
-        omega (arith, bytes-are s w)
-
-    rank : rankedLimits s ≡ true → 0 < ballotBytes s
-    rank r =
-        let w = ranked s r in
-        let q = mul-pos (mul-pos (w .n-least) (w .k-least)) (w .k-least) in
-        omega (arith, ranked-bytes s (w .ranking))
 
 inputs-some : (c : tie.After-ballot-bytes) → 0 < c .ballot-bytes .result
 inputs-some c =

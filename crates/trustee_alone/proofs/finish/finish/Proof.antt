@@ -14,7 +14,8 @@ use Rattle.basics.proofs.Flags.{true-T}
 use Rattle.tally.specs.Answer.{outcomeOf, sizeOf}
 use Rattle.tally.specs.Test.{testReasons, testOutcome}
 use Rattle.tally.proofs.TestReasons.{test-passed}
-use Rattle.levels.proofs.Reasons.{outcome-refused, ListFacts, list-facts}
+use Rattle.tally.proofs.RunReasons.{outcome-refused}
+use Rattle.levels.proofs.Reasons.{ListFacts, list-facts}
 use Rattle.trustee_alone.specs.Finish.{finishReasons, finishOutcome, finishedWires}
 use Rattle.trustee_alone.proofs.Tests.{pass, fail, end, before, behind, outcome-some, outcome-none, left-old, left-new, same-finish}
 use Rattle.trustee_alone.proofs.Sizes.{size-is}

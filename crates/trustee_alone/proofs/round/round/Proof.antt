@@ -15,7 +15,7 @@ use Rattle.jury.specs.Reason.{firstOf}
 use Rattle.basics.proofs.Flags.{true-T}
 use Rattle.jury.proofs.Limits.{bounds, inputs-bound}
 use Rattle.levels.specs.Answer.{Depths, depthsOf, depthsOutcome, levelReasonOf}
-use Rattle.levels.proofs.Reasons.{outcome-refused, outcome-accepted}
+use Rattle.tally.proofs.RunReasons.{outcome-refused, accepted-values}
 use Rattle.trustee_rounds.specs.Rounds.{Turn, enters, publishes, closes}
 use Rattle.trustee_alone.specs.Rounds.{roundReasons, roundOutcome, ownTurn, wiresMade, publishedMade, roundedWires, roundedPublished}
 use Rattle.trustee_alone.proofs.Tests.{pass, outcome-some, outcome-none, left-old, left-new, same-own}
@@ -28,7 +28,7 @@ accepted-by : (c : tie.After-answer) → let a = c .before .before .before .befo
 unfolding depthsOutcome
 accepted-by c =
     let a = c .before .before .before .before .before .before .before .before .before .before .before .args in
-    outcome-accepted (firstOf (roundReasons (a .shape) (a .table .now) (a .t) (a .p) (a .round) (a .levels .now) (a .dealt .now) (a .heard .now) (a .wires .now) (a .published .now))) (depthsOf (ballotBytes (a .shape)) (gatesOf (a .table .now))) _ (sym (c .before .before .test-round .ensures) ∙ ap depthsOutcome (c .answer .given .1))
+    accepted-values (firstOf (roundReasons (a .shape) (a .table .now) (a .t) (a .p) (a .round) (a .levels .now) (a .dealt .now) (a .heard .now) (a .wires .now) (a .published .now))) (depthsOf (ballotBytes (a .shape)) (gatesOf (a .table .now))) _ (sym (c .before .before .test-round .ensures) ∙ ap depthsOutcome (c .answer .given .1))
 
 -- what is known then
 known : (c : tie.After-answer) → let a = c .before .before .before .before .before .before .before .before .before .before .before .args in Passed (a .shape) (a .table .now) (a .round) (a .levels .now) (a .dealt .now) (a .heard .now) (a .wires .now) (a .published .now)

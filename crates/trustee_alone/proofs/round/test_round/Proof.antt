@@ -12,7 +12,8 @@ use Rattle.tally.specs.Answer.{outcome, outcomeOf, sizeOf}
 use Rattle.tally.specs.Test.{testReasons, testOutcome}
 use Rattle.tally.proofs.TestReasons.{test-passed}
 use Rattle.levels.specs.Answer.{depthsOf, depthsOutcome, levelReasonOf}
-use Rattle.levels.proofs.Reasons.{outcome-refused, ListFacts, list-facts}
+use Rattle.tally.proofs.RunReasons.{outcome-refused}
+use Rattle.levels.proofs.Reasons.{ListFacts, list-facts}
 use Rattle.trustee_alone.specs.Rounds.{tableReasons, roundReasons}
 use Rattle.trustee_alone.proofs.Tests.{before, behind, outcome-some}
 use Rattle.trustee_alone.proofs.Sizes.{tables-ready}

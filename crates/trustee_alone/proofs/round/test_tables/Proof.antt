@@ -9,6 +9,7 @@ use native.Mathlib.Omega.{arith}
 use lib.Dec.{eqb, leb}
 use lib.ListN.{length}
 use borrow.Author.Tests.{eq-eqb, ne-eqb, le-leb, lt-leb, not-true, not-false}
+use Rattle.basics.proofs.Flags.{and-first-fails}
 use Rattle.gates.specs.Gate.{gatesOf}
 use Rattle.gates.specs.Board.{conditionalCount}
 use Rattle.gates.proofs.Counting.{count-most}
@@ -21,7 +22,7 @@ use Rattle.levels.proofs.Reasons.{depths-are}
 use Rattle.trustee_gates.specs.Dealing.{onlyBits}
 use Rattle.trustee_alone.specs.Own.{isTrustee, tablesFit}
 use Rattle.trustee_alone.specs.Rounds.{tableReasons}
-use Rattle.trustee_alone.proofs.Tests.{pass, fail, end, and-both, and-not, outcome-some, outcome-none}
+use Rattle.trustee_alone.proofs.Tests.{pass, fail, end, and-both, outcome-some, outcome-none}
 use Rattle.trustee_alone.proofs.Sizes.{small-sizes, size-is, own-same, other-same, other-long}
 use Rattle.trustee_alone.proofs.round.test_tables.Statement.{statement}
 use Rattle.trustee_alone.proofs.round.test_tables.Tie as tie
@@ -127,7 +128,7 @@ unfolding depthsOutcome levelReasonOf reasonOf tableReasons
 returns-7 c =
     let s = c .before .before .before .before .before .before .before .before .before .before .before .before .before .before .before .before .before .before .before in
     let a = s .args in
-    outcome-some (firstOf (tableReasons (a .inputs) (a .k) (gatesOf (a .table .now)) (a .t) (a .p) (a .round) (a .levels .now) (a .dealt .now) (a .heard .now) (a .wires .now) (a .published .now))) (depthsOf (a .inputs) (gatesOf (a .table .now))) (reasonAt 202 0) (pass _ 16 _ (trustee (c .before .before .before .before .before .before .before .before .before .before .before)) ∙ pass _ 17 _ (fits (c .before .before .before .before .before .before .before .before .before)) ∙ pass _ 18 _ (bits (c .before .before .before .before .before .before .before)) ∙ pass _ 200 _ (same (c .before .before .before) .0) ∙ pass _ 201 _ (early (c .before)) ∙ fail _ 202 [] (and-not _ _ (ne-eqb (length (a .heard .now)) (2 * conditionalCount (gatesOf (a .table .now))) (λ e. c .if6 .taken (e ∙ ap (λ (n : ℕ). 2 * n) (sym (s .pre .conditional-are)))))))
+    outcome-some (firstOf (tableReasons (a .inputs) (a .k) (gatesOf (a .table .now)) (a .t) (a .p) (a .round) (a .levels .now) (a .dealt .now) (a .heard .now) (a .wires .now) (a .published .now))) (depthsOf (a .inputs) (gatesOf (a .table .now))) (reasonAt 202 0) (pass _ 16 _ (trustee (c .before .before .before .before .before .before .before .before .before .before .before)) ∙ pass _ 17 _ (fits (c .before .before .before .before .before .before .before .before .before)) ∙ pass _ 18 _ (bits (c .before .before .before .before .before .before .before)) ∙ pass _ 200 _ (same (c .before .before .before) .0) ∙ pass _ 201 _ (early (c .before)) ∙ fail _ 202 [] (and-first-fails _ _ (ne-eqb (length (a .heard .now)) (2 * conditionalCount (gatesOf (a .table .now))) (λ e. c .if6 .taken (e ∙ ap (λ (n : ℕ). 2 * n) (sym (s .pre .conditional-are)))))))
 
 only-bits-requires-2 : tie.Need-only-bits-requires-2
 only-bits-requires-2 c κs = search needs

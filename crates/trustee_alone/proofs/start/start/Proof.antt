@@ -18,7 +18,8 @@ use Rattle.basics.proofs.Flags.{true-T, and-first, and-second}
 use Rattle.tally.specs.Answer.{Size, outcomeOf, sizeOf}
 use Rattle.tally.specs.Test.{testReasons, testOutcome}
 use Rattle.tally.proofs.TestReasons.{test-passed}
-use Rattle.levels.proofs.Reasons.{outcome-refused, ListFacts, list-facts}
+use Rattle.tally.proofs.RunReasons.{outcome-refused}
+use Rattle.levels.proofs.Reasons.{ListFacts, list-facts}
 use Rattle.trustee_rounds.specs.Rounds.{startWires, startPublished}
 use Rattle.trustee_alone.specs.Own.{tablesFit}
 use Rattle.trustee_alone.specs.Start.{ownReasons, startReasons, startOutcome, startedWires, startedPublished}

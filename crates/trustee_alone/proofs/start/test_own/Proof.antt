@@ -6,11 +6,12 @@ use mathlib.Core.Bool.{true, false}
 use lib.Dec.{eqb}
 use lib.ListN.{length}
 use borrow.Author.Tests.{eq-eqb, ne-eqb, not-true, not-false}
+use Rattle.basics.proofs.Flags.{and-first-fails}
 use Rattle.jury.specs.Reason.{reasonOf, refusedFor}
 use Rattle.trustee_gates.specs.Dealing.{onlyBits}
 use Rattle.trustee_alone.specs.Own.{isTrustee, tablesFit}
 use Rattle.trustee_alone.specs.Start.{ownReasons}
-use Rattle.trustee_alone.proofs.Tests.{pass, fail, end, and-both, and-not}
+use Rattle.trustee_alone.proofs.Tests.{pass, fail, end, and-both}
 use Rattle.trustee_alone.proofs.start.test_own.Statement.{statement}
 use Rattle.trustee_alone.proofs.start.test_own.Tie as tie
 
@@ -43,7 +44,7 @@ returns-2 : tie.Need-returns-2
 unfolding refusedFor reasonOf ownReasons
 returns-2 c =
     let a = c .before .before .before .before .before .before .before .args in
-    sym (pass _ 16 _ (trustee (c .before)) ∙ fail _ 17 _ (and-not _ _ (ne-eqb (length (a .parts .now)) (a .inputs) (c .if2 .taken))))
+    sym (pass _ 16 _ (trustee (c .before)) ∙ fail _ 17 _ (and-first-fails _ _ (ne-eqb (length (a .parts .now)) (a .inputs) (c .if2 .taken))))
 
 tables-fit-requires : tie.Need-tables-fit-requires
 tables-fit-requires c κs = c .before .before .before .before .before .before .before .pre
@@ -61,7 +62,7 @@ returns-4 : tie.Need-returns-4
 unfolding refusedFor reasonOf ownReasons
 returns-4 c =
     let a = c .before .before .before .before .before .before .before .before .before .before .before .args in
-    sym (pass _ 16 _ (trustee (c .before .before .before .before .before)) ∙ pass _ 17 _ (and-both _ _ true (long (c .before .before .before .before)) (fits (c .before .before))) ∙ fail _ 18 _ (and-not _ _ (sym (c .before .only-bits .ensures) ∙ not-true (c .before .only-bits .result) (c .if4 .taken))))
+    sym (pass _ 16 _ (trustee (c .before .before .before .before .before)) ∙ pass _ 17 _ (and-both _ _ true (long (c .before .before .before .before)) (fits (c .before .before))) ∙ fail _ 18 _ (and-first-fails _ _ (sym (c .before .only-bits .ensures) ∙ not-true (c .before .only-bits .result) (c .if4 .taken))))
 
 only-bits-requires-2 : tie.Need-only-bits-requires-2
 only-bits-requires-2 c κs = search needs
