@@ -15,7 +15,7 @@ use Rattle.tally.specs.Answer.{accepted, Size, sizeOf}
 use Rattle.tally.specs.Memory.{Lent, KeepsMemory}
 use Rattle.levels.specs.Answer.{depthsOf}
 use Rattle.trustee_shares.specs.Shares.{opened, part, Held}
-use Rattle.trustee_shares.specs.Views.{piece, joined, othersOf, Dealing, ballotsOf, dealtOf}
+use Rattle.trustee_shares.specs.Views.{piece, joined, othersOf, Dealing, ballotsOf, dealtOf, View}
 use Rattle.trustee_rounds.specs.Together.{sumsOf, Holdings, publishedAfter, holdingsAfter}
 use Rattle.trustees.specs.Call.{Call, wirePartsIn}
 use Rattle.trustees.specs.Result.{trusteesResult}
@@ -81,20 +81,34 @@ closingHeard c =
     let bit : ℕ → ℕ → ℕ = λ j p. part (piece (factors + k) (publishedAtEnd c) p) (factors + j) in
     eightBytes (tabulate k (λ j. opened (c .trustees) (bit j)))
 
--- Trustees apart, as a way to tally: what the trustees but q hold and see is theirs, and every published bit.
+-- What the trustees but q hold and see before round r: what is theirs, and every bit published so far.
+abbrev pub viewBefore : (r q : ℕ) → Call → View
+viewBefore r q c =
+    record {
+      ballotParts = othersOf (c .trustees) q (partsIn c);
+      dealerParts = othersOf (c .trustees) q (dealtIn c);
+      wireParts = othersOf (c .trustees) q (holdingsIn c r .wireParts);
+      published = joined (c .trustees) (holdingsIn c r .published);
+    }
+
+-- Trustees apart, as a way to tally: views are taken when the rounds are done.
 abbrev pub apart : Way
 apart =
     record {
       parts = partsAtEnd;
       published = publishedAtEnd;
       closing = closingHeard;
-      view = λ q c. record {
-        ballotParts = othersOf (c .trustees) q (partsIn c);
-        dealerParts = othersOf (c .trustees) q (dealtIn c);
-        wireParts = othersOf (c .trustees) q (partsAtEnd c);
-        published = publishedAtEnd c;
-      };
+      view = λ q c. viewBefore (suc (roundsIn c)) q c;
     }
+
+-- Whoever cannot tell two elections apart in the end could not before any round.
+abbrev pub NoEarlierView : Type 0
+NoEarlierView =
+    (c c′ : Call) (first second : Size)
+    → c .shape ≡ c′ .shape → c .table ≡ c′ .table → c .trustees ≡ c′ .trustees
+    → trusteesResult c .answer ≡ accepted first → trusteesResult c′ .answer ≡ accepted second
+    → (q : ℕ) → apart .view q c ≡ apart .view q c′
+    → (r : ℕ) → r ≤ roundsIn c → viewBefore r q c ≡ viewBefore r q c′
 
 -- They end as the one call of request 2.7 does on the joined tables: after the rounds 0 to R each holds the wire parts
 -- of that call, what they published is what it leaves, and the closing bytes are its eight.
@@ -145,6 +159,7 @@ pub record Demands : Type 0 where
   pub memory : Memory
   pub own-tables-only : OwnTablesOnly
   pub tallies : Tallies apart
+  pub no-earlier-view : NoEarlierView
   pub as-the-one-call : (c : Call) (size : Size) → trusteesResult c .answer ≡ accepted size → AsTheOneCall c
   pub calls : (c : Call) (size : Size) → trusteesResult c .answer ≡ accepted size
       → (p : ℕ) → p < c .trustees → CallsOf c p
