@@ -80,9 +80,9 @@ pub record EachJury (c : Call) (j : ℕ) : Type 0 where
   pub emptied : piecesAfter c j .wires ≡ replicate (length (pieces c j .wires)) 0
   pub board : piecesAfter c j .boards ≡ runBoard (jury c j) (pieces c j)
 
--- The rounds of an accepted call are those of the jury that needs most. After them every jury has done all its gates; in
--- each of them some jury gets a gate; and no other number of rounds has both properties. So these are the rounds in the
--- contract of `run_rounds`.
+-- The rounds of an accepted call are those of the jury that needs most. After them every jury has done all its gates;
+-- in each of them some jury gets a gate; and no other number of rounds has both properties. So these are the rounds
+-- in the contract of `run_rounds`.
 pub record RoundsOfCall (c : Call) : Type 0 where
   pub longest : ℕ
   pub among : longest < length (juriesIn c)

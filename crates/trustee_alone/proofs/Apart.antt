@@ -102,7 +102,7 @@ module _ (c : Call) (passed : CallPassed c) (p : ℕ) (l : p < c .trustees) wher
       ∙ pass _ 18 [] (and-both _ _ true parts-bits dealt-bits) ∙ end
 
   -- no round changes a length
-  lengths : (r : ℕ) → (length (holdingsAfter (c .trustees) (ballotBytes (c .shape)) (gatesOf (c .table)) (c .shape .candidates) (c .lent .dealing) r .wireParts p) ≡ ballotBytes (c .shape) + length (gatesOf (c .table)))
+  pub lengths : (r : ℕ) → (length (holdingsAfter (c .trustees) (ballotBytes (c .shape)) (gatesOf (c .table)) (c .shape .candidates) (c .lent .dealing) r .wireParts p) ≡ ballotBytes (c .shape) + length (gatesOf (c .table)))
       × (length (holdingsAfter (c .trustees) (ballotBytes (c .shape)) (gatesOf (c .table)) (c .shape .candidates) (c .lent .dealing) r .published p) ≡ 2 * conditionalCount (gatesOf (c .table)) + c .shape .candidates)
   unfolding holdingsAfter startWires startPublished wiresAfter publishedAfter
   lengths zero = (

@@ -2,9 +2,10 @@
 -- tables and the sums.
 -- Assumes nothing.
 use mathlib.Core.Path.{_≡_, _∙_, refl, sym, ap, subst}
+use mathlib.Core.Logic.{_≢_}
 use mathlib.Core.Option.{Option, none, some}
 use mathlib.Core.List.{List}
-use Prim.Native.Nat.{ℕ, suc, _*_, _<_}
+use Prim.Native.Nat.{ℕ, suc, _+_, _*_, _≤_, _<_}
 use native.Mathlib.Omega.{arith}
 use lib.ListN.{length}
 use Rattle.gates.specs.Gate.{Gate, gatesOf}
@@ -19,20 +20,20 @@ use Rattle.jury.proofs.Limits.{some-bytes}
 use Rattle.trustee_shares.specs.Shares.{part, Held}
 use Rattle.trustee_shares.specs.Views.{joined, othersOf, Dealing, ballotsOf, dealtOf, wirePartsOf, publishedOf, View, viewOf}
 use Rattle.trustee_shares.proofs.Accuracy.{opened-same}
-use Rattle.trustee_shares.proofs.Tables.{length-piece, joined-cong, others-cong}
+use Rattle.trustee_shares.proofs.Tables.{length-piece, joined-cong, joined-same, others-cong, others-same}
 use Rattle.trustee_rounds.specs.Rounds.{Turn, enters, publishes, closes}
 use Rattle.trustee_rounds.specs.Together.{sumsOf, turnOf, wiresAfter, publishedAfter}
-use Rattle.trustee_rounds.proofs.Together.{rounds-make-the-tally}
-use Rattle.trustees.specs.Call.{Call, dealtAs, wirePartsIn, publishedIn, viewIn}
+use Rattle.trustee_rounds.proofs.Together.{earlier-follows, rounds-make-the-tally}
+use Rattle.trustees.specs.Call.{PartTables, Call, dealtAs, wirePartsIn, publishedIn, viewIn}
 use Rattle.trustees.specs.Reasons.{trusteesReasons}
 use Rattle.trustees.specs.Result.{TrusteesResult, trusteesResultAfter, trusteesResult, closingSums}
 use Rattle.trustees.specs.Demands.{inOneCall, Accuracy, OwnList, Hidden, Tallies}
 use Rattle.trustees.proofs.Reasons.{CallPassed, call-passed, result-by}
 use Rattle.trustees.proofs.Sums.{call-ready, opened-closing}
 use Rattle.trustees.proofs.Demands as one-call
-use Rattle.trustee_alone.specs.Demands.{roundsIn, holdingsIn, partsAtEnd, publishedAtEnd, closingHeard, apart, AsTheOneCall, OwnTablesOnly, Demands}
+use Rattle.trustee_alone.specs.Demands.{roundsIn, holdingsIn, partsAtEnd, publishedAtEnd, closingHeard, viewBefore, apart, NoEarlierView, AsTheOneCall, OwnTablesOnly, Demands}
 use Rattle.trustee_alone.proofs.Memory.{memory}
-use Rattle.trustee_alone.proofs.Apart.{calls-of}
+use Rattle.trustee_alone.proofs.Apart.{lengths, calls-of}
 
 -- the turn by what it is made of
 turn-same : (t inputs : ℕ) (gs : List Gate) (d e : Dealing) (r : ℕ) (one other : Held) (p : ℕ) → dealtOf gs d p ≡ dealtOf gs e p → sumsOf t (conditionalCount gs) one ≡ sumsOf t (conditionalCount gs) other
@@ -68,14 +69,17 @@ module _ (c : Call) (size : Size) (yes : trusteesResult c .answer ≡ accepted s
   long : length (c .ballots) ≡ ballotBytes (c .shape)
   long = passed .ballotsPassed .size
 
+  parts-long : (q : ℕ) → q < c .trustees → length (ballotsOf (ballotBytes (c .shape)) (c .lent .dealing) q) ≡ ballotBytes (c .shape)
+  unfolding ballotsOf
+  parts-long q h = length-piece (c .trustees) (ballotBytes (c .shape)) (c .lent .dealing .ballotParts) q (passed .parts .tables .ballot-length ∙ ap (λ (n : ℕ). c .trustees * n) long) h
+
   made : (p : ℕ) → p < c .trustees
       → (holdingsIn c (suc (roundsIn c)) .wireParts p ≡ wirePartsOf (c .trustees) (ballotBytes (c .shape)) (gatesOf (c .table)) (c .lent .dealing) p)
       × (holdingsIn c (suc (roundsIn c)) .published p ≡ publishedOf (c .trustees) (ballotBytes (c .shape)) (gatesOf (c .table)) (c .shape .candidates) (c .lent .dealing) p)
-  unfolding ballotsOf
   made p l =
       let f = accepted-list (ballotBytes (c .shape)) (c .shape .candidates) (c .table) _ _ (passed .test .tests) in
       rounds-make-the-tally (c .trustees) (ballotBytes (c .shape)) (c .shape .candidates) (gatesOf (c .table)) (c .lent .dealing) (some-bytes (c .shape) (passed .test .within)) (f .enough) (f .good)
-      (λ (q : ℕ) h. length-piece (c .trustees) (ballotBytes (c .shape)) (c .lent .dealing .ballotParts) q (passed .parts .tables .ballot-length ∙ ap (λ (n : ℕ). c .trustees * n) long) h) p l
+      parts-long p l
 
   -- the plain ballots are as long as the inputs
   same-parts : (p : ℕ) → p < c .trustees → partsAtEnd c p ≡ wirePartsIn c p
@@ -157,6 +161,63 @@ apart-hidden c c′ h =
       sees-the-table = λ (q : ℕ) d accept. refl;
     }
 
+-- a view is told by what it consists of
+same-parts-same-view : (x y : View) → x .ballotParts ≡ y .ballotParts → x .dealerParts ≡ y .dealerParts → x .wireParts ≡ y .wireParts
+    → x .published ≡ y .published → x ≡ y
+same-parts-same-view x y a b c d = rw (a, b, c, d) refl
+
+-- two elections of one shape, list and number of trustees
+abbrev alike : Call → (ballots : List ℕ) → PartTables → Call
+alike c ballots lent =
+    record { shape = c .shape; table = c .table; ballots = ballots; trustees = c .trustees; lent = lent }
+
+module _ (c : Call) (ballots : List ℕ) (lent : PartTables) (first second : Size)
+    (a : trusteesResult c .answer ≡ accepted first) (b : trusteesResult (alike c ballots lent) .answer ≡ accepted second)
+    (q : ℕ) (same : apart .view q c ≡ apart .view q (alike c ballots lent)) where
+  abbrev other : Call
+  other = alike c ballots lent
+
+  -- what trustee p ends with
+  wires-alike : (p : ℕ) → p < c .trustees → p ≢ q
+      → wirePartsOf (c .trustees) (ballotBytes (c .shape)) (gatesOf (c .table)) (c .lent .dealing) p ≡ wirePartsOf (c .trustees) (ballotBytes (c .shape)) (gatesOf (c .table)) (lent .dealing) p
+  wires-alike p l n =
+      sym (made c first a p l .0)
+      ∙ others-same (c .trustees) q (partsAtEnd c) (partsAtEnd other) (ap (λ (v : View). v .wireParts) same) p l n
+      ∙ made other second b p l .0
+
+  published-alike : (p : ℕ) → p < c .trustees
+      → publishedOf (c .trustees) (ballotBytes (c .shape)) (gatesOf (c .table)) (c .shape .candidates) (c .lent .dealing) p
+      ≡ publishedOf (c .trustees) (ballotBytes (c .shape)) (gatesOf (c .table)) (c .shape .candidates) (lent .dealing) p
+  published-alike p l =
+      sym (made c first a p l .1)
+      ∙ joined-same (c .trustees) (2 * conditionalCount (gatesOf (c .table)) + c .shape .candidates) (holdingsIn c (suc (roundsIn c)) .published) (holdingsIn other (suc (roundsIn c)) .published)
+      (λ (p : ℕ) h. lengths c (passed c first a) p h (suc (roundsIn c)) .1) (λ (p : ℕ) h. lengths other (passed other second b) p h (suc (roundsIn c)) .1)
+      (ap (λ (v : View). v .published) same) p l
+      ∙ made other second b p l .1
+
+  earlier : (r : ℕ) → r ≤ roundsIn c → viewBefore r q c ≡ viewBefore r q other
+  earlier r h =
+      same-parts-same-view (viewBefore r q c) (viewBefore r q other) (ap (λ (v : View). v .ballotParts) same) (ap (λ (v : View). v .dealerParts) same)
+      (others-cong (c .trustees) q (holdingsIn c r .wireParts) (holdingsIn other r .wireParts) (λ (p : ℕ) l n. before p l .0 (wires-alike p l n)))
+      (joined-cong (c .trustees) (holdingsIn c r .published) (holdingsIn other r .published) (λ (p : ℕ) l. before p l .1 (published-alike p l)))
+    where
+      before : (p : ℕ) → p < c .trustees
+          → (wirePartsOf (c .trustees) (ballotBytes (c .shape)) (gatesOf (c .table)) (c .lent .dealing) p ≡ wirePartsOf (c .trustees) (ballotBytes (c .shape)) (gatesOf (c .table)) (lent .dealing) p
+          → holdingsIn c r .wireParts p ≡ holdingsIn other r .wireParts p)
+          × (publishedOf (c .trustees) (ballotBytes (c .shape)) (gatesOf (c .table)) (c .shape .candidates) (c .lent .dealing) p
+          ≡ publishedOf (c .trustees) (ballotBytes (c .shape)) (gatesOf (c .table)) (c .shape .candidates) (lent .dealing) p
+          → holdingsIn c r .published p ≡ holdingsIn other r .published p)
+      before p l =
+          let f = accepted-list (ballotBytes (c .shape)) (c .shape .candidates) (c .table) _ _ (passed c first a .test .tests) in
+          earlier-follows (c .trustees) (ballotBytes (c .shape)) (c .shape .candidates) (gatesOf (c .table)) (c .lent .dealing) (lent .dealing)
+          (some-bytes (c .shape) (passed c first a .test .within)) (f .enough) (f .good) (parts-long c first a) (parts-long other second b) r h p l
+
+no-earlier-view : NoEarlierView
+no-earlier-view c c′ first second shape table trustees a b q same =
+    let is : alike c (c′ .ballots) (c′ .lent) ≡ c′ = rw (shape, table, trustees) refl in
+    subst (λ (e : Call). (r : ℕ) → r ≤ roundsIn c → viewBefore r q c ≡ viewBefore r q e) is
+    (earlier c (c′ .ballots) (c′ .lent) first second a (ap (λ (e : Call). trusteesResult e .answer) is ∙ b) q (same ∙ sym (ap (λ (e : Call). apart .view q e) is)))
+
 tallies : Tallies apart
 tallies =
     record {
@@ -174,6 +235,7 @@ demands =
       memory = memory;
       own-tables-only = own-tables-only;
       tallies = tallies;
+      no-earlier-view = no-earlier-view;
       as-the-one-call = as-the-one-call;
       calls = λ c size e p l. calls-of c (passed c size e) p l;
     }

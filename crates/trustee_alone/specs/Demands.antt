@@ -14,7 +14,7 @@ use Rattle.tally.specs.Answer.{accepted, Size, sizeOf}
 use Rattle.tally.specs.Memory.{Lent, KeepsMemory}
 use Rattle.levels.specs.Answer.{depthsOf}
 use Rattle.trustee_shares.specs.Shares.{opened, part, Held}
-use Rattle.trustee_shares.specs.Views.{piece, joined, othersOf, Dealing, ballotsOf, dealtOf}
+use Rattle.trustee_shares.specs.Views.{piece, joined, othersOf, Dealing, ballotsOf, dealtOf, View}
 use Rattle.trustee_rounds.specs.Together.{sumsOf, Holdings, publishedAfter, holdingsAfter}
 use Rattle.trustees.specs.Call.{Call, wirePartsIn}
 use Rattle.trustees.specs.Result.{trusteesResult}
@@ -80,23 +80,37 @@ closingHeard c =
     let bit : ℕ → ℕ → ℕ = λ j p. part (piece (factors + k) (publishedAtEnd c) p) (factors + j) in
     eightBytes (tabulate k (λ j. opened (c .trustees) (bit j)))
 
--- Trustees apart, as a way to tally. The trustees except q see what they hold, and every published bit.
+-- What the trustees except q hold and see before round r: their own tables, and every bit published so far.
+abbrev pub viewBefore : (r q : ℕ) → Call → View
+viewBefore r q c =
+    record {
+      ballotParts = othersOf (c .trustees) q (partsIn c);
+      dealerParts = othersOf (c .trustees) q (dealtIn c);
+      wireParts = othersOf (c .trustees) q (holdingsIn c r .wireParts);
+      published = joined (c .trustees) (holdingsIn c r .published);
+    }
+
+-- Trustees apart, as a way to tally. A view is taken when the rounds are done.
 abbrev pub apart : Way
 apart =
     record {
       parts = partsAtEnd;
       published = publishedAtEnd;
       closing = closingHeard;
-      view = λ q c. record {
-        ballotParts = othersOf (c .trustees) q (partsIn c);
-        dealerParts = othersOf (c .trustees) q (dealtIn c);
-        wireParts = othersOf (c .trustees) q (partsAtEnd c);
-        published = publishedAtEnd c;
-      };
+      view = λ q c. viewBefore (suc (roundsIn c)) q c;
     }
 
--- Trustees apart end as the single call of request 2.7 does on the joined tables: after the rounds 0 to R each holds the
--- wire parts of that call, they have published what it leaves, and the closing bytes are its eight.
+-- Trustees who see the same at the end of two elections saw the same before every round.
+abbrev pub NoEarlierView : Type 0
+NoEarlierView =
+    (c c′ : Call) (first second : Size)
+    → c .shape ≡ c′ .shape → c .table ≡ c′ .table → c .trustees ≡ c′ .trustees
+    → trusteesResult c .answer ≡ accepted first → trusteesResult c′ .answer ≡ accepted second
+    → (q : ℕ) → apart .view q c ≡ apart .view q c′
+    → (r : ℕ) → r ≤ roundsIn c → viewBefore r q c ≡ viewBefore r q c′
+
+-- Trustees apart end as the single call of request 2.7 does on the joined tables: after the rounds 0 to R each holds
+-- the wire parts of that call, they have published what it leaves, and the closing bytes are its eight.
 pub record AsTheOneCall (c : Call) : Type 0 where
   pub same-parts : (p : ℕ) → p < c .trustees → partsAtEnd c p ≡ wirePartsIn c p
   pub same-published : publishedAtEnd c ≡ trusteesResult c .published
@@ -145,6 +159,7 @@ pub record Demands : Type 0 where
   pub memory : Memory
   pub own-tables-only : OwnTablesOnly
   pub tallies : Tallies apart
+  pub no-earlier-view : NoEarlierView
   pub as-the-one-call : (c : Call) (size : Size) → trusteesResult c .answer ≡ accepted size → AsTheOneCall c
   pub calls : (c : Call) (size : Size) → trusteesResult c .answer ≡ accepted size
       → (p : ℕ) → p < c .trustees → CallsOf c p

@@ -1,7 +1,7 @@
 -- What is published level by level: after round r each conditional gate of level at most r + 1 has published both
 -- masked factors; for the others there are zeros.
 -- Assumes nothing.
-use mathlib.Core.Path.{_≡_, _∙_, refl, sym, ap}
+use mathlib.Core.Path.{_≡_, _∙_, refl, sym, ap, subst}
 use mathlib.Core.Bool.{Bool, true, false, cond, _&&_}
 use mathlib.Core.List.{List, [], _∷_}
 use Prim.Native.Nat.{ℕ, zero, suc, _+_, _*_, _≤_, _<_}
@@ -157,11 +157,12 @@ module _ (t inputs : ℕ) (dealt final : Held) (levels : List ℕ) where
       pub long : length published′ ≡ length published
       pub shows : Shown p (suc (suc r)) published′ gs g i
       pub before : (j : ℕ) → j < 2 * i → part published′ j ≡ part published j
+      pub behind : (j : ℕ) → 2 * (i + conditionalCount gs) ≤ j → part published′ j ≡ part published j
 
     pub published-end : (gs : List Gate) (g i : ℕ) (published : List ℕ) → g + length gs ≡ size → 2 * (i + conditionalCount gs) ≤ length published → Fits t inputs dealt final levels gs g i
         → Shown p (suc r) published gs g i → Published published (publishes (turn t inputs dealt final levels p r heard) ws gs g i published) gs g i
     unfolding publishes
-    published-end [] g i published e room fits s = record { long = refl; shows = tt; before = λ (j : ℕ) h. refl }
+    published-end [] g i published e room fits s = record { long = refl; shows = tt; before = λ (j : ℕ) h. refl; behind = λ (j : ℕ) h. refl }
     published-end (x ∷ xs) g i published e room fits s =
         let c = count-mark x xs in
         let pub₁ = publishesGate (turn t inputs dealt final levels p r heard) ws g i x published in
@@ -177,6 +178,7 @@ module _ (t inputs : ℕ) (dealt final : Held) (levels : List ℕ) where
             rest .shows,
           );
           before = λ (j : ℕ) h. rest .before j (omega arith) ∙ one .before j h;
+          behind = λ (j : ℕ) h. rest .behind j (omega (arith, c, h)) ∙ one .behind j (omega (arith, c, h));
         }
       where
         mark-most : (x : Gate) → markOf x ≤ 1
@@ -228,3 +230,44 @@ module _ (t inputs : ℕ) (dealt final : Held) (levels : List ℕ) where
           ∙ ap (λ (v : ℕ). first ∷ v ∷ take (2 * conditionalCount xs) (drop (suc (suc (2 * i))) published)) vb
           ∙ ap (λ (m : ℕ). first ∷ second ∷ take (2 * conditionalCount xs) (drop m published)) b
           ∙ ap (λ (l : List ℕ). first ∷ second ∷ l) (rest ∙ ap (λ (m : ℕ). maskedFactors (final p) (dealt p) m xs) f)
+
+-- Two dealings of one list that end with equal factors have shown the same of them at any time.
+module _ (inputs : ℕ) (levels : List ℕ) (p n : ℕ) where
+  heads : {x x′ y y′ : ℕ} {r r′ : List ℕ} → _≡_ {A = List ℕ} (x ∷ y ∷ r) (x′ ∷ y′ ∷ r′) → (x ≡ x′) × (y ≡ y′) × (r ≡ r′)
+  heads e = (ap (λ (l : List ℕ). getD l 0 0) e, ap (λ (l : List ℕ). getD l 1 0) e, ap (λ (l : List ℕ). drop 2 l) e)
+
+  pub same-shown : (t : ℕ) (dealt final dealt′ final′ : Held) (gs : List Gate) (g i : ℕ) (a b : List ℕ)
+      → Shown t inputs dealt final levels p n a gs g i → Shown t inputs dealt′ final′ levels p n b gs g i
+      → maskedFactors (final p) (dealt p) i gs ≡ maskedFactors (final′ p) (dealt′ p) i gs
+      → (j : ℕ) → 2 * i ≤ j → j < 2 * (i + conditionalCount gs) → part a j ≡ part b j
+  unfolding maskedFactors
+  same-shown t dealt final dealt′ final′ [] g i a b s s′ e j low high = absurd (omega (arith, count-nil))
+  same-shown t dealt final dealt′ final′ (x ∷ xs) g i a b s s′ e j low high =
+      let few : j < 2 * (i + markOf x + conditionalCount xs) = omega (arith, count-mark x xs) in
+      go (λ f l. same-shown t dealt final dealt′ final′ xs (suc g) (i + markOf x) a b (s .1) (s′ .1) f j l few) (conditionalOf (x .kind)) refl e
+    where
+      go : (maskedFactors (final p) (dealt p) (i + markOf x) xs ≡ maskedFactors (final′ p) (dealt′ p) (i + markOf x) xs → 2 * (i + markOf x) ≤ j → part a j ≡ part b j)
+          → (c : Bool) → conditionalOf (x .kind) ≡ c
+          → cond c (maskedFirst (final p) (dealt p) i x ∷ maskedSecond (final p) (dealt p) i x ∷ maskedFactors (final p) (dealt p) (i + 1) xs) (maskedFactors (final p) (dealt p) i xs)
+          ≡ cond c (maskedFirst (final′ p) (dealt′ p) i x ∷ maskedSecond (final′ p) (dealt′ p) i x ∷ maskedFactors (final′ p) (dealt′ p) (i + 1) xs) (maskedFactors (final′ p) (dealt′ p) i xs)
+          → part a j ≡ part b j
+      go more false is f =
+          let same : i ≡ i + markOf x = omega (arith, mark-none x is) in
+          more (subst (λ (m : ℕ). maskedFactors (final p) (dealt p) m xs ≡ maskedFactors (final′ p) (dealt′ p) m xs) same f) (omega (arith, low, mark-none x is))
+      go more true is f =
+          let h = heads f in
+          let one = mark-one x is in
+          let first : part a (2 * i) ≡ part b (2 * i) =
+          s .0 is .0 ∙ ap (λ (v : ℕ). cond (ltb (getD levels g 0) n) v 0) (h .0) ∙ sym (s′ .0 is .0) in
+          let second : part a (2 * i + 1) ≡ part b (2 * i + 1) =
+          s .0 is .1 ∙ ap (λ (v : ℕ). cond (ltb (getD levels g 0) n) v 0) (h .1) ∙ sym (s′ .0 is .1) in
+          let same : i + 1 ≡ i + markOf x = omega arith in
+          place first second (λ l. more (subst (λ (m : ℕ). maskedFactors (final p) (dealt p) m xs ≡ maskedFactors (final′ p) (dealt′ p) m xs) same (h .2)) (omega (arith, one, l)))
+        where
+          place : part a (2 * i) ≡ part b (2 * i) → part a (2 * i + 1) ≡ part b (2 * i + 1) → (2 * i + 2 ≤ j → part a j ≡ part b j) → part a j ≡ part b j
+          place u v w = at (eqb j (2 * i)) refl (eqb j (2 * i + 1)) refl
+            where
+              at : (y : Bool) → eqb j (2 * i) ≡ y → (z : Bool) → eqb j (2 * i + 1) ≡ z → part a j ≡ part b j
+              at true ey z ez = subst (λ (k : ℕ). part a k ≡ part b k) (sym (eqb-true j (2 * i) ey)) u
+              at false ey true ez = subst (λ (k : ℕ). part a k ≡ part b k) (sym (eqb-true j (2 * i + 1) ez)) v
+              at false ey false ez = w (omega (arith, low, eqb-false j (2 * i) ey, eqb-false j (2 * i + 1) ez))

@@ -8,7 +8,7 @@ use native.Mathlib.Nat.{add-zero, add-suc}
 use native.Mathlib.Omega.{arith}
 use lib.Dec.{ltb}
 use lib.ListN.{length, getD, take, drop, replicate, length-append, length-replicate, length-drop, drop-of-length-le, List·getD-append}
-use lib.Seq.{ext-getD, getD-append-add, sets, sets-eq}
+use lib.Seq.{ext-getD, getD-append-add, sets, sets-eq, take-at}
 use borrow.Author.Tests.{ltb-true, ltb-false, lt-ltb, le-ltb, eq-eqb, ne-eqb}
 use Rattle.basics.proofs.Tables.{zeros-at}
 use Rattle.gates.specs.Kind.{conditionalOf}
@@ -24,11 +24,12 @@ use Rattle.gate_levels.proofs.Laws.{Leveled, levels-leveled, operand-levels, la
 use Rattle.trustee_shares.specs.Shares.{part, Held, newPart, markOf, partsOf}
 use Rattle.trustee_shares.specs.Views.{Dealing, ballotsOf, dealtOf, wirePartsOf, maskedFactors, closingParts, publishedOf}
 use Rattle.trustee_shares.proofs.Accuracy.{part-new}
+use Rattle.trustee_shares.proofs.Publishing.{length-masked}
 use Rattle.trustee_gates.proofs.Running.{SameParts, new-cong, parts-keep, length-parts}
 use Rattle.trustee_rounds.specs.Rounds.{Turn, enters, publishes, closes, startWires, startPublished}
-use Rattle.trustee_rounds.specs.Together.{sumsOf, Holdings, turnOf, wiresAfter, publishedAfter, holdingsAfter, RoundsMakeTheTally}
+use Rattle.trustee_rounds.specs.Together.{sumsOf, Holdings, turnOf, wiresAfter, publishedAfter, holdingsAfter, RoundsMakeTheTally, EarlierFollows}
 use Rattle.trustee_rounds.proofs.Entering.{Fits, Heard, reached, turn, Stands, stands-end}
-use Rattle.trustee_rounds.proofs.Publishing.{Shown, heard-shown, Published, published-end, all-shown}
+use Rattle.trustee_rounds.proofs.Publishing.{Shown, heard-shown, Published, published-end, all-shown, same-shown}
 
 -- a list's own levels and parts fit each of its gates
 fits-list : (t inputs : ℕ) (dealt final : Held) (levels : List ℕ) → 1 ≤ inputs → (gs : List Gate) (g i : ℕ) (held : Held) → ((p : ℕ) → p < t → length (held p) ≡ inputs + g)
@@ -92,6 +93,9 @@ module _ (t inputs k : ℕ) (gs : List Gate) (d : Dealing) (pos : 1 ≤ inputs) 
   good-all : AllGood inputs gs
   good-all = subst (λ (n : ℕ). AllGood n gs) (add-zero inputs) (all-good inputs 0 gs good)
 
+  count-is : C ≡ conditionalCount gs
+  count-is = unfold C in refl
+
   fits : Fits t inputs dealt final levels gs 0 0
   unfolding final wirePartsOf dealt levels
   fits =
@@ -129,6 +133,7 @@ module _ (t inputs k : ℕ) (gs : List Gate) (d : Dealing) (pos : 1 ≤ inputs) 
     gate : (h : ℕ) → h < size → part (s .wireParts p) (inputs + h) ≡ reached t inputs dealt final levels p n h
     published-long : length (s .published p) ≡ 2 * C + k
     shown : Shown t inputs dealt final levels p (suc n) (s .published p) gs 0 0
+    blank : (j : ℕ) → 2 * C ≤ j → part (s .published p) j ≡ 0
 
   at-start : (p : ℕ) → p < t → Reached 0 (holdingsAfter t inputs gs k d 0) p
   unfolding holdingsAfter startWires startPublished size C part
@@ -143,6 +148,7 @@ module _ (t inputs k : ℕ) (gs : List Gate) (d : Dealing) (pos : 1 ≤ inputs) 
             ∙ sym (ap (λ (c : Bool). cond c (getD (final p) (inputs + h) 0) 0) (le-ltb (getD levels h 0) 0 (omega arith)));
         published-long = length-replicate {A = ℕ} (2 * conditionalCount gs + k) 0;
         shown = first-shown p (replicate (2 * conditionalCount gs + k) 0) (λ (j : ℕ). zeros-at (2 * conditionalCount gs + k) j) gs 0 0 fits;
+        blank = λ (j : ℕ) h. zeros-at (2 * conditionalCount gs + k) j;
       }
 
   -- one round
@@ -203,6 +209,7 @@ module _ (t inputs k : ℕ) (gs : List Gate) (d : Dealing) (pos : 1 ≤ inputs) 
           gate = λ (x : ℕ) m. ap (λ (v : List ℕ). part v (inputs + x)) w ∙ enters-all .done x m;
           published-long = ap length q ∙ publishes-all .long ∙ all p l .published-long;
           shown = subst (λ (v : List ℕ). Shown t inputs dealt final levels p (suc (suc r)) v gs 0 0) (sym q) (publishes-all .shows);
+          blank = λ (j : ℕ) m. ap (λ (v : List ℕ). part v j) q ∙ publishes-all .behind j (omega (arith, m, count-is)) ∙ all p l .blank j m;
         }
 
     -- in the last one all wires are there
@@ -249,6 +256,64 @@ module _ (t inputs k : ℕ) (gs : List Gate) (d : Dealing) (pos : 1 ≤ inputs) 
       let s = holdingsAfter t inputs gs k d R in
       let all = before-last R (omega arith) in
       (wires-are R s all p l ∙ wires-final R s all p l refl, published-final R s all p l refl)
+
+-- two dealings that end alike for trustee p
+module _ (t inputs k : ℕ) (gs : List Gate) (d e : Dealing) (pos : 1 ≤ inputs) (enough : k ≤ length gs) (good : firstBad inputs 0 gs ≡ Nowhere)
+    (bd : (p : ℕ) → p < t → length (ballotsOf inputs d p) ≡ inputs) (be : (p : ℕ) → p < t → length (ballotsOf inputs e p) ≡ inputs)
+    (n : ℕ) (h : n ≤ roundsOf inputs gs) (p : ℕ) (l : p < t) where
+  one : Reached t inputs k gs d pos enough good bd n (holdingsAfter t inputs gs k d n) p
+  unfolding R
+  one = before-last t inputs k gs d pos enough good bd n h p l
+
+  other : Reached t inputs k gs e pos enough good be n (holdingsAfter t inputs gs k e n) p
+  unfolding R
+  other = before-last t inputs k gs e pos enough good be n h p l
+
+  wires-earlier : wirePartsOf t inputs gs d p ≡ wirePartsOf t inputs gs e p
+      → holdingsAfter t inputs gs k d n .wireParts p ≡ holdingsAfter t inputs gs k e n .wireParts p
+  unfolding part size final levels
+  wires-earlier same =
+      ext-getD 0 (holdingsAfter t inputs gs k d n .wireParts p) (holdingsAfter t inputs gs k e n .wireParts p) (one .wires-long ∙ sym (other .wires-long))
+      (λ (x : ℕ) m. at x (omega (arith, m, one .wires-long)) (ltb x inputs) refl)
+    where
+      at : (x : ℕ) → x < inputs + length gs → (b : Bool) → ltb x inputs ≡ b
+          → getD (holdingsAfter t inputs gs k d n .wireParts p) x 0 ≡ getD (holdingsAfter t inputs gs k e n .wireParts p) x 0
+      at x m true f = one .input x (ltb-true x inputs f) ∙ ap (λ (w : List ℕ). getD w x 0) same ∙ sym (other .input x (ltb-true x inputs f))
+      at x m false f =
+          let g = ltb-false x inputs f in
+          let is : inputs + (x - inputs) ≡ x = omega arith in
+          subst (λ (y : ℕ). getD (holdingsAfter t inputs gs k d n .wireParts p) y 0 ≡ getD (holdingsAfter t inputs gs k e n .wireParts p) y 0) is
+          (one .gate (x - inputs) (omega arith)
+          ∙ ap (λ (w : List ℕ). cond (ltb (getD (levelsOf inputs gs) (x - inputs) 0) n) (getD w (inputs + (x - inputs)) 0) 0) same
+          ∙ sym (other .gate (x - inputs) (omega arith)))
+
+  factors-same : publishedOf t inputs gs k d p ≡ publishedOf t inputs gs k e p
+      → maskedFactors (wirePartsOf t inputs gs d p) (dealtOf gs d p) 0 gs ≡ maskedFactors (wirePartsOf t inputs gs e p) (dealtOf gs e p) 0 gs
+  unfolding publishedOf
+  factors-same same =
+      let m = maskedFactors (wirePartsOf t inputs gs d p) (dealtOf gs d p) 0 gs in
+      let m′ = maskedFactors (wirePartsOf t inputs gs e p) (dealtOf gs e p) 0 gs in
+      sym (take-at m (closingParts k (wirePartsOf t inputs gs d p)) (2 * conditionalCount gs) (length-masked (wirePartsOf t inputs gs d p) (dealtOf gs d p) 0 gs))
+      ∙ ap (take (2 * conditionalCount gs)) same
+      ∙ take-at m′ (closingParts k (wirePartsOf t inputs gs e p)) (2 * conditionalCount gs) (length-masked (wirePartsOf t inputs gs e p) (dealtOf gs e p) 0 gs)
+
+  published-earlier : publishedOf t inputs gs k d p ≡ publishedOf t inputs gs k e p
+      → holdingsAfter t inputs gs k d n .published p ≡ holdingsAfter t inputs gs k e n .published p
+  unfolding part C final dealt levels
+  published-earlier same =
+      ext-getD 0 (holdingsAfter t inputs gs k d n .published p) (holdingsAfter t inputs gs k e n .published p) (one .published-long ∙ sym (other .published-long))
+      (λ (j : ℕ) m. at j (ltb j (2 * conditionalCount gs)) refl)
+    where
+      at : (j : ℕ) (b : Bool) → ltb j (2 * conditionalCount gs) ≡ b
+          → getD (holdingsAfter t inputs gs k d n .published p) j 0 ≡ getD (holdingsAfter t inputs gs k e n .published p) j 0
+      at j true f =
+          same-shown inputs (levelsOf inputs gs) p (suc n) t (dealtOf gs d) (wirePartsOf t inputs gs d) (dealtOf gs e) (wirePartsOf t inputs gs e) gs 0 0 _ _ (one .shown) (other .shown)
+          (factors-same same) j (omega arith) (omega (arith, ltb-true j (2 * conditionalCount gs) f))
+      at j false f = one .blank j (ltb-false j (2 * conditionalCount gs) f) ∙ sym (other .blank j (ltb-false j (2 * conditionalCount gs) f))
+
+pub earlier-follows : EarlierFollows
+earlier-follows t inputs k gs d e pos enough good bd be n h p l =
+    (wires-earlier t inputs k gs d e pos enough good bd be n h p l, published-earlier t inputs k gs d e pos enough good bd be n h p l)
 
 pub rounds-make-the-tally : RoundsMakeTheTally
 rounds-make-the-tally t inputs k gs d pos enough good ballots p l = tally-made t inputs k gs d pos enough good ballots p l

@@ -60,6 +60,20 @@ holdingsAfter t inputs gs k d (suc r) =
       published = publishedAfter t inputs gs k d r (holdingsAfter t inputs gs k d r);
     }
 
+-- What a trustee holds and has published before round r follows from what it has at the end: two dealings that are
+-- equal for it then were equal before every round.
+abbrev pub EarlierFollows : Type 0
+EarlierFollows =
+    (t inputs k : ℕ) (gs : List Gate) (d e : Dealing)
+    → 1 ≤ inputs → k ≤ length gs → firstBad inputs 0 gs ≡ Nowhere
+    → ((p : ℕ) → p < t → length (ballotsOf inputs d p) ≡ inputs)
+    → ((p : ℕ) → p < t → length (ballotsOf inputs e p) ≡ inputs)
+    → (r : ℕ) → r ≤ roundsOf inputs gs → (p : ℕ) → p < t
+    → (wirePartsOf t inputs gs d p ≡ wirePartsOf t inputs gs e p
+    → holdingsAfter t inputs gs k d r .wireParts p ≡ holdingsAfter t inputs gs k e r .wireParts p)
+    × (publishedOf t inputs gs k d p ≡ publishedOf t inputs gs k e p
+    → holdingsAfter t inputs gs k d r .published p ≡ holdingsAfter t inputs gs k e r .published p)
+
 -- After the rounds 0 to R each trustee holds the wire parts, and has published the bits, of the single call on the
 -- joined tables.
 abbrev pub RoundsMakeTheTally : Type 0

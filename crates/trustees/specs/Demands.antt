@@ -34,8 +34,8 @@ pub record Memory (c : Call) : Type 0 where
       (parts ∷ [])
   pub zeros : (r : Reason) → trusteesResult c .answer ≡ refused r → trusteesResult c .closing ≡ replicate 8 0
 
--- A way in which trustees tally: each trustee's parts of all wires, everything that is published, the closing bytes, and
--- what the trustees except q hold and see. Demands 2 and 3 are stated for any such way.
+-- A way in which trustees tally: each trustee's parts of all wires, everything that is published, the closing bytes,
+-- and what the trustees except q hold and see. Demands 2 and 3 are stated for any such way.
 pub record Way : Type 0 where
   pub parts : Call → Held
   pub published : Call → List ℕ

@@ -10,7 +10,6 @@ use Rattle.trustee_alone.specs.Rounds.{roundOutcome, roundedWires, roundedPubli
 use Rattle.c_answers.specs.Numbers.{shapeOf}
 use Rattle.c_levels.specs.Numbers.{depthAnswer, depthNumbers}
 use Rattle.c_answers.proofs.Answering.{short-call, put-call}
-use Rattle.c_trustee.proofs.Tables.{both}
 use Rattle.c_trustee.proofs.calls.jugy_trustee_round.Statement.{statement}
 use Rattle.c_trustee.proofs.calls.jugy_trustee_round.Tie as tie
 

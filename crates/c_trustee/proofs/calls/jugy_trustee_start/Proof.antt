@@ -9,7 +9,6 @@ use Rattle.trustee_alone.specs.Own.{OwnResult}
 use Rattle.trustee_alone.specs.Start.{startOutcome, startedWires, startedPublished}
 use Rattle.c_answers.specs.Numbers.{sizeAnswer, sizeNumbers, shapeOf}
 use Rattle.c_answers.proofs.Answering.{short-call, put-call}
-use Rattle.c_trustee.proofs.Tables.{both}
 use Rattle.c_trustee.proofs.calls.jugy_trustee_start.Statement.{statement}
 use Rattle.c_trustee.proofs.calls.jugy_trustee_start.Tie as tie
 
