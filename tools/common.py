@@ -42,6 +42,15 @@ def number(word):
     return int(word)
 
 
+def between(low, high):
+    """What reads a number from low to high in an argument."""
+    def read(word):
+        if not low <= number(word) <= high:
+            raise argparse.ArgumentTypeError(f"{word} is not a number from {low} to {high}")
+        return number(word)
+    return read
+
+
 def add_shape(of):
     """The three numbers of a shape, as arguments."""
     of.add_argument("candidates", metavar="K", type=number, help="candidates, 1 to 8")

@@ -103,3 +103,12 @@ def program(name: str) -> pathlib.Path:
         # if a source was only touched, the build leaves the program as it was; do not look at it again
         made.touch()
     return made
+
+
+def native(name: str) -> pathlib.Path:
+    """A program of the Rust wrapper, linked with the archive; both are built first where a source is newer."""
+    archive()
+    folder = root() / "target/rust"
+    _build("cargo", "build", "--quiet", "--release", "--offline", "--manifest-path", root() / "rust/Cargo.toml",
+           "--target-dir", folder, "--bin", name)
+    return folder / "release" / name

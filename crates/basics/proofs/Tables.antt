@@ -18,3 +18,7 @@ all-emptied n xs e =
     ap (λ (r : List ℕ). replicate n 0 ++ r) (drop-of-length-le xs {i = n} (omega arith))
     ∙ append-nil (replicate n 0)
     ∙ ap (λ (k : ℕ). replicate k 0) e
+
+-- what the kit's `bytes::copy` leaves: the second of its two clauses, which have no names
+pub copied : {count left : Type 0} → count × left → left
+copied clauses = clauses .1

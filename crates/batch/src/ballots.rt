@@ -9,12 +9,13 @@ ghost use mathlib.Core.Bool.{cond};
 ghost use Prim.Native.Nat.{ℕ, _*_, _<_};
 ghost use lib.Dec.{T, eqb};
 ghost use lib.ListN.{length};
-ghost use Rattle.jury.specs.Shape.{gradedLimits, withinLimits};
+ghost use Rattle.jury.specs.Shape.{withinLimits};
 ghost use Rattle.jury.specs.Reason.{refusedFor, firstOf};
 ghost use Rattle.jury.specs.Ballots.{ones, rowsOf, firstBadRow};
 ghost use Rattle.batch_lanes.specs.Lane.{laneCount, lane, laneOf};
 ghost use Rattle.batch.specs.Ballots.{wordGradedReasons, wordRankedReasons, wordBallotReasons};
 ghost use Rattle.batch.specs.inner.Found.{foundBit, firstSet};
+ghost use Rattle.jury.specs.inner.Ballots.{GradedSize};
 
 // How many juries a word serves.
 const JURIES: u32 = 64;
@@ -36,8 +37,7 @@ pub fn test(shape: Shape, ballots: &[u64]) -> Verdict
 
 // Reason 6, of graded ballots.
 fn test_grades(shape: Shape, ballots: &[u64]) -> Verdict
-    requires { ⌜ T (gradedLimits shape) × (length (now ballots)
-        ≡ shape .ballots * shape .candidates * shape .grades) ⌝ }
+    requires { ⌜ GradedSize shape (now ballots) ⌝ }
     ensures { λ r. ⌜ refusedFor r ≡ firstOf (wordGradedReasons shape (now (ballots .entry))) ⌝ }
 {
     let faults = bad_rows(ballots, shape.grades, shape.ballots * shape.candidates);

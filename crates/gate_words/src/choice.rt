@@ -5,9 +5,9 @@ ghost use mathlib.Core.Path.{_≡_};
 ghost use Prim.Native.Nat.{_+_, _<_};
 ghost use Rattle.gate_words.specs.Limits.{writerLimit};
 ghost use Rattle.gate_words.specs.Writing.{Wrote};
-ghost use Rattle.gate_words.specs.Choice.{each, copies, complements, choose, masked, chain};
+ghost use Rattle.gate_words.specs.Choice.{choose, masked, chain};
 ghost use Rattle.gate_words.specs.Choice.{chainEnd, anyOf, allOf, parity};
-ghost use Rattle.gate_words.specs.inner.Ready.{WordReady, WordsReady, WiresReady, EachReady, ChainReady};
+ghost use Rattle.gate_words.specs.inner.Ready.{WordReady, WordsReady, WiresReady, ChainReady};
 
 // The last wire of a chain of so many gates.
 pub fn chain_end(n: u32, s: u32, count: u32) -> u32
@@ -18,34 +18,6 @@ pub fn chain_end(n: u32, s: u32, count: u32) -> u32
 }
 
 impl Writer {
-    // A gate of a kind with one operand for each digit of a word.
-    fn each(self, table: &mut [u32], kind: u32, x: u32, digits: u32) -> Writer
-        requires { ⌜ EachReady self kind x digits ⌝ }
-        ensures { λ r. ⌜ Wrote self (now (table .entry)) (each kind x digits) (now (table .exit)) r ⌝ }
-    {
-        let mut w = self;
-        let mut i: u32 = 0;
-        while i < digits {
-            w = w.emit(table, kind, x + i, 0, 0);
-            i += 1;
-        }
-        w
-    }
-
-    pub fn copies(self, table: &mut [u32], x: u32, digits: u32) -> Writer
-        requires { ⌜ WordReady self digits x digits ⌝ }
-        ensures { λ r. ⌜ Wrote self (now (table .entry)) (copies x digits) (now (table .exit)) r ⌝ }
-    {
-        self.each(table, kind::COPY, x, digits)
-    }
-
-    pub fn complements(self, table: &mut [u32], x: u32, digits: u32) -> Writer
-        requires { ⌜ WordReady self digits x digits ⌝ }
-        ensures { λ r. ⌜ Wrote self (now (table .entry)) (complements x digits) (now (table .exit)) r ⌝ }
-    {
-        self.each(table, kind::NOT, x, digits)
-    }
-
     // The word at x where wire f is 1, else the word at y.
     pub fn choose(self, table: &mut [u32], f: u32, x: u32, y: u32, digits: u32) -> Writer
         requires { ⌜ WordsReady self digits x y digits ⌝ }

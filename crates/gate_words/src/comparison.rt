@@ -1,7 +1,6 @@
 // Comparisons.
 use crate::writer::Writer;
 use gates::kind;
-ghost use Prim.Native.Nat.{_+_, _<_};
 ghost use lib.ListN.{length};
 ghost use Rattle.gate_words.specs.Writing.{Room, Wrote};
 ghost use Rattle.gate_words.specs.Comparison.{firstDigit, compareWords, differences, above};

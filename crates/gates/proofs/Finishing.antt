@@ -11,7 +11,7 @@ use Rattle.gates.specs.Open.Gate.{Gate, gatesOf}
 use Rattle.gates.specs.Open.Wires.{wiresOf, outputsOf}
 use Rattle.gates.specs.Open.Board.{conditionals, conditionalCount, shownBit, shownBits, boardOf}
 use Rattle.gates.specs.Open.Test.{firstBad}
-use Rattle.gates.specs.Open.Step.{rangeOf, stepWires, stepBoard, StepReady}
+use Rattle.gates.specs.Open.Step.{rangeOf, stepWires, stepBoard, StepReady, CloseReady}
 use Rattle.gates.specs.declared.place.Place.the-variants.{Nowhere}
 use Rattle.gates.proofs.WireLaws.{length-wires}
 
@@ -67,8 +67,12 @@ module _ (i : ℕ) (t : List ℕ) (gates k : ℕ) (tape ws board : List ℕ) (e 
       unfolding stepBoard bits
       stepped-board = f₂ ∙ rw (run-wires, whole-range t gates e)
 
-      pub can-close : (k ≤ length ws₂) × (length board₂ ≡ shown + k)
-      can-close = (omega (arith, ap length final-wires, length-wires (take i ws) (gatesOf t)), omega (arith, ap length stepped-board, length-sets board 0 bits, count-range))
+      pub can-close : CloseReady k shown ws₂ board₂
+      can-close =
+          record {
+            enough = omega (arith, ap length final-wires, length-wires (take i ws) (gatesOf t));
+            boardLength = omega (arith, ap length stepped-board, length-sets board 0 bits, count-range);
+          }
 
       pub final-board : (board₃ : List ℕ) → board₃ ≡ take shown board₂ ++ outputsOf k ws₂ → board₃ ≡ boardOf (wiresOf (take i ws) (gatesOf t)) (gatesOf t) k tape
       unfolding boardOf bits

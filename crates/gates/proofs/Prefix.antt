@@ -13,7 +13,7 @@ use Rattle.gates.specs.Open.Gate.{Gate, gatesOf}
 use Rattle.gates.specs.Open.Wires.{wire, wiresOf, outputsOf}
 use Rattle.gates.specs.Open.Board.{conditionals, conditionalCount, shownBit, shownBits, boardOf}
 use Rattle.gates.specs.Open.Test.{firstBad}
-use Rattle.gates.specs.Open.Step.{rangeOf, stepWires, stepBoard, StepReady, RunReady}
+use Rattle.gates.specs.Open.Step.{rangeOf, stepWires, stepBoard, StepReady, RunReady, CloseReady}
 use Rattle.gates.specs.declared.place.Place.the-variants.{Nowhere}
 use Rattle.gates.proofs.Goodness.{good-gate}
 use Rattle.gates.proofs.Counting.{count-append}
@@ -266,19 +266,21 @@ module _ (inputs t : List ℕ) (k : ℕ) (tape lw lb : List ℕ) (run : RunReady
         ∙ ap (λ (x : List Gate). shownBits (wiresOf inputs (gatesOf t)) x tape ++ drop (conditionalCount x) lb) (take-length (gatesOf t))
 
     -- what closing asks
-    pub can-close : (k ≤ length ws) × (length board ≡ shown + k)
-    can-close = (
-      omega (arith, ap length last-wires, length-wires inputs (gatesOf t), run .enough),
-      omega (
-        arith,
-        ap length last-board,
-        length-append (shownBits (wiresOf inputs (gatesOf t)) (gatesOf t) tape) (drop (conditionalCount (gatesOf t)) lb),
-        last-bits,
-        last-count,
-        length-drop (conditionalCount (gatesOf t)) lb,
-        run .boardLength,
-      ),
-    )
+    pub can-close : CloseReady k shown ws board
+    can-close =
+        record {
+          enough = omega (arith, ap length last-wires, length-wires inputs (gatesOf t), run .enough);
+          boardLength =
+              omega (
+                arith,
+                ap length last-board,
+                length-append (shownBits (wiresOf inputs (gatesOf t)) (gatesOf t) tape) (drop (conditionalCount (gatesOf t)) lb),
+                last-bits,
+                last-count,
+                length-drop (conditionalCount (gatesOf t)) lb,
+                run .boardLength,
+              );
+        }
 
     -- the whole board
     pub closed-board : (board′ : List ℕ) → board′ ≡ take shown board ++ outputsOf k ws → board′ ≡ boardOf (wiresOf inputs (gatesOf t)) (gatesOf t) k tape

@@ -5,12 +5,12 @@ ghost use mathlib.Core.Path.{_≡_};
 ghost use mathlib.Core.Bool.{_&&_};
 ghost use Prim.Native.Nat.{ℕ, _+_, _<_};
 ghost use lib.Dec.{ltb, eqb};
-ghost use Rattle.gates.specs.Kind.{operandCounts};
 ghost use Rattle.gates.specs.Gate.{gatesOf};
 ghost use lib.ListN.{length};
 ghost use Rattle.gates.specs.Board.{conditionalCount};
 ghost use Rattle.gates.specs.Limits.{operandLimit, tableGateLimit};
 ghost use Rattle.gates.specs.Test.{goodGate, firstBad, judged, tested};
+ghost use Rattle.gates.specs.inner.Test.{TestReady};
 
 // The most gates that a list may have: 2^20.
 pub const MOST_GATES: usize = 1048576;
@@ -62,8 +62,7 @@ fn gate_is_good(
     b: u32,
     c: u32,
 ) -> bool
-    requires { ⌜ g < tableGateLimit ⌝ }
-    requires { ⌜ now counts ≡ operandCounts ⌝ }
+    requires { ⌜ TestReady g (now counts) ⌝ }
     ensures { λ r. ⌜ r ≡ goodGate (inputs + g) (record { kind = kind; a = a; b = b; c = c }) ⌝ }
 {
     let GateValue::Value(_) = kind::apply(kind, 0, 0, 0) else {

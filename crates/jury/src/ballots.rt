@@ -8,10 +8,10 @@ ghost use mathlib.Core.Path.{_≡_};
 ghost use Prim.Native.Nat.{ℕ, _*_, _≤_, _<_};
 ghost use lib.Dec.{T};
 ghost use lib.ListN.{length, getD};
-ghost use Rattle.gates.specs.Board.{Bits};
-ghost use Rattle.jury.specs.Shape.{gradedLimits, withinLimits};
+ghost use Rattle.jury.specs.Shape.{withinLimits};
 ghost use Rattle.jury.specs.Reason.{refusedFor, firstOf};
 ghost use Rattle.jury.specs.Ballots.{gradedReasons, rankedReasons, ballotReasons, ones, rowsOf, firstBadRow};
+ghost use Rattle.jury.specs.inner.Ballots.{GradedBits, RowsOfBits};
 
 // Reasons 4 and 5, then those of the shape's kind: 6 for grades, 11 and 12 for rankings. Each test looks at
 // everything before the next begins.
@@ -34,10 +34,7 @@ pub fn test(shape: Shape, ballots: &[u8]) -> Verdict
 
 // Reason 6, of graded ballots.
 fn test_grades(shape: Shape, ballots: &[u8]) -> Verdict
-    requires { ⌜
-        T (gradedLimits shape) × (length (now ballots) ≡ shape .ballots * shape .candidates * shape .grades)
-        ⌝ }
-    requires { ⌜ Bits (now ballots) ⌝ }
+    requires { ⌜ GradedBits shape (now ballots) ⌝ }
     ensures { λ r. ⌜ refusedFor r ≡ firstOf (gradedReasons shape (now (ballots .entry))) ⌝ }
 {
     match first_bad_row(ballots, shape.grades, shape.ballots * shape.candidates) {
@@ -66,8 +63,7 @@ fn test_rankings(shape: Shape, ballots: &[u8]) -> Verdict
 
 // The first row of d bytes that has no 1, or more than one.
 fn first_bad_row(bytes: &[u8], d: usize, rows: usize) -> Place
-    requires { ⌜ length (now bytes) ≡ rows * d ⌝ }
-    requires { ⌜ Bits (now bytes) ⌝ }
+    requires { ⌜ RowsOfBits (now bytes) d rows ⌝ }
     ensures { λ r. ⌜ r ≡ firstBadRow 0 (rowsOf d rows (now (bytes .entry))) ⌝ }
 {
     let mut row = 0;

@@ -1,10 +1,9 @@
 // The shape of a jury: how many candidates, grades and ballots, and their limits. Without grades, the candidates are
 // ranked.
 ghost use mathlib.Core.Path.{_≡_};
-ghost use mathlib.Core.Bool.{cond};
 ghost use lib.Dec.{T};
-ghost use Rattle.jury.specs.Reason.{shapedFor, unless};
 ghost use Rattle.jury.specs.Shape.{isRanking, gradedLimits, rankedLimits, withinLimits, ballotBytes};
+ghost use Rattle.jury.specs.Shaped.{Shaped};
 ghost use Rattle.jury.specs.Shape as spec;
 
 // Candidates are blends [limits]. The numbers can also hold what lies outside the limits, so that it can be refused.
@@ -35,15 +34,7 @@ impl Shape {
 
     // A shape within the limits, or its refusal.
     pub fn new(candidates: usize, grades: usize, ballots: usize) -> ShapeResult
-        ensures { λ r. ⌜
-            r ≡ cond (withinLimits (record { candidates = candidates; grades = grades; ballots = ballots }))
-            (ShapeResult.Within (record { candidates = candidates; grades = grades; ballots = ballots }))
-            ShapeResult.Outside
-            ⌝ }
-        ensures { λ r. ⌜
-            shapedFor r
-            ≡ unless (withinLimits (record { candidates = candidates; grades = grades; ballots = ballots })) 1
-            ⌝ }
+        ensures { λ r. ⌜ Shaped (record { candidates = candidates; grades = grades; ballots = ballots }) r ⌝ }
     {
         let shape = Shape {
             candidates,

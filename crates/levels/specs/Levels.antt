@@ -30,3 +30,12 @@ afterwards none new old = new
 unfoldable pub levelsWritten : Shape → List ℕ → List ℕ → List ℕ
 levelsWritten s table levels =
     afterwards (firstOf (levelsReasons s table levels)) (levelsOf (ballotBytes s) (gatesOf table)) levels
+
+-- What a call leaves: its answer and the table.
+pub record LevelsResult : Type 0 where
+  pub answer : Outcome Depths
+  pub levels : List ℕ
+
+abbrev pub levelsResult : Shape → List ℕ → List ℕ → LevelsResult
+levelsResult s table levels =
+    record { answer = levelsOutcome s table levels; levels = levelsWritten s table levels }

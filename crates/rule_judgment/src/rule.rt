@@ -2,17 +2,14 @@
 // candidates at two grades tell whose sequence comes first, and equal sequences have equal counts.
 use jury::shape::Shape;
 ghost use mathlib.Core.Path.{_≡_};
-ghost use Prim.Native.Nat.{ℕ, _≤_, _<_};
+ghost use Prim.Native.Nat.{_≤_};
 ghost use mathlib.Core.List.{[]};
-ghost use lib.Dec.{T};
-ghost use lib.ListN.{length, take, getD};
-ghost use Rattle.jury.specs.Shape.{gradedLimits};
-ghost use Rattle.basics.specs.Lists.{sum};
+ghost use lib.ListN.{take, getD};
 ghost use Rattle.jury.specs.ClosingBytes.{eightBytes};
 ghost use Rattle.jury.specs.inner.Counts.{rowsIn};
 ghost use Rattle.rule_judgment.specs.Judgment.{sequenceOf, precedes, judgmentOf};
-ghost use Rattle.rule_judgment.specs.Theorems.{EachGets};
-ghost use Rattle.rule_judgment.specs.inner.Decision.{sameCounts, halfReached, decidedBy};
+ghost use Rattle.rule_judgment.specs.inner.Decision.{halfReached, decidedBy};
+ghost use Rattle.rule_judgment.specs.inner.Ready.{WinnersReady, FirstReady, Wins, RowsReady, Compared, SumsReady};
 
 // Running sums of two candidates: how many of their grades are at least as good as some grade.
 pub struct Sums {
@@ -22,9 +19,7 @@ pub struct Sums {
 
 // The closing bytes: 1 for each candidate with the first sequence, 0 for the others and from place k on.
 pub fn winners(shape: Shape, counts: [[u16; 7]; 8]) -> [u8; 8]
-    requires { ⌜ T (gradedLimits shape) ⌝ }
-    requires { ⌜ EachGets (shape .ballots) (rowsIn (shape .candidates) (shape .grades) counts) ⌝ }
-    requires { ⌜ ((i : ℕ) → i < 8 → length (getD counts i []) ≡ 7) ⌝ }
+    requires { ⌜ WinnersReady shape counts ⌝ }
     ensures { λ r. ⌜ r ≡ eightBytes (judgmentOf (rowsIn (shape .candidates) (shape .grades) counts)) ⌝ }
 {
     let k = shape.candidates;
@@ -43,9 +38,8 @@ pub fn winners(shape: Shape, counts: [[u16; 7]; 8]) -> [u8; 8]
 
 // A candidate whose sequence no other sequence precedes.
 fn first_winner(counts: [[u16; 7]; 8], k: usize, d: usize, n: usize) -> usize
-    requires { ⌜ (0 < k) × (k ≤ 8) × (d ≤ 7) × (0 < n) × (n ≤ 255) ⌝ }
-    requires { ⌜ EachGets n (rowsIn k d counts) ⌝ }
-    ensures { λ r. ⌜ (r < k) × (getD (judgmentOf (rowsIn k d counts)) r 0 ≡ 1) ⌝ }
+    requires { ⌜ FirstReady counts k d n ⌝ }
+    ensures { λ r. ⌜ Wins counts k d r ⌝ }
 {
     let mut first = 0;
     let mut c = 1;
@@ -61,12 +55,9 @@ fn first_winner(counts: [[u16; 7]; 8], k: usize, d: usize, n: usize) -> usize
 // Whether candidates a and b have the same counts. The matrix is lent: the processor would wait for the copy of a row
 // whose numbers were just stored.
 fn same_counts(counts: &[[u16; 7]; 8], a: usize, b: usize, d: usize) -> bool
-    requires { ⌜ (a < 8) × (b < 8) × (d ≤ 7) ⌝ }
-    requires { ⌜ (length (getD (now counts) a []) ≡ 7) × (length (getD (now counts) b []) ≡ 7) ⌝ }
+    requires { ⌜ RowsReady (now counts) a b d ⌝ }
     ensures { λ r. ⌜
-        (r ≡ sameCounts (take d (getD (now (counts .entry)) a [])) (take d (getD (now (counts .entry)) b [])))
-        × (length (take d (getD (now (counts .entry)) a [])) ≡ d)
-        × (length (take d (getD (now (counts .entry)) b [])) ≡ d)
+        Compared (take d (getD (now (counts .entry)) a [])) (take d (getD (now (counts .entry)) b [])) d r
         ⌝ }
 {
     let mut g = 0;
@@ -81,8 +72,7 @@ fn same_counts(counts: &[[u16; 7]; 8], a: usize, b: usize, d: usize) -> bool
 
 // Whether the sequence of candidate a comes before that of b. Both have n grades.
 fn comes_before(counts: &[[u16; 7]; 8], a: usize, b: usize, d: usize, n: usize) -> bool
-    requires { ⌜ (a < 8) × (b < 8) × (d ≤ 7) × (0 < n) × (n ≤ 255) ⌝ }
-    requires { ⌜ (sum (take d (getD (now counts) a [])) ≡ n) × (sum (take d (getD (now counts) b [])) ≡ n) ⌝ }
+    requires { ⌜ SumsReady (now counts) a b d n ⌝ }
     ensures { λ r. ⌜
         r ≡ precedes (sequenceOf (take d (getD (now (counts .entry)) a [])))
         (sequenceOf (take d (getD (now (counts .entry)) b [])))

@@ -3,7 +3,7 @@ ghost use mathlib.Core.Path.{_≡_};
 ghost use Prim.Native.Nat.{ℕ, _<_};
 ghost use lib.ListN.{getD};
 ghost use Rattle.rule_schulze.specs.Votes as spec;
-ghost use Rattle.rule_schulze.specs.inner.Tables.{Holds, RankedSize};
+ghost use Rattle.rule_schulze.specs.inner.Tables.{Holds, RankedSize, VotesRowReady, VotesReady};
 
 // Row i has the numbers of ballots that put i before each other candidate. Rows and columns from k on stay 0.
 pub fn matrix(ballots: &[u8], k: usize, n: usize) -> [[u16; 8]; 8]
@@ -22,8 +22,7 @@ pub fn matrix(ballots: &[u8], k: usize, n: usize) -> [[u16; 8]; 8]
 
 // How many ballots put i before each candidate.
 fn row_of(ballots: &[u8], k: usize, n: usize, i: usize) -> [u16; 8]
-    requires { ⌜ RankedSize k n (now ballots) ⌝ }
-    requires { ⌜ i < k ⌝ }
+    requires { ⌜ VotesRowReady k n (now ballots) i ⌝ }
     ensures { λ r. ⌜ ((j : ℕ) → j < k → getD r j 0 ≡ spec.votes k n (now (ballots .entry)) i j) ⌝ }
 {
     let mut row = [0u16; 8];
@@ -38,8 +37,7 @@ fn row_of(ballots: &[u8], k: usize, n: usize, i: usize) -> [u16; 8]
 
 // How many ballots put i before j.
 fn count_of(ballots: &[u8], k: usize, n: usize, i: usize, j: usize) -> u16
-    requires { ⌜ RankedSize k n (now ballots) ⌝ }
-    requires { ⌜ (i < k) × (j < k) ⌝ }
+    requires { ⌜ VotesReady k n (now ballots) i j ⌝ }
     ensures { λ r. ⌜ r ≡ spec.votes k n (now (ballots .entry)) i j ⌝ }
 {
     let ballot = k * k;

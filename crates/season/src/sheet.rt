@@ -3,10 +3,10 @@ use crate::run;
 use crate::run::Run;
 use gates::place::Place;
 ghost use mathlib.Core.Path.{_≡_};
-ghost use Prim.Native.Nat.{_*_, _≤_};
+ghost use Prim.Native.Nat.{_*_};
 ghost use lib.ListN.{length};
-ghost use Rattle.season.specs.Season.{runBytes, mostRuns, firstRuns, firstBadRun, totalsOf, reasonOf, Sheet};
-ghost use Rattle.season.specs.inner.Sums.{Small, SumsOf, plusRun};
+ghost use Rattle.season.specs.Season.{runBytes, firstRuns, firstBadRun, totalsOf, reasonOf, Sheet};
+ghost use Rattle.season.specs.inner.Sums.{plusRun, PlusReady, SumsReady};
 
 // The most bytes of a sheet: 4,096 runs.
 pub const MOST_BYTES: usize = 49152;
@@ -58,8 +58,7 @@ impl Refusal {
 impl Totals {
     // The totals with one more run. There are few enough runs that no sum wraps.
     fn plus(self, run: Run) -> Totals
-        requires { ⌜ Small run ⌝ }
-        requires { ⌜ SumsOf 4096 self ⌝ }
+        requires { ⌜ PlusReady self run ⌝ }
         ensures { λ r. ⌜ r ≡ plusRun self run ⌝ }
     {
         let mut shared = self.shared;
@@ -96,8 +95,7 @@ fn first_bad(bytes: &[u8], runs: usize) -> Place
 
 // The sums over this many runs.
 fn sums(bytes: &[u8], runs: usize) -> Totals
-    requires { ⌜ length (now bytes) ≡ runs * runBytes ⌝ }
-    requires { ⌜ runs ≤ mostRuns ⌝ }
+    requires { ⌜ SumsReady (now bytes) runs ⌝ }
     ensures { λ r. ⌜ r ≡ totalsOf (firstRuns runs (now (bytes .entry))) ⌝ }
 {
     let mut totals = Totals {

@@ -4,10 +4,10 @@ use jury::shape::Shape;
 ghost use mathlib.Core.Path.{_≡_};
 ghost use lib.Dec.{T};
 ghost use lib.ListN.{length};
-ghost use Rattle.gates.specs.Board.{conditionalCount};
 ghost use Rattle.gate_words.specs.Writing.{Wrote};
 ghost use Rattle.jury.specs.Shape.{withinLimits, ballotBytes};
 ghost use Rattle.tally.specs.OwnList.{ownList};
+ghost use Rattle.tally.specs.inner.OwnSize.{OwnSize};
 
 // Writes the list at the front of the table, as far as it fits. The writer counts all gates and all conditional ones,
 // whatever the length of the table.
@@ -27,7 +27,7 @@ pub fn own_list(shape: Shape, table: &mut [u32]) -> Writer
 // G and C of the list: what the writer counts over an empty table.
 pub fn measure(shape: Shape) -> Writer
     requires { ⌜ T (withinLimits shape) ⌝ }
-    ensures { λ r. ⌜ (r .gate ≡ length (ownList shape)) × (r .conditional ≡ conditionalCount (ownList shape)) ⌝ }
+    ensures { λ r. ⌜ OwnSize shape r ⌝ }
 {
     own_list(shape, &mut [])
 }

@@ -18,7 +18,7 @@ use Rattle.gates.proofs.Reading.{first-bad-nil, first-bad-cons, good-by}
 use Rattle.text_lines.specs.Decimal.{taken}
 use Rattle.text_lines.specs.Line.{gateIn, gateOf}
 use Rattle.text.specs.Text.{inFront, linesOf, malformedAt, firstMalformed, gatesIn}
-use Rattle.text_lines.specs.inner.Found.{lineFound, LineWithin}
+use Rattle.text_lines.specs.inner.Found.{lineFound, LineWithin, LineRead}
 use Rattle.text_lines.specs.declared.line.Line.{Line}
 use Rattle.text_lines.specs.declared.line.Line.the-variants as line
 use Rattle.text.proofs.TextLaws.{gate-first, other-first, other-here, other-later, gates-cons, first-line}
@@ -27,14 +27,14 @@ use Rattle.text.proofs.TextLaws.{gate-first, other-first, other-here, o
 abbrev pub gate : ℕ → ℕ → ℕ → ℕ → Gate
 gate kind a b c = record { kind = kind; a = a; b = b; c = c }
 
-module _ (text : List ℕ) (at : ℕ) (r : Line) (e : lineFound text r ≡ gateIn (drop at text)) (w : LineWithin text r) where
+module _ (text : List ℕ) (at : ℕ) (r : Line) (read : LineRead text (gateIn (drop at text)) r) where
   module _ (kind a b c next : ℕ) (p : r ≡ line.Gate kind a b c next) where
     pub gate-here : gateIn (drop at text) ≡ taken (gate kind a b c) (drop next text)
     unfolding lineFound
-    gate-here = sym e ∙ ap (lineFound text) p
+    gate-here = sym (read .found) ∙ ap (lineFound text) p
 
     pub next-within : next ≤ length text
-    next-within = subst (LineWithin text) p w
+    next-within = subst (LineWithin text) p (read .within)
 
     pub next-later : at < next
     next-later =
@@ -71,7 +71,7 @@ module _ (text : List ℕ) (at : ℕ) (r : Line) (e : lineFound text r ≡ gateI
   unfolding lineFound
   here-other p h i =
       let q : drop at text ≡ getD text at 0 ∷ drop (suc at) text = drop-cons text at 0 h in
-      let n : gateIn (getD text at 0 ∷ drop (suc at) text) ≡ none = ap gateIn (sym q) ∙ sym (sym (ap (lineFound text) p) ∙ e) in
+      let n : gateIn (getD text at 0 ∷ drop (suc at) text) ≡ none = ap gateIn (sym q) ∙ sym (sym (ap (lineFound text) p) ∙ read .found) in
       ap (λ (l : List ℕ). firstMalformed i (linesOf l)) q ∙ other-here i (getD text at 0 ∷ drop (suc at) text) (other-first (getD text at 0) (drop (suc at) text) n)
 
 -- past the last character

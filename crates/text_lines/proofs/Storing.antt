@@ -13,6 +13,7 @@ use Rattle.gates.specs.Kind.{operandsOf}
 use Rattle.gates.specs.Gate.{Gate}
 use Rattle.text_lines.specs.Decimal.{decimalWithin, decimal}
 use Rattle.text_lines.specs.Line.{operandText, lineOf}
+use Rattle.text_lines.specs.inner.Stored.{Stored}
 use Rattle.text_lines.proofs.DecimalLaws.{decimal-one, decimal-more}
 
 -- a first run of stores and then a second
@@ -55,18 +56,14 @@ store-first l at i n d h e p =
     ap (λ (k : ℕ). set l k d) q ∙ ap (set l at) e ∙ ap (sets l at) (sym (decimal-one n h))
 
 -- Characters stored up to a place, whatever was there.
-pub record Stored (l : List ℕ) (at : ℕ) (xs r : List ℕ) (e : ℕ) : Type 0 where
-  pub is : r ≡ sets l at xs
-  pub next : e ≡ at + length xs
-
 pub stored-long : {l : List ℕ} {at : ℕ} {xs r : List ℕ} {e : ℕ} → Stored l at xs r e → length r ≡ length l
 stored-long {l} {at} {xs} s = ap length (s .is) ∙ length-sets l at xs
 
-pub stored-then : {l : List ℕ} {at : ℕ} {xs r : List ℕ} {e : ℕ} → Stored l at xs r e → (ys r′ : List ℕ) (e′ : ℕ) → r′ ≡ sets r e ys → e′ ≡ e + length ys → Stored l at (xs ++ ys) r′ e′
-stored-then {l} {at} {xs} {r} {e} s ys r′ e′ p q =
+pub stored-then : {l : List ℕ} {at : ℕ} {xs r : List ℕ} {e : ℕ} → Stored l at xs r e → {ys r′ : List ℕ} {e′ : ℕ} → Stored r e ys r′ e′ → Stored l at (xs ++ ys) r′ e′
+stored-then {l} {at} {xs} {r} {e} s {ys} {r′} {e′} more =
     record {
-      is = p ∙ ap (λ (t : List ℕ). sets t e ys) (s .is) ∙ ap (λ (k : ℕ). sets (sets l at xs) k ys) (s .next) ∙ sym (sets-append l at xs ys);
-      next = omega (arith, s .next, length-append xs ys);
+      is = more .is ∙ ap (λ (t : List ℕ). sets t e ys) (s .is) ∙ ap (λ (k : ℕ). sets (sets l at xs) k ys) (s .next) ∙ sym (sets-append l at xs ys);
+      next = omega (arith, s .next, more .next, length-append xs ys);
     }
 
 -- How long a line is.

@@ -7,9 +7,11 @@ use mathlib.Core.List.{List, [], _∷_, _++_}
 use Prim.Native.Nat.{ℕ}
 use native.Mathlib.Omega.{arith}
 use Rattle.jury.specs.Reason.{Reason, reasonAt, unless, firstOf}
-use Rattle.tally.specs.Answer.{refused, accepted, outcome}
+use Rattle.tally.specs.Answer.{Outcome, refused, accepted, outcome, Size}
 use Rattle.tally.proofs.TestReasons.{orElse, first-append}
 use Rattle.levels.specs.Levels.{afterwards}
+use Rattle.trustee_alone.specs.Own.{OwnResult}
+use Rattle.trustee_alone.specs.Finish.{FinishResult}
 
 -- one test
 pub pass : (b : Bool) (n : ℕ) (rest : List (Option Reason)) → b ≡ true → firstOf (unless b n ∷ rest) ≡ firstOf rest
@@ -68,3 +70,12 @@ left-old o new old r e = rw e
 pub left-new : (o : Option Reason) (new old : List ℕ) → o ≡ none → new ≡ afterwards o new old
 unfolding afterwards
 left-new o new old e = rw e
+
+-- the parts of what a call leaves
+pub same-own : {Values : Type 0} {a a′ : Outcome Values} {w w′ q q′ : List ℕ} → a ≡ a′ → w ≡ w′ → q ≡ q′
+    → _≡_ {A = OwnResult Values} (record { answer = a; wires = w; published = q }) (record { answer = a′; wires = w′; published = q′ })
+same-own e f g = rw (e, f, g) refl
+
+pub same-finish : {a a′ : Outcome Size} {w w′ : List ℕ} → a ≡ a′ → w ≡ w′
+    → _≡_ {A = FinishResult} (record { answer = a; wires = w }) (record { answer = a′; wires = w′ })
+same-finish e f = rw (e, f) refl

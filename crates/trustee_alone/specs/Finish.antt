@@ -23,3 +23,12 @@ finishOutcome s table wireParts = outcome (firstOf (finishReasons s table wirePa
 unfoldable pub finishedWires : Shape → List ℕ → List ℕ → List ℕ
 finishedWires s table wireParts =
     afterwards (firstOf (finishReasons s table wireParts)) (replicate (length wireParts) 0) wireParts
+
+-- What a call leaves: its answer and the wire parts.
+pub record FinishResult : Type 0 where
+  pub answer : Outcome Size
+  pub wires : List ℕ
+
+abbrev pub finishResult : Shape → List ℕ → List ℕ → FinishResult
+finishResult s table wireParts =
+    record { answer = finishOutcome s table wireParts; wires = finishedWires s table wireParts }

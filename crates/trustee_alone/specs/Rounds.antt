@@ -18,7 +18,7 @@ use Rattle.levels.specs.Answer.{Depths, depthsOf}
 use Rattle.levels.specs.Levels.{afterwards}
 use Rattle.trustee_gates.specs.Dealing.{onlyBits}
 use Rattle.trustee_rounds.specs.Rounds.{Turn, enters, publishes, closes}
-use Rattle.trustee_alone.specs.Own.{isTrustee, tablesFit}
+use Rattle.trustee_alone.specs.Own.{isTrustee, tablesFit, OwnResult}
 
 -- The tests in checking order: 16, 17 and 18 of what the trustee brings; 200 if the level table is not the list's
 -- own; 201 for a round above R; 202 if the sums are not two bits for each conditional gate.
@@ -73,3 +73,11 @@ unfoldable pub roundedPublished : Shape → List ℕ → ℕ → ℕ → ℕ →
 roundedPublished s table t p round levels dealt heard wireParts published =
     afterwards (firstOf (roundReasons s table t p round levels dealt heard wireParts published))
     (publishedMade s table p round levels dealt heard wireParts published) published
+
+abbrev pub roundResult : Shape → List ℕ → ℕ → ℕ → ℕ → List ℕ → List ℕ → List ℕ → List ℕ → List ℕ → OwnResult Depths
+roundResult s table t p round levels dealt heard wireParts published =
+    record {
+      answer = roundOutcome s table t p round levels dealt heard wireParts published;
+      wires = roundedWires s table t p round levels dealt heard wireParts published;
+      published = roundedPublished s table t p round levels dealt heard wireParts published;
+    }

@@ -15,7 +15,7 @@ use Rattle.tally.specs.Test.{testReasons}
 use Rattle.levels.specs.Levels.{afterwards}
 use Rattle.trustee_gates.specs.Dealing.{onlyBits}
 use Rattle.trustee_rounds.specs.Rounds.{startWires, startPublished}
-use Rattle.trustee_alone.specs.Own.{isTrustee, tablesFit}
+use Rattle.trustee_alone.specs.Own.{isTrustee, tablesFit, OwnResult}
 
 -- The tests of what one trustee brings, in checking order: 16, 17, 18. Whether parts add up, only all trustees
 -- together could tell.
@@ -47,3 +47,11 @@ unfoldable pub startedPublished : Shape → List ℕ → ℕ → ℕ → List �
 startedPublished s table t p parts dealt wireParts published =
     afterwards (firstOf (startReasons s table t p parts dealt wireParts published))
     (startPublished (conditionalCount (gatesOf table)) (s .candidates)) published
+
+abbrev pub startResult : Shape → List ℕ → ℕ → ℕ → List ℕ → List ℕ → List ℕ → List ℕ → OwnResult Size
+startResult s table t p parts dealt wireParts published =
+    record {
+      answer = startOutcome s table t p parts dealt wireParts published;
+      wires = startedWires s table t p parts dealt wireParts published;
+      published = startedPublished s table t p parts dealt wireParts published;
+    }

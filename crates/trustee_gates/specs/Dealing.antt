@@ -1,7 +1,8 @@
 -- The tests of a dealing: reason 18 (request 2.7).
+use mathlib.Core.Path.{_≡_}
 use mathlib.Core.Bool.{Bool, _&&_}
 use mathlib.Core.List.{List}
-use Prim.Native.Nat.{ℕ, _*_}
+use Prim.Native.Nat.{ℕ, _*_, _<_}
 use lib.Dec.{eqb, leb}
 use lib.ListN.{length, getD}
 use Rattle.trustee_shares.specs.Shares.{opened, part, uOf, vOf, productOf, Held}
@@ -30,3 +31,8 @@ unfoldable pub dealtWell : ℕ → ℕ → List ℕ → Dealing → Bool
 dealtWell t conditional ballots d =
     onlyBits (d .ballotParts) && onlyBits (d .dealerParts) && addsUp t ballots (d .ballotParts)
     && productsAddUp t conditional (d .dealerParts)
+
+-- What testing the products of so many triples asks.
+pub record ProductsReady (t conditional : ℕ) (dealt : List ℕ) : Type 0 where
+  pub few : conditional < 1073741824
+  pub long : length dealt ≡ t * (3 * conditional)

@@ -5,10 +5,10 @@ use gates::kind;
 use trustee_gates::evaluate;
 ghost use mathlib.Core.Path.{_≡_};
 ghost use mathlib.Core.List.{List};
-ghost use Prim.Native.Nat.{ℕ, _*_};
+ghost use Prim.Native.Nat.{ℕ};
 ghost use Rattle.gates.specs.Gate.{gatesOf};
-ghost use Rattle.trustee_rounds.specs.Rounds.{enters, publishes, closes};
-ghost use Rattle.trustee_rounds.specs.inner.Passes.{turnBy, EnterPass, PublishPass, RoundReady};
+ghost use Rattle.trustee_rounds.specs.Rounds.{enters, publishes};
+ghost use Rattle.trustee_rounds.specs.inner.Passes.{turnBy, EnterPass, PublishPass, RoundReady, Turned};
 
 // Which trustee computes, in which round, for a list of how many inputs.
 pub struct Seat {
@@ -108,19 +108,8 @@ pub fn round(
         RoundReady seat conditional k (now table) (now levels) (now dealt) (now heard) (now wires) (now published)
         ⌝ }
     ensures { λ _. ⌜
-        now (wires .exit)
-        ≡ enters (turnBy seat (now (levels .entry)) (now (dealt .entry)) (now (heard .entry)))
-        (gatesOf (now (table .entry))) 0 0 (now (wires .entry))
-        ⌝ }
-    ensures { λ _. ⌜
-        now (published .exit)
-        ≡ closes (seat .round) rounds conditional k
-        (enters (turnBy seat (now (levels .entry)) (now (dealt .entry)) (now (heard .entry)))
-        (gatesOf (now (table .entry))) 0 0 (now (wires .entry)))
-        (publishes (turnBy seat (now (levels .entry)) (now (dealt .entry)) (now (heard .entry)))
-        (enters (turnBy seat (now (levels .entry)) (now (dealt .entry)) (now (heard .entry)))
-        (gatesOf (now (table .entry))) 0 0 (now (wires .entry))) (gatesOf (now (table .entry))) 0 0
-        (now (published .entry)))
+        Turned seat rounds conditional k (now (table .entry)) (now (levels .entry)) (now (dealt .entry))
+        (now (heard .entry)) (now (wires .entry)) (now (published .entry)) (now (wires .exit)) (now (published .exit))
         ⌝ }
 {
     enter(seat, table, levels, dealt, heard, wires);

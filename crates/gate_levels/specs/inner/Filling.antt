@@ -1,4 +1,4 @@
--- What inner functions ask; no entry point's contract needs it.
+-- What inner functions ask and leave; no entry point's contract needs it.
 use mathlib.Core.Path.{_≡_}
 use mathlib.Core.List.{List}
 use Prim.Native.Nat.{ℕ, _+_, _*_, _≤_, _<_}
@@ -7,6 +7,7 @@ use Rattle.gates.specs.Gate.{gatesOf}
 use Rattle.gates.specs.inner.Step.{gateAt}
 use Rattle.gates.specs.Test.{firstBad}
 use Rattle.gates.specs.declared.place.Place.the-variants.{Nowhere}
+use Rattle.gate_levels.specs.Levels.{levelsOf, roundsOf}
 
 -- For gate g: its numbers are in the table, its operands name inputs or earlier gates, and every level before it
 -- leaves room for one more.
@@ -25,3 +26,8 @@ pub record LevelsReady (inputs : ℕ) (table levels : List ℕ) : Type 0 where
   pub few : length (gatesOf table) ≤ 1048576
   pub good : firstBad inputs 0 (gatesOf table) ≡ Nowhere
   pub levels-length : length levels ≡ length (gatesOf table)
+
+-- What writing leaves: the level of each gate, and the answer is the largest.
+pub record Filled (inputs : ℕ) (table : List ℕ) (r : ℕ) (ls : List ℕ) : Type 0 where
+  pub rounds : r ≡ roundsOf inputs (gatesOf table)
+  pub levels : ls ≡ levelsOf inputs (gatesOf table)

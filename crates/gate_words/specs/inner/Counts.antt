@@ -1,8 +1,10 @@
--- What the counters and the accumulators ask for.
+-- What the counters ask for.
+use mathlib.Core.Path.{_≡_}
 use Prim.Native.Nat.{ℕ, _+_, _≤_, _<_}
+use Rattle.gates.specs.Kind.{operandsOf}
 use Rattle.gate_words.specs.Limits.{writerLimit}
 use Rattle.gate_words.specs.Word.{Below}
-use Rattle.gate_words.specs.Counter.{countSize, addSize, Countable}
+use Rattle.gate_words.specs.Counter.{countSize, Countable}
 use Rattle.gate_words.specs.Writing.{Room}
 use Rattle.gate_words.specs.declared.writer.Writer.{Writer}
 
@@ -19,29 +21,17 @@ pub record CountReady (w : Writer) (gates first stride count extra levels : ℕ)
   pub few : count < writerLimit
   pub countable : Countable count extra levels
 
--- An accumulator: the word to which it adds is there too.
-pub record AddReady (w : Writer) (gates word first stride count levels : ℕ) : Type 0 where
-  pub room : Room w gates
-  pub below : Below (w .wire) first stride count
-  pub near : stride < writerLimit
-  pub few : count < writerLimit
-  pub wordBelow : word + levels < w .wire
-
--- A counter's digits: its levels are there already, from wire base on.
-pub record CountDigitsReady (w : Writer) (base count extra levels : ℕ) : Type 0 where
+-- A counter's digits, by kinds with one operand: its levels are there already, from wire base on.
+pub record CountDigitsReady (w : Writer) (low top base count extra levels : ℕ) : Type 0 where
   pub room : Room w (levels + 1)
+  pub lowOne : operandsOf low ≡ 1
+  pub topOne : operandsOf top ≡ 1
   pub levelsBelow : base + countSize count extra levels ≤ w .wire
   pub few : count < writerLimit
   pub countable : Countable count extra levels
 
--- An accumulator's digits.
-pub record AddDigitsReady (w : Writer) (base word count levels : ℕ) : Type 0 where
-  pub room : Room w (levels + 1)
-  pub levelsBelow : base + addSize count levels ≤ w .wire
+-- The size of a counter's levels: it can be counted.
+pub record CountSizeReady (count extra levels : ℕ) : Type 0 where
   pub few : count < writerLimit
-  pub wordBelow : word + levels < w .wire
-
--- The size of an accumulator's levels: it can be counted.
-pub record AddSizeReady (count levels : ℕ) : Type 0 where
-  pub few : count < writerLimit
-  pub small : addSize count levels < writerLimit
+  pub small : countSize count extra levels < writerLimit
+  pub countable : Countable count extra levels

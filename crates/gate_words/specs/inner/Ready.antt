@@ -24,11 +24,13 @@ pub record WiresReady (w : Writer) (gates first stride count : ℕ) : Type 0 whe
   pub below : Below (w .wire) first stride count
   pub near : stride < writerLimit
 
--- Of the word at x, by a kind with one operand.
-pub record EachReady (w : Writer) (kind x digits : ℕ) : Type 0 where
-  pub room : Room w digits
-  pub one : operandsOf kind ≡ 1
-  pub below : x + digits ≤ w .wire
+-- Of two rows of so many wires.
+pub record RowsReady (w : Writer) (x dx y dy count : ℕ) : Type 0 where
+  pub room : Room w count
+  pub firstBelow : Below (w .wire) x dx count
+  pub firstNear : dx < writerLimit
+  pub secondBelow : Below (w .wire) y dy count
+  pub secondNear : dy < writerLimit
 
 -- Of so many wires a stride apart, by a kind with two operands.
 pub record ChainReady (w : Writer) (kind first stride count : ℕ) : Type 0 where

@@ -1,13 +1,15 @@
 -- The evaluating step: it does a range of a list's gates, after the wires and shown bits of earlier gates.
 use mathlib.Core.Path.{_≡_}
+use mathlib.Core.Bool.{cond}
 use mathlib.Core.List.{List, [], _∷_, _++_}
 use Prim.Native.Nat.{ℕ, _+_, _-_, _*_, _≤_, _<_}
 use lib.Dec.{T}
-use lib.ListN.{length, getD, take, drop}
+use lib.ListN.{length, getD, take, drop, set}
 use lib.Seq.{sets}
+use Rattle.gates.specs.Open.Kind.{conditionalOf}
 use Rattle.gates.specs.Open.Gate.{Gate, gatesOf}
-use Rattle.gates.specs.Open.Wires.{wiresOf}
-use Rattle.gates.specs.Open.Board.{conditionalCount, shownBits}
+use Rattle.gates.specs.Open.Wires.{wiresOf, value}
+use Rattle.gates.specs.Open.Board.{conditionalCount, shownBit, shownBits, boardOf}
 use Rattle.gates.specs.Open.Test.{goodGate, firstBad}
 use Rattle.gates.specs.declared.place.Place.the-variants.{Nowhere}
 
@@ -66,3 +68,28 @@ pub record GateReady (table : List ℕ) (g own : ℕ) (tape : List ℕ) (shown :
   pub inWires : own < length ws
   pub inTape : shown + conditionalCount (gateAt table g ∷ []) ≤ length tape
   pub inBoard : shown + conditionalCount (gateAt table g ∷ []) ≤ length board
+
+-- What evaluating it leaves: its wire, and its shown bit where it shows one.
+pub record GateRan (table : List ℕ) (g own : ℕ) (tape : List ℕ) (shown : ℕ) (ws bs : List ℕ) (r : ℕ)
+    (ws′ bs′ : List ℕ) : Type 0 where
+  pub next : r ≡ shown + conditionalCount (gateAt table g ∷ [])
+  pub wires : ws′ ≡ set ws own (value ws (gateAt table g))
+  pub board : bs′ ≡ cond (conditionalOf (gateAt table g .kind))
+      (set bs shown (shownBit ws (gateAt table g) (getD tape shown 0))) bs
+
+-- What the step leaves, and how many bits are shown then.
+pub record Stepped (inputs : ℕ) (table : List ℕ) (from to : ℕ) (tape : List ℕ) (shown : ℕ) (ws bs : List ℕ) (r : ℕ)
+    (ws′ bs′ : List ℕ) : Type 0 where
+  pub next : r ≡ shown + conditionalCount (rangeOf table from to)
+  pub wires : ws′ ≡ stepWires inputs table from to ws
+  pub board : bs′ ≡ stepBoard inputs table from to tape shown ws bs
+
+-- What closing asks: the outputs are wires, and behind the shown bits the board has room for them and no more.
+pub record CloseReady (k shown : ℕ) (ws board : List ℕ) : Type 0 where
+  pub enough : k ≤ length ws
+  pub boardLength : length board ≡ shown + k
+
+-- What the evaluation of a whole list on the inputs xs leaves.
+pub record Evaluated (xs table : List ℕ) (k : ℕ) (tape ws′ bs′ : List ℕ) : Type 0 where
+  pub wires : ws′ ≡ wiresOf xs (gatesOf table)
+  pub board : bs′ ≡ boardOf (wiresOf xs (gatesOf table)) (gatesOf table) k tape

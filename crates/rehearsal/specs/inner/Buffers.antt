@@ -3,7 +3,7 @@ use mathlib.Core.Path.{_≡_}
 use mathlib.Core.List.{List}
 use Prim.Native.Nat.{ℕ, _≤_}
 use lib.Dec.{T}
-use lib.ListN.{length}
+use lib.ListN.{length, replicate}
 use Rattle.gates.specs.Gate.{numbersOf}
 use Rattle.gates.specs.Board.{conditionalCount, Bits}
 use Rattle.jury.specs.declared.shape.Shape.{Shape}
@@ -36,3 +36,13 @@ pub record Cut (s : Shape) (list : List ℕ) (gates conditional : ℕ) (tape wir
   pub tapeBits : Bits tape
   pub wiresLength : 20320 ≤ length wires
   pub boardLength : 4008 ≤ length board
+
+-- A buffer of zeros as it is made; the tape is one of bits.
+pub record Zeros (n : ℕ) (buffer : List ℕ) : Type 0 where
+  pub long : n ≡ length buffer
+  pub zeros : buffer ≡ replicate n 0
+
+pub record ZeroTape (n : ℕ) (tape : List ℕ) : Type 0 where
+  pub long : n ≡ length tape
+  pub zeros : tape ≡ replicate n 0
+  pub bits : Bits tape

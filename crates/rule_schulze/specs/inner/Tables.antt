@@ -29,3 +29,13 @@ pub record RankedSize (k n : ℕ) (xs : List ℕ) : Type 0 where
   pub most-candidates : k ≤ 8
   pub most-ballots : n ≤ 255
   pub size : length xs ≡ n * k * k
+
+-- Row i of the numbers of ballots, and its entry j, can be counted.
+pub record VotesRowReady (k n : ℕ) (xs : List ℕ) (i : ℕ) : Type 0 where
+  pub sized : RankedSize k n xs
+  pub row : i < k
+
+pub record VotesReady (k n : ℕ) (xs : List ℕ) (i j : ℕ) : Type 0 where
+  pub sized : RankedSize k n xs
+  pub row : i < k
+  pub column : j < k

@@ -52,7 +52,10 @@ test-grades-requires c κs =
     let start = passed .before .before .before in
     let s = start .args .shape in
     let graded = ranking (c .before) ∙ c .if2 .left in
-    (true-T (gradedLimits s) (limits.graded-kind s (T-true (withinLimits s) (start .pre)) graded), size-known passed ∙ limits.grades-columns s graded)
+    record {
+      within = true-T (gradedLimits s) (limits.graded-kind s (T-true (withinLimits s) (start .pre)) graded);
+      size = size-known passed ∙ limits.grades-columns s graded;
+    }
 
 returns-2 : tie.Need-returns-2
 returns-2 c =

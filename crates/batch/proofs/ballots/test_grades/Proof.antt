@@ -17,7 +17,7 @@ use Rattle.batch.proofs.ballots.test_grades.Tie as tie
 mul-bad-rows : tie.Need-mul-bad-rows
 mul-bad-rows c =
     let start = c .before .before in
-    omega (arith, rows-bound (start .args .shape) (within-T (start .args .shape) (start .pre .0)))
+    omega (arith, rows-bound (start .args .shape) (within-T (start .args .shape) (start .pre .within)))
 
 bad-rows-requires : tie.Need-bad-rows-requires
 bad-rows-requires c κs = search needs

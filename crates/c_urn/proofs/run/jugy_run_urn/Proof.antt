@@ -47,7 +47,7 @@ returns-2 c =
     let long = made .before in
     let a = long .before .before .before .before .before .before .before .args in
     let s = shapeOf (a .candidates) (a .grades) (a .ballots) in
-    let outside = outside-is (withinLimits s) s (sym (made .new .ensures .0) ∙ told .enum-told .given .1) in
+    let outside = outside-is (withinLimits s) s (sym (made .new .ensures .result) ∙ told .enum-told .given .1) in
     let r = urnRunResult s (a .table .now) (a .urn .now) (a .tape .now) (a .wires .now) (a .board .now) in
     let left = outside-urn-run s outside (a .table .now) (a .urn .now) (a .tape .now) (a .wires .now) (a .board .now) in
     put-call 4 (a .answer .now) (long .if1 .left) (sizeNumbers (r .answer)) _ _ _ (c .before .before .put-size .ensures)
@@ -78,7 +78,7 @@ returns-3 c =
     let long = made .before in
     let a = long .before .before .before .before .before .before .before .args in
     let s = shapeOf (a .candidates) (a .grades) (a .ballots) in
-    let same = shape-is (withinLimits s) s (known .shape .given .0 .0) (sym (made .new .ensures .0) ∙ known .shape .given .1) in
+    let same = shape-is (withinLimits s) s (known .shape .given .0 .0) (sym (made .new .ensures .result) ∙ known .shape .given .1) in
     let r = urnRunResult s (a .table .now) (a .urn .now) (a .tape .now) (a .wires .now) (a .board .now) in
     let left = outcome .run-on-urn .ensures ∙ ap (λ (z : Shape). urnRunResult z (a .table .now) (a .urn .now) (a .tape .now) (a .wires .now) (a .board .now)) same in
     put-call 4 (a .answer .now) (long .if1 .left) (sizeNumbers (r .answer)) _ _ _ (c .before .before .put-size2 .ensures)

@@ -2,6 +2,7 @@
 -- Assumes nothing.
 use native.Mathlib.Omega.{arith}
 use borrow.Author.Needs.{needs}
+use Rattle.gates.proofs.Laws.{operand-counts}
 use Rattle.gate_words.specs.Counter.{counter}
 use Rattle.gate_words.proofs.Writing.{wrote-both, room-after}
 use Rattle.gate_words.proofs.CounterSteps.{length-count}
@@ -19,6 +20,8 @@ count-digits-requires c κs =
     let n = length-count (a .start .wire) (a .first) (a .stride) (a .count) (a .extra) (a .levels) in
     record {
       room = room-after (a .start) (a .table .now) _ (w .last .1 .0) (w .result) _ _ (w .ensures) (omega (arith, n)) (s .pre .room);
+      lowOne = operand-counts .2;
+      topOne = operand-counts .2;
       levelsBelow = omega (arith, n, w .ensures .wires);
       few = s .pre .few;
       countable = s .pre .countable;

@@ -66,10 +66,10 @@ returns c =
     (has-no-value (a .kind) 0 0 0 (sym (at .apply .ensures) ∙ c .enum-told2 .given .1)) refl refl refl refl
 
 operands-requires : tie.Need-operands-requires
-operands-requires c κs = c .before .before .before .pre .1
+operands-requires c κs = c .before .before .before .pre .counted
 
 own-wire-requires : tie.Need-own-wire-requires
-own-wire-requires c κs = c .before .before .before .before .pre .0
+own-wire-requires c κs = c .before .before .before .before .pre .few
 
 are-zero-requires : tie.Need-are-zero-requires
 are-zero-requires c κs = search needs

@@ -78,7 +78,7 @@ shared-slice-read-gate-is-good-3 : tie.Need-shared-slice-read-gate-is-good-3 Inv
 shared-slice-read-gate-is-good-3 c = omega arith
 
 gate-is-good-requires : tie.Need-gate-is-good-requires Inv-loop μ-loop
-gate-is-good-requires c κs = (omega arith, refl)
+gate-is-good-requires c κs = record { few = omega arith; counted = refl }
 
 returns : tie.Need-returns Inv-loop μ-loop
 unfolding gateAt

@@ -52,7 +52,7 @@ ones-in-requires : tie.Need-ones-in-requires Inv-loop μ-loop
 ones-in-requires c κs =
     let at = c .before .before in
     let start = at .before .before in
-    λ i l. part-bits (start .args .bytes .now) (at .loop .at) (at .loop .at + start .args .d - at .loop .at) i (start .pre .1) l
+    λ i l. part-bits (start .args .bytes .now) (at .loop .at) (at .loop .at + start .args .d - at .loop .at) i (start .pre .bits) l
 
 -- what the call counts
 counted : (c : tie.After-ones-in Inv-loop μ-loop) →

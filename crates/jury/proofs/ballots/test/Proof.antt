@@ -82,7 +82,10 @@ test-grades-requires c κs =
     let start = passed .before .before .before in
     let s = start .args .shape in
     let graded = ranking (c .before) ∙ c .if2 .left in
-    ((true-T (gradedLimits s) (graded-kind s (T-true (withinLimits s) (start .pre)) graded), size-known passed ∙ grades-columns s graded), all-bits 0 (start .args .ballots .now) (no-byte told))
+    record {
+      sized = record { within = true-T (gradedLimits s) (graded-kind s (T-true (withinLimits s) (start .pre)) graded); size = size-known passed ∙ grades-columns s graded };
+      bits = all-bits 0 (start .args .ballots .now) (no-byte told);
+    }
 
 returns-3 : tie.Need-returns-3
 returns-3 c =

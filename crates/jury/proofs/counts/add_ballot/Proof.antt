@@ -34,7 +34,7 @@ loop-holds c =
       omega arith,
       omega (arith, zero-mul (start .args .d)),
       sym (fill-start 8 (new (start .args .d) (start .args .counts .now) (start .args .ballot .now)) (old (start .args .counts .now))
-          ∙ tabulate-getD (start .args .counts .now) 8 [] (start .pre .1 .rows)),
+          ∙ tabulate-getD (start .args .counts .now) 8 [] (start .pre .array .rows)),
     )
 
 -- a turn's row lies within the ballot
@@ -76,13 +76,12 @@ add-row-requires : tie.Need-add-row-requires Inv-loop μ-loop
 add-row-requires c κs =
     let turn = c .before .before in
     let start = turn .before .before .before in
-    let columns = start .pre .1 .columns (turn .before .loop .c) (omega arith) in (
-      (
-        rw (found turn) columns,
-        omega (arith, length-take (turn .before .loop .at + start .args .d - turn .before .loop .at) (drop (turn .before .loop .at) (start .args .ballot .now))),
-      ),
-      λ g. rw (found turn) (start .pre .1 .small (turn .before .loop .c) g),
-    )
+    let columns = start .pre .array .columns (turn .before .loop .c) (omega arith) in
+    record {
+      seven = rw (found turn) columns;
+      short = omega (arith, length-take (turn .before .loop .at + start .args .d - turn .before .loop .at) (drop (turn .before .loop .at) (start .args .ballot .now)));
+      small = λ g. rw (found turn) (start .pre .array .small (turn .before .loop .c) g);
+    }
 
 add-c : tie.Need-add-c Inv-loop μ-loop
 add-c c = omega arith

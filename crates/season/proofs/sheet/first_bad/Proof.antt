@@ -45,7 +45,7 @@ read-requires c κs = part-long (c .before .before .loop .at) (c .before .before
 -- what the test says about the run
 tested : (c : tie.After-is-good Inv-loop μ-loop) → c .is-good .result
     ≡ goodRun (runOf (take (c .before .before .before .before .loop .at + runBytes - c .before .before .before .before .loop .at) (drop (c .before .before .before .before .loop .at) (c .before .before .before .before .before .before .args .bytes .now))))
-tested c = c .is-good .ensures ∙ ap goodRun (c .before .read .ensures .0)
+tested c = c .is-good .ensures ∙ ap goodRun (c .before .read .ensures .is)
 
 is-good-requires : tie.Need-is-good-requires Inv-loop μ-loop
 is-good-requires c κs = search needs

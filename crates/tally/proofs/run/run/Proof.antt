@@ -64,7 +64,7 @@ returns c =
     let e = ran-by (a .shape) (a .table .now) (a .ballots .now) (a .tape .now) (a .wires .now) (a .board .now) none (no-reason told) in
     let kept = done .run .kept .1 .1 .1 .1 .0 in
     same-result (told .before .before .test-run .ensures ∙ ap (λ (o : Option Reason). outcome o (sizeOf (gatesOf (a .table .now)))) (no-reason told))
-    (emptied .empty .ensures ∙ ap (λ (n : ℕ). replicate n 0) kept) (done .run .ensures .1)
+    (emptied .empty .ensures ∙ ap (λ (n : ℕ). replicate n 0) kept) (done .run .ensures .board)
     ∙ sym e
 
 same-length-3 : tie.Need-same-length-3

@@ -59,7 +59,10 @@ publish-gate-requires c κs =
     let h = c .before .before .before .before .before .loop-test .taken in
     let inside : l .g < length (gatesOf (a .table .now)) = omega (arith, r .levels-length) in
     let inv = l .inv 0 [] in
-    (refl, publish-ready (a .inputs) (a .table .now) (l .g) (l .i) (inv .ahead) (r .some-input) inside (n .result) (n .ensures) (a .dealt .now) (a .wires .now) (l .published) (r .wires-length) (r .dealt-length) (omega (arith, inv .long, s .pre .published-length)))
+    record {
+      marked = refl;
+      gate = publish-ready (a .inputs) (a .table .now) (l .g) (l .i) (inv .ahead) (r .some-input) inside (n .result) (n .ensures) (a .dealt .now) (a .wires .now) (l .published) (r .wires-length) (r .dealt-length) (omega (arith, inv .long, s .pre .published-length));
+    }
 
 mark-requires : tie.Need-mark-requires Inv-loop μ-loop
 mark-requires c κs = refl

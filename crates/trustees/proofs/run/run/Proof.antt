@@ -140,11 +140,11 @@ returns-2 c =
     (sym (ap outcomeOf (told .before .answer .given .1)) ∙ told .before .before .before .test .ensures
     ∙ ap (λ (o : Option Reason). outcome o (sizeOf (gatesOf (of .table)))) (no-reason told)
     ∙ sym (ap (λ (q : TrusteesResult). q .answer) e))
-    (opened .open-closing .ensures ∙ opened-closing of (size told) (ready told) _ (done .evaluate .ensures .1)
+    (opened .open-closing .ensures ∙ opened-closing of (size told) (ready told) _ (done .evaluate .ensures .shown)
     ∙ sym (ap (λ (q : TrusteesResult). q .closing) e))
     (emptied .empty .ensures ∙ ap (λ (n : ℕ). replicate n 0) (done .evaluate .kept .1 .1 .1 .1 .1 .1 .1 .0)
     ∙ sym (ap (λ (q : TrusteesResult). q .wireParts) e))
-    (done .evaluate .ensures .1 ∙ sym (ap (λ (q : TrusteesResult). q .published) e))
+    (done .evaluate .ensures .shown ∙ sym (ap (λ (q : TrusteesResult). q .published) e))
 
 pub run-spec : {M : Type 1} → statement M
 run-spec =

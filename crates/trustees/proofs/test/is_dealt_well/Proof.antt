@@ -44,7 +44,7 @@ products-add-up-requires : tie.Need-products-add-up-requires
 products-add-up-requires c κs =
     let lending = c .before .before .before .before in
     let s = lending .before .before .before .before .before in
-    (omega (arith, s .pre .conditional-most), s .pre .dealer-length)
+    record { few = omega (arith, s .pre .conditional-most); long = s .pre .dealer-length }
 
 returns-4 : tie.Need-returns-4
 unfolding dealtWell

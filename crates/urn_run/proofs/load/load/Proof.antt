@@ -6,6 +6,7 @@ use native.Mathlib.Omega.{arith}
 use lib.ListN.{length, getD}
 use lib.Seq.{sets}
 use borrow.Author.Needs.{needs}
+use Rattle.basics.proofs.Tables.{copied}
 use Rattle.urn_chains.specs.Slots.{slotsOf}
 use Rattle.urn_chains.specs.Chains.{chain}
 use Rattle.urn_chains.specs.Sound.{slotCount}
@@ -142,7 +143,7 @@ loop-again c =
     let s = from-turn turn in
     let a = s .args in
     let l = turn .before .loop in
-    turn-on (a .k) (a .d) (a .urn .now) (s .pre .graded) (s .pre .isSound) _ _ (l .wires) (l .count) (l .slot) (l .inv) (goes-on turn) (c .before .before .before .before .copy .last .1 .0) (c .wide2 .result) (c .before .before .before .before .copy .ensures .1) (c .wide2 .ensures)
+    turn-on (a .k) (a .d) (a .urn .now) (s .pre .graded) (s .pre .isSound) _ _ (l .wires) (l .count) (l .slot) (l .inv) (goes-on turn) (c .before .before .before .before .copy .last .1 .0) (c .wide2 .result) (copied (c .before .before .before .before .copy .ensures)) (c .wide2 .ensures)
 
 same-length : tie.Need-same-length Inv-loop μ-loop
 same-length c = c .before .loop .inv .kept

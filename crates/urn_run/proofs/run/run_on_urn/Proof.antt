@@ -112,7 +112,7 @@ returns c =
     whole
     (told .before .before .test-run .ensures ∙ ap (λ (o : Option Reason). outcome o (sizeOf gs)) (no-reason told) ∙ sym (ap (λ (r : RunResult). r .answer) e))
     (c .before .before .empty .ensures ∙ ap (λ (n : ℕ). replicate n 0) same ∙ sym (ap (λ (r : RunResult). r .wires) e))
-    (done .ensures .1 ∙ ap (λ (xs : List ℕ). boardOf (wiresOf xs gs) gs (a .shape .candidates) (a .tape .now)) front ∙ sym (ap (λ (r : RunResult). r .board) e))
+    (done .ensures .board ∙ ap (λ (xs : List ℕ). boardOf (wiresOf xs gs) gs (a .shape .candidates) (a .tape .now)) front ∙ sym (ap (λ (r : RunResult). r .board) e))
 
 same-length-3 : tie.Need-same-length-3
 same-length-3 c = search needs
