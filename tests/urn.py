@@ -232,7 +232,7 @@ def told(rounds):
                 first = call("jugy_preview_" + name, k, d, one, juror, given)[0]
                 assert first == call("jugy_preview_" + name, k, d, other, juror, given)[0], (one, other, juror, given)
     assert same > rounds // 20
-    print(f"tests/urn: previews agree on {same} pairs of urns that have the same told of them")
+    print(f"tests/urn: previews agree on {same} pairs of urns with the same facts")
 
 
 def edges():

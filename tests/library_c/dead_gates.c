@@ -33,7 +33,7 @@ int main(int argc, char **argv) {
     int ranked = argc == 2 && strcmp(argv[1], "ranked") == 0, graded = argc == 2 && strcmp(argv[1], "graded") == 0;
     size_t lists = 0;
     if (!ranked && !graded) {
-        printf("dead_gates: ranked, or graded\n");
+        printf("usage: dead_gates ranked|graded\n");
         return 2;
     }
     for (size_t k = 1; k <= 8; k++)
@@ -51,11 +51,11 @@ int main(int argc, char **argv) {
                 }
                 found = dead(inputs, gates, k);
                 if (found != 0) {
-                    printf("dead_gates: %zu of the %zu gates of %zu %zu %zu tell no closing byte\n", found, gates, k, d, n);
+                    printf("dead_gates: %zu %zu %zu has %zu gates, %zu of them without effect\n", k, d, n, gates, found);
                     return 1;
                 }
                 lists++;
             }
-    printf("dead_gates: %zu %s lists, each of whose gates tells a closing byte\n", lists, argv[1]);
+    printf("dead_gates: %zu %s lists, no gate without effect on a closing byte\n", lists, argv[1]);
     return 0;
 }

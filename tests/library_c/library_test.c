@@ -473,7 +473,7 @@ int main(int argc, char **argv) {
             draw(2);
         random_juries(strtoull(argv[2], NULL, 10));
     } else {
-        printf("library_test: edges, shapes, or random N SEED\n");
+        printf("usage: library_test edges | shapes | random N SEED\n");
         return 2;
     }
     if (strcmp(argv[1], "shapes") == 0)

@@ -84,7 +84,7 @@ module _ (i : ℕ) (t : List ℕ) (gates k : ℕ) (tape ws board : List ℕ) (e 
           ∙ ap (λ (b : List ℕ). b ++ outputsOf k ws₂) (take-at bits (drop (0 + length bits) board) shown c)
           ∙ ap (λ (b : List ℕ). bits ++ outputsOf k b) final-wires
 
--- inputs that were copied stand at the front of the wire table
+-- inputs that were copied are at the front of the wire table
 pub copied-front : (inputs ws last : List ℕ) → last ≡ take (length inputs) inputs ++ drop (length inputs) ws → take (length inputs) last ≡ inputs
 copied-front inputs ws last e =
     let p : length (take (length inputs) inputs) ≡ length inputs = ap length (take-length inputs) in

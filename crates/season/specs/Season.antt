@@ -114,7 +114,7 @@ unfoldable pub totalsAfter : Option Reason → Totals → Option Totals
 totalsAfter none totals = some totals
 totalsAfter (some r) totals = none
 
--- What the entry point promises of its answer.
+-- What the entry point promises about its answer.
 pub record Sheet (bytes : List ℕ) (r : Answer) : Type 0 where
   pub reason : reasonFor r ≡ firstOf (sheetReasons bytes)
   pub totals : totalsFor r ≡ totalsAfter (firstOf (sheetReasons bytes)) (totalsOf (runsIn bytes))

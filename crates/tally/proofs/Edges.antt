@@ -102,7 +102,7 @@ most-gates s n w enough few =
     let t = good-list-accepted (ballotBytes s) (s .candidates) (zeros n) (zeros-good (ballotBytes s) n) (omega arith) (omega arith) in
     list-accepted s (numbersOf (zeros n)) w n 0 (rw (zeros-length n, zeros-free n) at t)
 
--- 1,048,577 are, whatever they are.
+-- A table of more than 4,194,304 numbers is refused, whatever they are.
 pub one-gate-more : (s : Shape) (table : List ℕ) → withinLimits s ≡ true → 4194304 < length table → testOutcome s table ≡ turnedAway (reasonAt 2 0)
 one-gate-more s table w long = by (eqb (length table % 4) 0) refl
   where

@@ -23,7 +23,7 @@ closingAfter (some r) bytes = eightBytes []
 unfoldable pub plainClosing : Shape → List ℕ → List ℕ
 plainClosing s xs = closingAfter (countReason s xs) (closingFor s xs)
 
--- What the entry point promises of its verdict and of the closing bytes.
+-- What the entry point promises about its verdict and the closing bytes.
 pub record Counts (s : Shape) (xs : List ℕ) (reason : Option Reason) (bytes : List ℕ) : Type 0 where
   pub verdict : reason ≡ countReason s xs
   pub closing : bytes ≡ plainClosing s xs

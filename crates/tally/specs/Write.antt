@@ -44,7 +44,7 @@ pub record OwnListHolds (s : Shape) : Type 0 where
 abbrev pub HoldsWithin : Shape → Type 0
 HoldsWithin s = T (withinLimits s) → OwnListHolds s
 
--- What the entry point promises of its answer and of the table.
+-- What the entry point promises about its answer and the table.
 pub record Writes (s : Shape) (before : List ℕ) (answer : Outcome Size) (after : List ℕ) : Type 0 where
   pub answers : answer ≡ writeOutcome s before
   pub leaves : after ≡ writeResult s before

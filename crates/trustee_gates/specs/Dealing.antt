@@ -32,7 +32,7 @@ dealtWell t conditional ballots d =
     onlyBits (d .ballotParts) && onlyBits (d .dealerParts) && addsUp t ballots (d .ballotParts)
     && productsAddUp t conditional (d .dealerParts)
 
--- What testing the products of so many triples asks.
+-- What testing the products of the triples asks for.
 pub record ProductsReady (t conditional : ℕ) (dealt : List ℕ) : Type 0 where
   pub few : conditional < 1073741824
   pub long : length dealt ≡ t * (3 * conditional)

@@ -1,4 +1,4 @@
--- What the functions on one gate ask and leave.
+-- What the functions on one gate ask for and leave.
 use mathlib.Core.Path.{_≡_}
 use mathlib.Core.Bool.{true, cond}
 use mathlib.Core.List.{List, [], _∷_}
@@ -29,7 +29,7 @@ pub record InDealt (size i p : ℕ) (dealt : List ℕ) : Type 0 where
   pub triple-in : 3 * i + 2 < size
   pub dealt-reach : p * size + size ≤ length dealt
 
--- And both are.
+-- Operands and triple are both in the tables.
 pub record FactorReady (pieces : Pieces) (g : Numbers) (i p : ℕ) (dealt wires : List ℕ) : Type 0 where
   pub operands : InWires (pieces .wires) g p wires
   pub triple : InDealt (pieces .dealt) i p dealt

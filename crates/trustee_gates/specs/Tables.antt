@@ -20,7 +20,7 @@ pub record CopyReady (t count : ℕ) (source : List ℕ) (sourceSize at : ℕ) (
   pub target-length : length target ≡ t * targetSize
   pub target-fits : into + count ≤ targetSize
 
--- What reading trustee p's entry, and opening an entry of all t, ask.
+-- What reading trustee p's entry, and opening an entry of all t trustees, ask for.
 pub record EntryReady (size p index : ℕ) (table : List ℕ) : Type 0 where
   pub inside : index < size
   pub reach : p * size + size ≤ length table

@@ -66,7 +66,7 @@ UrnAccuracy = Accuracy urnRunResult ballotsFor RightUrn
 abbrev pub UrnTellsNoMore : Type 0
 UrnTellsNoMore = BoardTellsNoMore urnRunResult ballotsFor
 
--- The run on the urn, and the three demands of it.
+-- The run on the urn, and the three demands for it.
 pub record UrnRunHolds : Type 0 where
   pub same-as-run : SameAsRun
   pub memory : UrnRunMemory

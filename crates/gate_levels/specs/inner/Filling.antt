@@ -1,4 +1,4 @@
--- What inner functions ask and leave; no entry point's contract needs it.
+-- What inner functions ask for and leave; no entry point's contract needs it.
 use mathlib.Core.Path.{_≡_}
 use mathlib.Core.List.{List}
 use Prim.Native.Nat.{ℕ, _+_, _*_, _≤_, _<_}

@@ -69,7 +69,7 @@ pub record GateReady (table : List ℕ) (g own : ℕ) (tape : List ℕ) (shown :
   pub inTape : shown + conditionalCount (gateAt table g ∷ []) ≤ length tape
   pub inBoard : shown + conditionalCount (gateAt table g ∷ []) ≤ length board
 
--- What evaluating it leaves: its wire, and its shown bit where it shows one.
+-- What evaluating it leaves: its wire, and its shown bit if it shows one.
 pub record GateRan (table : List ℕ) (g own : ℕ) (tape : List ℕ) (shown : ℕ) (ws bs : List ℕ) (r : ℕ)
     (ws′ bs′ : List ℕ) : Type 0 where
   pub next : r ≡ shown + conditionalCount (gateAt table g ∷ [])
@@ -84,7 +84,7 @@ pub record Stepped (inputs : ℕ) (table : List ℕ) (from to : ℕ) (tape : Lis
   pub wires : ws′ ≡ stepWires inputs table from to ws
   pub board : bs′ ≡ stepBoard inputs table from to tape shown ws bs
 
--- What closing asks: the outputs are wires, and behind the shown bits the board has room for them and no more.
+-- What closing asks for: the outputs are wires, and after the shown bits the board has room for exactly them.
 pub record CloseReady (k shown : ℕ) (ws board : List ℕ) : Type 0 where
   pub enough : k ≤ length ws
   pub boardLength : length board ≡ shown + k

@@ -4,7 +4,7 @@ use mathlib.Core.Bool.{Bool}
 use mathlib.Core.List.{List}
 use Rattle.gates.specs.Kind.{conditionalMarks}
 
--- They are those of the kinds; and what it asks of the gate.
+-- The marks are those of the kinds, and what it asks about the gate holds.
 pub record Marked (marks : List Bool) (Asked : Type 0) : Type 0 where
   pub marked : marks ≡ conditionalMarks
   pub gate : Asked

@@ -13,12 +13,12 @@ pub record GradedSize (s : Shape) (xs : List ℕ) : Type 0 where
   pub within : T (gradedLimits s)
   pub size : length xs ≡ s .ballots * s .candidates * s .grades
 
--- And they are bits.
+-- The same, and they are bits.
 pub record GradedBits (s : Shape) (xs : List ℕ) : Type 0 where
   pub sized : GradedSize s xs
   pub bits : Bits xs
 
--- So many rows of d bits.
+-- `rows` rows of d bits.
 pub record RowsOfBits (xs : List ℕ) (d rows : ℕ) : Type 0 where
   pub size : length xs ≡ rows * d
   pub bits : Bits xs

@@ -37,7 +37,7 @@ pub record Cut (s : Shape) (list : List ℕ) (gates conditional : ℕ) (tape wir
   pub wiresLength : 20320 ≤ length wires
   pub boardLength : 4008 ≤ length board
 
--- A buffer of zeros as it is made; the tape is one of bits.
+-- A new buffer of zeros; a new tape, whose zeros are bits.
 pub record Zeros (n : ℕ) (buffer : List ℕ) : Type 0 where
   pub long : n ≡ length buffer
   pub zeros : buffer ≡ replicate n 0

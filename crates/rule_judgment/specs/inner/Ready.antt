@@ -19,7 +19,7 @@ pub record WinnersReady (s : Shape) (counts : List (List ℕ)) : Type 0 where
   pub gets : EachGets (s .ballots) (rowsIn (s .candidates) (s .grades) counts)
   pub columns : (i : ℕ) → i < 8 → length (getD counts i []) ≡ 7
 
--- The same of k candidates, d grades and n ballots.
+-- The same for k candidates, d grades and n ballots.
 pub record FirstReady (counts : List (List ℕ)) (k d n : ℕ) : Type 0 where
   pub someCandidate : 0 < k
   pub fewCandidates : k ≤ 8
@@ -33,7 +33,7 @@ pub record Wins (counts : List (List ℕ)) (k d r : ℕ) : Type 0 where
   pub inside : r < k
   pub byte : getD (judgmentOf (rowsIn k d counts)) r 0 ≡ 1
 
--- The rows of candidates a and b can be looked at.
+-- The rows of candidates a and b are in the array.
 pub record RowsReady (counts : List (List ℕ)) (a b d : ℕ) : Type 0 where
   pub firstInside : a < 8
   pub secondInside : b < 8
@@ -47,7 +47,7 @@ pub record Compared (x y : List ℕ) (d : ℕ) (r : Bool) : Type 0 where
   pub firstLength : length x ≡ d
   pub secondLength : length y ≡ d
 
--- The rows of candidates a and b are of n grades each.
+-- The rows of candidates a and b have n grades each.
 pub record SumsReady (counts : List (List ℕ)) (a b d n : ℕ) : Type 0 where
   pub firstInside : a < 8
   pub secondInside : b < 8

@@ -49,7 +49,7 @@ pub record PlusReady (t : Totals) (r : Run) : Type 0 where
   pub run : Small r
   pub sums : SumsOf 4096 t
 
--- So many runs can be added up.
+-- n runs can be added up.
 pub record SumsReady (xs : List ℕ) (n : ℕ) : Type 0 where
   pub size : length xs ≡ n * runBytes
   pub few : n ≤ mostRuns

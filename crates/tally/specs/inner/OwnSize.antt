@@ -1,4 +1,4 @@
--- What the writer has counted behind the own list.
+-- What the writer has counted after the own list.
 use mathlib.Core.Path.{_≡_}
 use lib.ListN.{length}
 use Rattle.gates.specs.Board.{conditionalCount}

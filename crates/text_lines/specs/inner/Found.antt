@@ -28,7 +28,7 @@ abbrev pub LineWithin : List ℕ → Line → Type 0
 LineWithin text (line.Gate kind a b c next) = next ≤ length text
 LineWithin text line.Malformed = Unit {0}
 
--- A reading found what it should, and stands within the text.
+-- A reading found what it should, and is within the text.
 pub record NumberRead (text : List ℕ) (wanted : Option (Taken ℕ)) (r : Found) : Type 0 where
   pub found : numberFound text r ≡ wanted
   pub within : NumberWithin text r

@@ -7,7 +7,7 @@ use lib.Seq.{sets}
 use Rattle.gates.specs.Gate.{Gate}
 use Rattle.text_lines.specs.Line.{lineOf}
 
--- Of the text l, the text r: the characters xs stand from a place on, up to the place e.
+-- r is the text l with the characters xs from place `at` up to place e.
 pub record Stored (l : List ℕ) (at : ℕ) (xs r : List ℕ) (e : ℕ) : Type 0 where
   pub next : e ≡ at + length xs
   pub is : r ≡ sets l at xs

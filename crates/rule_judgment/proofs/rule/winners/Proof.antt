@@ -83,7 +83,7 @@ add-c c = omega arith
 loop-less : tie.Need-loop-less Inv-loop μ-loop
 loop-less c = omega arith
 
--- what a turn's comparison says of its candidate's byte
+-- what a turn's comparison says about its candidate's byte
 module _ (c : tie.After-same-counts Inv-loop μ-loop) where
   abbrev at : tie.At-loop Inv-loop μ-loop
   at = c .before .before .before
