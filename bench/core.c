@@ -81,13 +81,6 @@ static uint32_t choose(struct writer *w, uint32_t f, uint32_t x, uint32_t y, uin
     return n;
 }
 
-static uint32_t side_by_side(struct writer *w, const uint32_t *wires, uint32_t count) {
-    uint32_t n = (uint32_t)w->wire;
-    for (uint32_t i = 0; i < count; i++)
-        emit(w, COPY, wires[i], 0, 0);
-    return n;
-}
-
 /* Counting bits by levels of adders: a level's carries are the next one's bits. */
 static uint32_t level(struct writer *w, uint32_t s, uint32_t at, uint32_t stride, uint32_t e, uint32_t left) {
     for (; left > 1; left -= 2, at += 2 * stride)
@@ -195,15 +188,25 @@ static struct order versus(struct writer *w, uint32_t x, uint32_t y, uint32_t di
     return (struct order){differ.any, first};
 }
 
-/* How many of the wires are 1, where these are the first ones. */
-static uint32_t median(struct writer *w, uint32_t at, uint32_t stride, uint32_t count, uint32_t digits) {
-    uint32_t sums[MOST_DIGITS];
+/* Which of two numbers of ones is larger, among wires of which the first ones are 1: digit after digit from the lowest,
+ * which is the sum modulo 2 of all the wires; the next one that of every second wire. */
+static struct order compare_ones(struct writer *w, uint32_t x, uint32_t y, uint32_t stride, uint32_t count,
+                                 uint32_t digits) {
+    struct order so_far = {0, 0};
     for (uint32_t i = 0; i < digits; i++, count /= 2) {
-        sums[i] = chain(w, XOR, at, at + stride, stride, count - 1);
-        at += stride;
+        uint32_t left = chain(w, XOR, x, x + stride, stride, count - 1);
+        uint32_t right = chain(w, XOR, y, y + stride, stride, count - 1), differ = emit(w, XOR, left, right, 0);
+        if (i == 0) {
+            so_far = (struct order){differ, left};
+        } else {
+            uint32_t either = emit(w, OR, so_far.differ, differ, 0);
+            so_far = (struct order){either, emit(w, CHOICE, differ, left, so_far.first)};
+        }
+        x += stride;
+        y += stride;
         stride *= 2;
     }
-    return side_by_side(w, sums, digits);
+    return so_far;
 }
 
 /* A word of either key. */
@@ -315,10 +318,9 @@ static struct order below_medians(struct writer *w, const struct plan *p, struct
 }
 
 static struct order contest(struct writer *w, const struct plan *p, struct words keys, uint32_t high) {
-    const uint32_t stride = p->digits + 1;
-    uint32_t median_y = median(w, keys.y + p->digits, stride, p->d - 1, p->places + 1);
-    uint32_t median_x = median(w, keys.x + p->digits, stride, p->d - 1, p->places + 1);
-    struct order medians = versus(w, median_y, median_x, p->places + 1, 0);
+    const uint32_t digits = p->digits;
+    struct order medians =
+        compare_ones(w, keys.y + digits, keys.x + digits, digits + 1, p->d - 1, p->places + 1);
     return below_medians(w, p, keys, medians, high);
 }
 
@@ -399,10 +401,10 @@ static size_t below_medians_gates(const struct plan *p) {
 }
 
 static size_t contest_gates(const struct plan *p) {
-    size_t median = 0;
+    size_t medians = 0;
     for (uint32_t count = p->d - 1; count > 0; count /= 2)
-        median += count;
-    return 2 * median + versus_gates(p->places + 1) + below_medians_gates(p);
+        medians += 2 * count + 1;
+    return medians - 2 + below_medians_gates(p);
 }
 
 static size_t won_gates(uint32_t size) {

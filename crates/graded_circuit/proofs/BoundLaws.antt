@@ -15,11 +15,12 @@ use Rattle.graded_circuit.specs.Bound.{boundOf}
 use Rattle.graded_circuit.specs.RunningSums.{wordSpan, sumSize, worstSize}
 use Rattle.graded_circuit.specs.Key.{keySpan, candidateSpan}
 use Rattle.gate_words.proofs.ReachLaws.{reach-last-most}
-use Rattle.graded_circuit.specs.Median.{medianSize}
+use Rattle.graded_circuit.specs.Median.{laterSpan, onesSpan}
 use Rattle.graded_circuit.specs.Nearest.{sideSpan, eitherSpan}
 use Rattle.graded_circuit.specs.Contest.{lowerSpan}
 use Rattle.graded_circuit.specs.Merge.{mergeSpan}
 use Rattle.graded_circuit.specs.OwnList.{levelsSpan, lowLevels, circuit}
+use Rattle.graded_circuit.proofs.MedianLaws.{ones-span}
 use Rattle.graded_circuit.proofs.CandidateBlocks.{candidate-span}
 use Rattle.graded_circuit.proofs.LevelsLaws.{span-one, span-more}
 use Rattle.graded_circuit.proofs.CircuitLaws.{circuit-block}
@@ -31,10 +32,13 @@ levels-product r n =
     let first : suc r * (2 * n) ≡ 2 * (n * suc r) = mul-comm (suc r) (2 * n) ∙ mul-assoc 2 n (suc r) in
     omega (arith, suc-mul r (2 * n + 2))
 
-pub median-size-most : (m r : ℕ) → medianSize m r ≤ 2 * m
-unfolding medianSize
-median-size-most m zero = omega arith
-median-size-most m (suc r) = omega (arith, median-size-most (m / 2) r)
+pub later-span-most : (m w : ℕ) → laterSpan m w ≤ 4 * m + 3 * w
+unfolding laterSpan
+later-span-most m zero = omega arith
+later-span-most m (suc w) = omega (arith, later-span-most (m / 2) w)
+
+pub ones-span-most : (m w : ℕ) → onesSpan m w ≤ 4 * m + 3 * w + 1
+ones-span-most m w = omega (arith, ones-span m w, later-span-most (m / 2) w)
 
 module _ (p : Plan) (f : Planned p) where
   -- the width, and the product of the number of ballots and the width
@@ -123,7 +127,7 @@ module _ (p : Plan) (f : Planned p) where
   merge-most : (l m : ℕ) → l + m ≤ 8 → mergeSpan p l m + keySpan p ≤ merge
   unfolding merge w
   merge-most l m h =
-      omega (arith, key, median-size-most (p .grades - 1) (suc (p .places)), places-most, lower-most (p .digits) (p .grades - 2) (omega (arith, f .d-most)), f .d-most)
+      omega (arith, key, ones-span-most (p .grades - 1) (p .places), places-most, lower-most (p .digits) (p .grades - 2) (omega (arith, f .d-most)), f .d-most)
     where
       key : keySpan p ≤ 6 * suc (p .digits)
       key = unfold w in key-most

@@ -19,13 +19,13 @@ use Rattle.graded_circuit.specs.declared.plan.Plan.{Plan}
 use Rattle.graded_circuit.specs.Plan.{Planned}
 use Rattle.graded_circuit.specs.RunningSums.{wordSpan}
 use Rattle.graded_circuit.specs.Key.{keySpan}
-use Rattle.graded_circuit.specs.Median.{Fits, median}
+use Rattle.graded_circuit.specs.Median.{Fits, leftDigit, differAt, compareOnes, onesDiffer, onesLarger}
 use Rattle.graded_circuit.specs.Nearest.{stride}
 use Rattle.graded_circuit.specs.Outward.{resolveAt}
-use Rattle.graded_circuit.specs.Contest.{lower, lowerSpan, medianSpan, rightMedian, leftMedian, mediansAt, lowerAt, resultAt, contest, contestSpan}
+use Rattle.graded_circuit.specs.Contest.{lower, lowerSpan, lowerAt, resultAt, contest, contestSpan}
 use Rattle.graded_circuit.proofs.Blocks.{Block, none-block, both-block, sized, gate-block, compare-block}
-use Rattle.graded_circuit.proofs.Cutting.{cut2, cut4}
-use Rattle.graded_circuit.proofs.MedianLaws.{Unary, median-block, median-law}
+use Rattle.graded_circuit.proofs.Cutting.{cut2}
+use Rattle.graded_circuit.proofs.MedianLaws.{Unary, left-below, ones-block, differ-below, larger-below, ones-span, ones-law}
 use Rattle.graded_circuit.proofs.SumLaws.{Sums, Word, Spells}
 use Rattle.graded_circuit.proofs.Near.{Decides}
 use Rattle.graded_circuit.proofs.OutwardBlocks.{outward-block}
@@ -83,17 +83,15 @@ module _ (p : Plan) (f : Planned p) where
   contest-block n x y h hr hx hy =
       let d = p .grades - 1 in
       let r = p .places in
-      let m = mediansAt p n in
       let l = lowerAt p n in
-      let some = key-some in
-      let em : unequalAt m r < l = chain-below (m + suc r) m r l (omega arith) (omega arith) in
-      let sm : aboveAt m (rightMedian p n) r < l = chain-below (m + unequalSpan r) (rightMedian p n) r l (omega arith) (omega arith) in
+      let z = y + p .digits in
+      let some : 0 < d = omega (arith, grades-are) in
+      let span = ones-span d r in
+      let em : onesDiffer n d r < l = differ-below l (differAt n d) r (omega arith) in
+      let sm : onesLarger n z d r < l = larger-below l (leftDigit n z d) r (omega (arith, left-below n z (wordSpan p) d some (flags-end y n hy))) in
       sized (omega arith)
-      (both-block (both-block (both-block
-      (median-block n (y + p .digits) (wordSpan p) d (suc r) grade-fits (flags-end y n hy)) (omega arith)
-      (median-block (n + medianSpan p) (x + p .digits) (wordSpan p) d (suc r) grade-fits (flags-end x (n + medianSpan p) (omega arith)))) (omega arith)
-      (compare-block m (rightMedian p n) (leftMedian p n) r 0 (omega arith) (omega arith) (omega arith))) (omega arith)
-      (lower-block p l x y (unequalAt m r) (aboveAt m (rightMedian p n) r) (p .digits) h (p .grades - 2) hr em sm (key-words x l (omega arith)) (key-words y l (omega arith))))
+      (both-block (ones-block n z (x + p .digits) (wordSpan p) d r grade-fits (flags-end y n hy) (flags-end x n hx)) refl
+      (lower-block p l x y (onesDiffer n d r) (onesLarger n z d r) (p .digits) h (p .grades - 2) hr em sm (key-words x l (omega arith)) (key-words y l (omega arith))))
 
   module _ (W : ℕ → ℕ) (b : Binary W) where
     -- the wires that say which grades the median is worse than
@@ -226,28 +224,20 @@ module _ (p : Plan) (f : Planned p) where
       contest-law i j n k hr a c hx hy h =
           let d = p .grades - 1 in
           let r = p .places in
-          let m = mediansAt p n in
           let l = lowerAt p n in
-          let em = unequalAt m r in
-          let sm = aboveAt m (rightMedian p n) r in
-          let my = median n (y + p .digits) (wordSpan p) d (suc r) in
-          let mx = median (n + medianSpan p) (x + p .digits) (wordSpan p) d (suc r) in
-          let by = median-block n (y + p .digits) (wordSpan p) d (suc r) grade-fits (flags-end y n hy) in
-          let bx = median-block (n + medianSpan p) (x + p .digits) (wordSpan p) d (suc r) grade-fits (flags-end x (n + medianSpan p) (omega arith)) in
-          let o = cut4 W n my mx (compareCut m (rightMedian p n) (leftMedian p n) r 0) (lower p l x y em sm (p .digits) k (p .grades - 2)) (n + medianSpan p) m l
-          (omega (arith, by .long)) (omega (arith, bx .long)) (omega (arith, compare-block m (rightMedian p n) (leftMedian p n) r 0 (omega arith) (omega arith) (omega arith) .long)) h in
-          let right = median-law W b n (y + p .digits) (wordSpan p) d (suc r) j grade-fits (flags-end y n hy) (unary y j C c ky) (o .0) in
-          let left = median-law W b (n + medianSpan p) (x + p .digits) (wordSpan p) d (suc r) i grade-fits (flags-end x (n + medianSpan p) (omega arith)) (unary x i A a kx) (o .1) in
-          let t = compare-cut-law m (rightMedian p n) (leftMedian p n) r 0 (omega arith) W b (o .2) in
+          let z = y + p .digits in
+          let em = onesDiffer n d r in
+          let sm = onesLarger n z d r in
+          let medians = compareOnes n z (x + p .digits) (wordSpan p) d r in
+          let o = cut2 W n medians (lower p l x y em sm (p .digits) k (p .grades - 2)) l
+          (omega (arith, ones-block n z (x + p .digits) (wordSpan p) d r grade-fits (flags-end y n hy) (flags-end x n hx) .long)) h in
+          let t = ones-law W b n z (x + p .digits) (wordSpan p) d r j i grade-fits (flags-end y n hy) (flags-end x n hx) (unary y j C c ky) (unary x i A a kx) (o .0) in
           let decide : W em ≡ 1 → (W (resultAt p n) ≡ 1) × (W (resultAt p n + 1) ≡ W sm) =
-          λ z. lower-medians x y (p .digits) (p .grades - 2) l k em sm hr refl refl (omega arith) (omega arith) z (o .3) in
+          λ z. lower-medians x y (p .digits) (p .grades - 2) l k em sm hr refl refl (omega arith) (omega arith) z (o .1) in
           ⊎-elim
           (λ (q : i ≡ j).
-          lower-law i a (subst (λ (u : ℕ). Sums (p .ballots) (p .grades) C u) (sym q) c) (p .digits) (p .grades - 2) l k em sm hr refl refl (omega arith) (omega arith) (t .same (omega arith)) (o .3))
+          lower-law i a (subst (λ (u : ℕ). Sums (p .ballots) (p .grades) C u) (sym q) c) (p .digits) (p .grades - 2) l k em sm hr refl refl (omega arith) (omega arith) (t .same (sym q)) (o .1))
           (⊎-elim
-          (λ (q : j < i). let z = decide (t .differ (λ u. unlike i j q (omega arith))) in inr (inr (z .0, z .1 ∙ t .under (omega arith), ahead C A j i c a q)))
-          (λ (q : i < j). let z = decide (t .differ (λ u. unlike j i q (omega arith))) in inr (inl (z .0, z .1 ∙ t .over (omega arith), ahead A C i j a c q))))
+          (λ (q : j < i). let u = t .under q in let v = decide (u .0) in inr (inr (v .0, v .1 ∙ u .1, ahead C A j i c a q)))
+          (λ (q : i < j). let u = t .over q in let v = decide (u .0) in inr (inl (v .0, v .1 ∙ u .1, ahead A C i j a c q))))
           (three-ways i j)
-        where
-          unlike : (u v : ℕ) → v < u → u ≡ v → ⊥
-          unlike u v l e = omega arith

@@ -1,24 +1,28 @@
--- What the number of a median grade spells: how many of the wires are 1, where just the first ones are.
+-- Which of two median grades is worse: the numbers of ones among wires of which just the first ones are 1, compared.
 -- Assumes nothing.
-use mathlib.Core.Path.{_≡_, _∙_, refl, ap}
-use Prim.Native.Nat.{ℕ, zero, suc, _+_, _-_, _*_, _/_, _%_, _^_, _≤_, _<_}
+use mathlib.Core.Path.{_≡_, _∙_, refl, ap, subst, subst₂}
+use mathlib.Core.Logic.{⊎-elim}
+use mathlib.Core.List.{[], _∷_, _++_}
+use Prim.Native.Nat.{ℕ, zero, suc, _+_, _-_, _*_, _/_, _%_, _^_, _≤_, _<_, max}
 use native.Mathlib.Nat.{pow-succ', suc-mul, zero-mul, add-mul, mul-add}
 use native.Mathlib.Omega.{arith}
-use Rattle.gates.proofs.Laws.{Holds}
-use Rattle.gate_words.specs.Gates.{copyOf}
-use Rattle.gate_words.specs.Word.{ones, number}
+use lib.ListN.{length, length-append}
+use Rattle.gates.proofs.Laws.{Holds, mux-zero, mux-one}
+use Rattle.gate_words.specs.Gates.{orOf, xorOf, muxOf}
+use Rattle.gate_words.specs.Word.{ones}
 use Rattle.gate_words.specs.Choice.{parity, chainEnd}
-use Rattle.gate_words.proofs.Numbers.{Binary, number-none, number-more, ones-none, ones-more}
-use Rattle.gate_words.proofs.GateValues.{holds-first, holds-rest, copy-is}
+use Rattle.gate_words.proofs.Numbers.{Binary, ones-none, ones-more}
+use Rattle.gate_words.proofs.GateValues.{valueOn, holds-first, holds-rest, xor-is, or-is}
 use Rattle.gate_words.proofs.ChoiceSteps.{length-chain}
 use Rattle.gate_words.proofs.CounterLaws.{parity-law}
 use Rattle.gate_words.proofs.Ends.{chain-below}
-use Rattle.graded_circuit.specs.Median.{Fits, medianLevels, medianDigits, medianSize, median}
+use Rattle.gate_words.proofs.PointsBack.{good-xor, good-or, good-mux}
+use Rattle.graded_circuit.specs.Median.{Fits, leftDigit, rightDigit, differAt, digitDifference, differenceSpan, nextDigit, laterDigits, laterSpan, compareOnes, onesSpan, differEnd, largerEnd, onesDiffer, onesLarger}
 use Rattle.graded_circuit.proofs.Blocks.{Block, none-block, both-block, gate-block, parity-block}
 use Rattle.graded_circuit.proofs.PlanFacts.{all-below}
-use Rattle.graded_circuit.proofs.Cutting.{cut2}
+use Rattle.graded_circuit.proofs.Cutting.{cut2, cut3}
 use Rattle.basics.proofs.Arithmetic.{next-place}
-use Rattle.gate_words.proofs.PointsBack.{good-copy}
+use Rattle.basics.proofs.Cases.{below-or-not}
 
 -- so do every second of them with a digit less
 pub fits-half : (m w : ℕ) → Fits m (suc w) → Fits (m / 2) w
@@ -45,25 +49,95 @@ first-of at d m n some h =
     let e = ap (λ (x : ℕ). x * d) one ∙ suc-mul (m - 1) d in
     (omega arith, omega arith)
 
-pub levels-block : (n at d m w : ℕ) → Fits m w → at + m * d < n + d → Block n (medianLevels n at d m w) (medianSize m w)
-unfolding medianLevels medianSize
-levels-block n at d m zero f a = none-block n
-levels-block n at d m (suc w) f a =
-    let q = first-of at d m n (fits-some m w f) a in
-    both-block (parity-block n at (at + d) d (m - 1) (q .0) (all-below n (at + d) d (m - 1) (q .1))) refl
-    (levels-block (n + (m - 1)) (at + d) (d + d) (m / 2) w (fits-half m w f) (omega (arith, half-apart m d)))
+pub length-difference : (n x y d m : ℕ) → length (digitDifference n x y d m) ≡ differenceSpan m
+unfolding digitDifference
+length-difference n x y d m =
+    let a = parity n x (x + d) d (m - 1) in
+    let b = parity (n + (m - 1)) y (y + d) d (m - 1) in
+    omega (arith, length-append (a ++ b) (xorOf (leftDigit n x m) (rightDigit n y m) ∷ []), length-append a b, length-chain 6 n x (x + d) d (m - 1), length-chain 6 (n + (m - 1)) y (y + d) d (m - 1))
 
-pub digits-block : (q n at d m w : ℕ) → Fits m w → at + m * d < q + d → n + medianSize m w ≤ q → Block q (medianDigits n at d m w) w
-unfolding medianDigits medianSize
-digits-block q n at d m zero f a s = none-block q
-digits-block q n at d m (suc w) f a s =
-    let k = first-of at d m q (fits-some m w f) a in
-    gate-block (good-copy q (chainEnd n at (m - 1)) (chain-below n at (m - 1) q (k .0) (omega arith)))
-    (digits-block (suc q) (n + (m - 1)) (at + d) (d + d) (m / 2) w (fits-half m w f) (omega (arith, half-apart m d)) (omega arith))
+pub length-next : (n x y d m e s : ℕ) → length (nextDigit n x y d m e s) ≡ differenceSpan m + 2
+unfolding nextDigit
+length-next n x y d m e s = omega (arith, length-append (digitDifference n x y d m) (orOf e (differAt n m) ∷ muxOf (differAt n m) (leftDigit n x m) s ∷ []), length-difference n x y d m)
 
-pub median-block : (n at d m w : ℕ) → Fits m w → at + m * d < n + d → Block n (median n at d m w) (medianSize m w + w)
-unfolding median
-median-block n at d m w f a = both-block (levels-block n at d m w f a) refl (digits-block (n + medianSize m w) n at d m w f (omega arith) (omega arith))
+pub length-later : (n x y d m e s w : ℕ) → length (laterDigits n x y d m e s w) ≡ laterSpan m w
+unfolding laterDigits laterSpan
+length-later n x y d m e s zero = refl
+length-later n x y d m e s (suc w) =
+    let q = differAt n m in
+    let rest = laterDigits (q + 3) (x + d) (y + d) (d + d) (m / 2) (q + 1) (q + 2) w in
+    omega (arith, length-append (nextDigit n x y d m e s) rest, length-next n x y d m e s, length-later (q + 3) (x + d) (y + d) (d + d) (m / 2) (q + 1) (q + 2) w)
+
+-- both digits are there once their sums are
+pub left-below : (n x d m : ℕ) → 0 < m → x + m * d < n + d → leftDigit n x m < differAt n m
+left-below n x d m some h = chain-below n x (m - 1) (differAt n m) (omega (arith, first-of x d m n some h .0)) (omega arith)
+
+right-below : (n y d m : ℕ) → 0 < m → y + m * d < n + d → rightDigit n y m < differAt n m
+right-below n y d m some h = chain-below (n + (m - 1)) y (m - 1) (differAt n m) (omega (arith, first-of y d m n some h .0)) (omega arith)
+
+pub difference-block : (n x y d m : ℕ) → 0 < m → x + m * d < n + d → y + m * d < n + d → Block n (digitDifference n x y d m) (differenceSpan m)
+unfolding digitDifference
+difference-block n x y d m some hx hy =
+    let q = first-of x d m n some hx in
+    let k = first-of y d m (n + (m - 1)) some (omega arith) in
+    let z = differAt n m in
+    both-block (both-block (parity-block n x (x + d) d (m - 1) (q .0) (all-below n (x + d) d (m - 1) (q .1))) refl
+    (parity-block (n + (m - 1)) y (y + d) d (m - 1) (k .0) (all-below (n + (m - 1)) (y + d) d (m - 1) (k .1)))) (omega arith)
+    (gate-block (good-xor z (leftDigit n x m) (rightDigit n y m) (left-below n x d m some hx) (right-below n y d m some hy)) (none-block (suc z)))
+
+pub next-block : (n x y d m e s : ℕ) → 0 < m → e < n → s < n → x + m * d < n + d → y + m * d < n + d → Block n (nextDigit n x y d m e s) (differenceSpan m + 2)
+unfolding nextDigit
+next-block n x y d m e s some he hs hx hy =
+    let q = differAt n m in
+    let left = left-below n x d m some hx in
+    both-block (difference-block n x y d m some hx hy) (omega arith)
+    (gate-block (good-or (q + 1) e q (omega arith) (omega arith)) (gate-block (good-mux (suc (q + 1)) q (leftDigit n x m) s (omega arith) (omega arith) (omega arith)) (none-block (suc (suc (q + 1))))))
+
+pub later-block : (n x y d m e s w : ℕ) → Fits m w → e < n → s < n → x + m * d < n + d → y + m * d < n + d → Block n (laterDigits n x y d m e s w) (laterSpan m w)
+unfolding laterDigits laterSpan
+later-block n x y d m e s zero f he hs hx hy = none-block n
+later-block n x y d m e s (suc w) f he hs hx hy =
+    let q = differAt n m in
+    both-block (next-block n x y d m e s (fits-some m w f) he hs hx hy) (omega arith)
+    (later-block (q + 3) (x + d) (y + d) (d + d) (m / 2) (q + 1) (q + 2) w (fits-half m w f) (omega arith) (omega arith) (omega (arith, half-apart m d)) (omega (arith, half-apart m d)))
+
+pub ones-block : (n x y d m w : ℕ) → Fits m (suc w) → x + m * d < n + d → y + m * d < n + d → Block n (compareOnes n x y d m w) (onesSpan m w)
+unfolding compareOnes onesSpan
+ones-block n x y d m w f hx hy =
+    let some = fits-some m w f in
+    let q = differAt n m in
+    both-block (difference-block n x y d m some hx hy) (omega arith)
+    (later-block (q + 1) (x + d) (y + d) (d + d) (m / 2) q (leftDigit n x m) w (fits-half m w f) (omega arith) (omega (arith, left-below n x d m some hx)) (omega (arith, half-apart m d)) (omega (arith, half-apart m d)))
+
+-- the wires that say it are there
+pub differ-below : (end e w : ℕ) → e < end → differEnd end e w < end
+unfolding differEnd
+differ-below end e zero h = h
+differ-below end e (suc w) h = omega arith
+
+pub larger-below : (end s w : ℕ) → s < end → largerEnd end s w < end
+unfolding largerEnd
+larger-below end s zero h = h
+larger-below end s (suc w) h = omega arith
+
+-- one digit more, and the digits above it: the same end
+later-more : (n m w : ℕ) → n + laterSpan m (suc w) ≡ differAt n m + 3 + laterSpan (m / 2) w
+unfolding laterSpan
+later-more n m w = omega arith
+
+differ-next : (q end e w m : ℕ) → end ≡ q + 3 + laterSpan m w → differEnd (q + 3 + laterSpan m w) (q + 1) w ≡ differEnd end e (suc w)
+unfolding laterSpan differEnd
+differ-next q end e zero m h = omega arith
+differ-next q end e (suc w) m h = omega arith
+
+larger-next : (q end s w m : ℕ) → end ≡ q + 3 + laterSpan m w → largerEnd (q + 3 + laterSpan m w) (q + 2) w ≡ largerEnd end s (suc w)
+unfolding laterSpan largerEnd
+larger-next q end s zero m h = omega arith
+larger-next q end s (suc w) m h = omega arith
+
+pub ones-span : (m w : ℕ) → onesSpan m w ≡ differenceSpan m + laterSpan (m / 2) w
+unfolding onesSpan
+ones-span m w = refl
 
 -- just the first `most` of m wires are 1
 pub record Unary (W : ℕ → ℕ) (at d m most : ℕ) : Type 0 where
@@ -109,28 +183,100 @@ module _ (W : ℕ → ℕ) (b : Binary W) where
       let all = ap (ones W at d) one ∙ ones-more W at d (m - 1) in
       omega (arith, parity-law W b n at (at + d) d (m - 1) h, ones-unary W at d m most u)
 
-  digits-law : (q n at d m w most : ℕ) → Fits m w → Unary W at d m most → Holds W n (medianLevels n at d m w) → Holds W q (medianDigits n at d m w) → number W q 1 w ≡ most
-  unfolding medianLevels medianDigits
-  digits-law q n at d m zero most f u lev dig = omega (arith, number-none W q 1, f .enough, u .within)
-  digits-law q n at d m (suc w) most f u lev dig =
-      let chain = parity n at (at + d) d (m - 1) in
-      let others = medianLevels (n + (m - 1)) (at + d) (d + d) (m / 2) w in
-      let c = cut2 W n chain others (n + (m - 1)) (omega (arith, length-chain 6 n at (at + d) d (m - 1))) lev in
-      let digits = medianDigits (n + (m - 1)) (at + d) (d + d) (m / 2) w in
-      let above = digits-law (q + 1) (n + (m - 1)) (at + d) (d + d) (m / 2) w (most / 2) (fits-half m w f) (unary-half W at d m most u) (c .1)
-      (holds-rest W q (copyOf (chainEnd n at (m - 1))) digits dig) in
-      omega (
-        arith,
-        above,
-        number-more W q 1 w,
-        holds-first W q (copyOf (chainEnd n at (m - 1))) digits dig,
-        copy-is W b (chainEnd n at (m - 1)),
-        lowest-digit n at d m most (fits-some m w f) u (c .0),
-      )
+  -- what the sums modulo 2 say
+  difference-law : (n x y d m i j : ℕ) → 0 < m → Unary W x d m i → Unary W y d m j → Holds W n (digitDifference n x y d m) → (W (leftDigit n x m) ≡ i % 2) × (W (differAt n m) ≡ (i % 2 + j % 2) % 2)
+  unfolding digitDifference
+  difference-law n x y d m i j some u v h =
+      let left = leftDigit n x m in
+      let right = rightDigit n y m in
+      let c = cut3 W n (parity n x (x + d) d (m - 1)) (parity (n + (m - 1)) y (y + d) d (m - 1)) (xorOf left right ∷ []) (n + (m - 1)) (differAt n m)
+      (omega (arith, length-chain 6 n x (x + d) d (m - 1))) (omega (arith, length-chain 6 (n + (m - 1)) y (y + d) d (m - 1))) h in
+      let a = lowest-digit n x d m i some u (c .0) in
+      (a, omega (arith, holds-first W (differAt n m) (xorOf left right) [] (c .2) ∙ xor-is W b left right, a, lowest-digit (n + (m - 1)) y d m j some v (c .1)))
 
-  pub median-law : (n at d m w most : ℕ) → Fits m w → at + m * d < n + d → Unary W at d m most → Holds W n (median n at d m w)
-      → number W (n + medianSize m w) 1 w ≡ most
-  unfolding median
-  median-law n at d m w most f a u h =
-      let c = cut2 W n (medianLevels n at d m w) (medianDigits n at d m w) (n + medianSize m w) (omega (arith, levels-block n at d m w f a .long)) h in
-      digits-law (n + medianSize m w) n at d m w most f u (c .0) (c .1)
+  -- wires e′ and s′ tell of the numbers i and j, where they are equal, what e and s do
+  pub record Above (i j e s e′ s′ : ℕ) : Type 0 where
+    pub same : i ≡ j → (W e′ ≡ W e) × (W s′ ≡ W s)
+    pub over : j < i → (W e′ ≡ 1) × (W s′ ≡ 1)
+    pub under : i < j → (W e′ ≡ 1) × (W s′ ≡ 0)
+
+  -- the digits above, and what wires q + 1 and q + 2 say of the digits so far
+  one-more : (i j e s q left e′ s′ : ℕ) → W q ≡ (i % 2 + j % 2) % 2 → W left ≡ i % 2 → W (q + 1) ≡ max (W e) (W q) → W (q + 2) ≡ valueOn W (muxOf q left s)
+      → Above (i / 2) (j / 2) (q + 1) (q + 2) e′ s′ → Above i j e s e′ s′
+  one-more i j e s q left e′ s′ differ first either choice rest =
+      record {
+        same = λ h.
+            let no : W q ≡ 0 = omega arith in
+            let r = rest .same (omega arith) in
+            (omega (arith, r .0), r .1 ∙ choice ∙ mux-zero (W q) (W left) (W s) no);
+        over = λ h. ⊎-elim
+            (λ (l : j / 2 < i / 2). rest .over l)
+            (λ (l : i / 2 ≤ j / 2).
+            let yes : W q ≡ 1 = omega arith in
+            let r = rest .same (omega arith) in
+            (omega (arith, r .0, b e), r .1 ∙ choice ∙ mux-one (W q) (W left) (W s) yes ∙ first ∙ omega arith))
+            (below-or-not (j / 2) (i / 2));
+        under = λ h. ⊎-elim
+            (λ (l : i / 2 < j / 2). rest .under l)
+            (λ (l : j / 2 ≤ i / 2).
+            let yes : W q ≡ 1 = omega arith in
+            let r = rest .same (omega arith) in
+            (omega (arith, r .0, b e), r .1 ∙ choice ∙ mux-one (W q) (W left) (W s) yes ∙ first ∙ omega arith))
+            (below-or-not (i / 2) (j / 2));
+      }
+
+  later-law : (n x y d m e s w i j : ℕ) → Fits m w → x + m * d < n + d → y + m * d < n + d → Unary W x d m i → Unary W y d m j → Holds W n (laterDigits n x y d m e s w)
+      → Above i j e s (differEnd (n + laterSpan m w) e w) (largerEnd (n + laterSpan m w) s w)
+  unfolding laterDigits nextDigit
+  later-law n x y d m e s zero i j f hx hy u v h = unfold differEnd largerEnd in
+      record { same = λ z. (refl, refl); over = λ l. absurd (omega (arith, f .enough, u .within)); under = λ l. absurd (omega (arith, f .enough, v .within)) }
+  later-law n x y d m e s (suc w) i j f hx hy u v h =
+      let some = fits-some m w f in
+      let q = differAt n m in
+      let left = leftDigit n x m in
+      let end = q + 3 + laterSpan (m / 2) w in
+      let c = cut3 W n (digitDifference n x y d m) (orOf e q ∷ muxOf q left s ∷ []) (laterDigits (q + 3) (x + d) (y + d) (d + d) (m / 2) (q + 1) (q + 2) w) (q + 1) (q + 3) (omega (arith, difference-block n x y d m some hx hy .long)) (omega arith) h in
+      let a = holds-first W (q + 1) (orOf e q) (muxOf q left s ∷ []) (c .1) in
+      let place : q + 2 ≡ q + 1 + 1 = omega arith in
+      let g = ap W place ∙ holds-first W (q + 1 + 1) (muxOf q left s) [] (holds-rest W (q + 1) (orOf e q) (muxOf q left s ∷ []) (c .1)) in
+      let digits = difference-law n x y d m i j some u v (c .0) in
+      let rest = later-law (q + 3) (x + d) (y + d) (d + d) (m / 2) (q + 1) (q + 2) w (i / 2) (j / 2) (fits-half m w f) (omega (arith, half-apart m d)) (omega (arith, half-apart m d))
+      (unary-half W x d m i u) (unary-half W y d m j v) (c .2) in
+      subst₂ (Above i j e s) (differ-next q (n + laterSpan m (suc w)) e w (m / 2) (later-more n m w)) (larger-next q (n + laterSpan m (suc w)) s w (m / 2) (later-more n m w))
+      (one-more i j e s q left (differEnd end (q + 1) w) (largerEnd end (q + 2) w) (digits .1) (digits .0) (a ∙ or-is W b e q) g rest)
+
+  -- wires e and s tell of two numbers: whether they differ, and, where they do, that the first one is larger
+  pub record Compared (i j e s : ℕ) : Type 0 where
+    pub same : i ≡ j → W e ≡ 0
+    pub over : j < i → (W e ≡ 1) × (W s ≡ 1)
+    pub under : i < j → (W e ≡ 1) × (W s ≡ 0)
+
+  -- the lowest digit, and those above it
+  all-digits : (i j q left e′ s′ : ℕ) → W q ≡ (i % 2 + j % 2) % 2 → W left ≡ i % 2 → Above (i / 2) (j / 2) q left e′ s′ → Compared i j e′ s′
+  all-digits i j q left e′ s′ differ first rest =
+      record {
+        same = λ h. rest .same (omega arith) .0 ∙ differ ∙ omega arith;
+        over = λ h. ⊎-elim
+            (λ (l : j / 2 < i / 2). rest .over l)
+            (λ (l : i / 2 ≤ j / 2). let r = rest .same (omega arith) in (r .0 ∙ differ ∙ omega arith, r .1 ∙ first ∙ omega arith))
+            (below-or-not (j / 2) (i / 2));
+        under = λ h. ⊎-elim
+            (λ (l : i / 2 < j / 2). rest .under l)
+            (λ (l : j / 2 ≤ i / 2). let r = rest .same (omega arith) in (r .0 ∙ differ ∙ omega arith, r .1 ∙ first ∙ omega arith))
+            (below-or-not (i / 2) (j / 2));
+      }
+
+  pub ones-law : (n x y d m w i j : ℕ) → Fits m (suc w) → x + m * d < n + d → y + m * d < n + d → Unary W x d m i → Unary W y d m j → Holds W n (compareOnes n x y d m w)
+      → Compared i j (onesDiffer n m w) (onesLarger n x m w)
+  unfolding compareOnes onesSpan
+  ones-law n x y d m w i j f hx hy u v h =
+      let some = fits-some m w f in
+      let q = differAt n m in
+      let left = leftDigit n x m in
+      let end : q + 1 + laterSpan (m / 2) w ≡ n + (differenceSpan m + laterSpan (m / 2) w) = omega arith in
+      let c = cut2 W n (digitDifference n x y d m) (laterDigits (q + 1) (x + d) (y + d) (d + d) (m / 2) q left w) (q + 1) (omega (arith, difference-block n x y d m some hx hy .long)) h in
+      let digits = difference-law n x y d m i j some u v (c .0) in
+      let rest = later-law (q + 1) (x + d) (y + d) (d + d) (m / 2) q left w (i / 2) (j / 2) (fits-half m w f) (omega (arith, half-apart m d)) (omega (arith, half-apart m d))
+      (unary-half W x d m i u) (unary-half W y d m j v) (c .1) in
+      subst (λ (k : ℕ). Compared i j (differEnd k q w) (largerEnd k left w)) end
+      (all-digits i j q left (differEnd (q + 1 + laterSpan (m / 2) w) q w) (largerEnd (q + 1 + laterSpan (m / 2) w) left w) (digits .1) (digits .0) rest)

@@ -6,7 +6,7 @@ use Rattle.gate_words.specs.Gates.{copyOf, orOf, muxOf}
 use Rattle.gate_words.specs.Halves.{unequalAt, compareCut, compareSpan, aboveAt}
 use Rattle.graded_circuit.specs.declared.plan.Plan.{Plan}
 use Rattle.graded_circuit.specs.RunningSums.{wordSpan}
-use Rattle.graded_circuit.specs.Median.{median, medianSize}
+use Rattle.graded_circuit.specs.Median.{compareOnes, onesSpan, onesDiffer, onesLarger}
 use Rattle.graded_circuit.specs.Outward.{outward, resolveAt}
 
 -- Which of two keys comes first, where wires e and s tell of their medians: sums of so many low digits, of which the
@@ -24,35 +24,24 @@ lowerSpan zero t = 0
 lowerSpan (suc r) zero = compareSpan r
 lowerSpan (suc r) (suc t) = resolveAt 0 r t + 14
 
--- The numbers of both median grades, y's first; whether they differ, and y's is larger, which is worse; and what they
--- and the sums say.
-abbrev pub medianSpan : Plan → ℕ
-medianSpan p = medianSize (p .grades - 1) (suc (p .places)) + suc (p .places)
-
-abbrev pub rightMedian : Plan → ℕ → ℕ
-rightMedian p n = n + medianSize (p .grades - 1) (suc (p .places))
-
-abbrev pub leftMedian : Plan → ℕ → ℕ
-leftMedian p n = n + medianSpan p + medianSize (p .grades - 1) (suc (p .places))
-
-abbrev pub mediansAt : Plan → ℕ → ℕ
-mediansAt p n = n + medianSpan p + medianSpan p
+-- The numbers of both median grades are compared, y's first: whether they differ, and y's is larger, which is worse;
+-- and then what they and the sums say.
+abbrev pub mediansSpan : Plan → ℕ
+mediansSpan p = onesSpan (p .grades - 1) (p .places)
 
 abbrev pub lowerAt : Plan → ℕ → ℕ
-lowerAt p n = mediansAt p n + compareSpan (p .places)
+lowerAt p n = n + mediansSpan p
 
 abbrev pub resultAt : Plan → ℕ → ℕ
 resultAt p n = lowerAt p n + lowerSpan (p .digits) (p .grades - 2)
 
 unfoldable pub contest : Plan → ℕ → ℕ → ℕ → ℕ → List Gate
 contest p n x y h =
-    median n (y + p .digits) (wordSpan p) (p .grades - 1) (suc (p .places))
-    ++ median (n + medianSpan p) (x + p .digits) (wordSpan p) (p .grades - 1) (suc (p .places))
-    ++ compareCut (mediansAt p n) (rightMedian p n) (leftMedian p n) (p .places) 0
+    compareOnes n (y + p .digits) (x + p .digits) (wordSpan p) (p .grades - 1) (p .places)
     ++ lower p (lowerAt p n) x y
-    (unequalAt (mediansAt p n) (p .places)) (aboveAt (mediansAt p n) (rightMedian p n) (p .places))
+    (onesDiffer n (p .grades - 1) (p .places)) (onesLarger n (y + p .digits) (p .grades - 1) (p .places))
     (p .digits) h (p .grades - 2)
 
 -- Wire `resultAt` says that the keys differ, and the next one, where they do, that x comes first.
 abbrev pub contestSpan : Plan → ℕ
-contestSpan p = medianSpan p + medianSpan p + compareSpan (p .places) + lowerSpan (p .digits) (p .grades - 2) + 2
+contestSpan p = mediansSpan p + lowerSpan (p .digits) (p .grades - 2) + 2

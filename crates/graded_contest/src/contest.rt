@@ -5,16 +5,18 @@ use gate_words::halves::unequal_at;
 use gate_words::writer::Writer;
 use gates::kind;
 use graded_circuit::plan::Plan;
-use graded_keys::median::median;
+use graded_keys::median::compare_ones;
+use graded_keys::median::ones_differ;
+use graded_keys::median::ones_larger;
 ghost use mathlib.Core.List.{_∷_, _++_, []};
 ghost use Prim.Native.Nat.{suc, _+_, _-_};
 ghost use Rattle.gate_words.specs.Gates.{copyOf, orOf, muxOf};
 ghost use Rattle.gate_words.specs.Halves.{unequalAt, compareCut, aboveAt};
 ghost use Rattle.gate_words.specs.Writing.{Room, Wrote};
 ghost use Rattle.graded_circuit.specs.RunningSums.{wordSpan};
-ghost use Rattle.graded_circuit.specs.Median.{median};
-ghost use Rattle.graded_circuit.specs.Contest.{lower, lowerSpan, medianSpan, contest, contestSpan};
-ghost use Rattle.graded_contest.specs.inner.Ready.{KeyReady, KeysReady, SumReady};
+ghost use Rattle.graded_circuit.specs.Median.{compareOnes};
+ghost use Rattle.graded_circuit.specs.Contest.{lower, lowerSpan, contest, contestSpan};
+ghost use Rattle.graded_contest.specs.inner.Ready.{KeysReady, MediansReady, SumReady};
 
 // What the medians say, as it is.
 fn medians_alone(w: Writer, table: &mut [u32], e: u32, s: u32) -> Writer
@@ -69,21 +71,22 @@ fn lower(w: Writer, table: &mut [u32], p: Plan, x: u32, y: u32, e: u32, s: u32, 
     outward(w, table, bit, x, y, e, s, above, high, grades - 3)
 }
 
-// The number of the median grade that a key tells of.
-fn key_median(w: Writer, table: &mut [u32], p: Plan, x: u32) -> Writer
-    requires { ⌜ KeyReady w (medianSpan p) p x ⌝ }
+// Which of the medians that the keys at x and y tell of is worse.
+fn compare_medians(w: Writer, table: &mut [u32], p: Plan, x: u32, y: u32) -> Writer
+    requires { ⌜ MediansReady w p x y ⌝ }
     ensures { λ r. ⌜
-        Wrote w (now (table .entry)) (median (w .wire) (x + p .digits) (wordSpan p) (p .grades - 1) (suc (p .places)))
-        (now (table .exit)) r
+        Wrote w (now (table .entry)) (compareOnes (w .wire) (y + p .digits) (x + p .digits) (wordSpan p) (p .grades - 1)
+        (p .places)) (now (table .exit)) r
         ⌝ }
 {
-    median(
+    compare_ones(
         w,
         table,
+        y + p.digits,
         x + p.digits,
         p.digits + 1,
         p.grades - 1,
-        p.places + 1,
+        p.places,
     )
 }
 
@@ -92,13 +95,8 @@ pub fn contest(w: Writer, table: &mut [u32], p: Plan, x: u32, y: u32, high: u32)
     requires { ⌜ KeysReady w (contestSpan p) p x y high ⌝ }
     ensures { λ r. ⌜ Wrote w (now (table .entry)) (contest p (w .wire) x y high) (now (table .exit)) r ⌝ }
 {
-    let places = p.places;
-    let second = key_median(w, table, p, y);
-    let first = key_median(second, table, p, x);
-    let m = first.wire;
-    let right = second.wire - (places + 1);
-    let compared = first.compare_halves(table, right, m - (places + 1), places, 0);
-    let e = unequal_at(m, places);
-    let s = above_at(m, right, places);
+    let compared = compare_medians(w, table, p, x, y);
+    let e = ones_differ(w.wire, compared.wire, p.grades - 1, p.places);
+    let s = ones_larger(w.wire, compared.wire, y + p.digits, p.grades - 1, p.places);
     lower(compared, table, p, x, y, e, s, high)
 }

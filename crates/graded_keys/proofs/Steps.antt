@@ -2,19 +2,18 @@
 -- Assumes nothing.
 use mathlib.Core.Path.{_≡_, _∙_, refl, sym, ap, subst}
 use mathlib.Core.List.{[], _∷_, _++_}
-use Prim.Native.Nat.{ℕ, suc, _+_, _-_, _*_, _/_, _%_, _≤_, _<_}
+use Prim.Native.Nat.{ℕ, zero, suc, _+_, _-_, _*_, _/_, _%_, _≤_, _<_}
 use native.Mathlib.Nat.{mul-le-mul, mul-le-mul-right}
 use native.Mathlib.Omega.{arith}
 use Rattle.gate_words.specs.Gates.{copyOf, orOf, muxOf}
 use Rattle.gate_words.specs.Halves.{unequalAt, compareCut, compareSpan, aboveAt}
-use Rattle.gate_words.specs.Choice.{parity, chainEnd}
-use Rattle.graded_circuit.specs.Median.{Fits, medianLevels, medianDigits, medianSize}
-use Rattle.graded_circuit.proofs.MedianLaws.{fits-half, fits-some}
+use Rattle.graded_circuit.specs.Median.{Fits, differAt, differenceSpan, nextDigit, laterDigits, laterSpan, onesSpan, differEnd, largerEnd}
+use Rattle.graded_circuit.proofs.MedianLaws.{fits-half, fits-some, ones-span}
 use Rattle.graded_circuit.specs.declared.plan.Plan.{Plan}
 use Rattle.graded_circuit.specs.Outward.{resolveAt, outward}
 use Rattle.graded_circuit.specs.Contest.{lower, lowerSpan}
 use Rattle.graded_circuit.specs.Nearest.{stride, side, sideSpan, sides, either, eitherSpan, lastOf, firstOf, leftEnd, rightEnd}
-use Rattle.basics.proofs.Arithmetic.{count-down}
+use Rattle.basics.proofs.Arithmetic.{count-down, one-less}
 
 pub sides-step : (n x y r k t : ℕ) → 0 < t → sides n x y r k t ≡ side n x y r k ++ sides (n + sideSpan r) (x + stride r) (y + stride r) r k (t - 1)
 sides-step n x y r k t h = ap (sides n x y r k) (count-down t h) ∙ (unfold sides in refl)
@@ -38,22 +37,44 @@ pub first-none : (n f x y u v r t : ℕ) → t ≤ 0 → firstOf n f x y u v r t
 unfolding firstOf
 first-none n f x y u v r t h = let e : t ≡ 0 = omega arith in rw e
 
-pub levels-step : (n at d m w : ℕ) → 0 < w → medianLevels n at d m w ≡ parity n at (at + d) d (m - 1) ++ medianLevels (n + (m - 1)) (at + d) (d + d) (m / 2) (w - 1)
-levels-step n at d m w h = ap (medianLevels n at d m) (count-down w h) ∙ (unfold medianLevels in refl)
+-- one digit more of a comparison of medians, and those above it
+pub later-step : (n x y d m e s w : ℕ) → 0 < w
+    → laterDigits n x y d m e s w ≡ nextDigit n x y d m e s ++ laterDigits (differAt n m + 3) (x + d) (y + d) (d + d) (m / 2) (differAt n m + 1) (differAt n m + 2) (w - 1)
+later-step n x y d m e s w h = ap (laterDigits n x y d m e s) (count-down w h) ∙ (unfold laterDigits in refl)
 
-pub levels-none : (n at d m w : ℕ) → w ≤ 0 → medianLevels n at d m w ≡ []
-unfolding medianLevels
-levels-none n at d m w h = let e : w ≡ 0 = omega arith in rw e
+pub later-none : (n x y d m e s w : ℕ) → w ≤ 0 → laterDigits n x y d m e s w ≡ []
+unfolding laterDigits
+later-none n x y d m e s w h = let k : w ≡ 0 = omega arith in rw k
 
-pub digits-step : (n at d m w : ℕ) → 0 < w → medianDigits n at d m w ≡ (copyOf (chainEnd n at (m - 1)) ∷ []) ++ medianDigits (n + (m - 1)) (at + d) (d + d) (m / 2) (w - 1)
-digits-step n at d m w h = ap (medianDigits n at d m) (count-down w h) ∙ (unfold medianDigits in refl)
+pub later-span-step : (m w : ℕ) → 0 < w → laterSpan m w ≡ differenceSpan m + 2 + laterSpan (m / 2) (w - 1)
+later-span-step m w h = ap (laterSpan m) (count-down w h) ∙ (unfold laterSpan in refl)
 
-pub digits-none : (n at d m w : ℕ) → w ≤ 0 → medianDigits n at d m w ≡ []
-unfolding medianDigits
-digits-none n at d m w h = let e : w ≡ 0 = omega arith in rw e
+pub differ-single : (end e w : ℕ) → w ≡ 0 → differEnd end e w ≡ e
+unfolding differEnd
+differ-single end e w h = rw h
 
-pub size-step : (m w : ℕ) → 0 < w → medianSize m w ≡ m - 1 + medianSize (m / 2) (w - 1)
-size-step m w h = ap (medianSize m) (count-down w h) ∙ (unfold medianSize in refl)
+pub differ-several : (end e w : ℕ) → (w ≡ 0 → ⊥) → differEnd end e w ≡ end - 2
+unfolding differEnd
+differ-several end e zero h = absurd (h refl)
+differ-several end e (suc w) h = refl
+
+pub larger-single : (end s w : ℕ) → w ≡ 0 → largerEnd end s w ≡ s
+unfolding largerEnd
+larger-single end s w h = rw h
+
+pub larger-several : (end s w : ℕ) → (w ≡ 0 → ⊥) → largerEnd end s w ≡ end - 1
+unfolding largerEnd
+larger-several end s zero h = absurd (h refl)
+larger-several end s (suc w) h = refl
+
+-- digits above the lowest one have gates
+pub some-later : (m w : ℕ) → (w ≡ 0 → ⊥) → 4 ≤ onesSpan m w
+some-later m zero h = absurd (h refl)
+some-later m (suc w) h = omega (arith, ones-span m (suc w), later-span-step (m / 2) (suc w) (omega arith))
+
+-- of some wires that do not reach far, two stand close together
+pub stride-most : (m d : ℕ) → 0 < m → m * d ≤ 2000 → d ≤ 2000
+stride-most m d some h = omega (arith, one-less m d some)
 
 -- a digit or more: there are wires, and half of them fit a digit less
 pub fits-step : (m w : ℕ) → 0 < w → Fits m w → (0 < m) × Fits (m / 2) (w - 1)

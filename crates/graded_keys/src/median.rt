@@ -1,89 +1,134 @@
-// The number of a median grade.
+// Which of two median grades is worse, by the wires that say which grades each of them is worse than.
 use gate_words::choice::chain_end;
 use gate_words::writer::Writer;
 use gates::kind;
-ghost use Prim.Native.Nat.{_+_, _*_, _≤_, _<_};
-ghost use Rattle.gate_words.specs.Writing.{Room, Wrote};
-ghost use Rattle.graded_circuit.specs.Median.{Fits, medianLevels, medianDigits, medianSize, median};
+ghost use mathlib.Core.Path.{_≡_};
+ghost use Prim.Native.Nat.{_+_};
+ghost use Rattle.gate_words.specs.Writing.{Wrote};
+ghost use Rattle.graded_circuit.specs.Median.{digitDifference, differenceSpan, nextDigit, laterDigits, laterSpan};
+ghost use Rattle.graded_circuit.specs.Median.{compareOnes, onesSpan, onesDiffer, onesLarger};
+ghost use Rattle.graded_keys.specs.inner.Ready.{DigitReady, DigitsReady, EndReady};
 
-// The sums modulo 2 that are its digits: of all of so many wires a stride apart, of every second one, and so on.
-fn median_levels(
+// Whether the numbers of ones among so many wires at x and at y differ in their lowest digits.
+fn digit_difference(w: Writer, table: &mut [u32], x: u32, y: u32, step: u32, many: u32) -> Writer
+    requires { ⌜ DigitReady w (differenceSpan many) x y step many ⌝ }
+    ensures { λ r. ⌜ Wrote w (now (table .entry)) (digitDifference (w .wire) x y step many) (now (table .exit)) r ⌝ }
+{
+    let rest = many - 1;
+    let left = chain_end(w.wire, x, rest);
+    let first = w.parity(table, x, x + step, step, rest);
+    let right = chain_end(first.wire, y, rest);
+    let second = first.parity(table, y, y + step, step, rest);
+    second.emit(table, kind::XOR, left, right, 0)
+}
+
+// One digit more, and what it and the digits before say, of which wires e and s say it.
+fn next_digit(
     w: Writer,
     table: &mut [u32],
-    first: u32,
+    x: u32,
+    y: u32,
+    step: u32,
+    many: u32,
+    e: u32,
+    s: u32,
+) -> Writer
+    requires { ⌜ DigitReady w (differenceSpan many + 2) x y step many ⌝ }
+    ensures { λ r. ⌜ Wrote w (now (table .entry)) (nextDigit (w .wire) x y step many e s) (now (table .exit)) r ⌝ }
+{
+    let left = chain_end(w.wire, x, many - 1);
+    let differ = digit_difference(w, table, x, y, step, many);
+    let q = differ.wire - 1;
+    let either = differ.emit(table, kind::OR, e, q, 0);
+    either.emit(table, kind::CHOICE, q, left, s)
+}
+
+// So many digits more.
+fn later_digits(
+    w: Writer,
+    table: &mut [u32],
+    x: u32,
+    y: u32,
     stride: u32,
     count: u32,
+    e: u32,
+    s: u32,
     digits: u32,
 ) -> Writer
-    requires { ⌜ Room w (medianSize count digits) ⌝ }
-    requires { ⌜ Fits count digits × (first + count * stride < w .wire + stride) × (count ≤ 6) × (stride ≤ 255) ⌝ }
+    requires { ⌜ DigitsReady w (laterSpan count digits) x y stride count digits ⌝ }
     ensures { λ r. ⌜
-        Wrote w (now (table .entry)) (medianLevels (w .wire) first stride count digits) (now (table .exit)) r
+        Wrote w (now (table .entry)) (laterDigits (w .wire) x y stride count e s digits) (now (table .exit)) r
         ⌝ }
 {
     let mut next = w;
-    let mut at = first;
+    let mut first = x;
+    let mut second = y;
     let mut step = stride;
     let mut many = count;
+    let mut differ = e;
+    let mut larger = s;
     let mut left = digits;
     while 0 < left {
-        next = next.parity(table, at, at + step, step, many - 1);
-        at += step;
+        next = next_digit(next, table, first, second, step, many, differ, larger);
+        first += step;
+        second += step;
         step += step;
         many /= 2;
+        differ = next.wire - 2;
+        larger = next.wire - 1;
         left -= 1;
     }
     next
 }
 
-// The digits side by side. The sums stand from wire n on.
-fn median_digits(
+// Both numbers of ones compared in above + 1 digits.
+pub fn compare_ones(
     w: Writer,
     table: &mut [u32],
-    n: u32,
-    first: u32,
+    x: u32,
+    y: u32,
     stride: u32,
     count: u32,
-    digits: u32,
+    above: u32,
 ) -> Writer
-    requires { ⌜ Room w digits ⌝ }
-    requires { ⌜
-        Fits count digits × (first + count * stride < w .wire + stride) × (count ≤ 6) × (stride ≤ 255)
-        × (n + medianSize count digits ≤ w .wire)
+    requires { ⌜ DigitsReady w (onesSpan count above) x y stride count (above + 1) ⌝ }
+    ensures { λ r. ⌜
+        Wrote w (now (table .entry)) (compareOnes (w .wire) x y stride count above) (now (table .exit)) r
         ⌝ }
-    ensures { λ r. ⌜ Wrote w (now (table .entry)) (medianDigits n first stride count digits) (now (table .exit)) r ⌝ }
 {
-    let mut next = w;
-    let mut from = n;
-    let mut at = first;
-    let mut step = stride;
-    let mut many = count;
-    let mut left = digits;
-    while 0 < left {
-        next = next.emit(table, kind::COPY, chain_end(from, at, many - 1), 0, 0);
-        from += many - 1;
-        at += step;
-        step += step;
-        many /= 2;
-        left -= 1;
-    }
-    next
+    let left = chain_end(w.wire, x, count - 1);
+    let differ = digit_difference(w, table, x, y, stride, count);
+    later_digits(
+        differ,
+        table,
+        x + stride,
+        y + stride,
+        stride + stride,
+        count / 2,
+        differ.wire - 1,
+        left,
+        above,
+    )
 }
 
-// The number of ones among wires of which just the first ones are 1.
-pub fn median(
-    w: Writer,
-    table: &mut [u32],
-    first: u32,
-    stride: u32,
-    count: u32,
-    digits: u32,
-) -> Writer
-    requires { ⌜ Room w (medianSize count digits + digits) ⌝ }
-    requires { ⌜ Fits count digits × (first + count * stride < w .wire + stride) × (count ≤ 6) × (stride ≤ 255) ⌝ }
-    ensures { λ r. ⌜ Wrote w (now (table .entry)) (median (w .wire) first stride count digits) (now (table .exit)) r ⌝ }
+// The wire that says that they differ, of a comparison from wire n to before wire end.
+pub fn ones_differ(n: u32, end: u32, count: u32, above: u32) -> u32
+    requires { ⌜ EndReady n end count above ⌝ }
+    ensures { λ r. ⌜ r ≡ onesDiffer n count above ⌝ }
 {
-    let n = w.wire;
-    let sums = median_levels(w, table, first, stride, count, digits);
-    median_digits(sums, table, n, first, stride, count, digits)
+    if above == 0 {
+        return n + (count - 1) + (count - 1);
+    }
+    end - 2
+}
+
+// The wire that says that the first one is larger.
+pub fn ones_larger(n: u32, end: u32, x: u32, count: u32, above: u32) -> u32
+    requires { ⌜ EndReady n end count above ⌝ }
+    ensures { λ r. ⌜ r ≡ onesLarger n x count above ⌝ }
+{
+    if above == 0 {
+        return chain_end(n, x, count - 1);
+    }
+    end - 1
 }

@@ -8,7 +8,7 @@ use native.Mathlib.Omega.{arith}
 use Rattle.gate_words.specs.Reach.{reachSpan}
 use Rattle.graded_circuit.specs.declared.plan.Plan.{Plan}
 use Rattle.graded_circuit.specs.RunningSums.{sumSize, worstSize}
-use Rattle.graded_circuit.specs.Median.{Fits, medianSize}
+use Rattle.graded_circuit.specs.Median.{Fits, differenceSpan, laterSpan}
 use Rattle.graded_circuit.proofs.MedianLaws.{fits-half, fits-some}
 use Rattle.graded_circuit.specs.Nearest.{sideSpan, eitherSpan}
 use Rattle.graded_circuit.specs.Plan.{Planned}
@@ -41,20 +41,20 @@ lower-more (suc r) (suc t) h z =
     span : lowerSpan (suc r) (suc t) ≡ t * sideSpan r + t * eitherSpan r + t * eitherSpan r + (6 * r + 2 + 2 * reachSpan r) + 14
     span = unfold lowerSpan in (omega arith)
 
--- a digit of a median grade's number, and the digits left
-pub median-turn : (m w : ℕ) → 0 < w → Fits m w → Fits (m / 2) (w - 1) × (medianSize m w + w ≡ m + (medianSize (m / 2) (w - 1) + (w - 1)))
-median-turn m zero h f = absurd (omega arith)
-median-turn m (suc w) h f =
+-- a digit of the medians' comparison, and the digits left
+pub later-turn : (m w : ℕ) → 0 < w → Fits m w → Fits (m / 2) (w - 1) × (laterSpan m w ≡ 2 * m + 1 + laterSpan (m / 2) (w - 1))
+later-turn m zero h f = absurd (omega arith)
+later-turn m (suc w) h f =
     let e : w ≡ suc w - 1 = omega arith in
-    (subst (Fits (m / 2)) e (fits-half m w f), omega (arith, size, fits-some m w f, ap (medianSize (m / 2)) e))
+    (subst (Fits (m / 2)) e (fits-half m w f), omega (arith, span, fits-some m w f, ap (laterSpan (m / 2)) e))
   where
-    size : medianSize m (suc w) ≡ m - 1 + medianSize (m / 2) w
-    size = unfold medianSize in refl
+    span : laterSpan m (suc w) ≡ differenceSpan m + 2 + laterSpan (m / 2) w
+    span = unfold laterSpan in refl
 
-pub median-none : (m w : ℕ) → w ≤ 0 → medianSize m w + w ≡ 0
-unfolding medianSize
-median-none m zero h = refl
-median-none m (suc w) h = absurd (omega arith)
+pub later-none : (m w : ℕ) → w ≤ 0 → laterSpan m w ≡ 0
+unfolding laterSpan
+later-none m zero h = refl
+later-none m (suc w) h = absurd (omega arith)
 
 -- the levels
 module _ (p : Plan) where

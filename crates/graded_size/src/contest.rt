@@ -1,22 +1,23 @@
 // The span of a contest.
 use graded_circuit::plan::Plan;
 ghost use mathlib.Core.Path.{_≡_};
-ghost use Prim.Native.Nat.{_+_, _-_, _≤_, _<_};
+ghost use Prim.Native.Nat.{suc, _-_, _≤_, _<_};
 ghost use Rattle.gate_words.specs.Reach.{reachSpan};
 ghost use Rattle.graded_circuit.specs.Plan.{Planned};
-ghost use Rattle.graded_circuit.specs.Median.{Fits, medianSize};
+ghost use Rattle.graded_circuit.specs.Median.{Fits, onesSpan};
 ghost use Rattle.graded_circuit.specs.Contest.{lowerSpan, contestSpan};
 
-// The number of gates that give a median grade's number: of each digit the sum modulo 2 of its wires, and a copy.
-fn median_span(count: u32, digits: u32) -> u32
-    requires { ⌜ Fits count digits × (count ≤ 6) × (digits ≤ 3) ⌝ }
-    ensures { λ r. ⌜ r ≡ medianSize count digits + digits ⌝ }
+// The number of gates that compare two median grades' numbers in above + 1 digits: of each digit both sums modulo 2 and
+// whether they differ, and, but for the lowest, two gates more.
+fn medians_span(count: u32, above: u32) -> u32
+    requires { ⌜ Fits count (suc above) × (count ≤ 6) × (above ≤ 2) ⌝ }
+    ensures { λ r. ⌜ r ≡ onesSpan count above ⌝ }
 {
-    let mut gates: u32 = 0;
-    let mut many = count;
-    let mut left = digits;
+    let mut gates: u32 = 2 * count - 1;
+    let mut many = count / 2;
+    let mut left = above;
     while 0 < left {
-        gates += many;
+        gates += 2 * many + 1;
         many /= 2;
         left -= 1;
     }
@@ -56,12 +57,12 @@ fn lower_span(digits: u32, grades: u32) -> u32
 // The gates that say whether the keys differ, and which comes first.
 const RESULT: u32 = 2;
 
-// Two medians, their comparison, what is below them, and the result.
+// The comparison of both medians, what is below them, and the result.
 pub(crate) fn contest_span(p: Plan) -> u32
     requires { ⌜ Planned p ⌝ }
     ensures { λ r. ⌜ r ≡ contestSpan p ⌝ }
 {
-    let median = median_span(p.grades - 1, p.places + 1);
+    let medians = medians_span(p.grades - 1, p.places);
     let lower = lower_span(p.digits, p.grades);
-    2 * median + 3 * p.places + 1 + lower + RESULT
+    medians + lower + RESULT
 }

@@ -8,14 +8,9 @@ use Rattle.gate_words.specs.declared.writer.Writer.{Writer}
 use Rattle.graded_circuit.specs.declared.plan.Plan.{Plan}
 use Rattle.graded_circuit.specs.Plan.{Planned}
 use Rattle.graded_circuit.specs.Key.{keySpan}
+use Rattle.graded_circuit.specs.Contest.{mediansSpan}
 use Rattle.graded_circuit.specs.Nearest.{stride}
 use Rattle.graded_circuit.specs.Outward.{compareAndReachSpan, resolveSpan}
-
--- A block over the key at x.
-pub record KeyReady (w : Writer) (gates : ℕ) (p : Plan) (x : ℕ) : Type 0 where
-  pub plan : Planned p
-  pub room : Room w gates
-  pub below : x + keySpan p ≤ w .wire
 
 -- A block over the keys at x and y, whose sums are cut behind digit `high`.
 pub record KeysReady (w : Writer) (gates : ℕ) (p : Plan) (x y high : ℕ) : Type 0 where
@@ -24,6 +19,13 @@ pub record KeysReady (w : Writer) (gates : ℕ) (p : Plan) (x y high : ℕ) : Ty
   pub firstBelow : x + keySpan p ≤ w .wire
   pub secondBelow : y + keySpan p ≤ w .wire
   pub cut : high ≤ p .digits - 1
+
+-- The medians: both keys are there, and there is room for their comparison.
+pub record MediansReady (w : Writer) (p : Plan) (x y : ℕ) : Type 0 where
+  pub planned : Planned p
+  pub room : Room w (mediansSpan p)
+  pub firstBelow : x + keySpan p ≤ w .wire
+  pub secondBelow : y + keySpan p ≤ w .wire
 
 -- The comparison of the sums at x and y.
 pub record SumReady (w : Writer) (x y above high : ℕ) : Type 0 where
