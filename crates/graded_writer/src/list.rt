@@ -63,7 +63,7 @@ fn best_key(p: Plan, span: u32, c: u32, count: u32, end: u32) -> u32
 }
 
 // The wires of these candidates.
-fn group_won(p: Plan, count: u32, end: u32) -> u32
+fn winner_flags(p: Plan, count: u32, end: u32) -> u32
     requires { ⌜ Planned p ⌝ }
     requires { ⌜ (1 < count → count + keySpan p ≤ end) ⌝ }
     ensures { λ r. ⌜ r ≡ cond (leb count 1) 0 (end - keySpan p - count) ⌝ }
@@ -123,8 +123,8 @@ fn halves(
 {
     let x = best_key(p, span, c, first, middle);
     let y = best_key(p, span, c + first, second, w.wire);
-    let u = group_won(p, first, middle);
-    let v = group_won(p, second, w.wire);
+    let u = winner_flags(p, first, middle);
+    let v = winner_flags(p, second, w.wire);
     merge(w, table, p, x, y, u, v, first, second)
 }
 
