@@ -284,7 +284,7 @@ static struct order resolve(struct writer *w, struct order medians, struct order
 }
 
 /* Below equal medians the two nearest differences decide. Words that were chosen are compared in halves. */
-static struct order outward(struct writer *w, const struct plan *p, struct words keys, struct order medians,
+static struct order tie_break(struct writer *w, const struct plan *p, struct words keys, struct order medians,
                             uint32_t high) {
     const uint32_t digits = p->digits, best = keys.x + digits, last = words_of(p, keys, p->d - 2).x + digits;
     const uint32_t cut = p->d == 3 ? high : digits / 2;
@@ -304,7 +304,7 @@ static struct order outward(struct writer *w, const struct plan *p, struct words
 static struct order below_medians(struct writer *w, const struct plan *p, struct words keys, struct order medians,
                                   uint32_t high) {
     if (p->d > 2 && p->digits > 0)
-        return outward(w, p, keys, medians, high);
+        return tie_break(w, p, keys, medians, high);
     uint32_t differ, first;
     if (p->digits == 0) {
         differ = emit(w, COPY, medians.differ, 0, 0);
@@ -329,7 +329,7 @@ struct group {
     uint32_t size, key, won;
 };
 
-static void still_won(struct writer *w, struct group g, uint32_t stays) {
+static void keep_winners(struct writer *w, struct group g, uint32_t stays) {
     if (g.size == 1)
         emit(w, COPY, stays, 0, 0);
     else
@@ -347,8 +347,8 @@ static struct order merge(struct writer *w, const struct plan *p, struct group x
     uint32_t x_stays = emit(w, NOT, y_first, 0, 0);
     uint32_t y_stays = emit(w, NOT, x_first, 0, 0);
     *both = (struct group){x.size + y.size, 0, (uint32_t)w->wire};
-    still_won(w, x, x_stays);
-    still_won(w, y, y_stays);
+    keep_winners(w, x, x_stays);
+    keep_winners(w, y, y_stays);
     return keys;
 }
 
@@ -407,12 +407,12 @@ static size_t contest_gates(const struct plan *p) {
     return medians - 2 + below_medians_gates(p);
 }
 
-static size_t won_gates(uint32_t size) {
-    return size == 1 ? 0 : won_gates(size / 2) + won_gates(size - size / 2) + size;
+static size_t flag_gates(uint32_t size) {
+    return size == 1 ? 0 : flag_gates(size / 2) + flag_gates(size - size / 2) + size;
 }
 
 static size_t list_gates(const struct plan *p) {
-    return p->k * candidate_gates(p) + (p->k - 1) * (contest_gates(p) + 4) + won_gates(p->k)
+    return p->k * candidate_gates(p) + (p->k - 1) * (contest_gates(p) + 4) + flag_gates(p->k)
            + (p->k - 2) * key_gates(p);
 }
 

@@ -17,7 +17,7 @@ use Rattle.graded_circuit.specs.Key.{keySpan, candidateSpan}
 use Rattle.gate_words.proofs.ReachLaws.{reach-last-most}
 use Rattle.graded_circuit.specs.Median.{laterSpan, onesSpan}
 use Rattle.graded_circuit.specs.Nearest.{sideSpan, eitherSpan}
-use Rattle.graded_circuit.specs.Contest.{lowerSpan}
+use Rattle.graded_circuit.specs.Contest.{tieBreakBelowSpan}
 use Rattle.graded_circuit.specs.Merge.{mergeSpan}
 use Rattle.graded_circuit.specs.OwnList.{levelsSpan, lowLevels, circuit}
 use Rattle.graded_circuit.proofs.MedianLaws.{ones-span}
@@ -108,11 +108,11 @@ module _ (p : Plan) (f : Planned p) where
           omega (arith, f .median-low, f .d-most)
 
   -- below the medians, for at most six sums
-  lower-most : (digits t : ℕ) → t ≤ 5 → lowerSpan digits t ≤ 36 * digits + 46
-  unfolding lowerSpan
-  lower-most zero t h = omega arith
-  lower-most (suc r) zero h = omega arith
-  lower-most (suc r) (suc t) h =
+  tie-break-below-most : (digits t : ℕ) → t ≤ 5 → tieBreakBelowSpan digits t ≤ 36 * digits + 46
+  unfolding tieBreakBelowSpan
+  tie-break-below-most zero t h = omega arith
+  tie-break-below-most (suc r) zero h = omega arith
+  tie-break-below-most (suc r) (suc t) h =
       let few : t ≤ 4 = omega arith in
       omega (arith, reach-last-most r, mul-le-mul-right {m = t} {n = 4} (sideSpan r) few, mul-le-mul-right {m = t} {n = 4} (eitherSpan r) few)
 
@@ -127,7 +127,7 @@ module _ (p : Plan) (f : Planned p) where
   merge-most : (l m : ℕ) → l + m ≤ 8 → mergeSpan p l m + keySpan p ≤ merge
   unfolding merge w
   merge-most l m h =
-      omega (arith, key, ones-span-most (p .grades - 1) (p .places), places-most, lower-most (p .digits) (p .grades - 2) (omega (arith, f .d-most)), f .d-most)
+      omega (arith, key, ones-span-most (p .grades - 1) (p .places), places-most, tie-break-below-most (p .digits) (p .grades - 2) (omega (arith, f .d-most)), f .d-most)
     where
       key : keySpan p ≤ 6 * suc (p .digits)
       key = unfold w in key-most

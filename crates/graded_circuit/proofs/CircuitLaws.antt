@@ -14,7 +14,7 @@ use Rattle.graded_circuit.specs.Plan.{Planned, bitsAt, apart}
 use Rattle.graded_circuit.specs.Key.{candidateSpan}
 use Rattle.graded_circuit.specs.Contest.{resultAt}
 use Rattle.graded_circuit.specs.Merge.{mergeSpan, wonAt}
-use Rattle.graded_circuit.specs.OwnList.{candidates, keyAt, levelsSpan, otherAt, mergeAt, halvesMerge, bestKey, groupWon, levels, lowLevels, levelsAt, circuit}
+use Rattle.graded_circuit.specs.OwnList.{candidates, keyAt, levelsSpan, otherAt, mergeAt, halvesMerge, bestKey, winnerFlags, levels, lowLevels, levelsAt, circuit}
 use Rattle.graded_circuit.proofs.Blocks.{Block, both-block}
 use Rattle.graded_circuit.proofs.Cutting.{cut4}
 use Rattle.graded_circuit.proofs.SumLaws.{Sums, Spells, candidate-law}
@@ -96,5 +96,5 @@ module _ (p : Plan) (f : Planned p) (two : 1 < p .candidates) where
         let y = bestKey p lowLevels other (0 + k / 2) (k - k / 2) in
         final (resultAt p (mergeAt p lowLevels n k)) x y
         (halves-law p f S Before rule W b medians sums keys lowLevels n 0 k (omega arith) two (omega arith) (omega arith) one
-        (subst (λ (c : ℕ). Group p f S Before rule W b c (k - k / 2) (bestKey p lowLevels other c (k - k / 2)) (groupWon p lowLevels other (k - k / 2))) (sym (zero-add (k / 2))) two′)
+        (subst (λ (c : ℕ). Group p f S Before rule W b c (k - k / 2) (bestKey p lowLevels other c (k - k / 2)) (winnerFlags p lowLevels other (k - k / 2))) (sym (zero-add (k / 2))) two′)
         (parts .3))

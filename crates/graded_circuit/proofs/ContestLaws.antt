@@ -21,15 +21,15 @@ use Rattle.graded_circuit.specs.RunningSums.{wordSpan}
 use Rattle.graded_circuit.specs.Key.{keySpan}
 use Rattle.graded_circuit.specs.Median.{Fits, leftDigit, differAt, compareOnes, onesDiffer, onesLarger}
 use Rattle.graded_circuit.specs.Nearest.{stride}
-use Rattle.graded_circuit.specs.Outward.{resolveAt}
-use Rattle.graded_circuit.specs.Contest.{lower, lowerSpan, lowerAt, resultAt, contest, contestSpan}
+use Rattle.graded_circuit.specs.TieBreak.{resolveAt}
+use Rattle.graded_circuit.specs.Contest.{tieBreakBelow, tieBreakBelowSpan, tieBreakBelowAt, resultAt, contest, contestSpan}
 use Rattle.graded_circuit.proofs.Blocks.{Block, none-block, both-block, sized, gate-block, compare-block}
 use Rattle.graded_circuit.proofs.Cutting.{cut2}
 use Rattle.graded_circuit.proofs.MedianLaws.{Unary, left-below, ones-block, differ-below, larger-below, ones-span, ones-law}
 use Rattle.graded_circuit.proofs.SumLaws.{Sums, Word, Spells}
 use Rattle.graded_circuit.proofs.Near.{Decides}
-use Rattle.graded_circuit.proofs.OutwardBlocks.{outward-block}
-use Rattle.graded_circuit.proofs.OutwardLaws.{Ahead, Outcome, three-ways, outward-medians, outward-law}
+use Rattle.graded_circuit.proofs.TieBreakBlocks.{tie-break-block}
+use Rattle.graded_circuit.proofs.TieBreakLaws.{Ahead, Outcome, three-ways, tie-break-medians, tie-break-law}
 use Rattle.gate_words.proofs.PointsBack.{good-copy}
 use Rattle.gate_words.proofs.PointsBack.{good-or}
 use Rattle.gate_words.proofs.PointsBack.{good-mux}
@@ -45,18 +45,18 @@ single x r m h = omega (arith, suc-mul 0 (suc r + 1), zero-mul (suc r + 1))
 abbrev pub Leaves : ℕ → ℕ → Type 0
 Leaves digits h = h ≤ digits - 1
 
-pub lower-block : (p : Plan) (n x y e s digits h t : ℕ) → Leaves digits h → e < n → s < n → x + suc t * (digits + 1) ≤ n → y + suc t * (digits + 1) ≤ n
-    → Block n (lower p n x y e s digits h t) (lowerSpan digits t + 2)
-unfolding lower lowerSpan
-lower-block p n x y e s zero h t hr he hs hx hy = gate-block (good-copy n e he) (gate-block (good-copy (suc n) s (omega arith)) (none-block (suc (suc n))))
-lower-block p n x y e s (suc r) h zero hr he hs hx hy =
+pub tie-break-below-block : (p : Plan) (n x y e s digits h t : ℕ) → Leaves digits h → e < n → s < n → x + suc t * (digits + 1) ≤ n → y + suc t * (digits + 1) ≤ n
+    → Block n (tieBreakBelow p n x y e s digits h t) (tieBreakBelowSpan digits t + 2)
+unfolding tieBreakBelow tieBreakBelowSpan
+tie-break-below-block p n x y e s zero h t hr he hs hx hy = gate-block (good-copy n e he) (gate-block (good-copy (suc n) s (omega arith)) (none-block (suc (suc n))))
+tie-break-below-block p n x y e s (suc r) h zero hr he hs hx hy =
     let q = n + compareSpan r in
     let fx = single x r n hx in
     let em = chain-below (n + suc r) n r q (omega arith) (omega arith) in
     let sm = chain-below (n + unequalSpan r) x r q (omega arith) (omega arith) in
     both-block (compare-block n x y r h (omega arith) fx (single y r n hy)) refl
     (gate-block (good-or q e (unequalAt n r) (omega arith) em) (gate-block (good-mux (suc q) e s (aboveAt n x r) (omega arith) (omega arith) (omega arith)) (none-block (suc (suc q)))))
-lower-block p n x y e s (suc r) h (suc t) hr he hs hx hy = sized (omega arith) (outward-block n x y r t (strided x t r n hx) (strided y t r n hy) (p .ballots % 2) h e s (omega arith) he hs)
+tie-break-below-block p n x y e s (suc r) h (suc t) hr he hs hx hy = sized (omega arith) (tie-break-block n x y r t (strided x t r n hx) (strided y t r n hy) (p .ballots % 2) h e s (omega arith) he hs)
 
 module _ (p : Plan) (f : Planned p) where
   grades-are : p .grades - 1 ≡ suc (p .grades - 2)
@@ -83,7 +83,7 @@ module _ (p : Plan) (f : Planned p) where
   contest-block n x y h hr hx hy =
       let d = p .grades - 1 in
       let r = p .places in
-      let l = lowerAt p n in
+      let l = tieBreakBelowAt p n in
       let z = y + p .digits in
       let some : 0 < d = omega (arith, grades-are) in
       let span = ones-span d r in
@@ -91,7 +91,7 @@ module _ (p : Plan) (f : Planned p) where
       let sm : onesLarger n z d r < l = larger-below l (leftDigit n z d) r (omega (arith, left-below n z (wordSpan p) d some (flags-end y n hy))) in
       sized (omega arith)
       (both-block (ones-block n z (x + p .digits) (wordSpan p) d r grade-fits (flags-end y n hy) (flags-end x n hx)) refl
-      (lower-block p l x y (onesDiffer n d r) (onesLarger n z d r) (p .digits) h (p .grades - 2) hr em sm (key-words x l (omega arith)) (key-words y l (omega arith))))
+      (tie-break-below-block p l x y (onesDiffer n d r) (onesLarger n z d r) (p .digits) h (p .grades - 2) hr em sm (key-words x l (omega arith)) (key-words y l (omega arith))))
 
   module _ (W : ℕ → ℕ) (b : Binary W) where
     -- the wires that say which grades the median is worse than
@@ -113,15 +113,15 @@ module _ (p : Plan) (f : Planned p) where
         strided i t r n (subst (λ (j : ℕ). i + suc (suc t) * (j + 1) ≤ n) e (subst (λ (j : ℕ). i + j * (p .digits + 1) ≤ n) (sym many) l))
 
     -- keys whose medians differ: they decide
-    lower-medians : (x y digits t n k e s : ℕ) → Leaves digits k → p .digits ≡ digits → p .grades - 2 ≡ t → x + keySpan p ≤ n → y + keySpan p ≤ n → W e ≡ 1 → Holds W n (lower p n x y e s digits k t)
-        → (W (n + lowerSpan digits t) ≡ 1) × (W (n + lowerSpan digits t + 1) ≡ W s)
-    unfolding lower lowerSpan
-    lower-medians x y zero t n k e s hr q z hx hy one h =
+    tie-break-below-medians : (x y digits t n k e s : ℕ) → Leaves digits k → p .digits ≡ digits → p .grades - 2 ≡ t → x + keySpan p ≤ n → y + keySpan p ≤ n → W e ≡ 1 → Holds W n (tieBreakBelow p n x y e s digits k t)
+        → (W (n + tieBreakBelowSpan digits t) ≡ 1) × (W (n + tieBreakBelowSpan digits t + 1) ≡ W s)
+    unfolding tieBreakBelow tieBreakBelowSpan
+    tie-break-below-medians x y zero t n k e s hr q z hx hy one h =
         let w₁ = holds-first W n (copyOf e) (copyOf s ∷ []) h ∙ copy-is W b e in
         let w₂ = holds-first W (n + 1) (copyOf s) [] (holds-rest W n (copyOf e) (copyOf s ∷ []) h) ∙ copy-is W b s in
         let at : n + 0 + 1 ≡ n + 1 = omega arith in
         (ap W (add-zero n) ∙ w₁ ∙ one, ap W at ∙ w₂)
-    lower-medians x y (suc r) zero n k e s hr q z hx hy one h =
+    tie-break-below-medians x y (suc r) zero n k e s hr q z hx hy one h =
         let m = n + compareSpan r in
         let em = unequalAt n r in
         let sm = aboveAt n x r in
@@ -131,10 +131,10 @@ module _ (p : Plan) (f : Planned p) where
         let w₁ = holds-first W m (orOf e em) (muxOf e s sm ∷ []) (o .1) ∙ or-is W b e em in
         let w₂ = holds-first W (m + 1) (muxOf e s sm) [] (holds-rest W m (orOf e em) (muxOf e s sm ∷ []) (o .1)) ∙ mux-one (W e) (W s) (W sm) one in
         (omega (arith, b em), w₂)
-    lower-medians x y (suc r) (suc t) n k e s hr q z hx hy one h =
+    tie-break-below-medians x y (suc r) (suc t) n k e s hr q z hx hy one h =
         let at : n + (resolveAt 0 r t + 14) ≡ resolveAt n r t + 14 = omega arith in
         let at′ : n + (resolveAt 0 r t + 14) + 1 ≡ resolveAt n r t + 15 = omega arith in
-        let o = outward-medians W b p r t n x y (key-bound r t n q z x hx) (key-bound r t n q z y hy) k (omega arith) e s h one in
+        let o = tie-break-medians W b p r t n x y (key-bound r t n q z x hx) (key-bound r t n q z y hy) k (omega arith) e s h one in
         (ap W at ∙ o .0, ap W at′ ∙ o .1)
 
     module _ (A C : ℕ → ℕ) (x y : ℕ) (kx : Spells W b p f x A) (ky : Spells W b p f y C) where
@@ -175,12 +175,12 @@ module _ (p : Plan) (f : Planned p) where
             first : (A C : ℕ → ℕ) → 0 < p .grades - 1 → C 0 < A 0 → p .grades - 2 ≡ 0 → Decides (p .ballots) (p .grades - 1) A C 0
             first A C d l z = record { inside = d; larger = l; worse-later = λ j h k m. absurd (omega arith); better-later = λ j h m. absurd (omega arith) }
 
-        lower-law : (digits t n k e′ s′ : ℕ) → Leaves digits k → p .digits ≡ digits → p .grades - 2 ≡ t → x + keySpan p ≤ n → y + keySpan p ≤ n → W e′ ≡ 0 → Holds W n (lower p n x y e′ s′ digits k t)
-            → Outcome (W (n + lowerSpan digits t)) (W (n + lowerSpan digits t + 1)) (p .ballots) (p .grades - 1) A C
-        unfolding lower lowerSpan
-        lower-law zero t n k e′ s′ hr e z hx hy even h =
+        tie-break-below-law : (digits t n k e′ s′ : ℕ) → Leaves digits k → p .digits ≡ digits → p .grades - 2 ≡ t → x + keySpan p ≤ n → y + keySpan p ≤ n → W e′ ≡ 0 → Holds W n (tieBreakBelow p n x y e′ s′ digits k t)
+            → Outcome (W (n + tieBreakBelowSpan digits t)) (W (n + tieBreakBelowSpan digits t + 1)) (p .ballots) (p .grades - 1) A C
+        unfolding tieBreakBelow tieBreakBelowSpan
+        tie-break-below-law zero t n k e′ s′ hr e z hx hy even h =
             inl (ap W (add-zero n) ∙ holds-first W n (copyOf e′) (copyOf s′ ∷ []) h ∙ copy-is W b e′ ∙ even, λ g l. one-ballot e g)
-        lower-law (suc r) zero n k e′ s′ hr e z hx hy even h =
+        tie-break-below-law (suc r) zero n k e′ s′ hr e z hx hy even h =
             let q = n + compareSpan r in
             let em = unequalAt n r in
             let sm = aboveAt n x r in
@@ -193,7 +193,7 @@ module _ (p : Plan) (f : Planned p) where
           where
             single-of : (r v m : ℕ) → p .grades - 2 ≡ 0 → v + keySpan p ≤ m → p .digits ≡ suc r → v + suc r ≤ m
             single-of r v m z q e = omega (arith, key-some)
-        lower-law (suc r) (suc t) n k e′ s′ hr e z hx hy even h =
+        tie-break-below-law (suc r) (suc t) n k e′ s′ hr e z hx hy even h =
             let many : suc (suc t) ≡ p .grades - 1 = omega (arith, grades-are) in
             let bound : (i : ℕ) → i + keySpan p ≤ n → i + suc (suc t) * stride r ≤ n = λ i l. key-bound r t n e z i l in
             let at : resolveAt n r t + 14 ≡ n + (resolveAt 0 r t + 14) = omega arith in
@@ -201,7 +201,7 @@ module _ (p : Plan) (f : Planned p) where
             subst (λ (i : ℕ). Outcome (W (n + (resolveAt 0 r t + 14))) (W i) (p .ballots) (p .grades - 1) A C) at′
             (subst (λ (i : ℕ). Outcome (W i) (W (resolveAt n r t + 15)) (p .ballots) (p .grades - 1) A C) at
             (subst (λ (i : ℕ). Outcome (W (resolveAt n r t + 14)) (W (resolveAt n r t + 15)) (p .ballots) i A C) many
-            (outward-law W b p f r t e z A C median a c n x y (bound x hx) (bound y hy) kx ky k (omega arith) e′ s′ even h)))
+            (tie-break-law W b p f r t e z A C median a c n x y (bound x hx) (bound y hy) kx ky k (omega arith) e′ s′ even h)))
 
       -- a better median comes first
       ahead : (A C : ℕ → ℕ) (i j : ℕ) → Sums (p .ballots) (p .grades) A i → Sums (p .ballots) (p .grades) C j → i < j → Ahead (p .ballots) (p .grades - 1) A C
@@ -224,19 +224,19 @@ module _ (p : Plan) (f : Planned p) where
       contest-law i j n k hr a c hx hy h =
           let d = p .grades - 1 in
           let r = p .places in
-          let l = lowerAt p n in
+          let l = tieBreakBelowAt p n in
           let z = y + p .digits in
           let em = onesDiffer n d r in
           let sm = onesLarger n z d r in
           let medians = compareOnes n z (x + p .digits) (wordSpan p) d r in
-          let o = cut2 W n medians (lower p l x y em sm (p .digits) k (p .grades - 2)) l
+          let o = cut2 W n medians (tieBreakBelow p l x y em sm (p .digits) k (p .grades - 2)) l
           (omega (arith, ones-block n z (x + p .digits) (wordSpan p) d r grade-fits (flags-end y n hy) (flags-end x n hx) .long)) h in
           let t = ones-law W b n z (x + p .digits) (wordSpan p) d r j i grade-fits (flags-end y n hy) (flags-end x n hx) (unary y j C c ky) (unary x i A a kx) (o .0) in
           let decide : W em ≡ 1 → (W (resultAt p n) ≡ 1) × (W (resultAt p n + 1) ≡ W sm) =
-          λ z. lower-medians x y (p .digits) (p .grades - 2) l k em sm hr refl refl (omega arith) (omega arith) z (o .1) in
+          λ z. tie-break-below-medians x y (p .digits) (p .grades - 2) l k em sm hr refl refl (omega arith) (omega arith) z (o .1) in
           ⊎-elim
           (λ (q : i ≡ j).
-          lower-law i a (subst (λ (u : ℕ). Sums (p .ballots) (p .grades) C u) (sym q) c) (p .digits) (p .grades - 2) l k em sm hr refl refl (omega arith) (omega arith) (t .same (sym q)) (o .1))
+          tie-break-below-law i a (subst (λ (u : ℕ). Sums (p .ballots) (p .grades) C u) (sym q) c) (p .digits) (p .grades - 2) l k em sm hr refl refl (omega arith) (omega arith) (t .same (sym q)) (o .1))
           (⊎-elim
           (λ (q : j < i). let u = t .under q in let v = decide (u .0) in inr (inr (v .0, v .1 ∙ u .1, ahead C A j i c a q)))
           (λ (q : i < j). let u = t .over q in let v = decide (u .0) in inr (inl (v .0, v .1 ∙ u .1, ahead A C i j a c q))))

@@ -16,7 +16,7 @@ use Rattle.graded_circuit.specs.Plan.{Planned}
 use Rattle.graded_circuit.specs.Key.{candidate, keySpan, candidateSpan}
 use Rattle.graded_circuit.specs.Contest.{resultAt}
 use Rattle.graded_circuit.specs.Merge.{merge, mergeSpan, wonAt}
-use Rattle.graded_circuit.specs.OwnList.{candidates, keyAt, levelsSpan, bestKey, groupWon, otherAt, mergeAt, halvesMerge, halvesBetter, levels, levelsAt}
+use Rattle.graded_circuit.specs.OwnList.{candidates, keyAt, levelsSpan, bestKey, winnerFlags, otherAt, mergeAt, halvesMerge, halvesBetter, levels, levelsAt}
 use Rattle.graded_circuit.proofs.Blocks.{Block, none-block, both-block, sized}
 use Rattle.graded_circuit.proofs.Cutting.{cut2, cut4}
 use Rattle.graded_circuit.proofs.CandidateBlocks.{candidate-block, key-of}
@@ -42,8 +42,8 @@ module _ (p : Plan) (r m : ℕ) where
     unfolding bestKey
     key-more h = rw (lt-leb m 1 h)
 
-    pub won-more : 1 < m → groupWon p (suc r) n m ≡ wonAt p (mergeAt p r n m)
-    unfolding groupWon
+    pub won-more : 1 < m → winnerFlags p (suc r) n m ≡ wonAt p (mergeAt p r n m)
+    unfolding winnerFlags
     won-more h = rw (lt-leb m 1 h)
 
     pub levels-one : m ≤ 1 → levels p (suc r) n c m ≡ []
@@ -79,7 +79,7 @@ module _ (p : Plan) (f : Planned p) where
       (λ (l : m ≤ 1). omega (arith, key-one p r m n c l, span-one p r m l, key-before c (omega arith)))
       (below-or-not 1 m)
 
-  pub won-place : (r n m : ℕ) → m ≤ 2 ^ r → 1 < m → groupWon p r n m + m ≤ n + levelsSpan p r m
+  pub won-place : (r n m : ℕ) → m ≤ 2 ^ r → 1 < m → winnerFlags p r n m + m ≤ n + levelsSpan p r m
   won-place zero n m h l = absurd (omega arith)
   won-place (suc r) n m h l = omega (arith, won-more p r m n 0 l, span-more p r m l)
 
@@ -90,7 +90,7 @@ module _ (p : Plan) (f : Planned p) where
       let other = otherAt p r n m in
       let first = key-place r n c (m / 2) h (q .0) (omega arith) in
       let second = key-place r other (c + m / 2) (m - m / 2) (omega arith) (q .2) (omega arith) in
-      merge-block p f (mergeAt p r n m) (bestKey p r n c (m / 2)) (bestKey p r other (c + m / 2) (m - m / 2)) (groupWon p r n (m / 2)) (groupWon p r other (m - m / 2)) (m / 2) (m - m / 2)
+      merge-block p f (mergeAt p r n m) (bestKey p r n c (m / 2)) (bestKey p r other (c + m / 2) (m - m / 2)) (winnerFlags p r n (m / 2)) (winnerFlags p r other (m - m / 2)) (m / 2) (m - m / 2)
       (omega arith) (omega arith) (λ k. let z = won-place r n (m / 2) (q .1) k in omega arith) (λ k. let z = won-place r other (m - m / 2) (q .3) k in omega arith)
 
   pub halves-better-block : (r n c m : ℕ) → levelsAt p ≤ n → 1 < m → m ≤ 2 ^ suc r → c + m ≤ p .candidates
@@ -154,8 +154,8 @@ module _ (p : Plan) (f : Planned p) (S : ℕ → ℕ → ℕ) (Before : ℕ → 
 
   -- two halves that are known are merged
   pub halves-law : (r n c m : ℕ) → levelsAt p ≤ n → 1 < m → m ≤ 2 ^ suc r → c + m ≤ p .candidates
-      → Group p f S Before rule W b c (m / 2) (bestKey p r n c (m / 2)) (groupWon p r n (m / 2))
-      → Group p f S Before rule W b (c + m / 2) (m - m / 2) (bestKey p r (otherAt p r n m) (c + m / 2) (m - m / 2)) (groupWon p r (otherAt p r n m) (m - m / 2))
+      → Group p f S Before rule W b c (m / 2) (bestKey p r n c (m / 2)) (winnerFlags p r n (m / 2))
+      → Group p f S Before rule W b (c + m / 2) (m - m / 2) (bestKey p r (otherAt p r n m) (c + m / 2) (m - m / 2)) (winnerFlags p r (otherAt p r n m) (m - m / 2))
       → Holds W (mergeAt p r n m) (halvesMerge p r n c m)
       → Joined p f S Before rule W b c (m / 2) (m - m / 2) (resultAt p (mergeAt p r n m)) (bestKey p r n c (m / 2)) (bestKey p r (otherAt p r n m) (c + m / 2) (m - m / 2)) (wonAt p (mergeAt p r n m))
   unfolding halvesMerge
@@ -164,7 +164,7 @@ module _ (p : Plan) (f : Planned p) (S : ℕ → ℕ → ℕ) (Before : ℕ → 
       let other = otherAt p r n m in
       let first = key-place p f r n c (m / 2) h (q .0) (omega arith) in
       let second = key-place p f r other (c + m / 2) (m - m / 2) (omega arith) (q .2) (omega arith) in
-      merge-law p f S Before rule W b medians sums (mergeAt p r n m) c (bestKey p r n c (m / 2)) (bestKey p r other (c + m / 2) (m - m / 2)) (groupWon p r n (m / 2)) (groupWon p r other (m - m / 2)) (m / 2) (m - m / 2)
+      merge-law p f S Before rule W b medians sums (mergeAt p r n m) c (bestKey p r n c (m / 2)) (bestKey p r other (c + m / 2) (m - m / 2)) (winnerFlags p r n (m / 2)) (winnerFlags p r other (m - m / 2)) (m / 2) (m - m / 2)
       (omega arith) (omega arith) (omega arith) (λ k. let z = won-place p f r n (m / 2) (q .1) k in omega arith) (λ k. let z = won-place p f r other (m - m / 2) (q .3) k in omega arith) one two w
 
   -- the key that is kept
@@ -181,8 +181,8 @@ module _ (p : Plan) (f : Planned p) (S : ℕ → ℕ → ℕ) (Before : ℕ → 
       choice
 
   pub levels-law : (r n c m : ℕ) → levelsAt p ≤ n → 0 < m → m ≤ 2 ^ r → c + m ≤ p .candidates → Holds W n (levels p r n c m)
-      → Group p f S Before rule W b c m (bestKey p r n c m) (groupWon p r n m)
-  levels-law zero n c m h hm hr hc w = unfold bestKey in (alone c m (keyAt p c) (groupWon p 0 n m) (omega arith) hc (keys c (omega arith)))
+      → Group p f S Before rule W b c m (bestKey p r n c m) (winnerFlags p r n m)
+  levels-law zero n c m h hm hr hc w = unfold bestKey in (alone c m (keyAt p c) (winnerFlags p 0 n m) (omega arith) hc (keys c (omega arith)))
   levels-law (suc r) n c m h hm hr hc w = ⊎-elim
       (λ (l : 1 < m).
       let q = halves r m l hr in
@@ -208,8 +208,8 @@ module _ (p : Plan) (f : Planned p) (S : ℕ → ℕ → ℕ) (Before : ℕ → 
         most = omega (arith, j .most);
         spells = subst (λ (i : ℕ). Spells W b p f i (S (j .best))) key spells;
         standing = λ i z.
-            subst (λ (u : ℕ). Standing p f S Before rule u (c + i) (j .best)) (ap (λ (u : ℕ). W (u + i)) (sym (won-more p r m n c l)) ∙ sym (won-bit W (groupWon p (suc r) n m) m i l))
+            subst (λ (u : ℕ). Standing p f S Before rule u (c + i) (j .best)) (ap (λ (u : ℕ). W (u + i)) (sym (won-more p r m n c l)) ∙ sym (won-bit W (winnerFlags p (suc r) n m) m i l))
             (j .standing i (omega arith));
       })
-      (λ (l : m ≤ 1). alone c m (bestKey p (suc r) n c m) (groupWon p (suc r) n m) (omega arith) hc (subst (λ (i : ℕ). Spells W b p f i (S c)) (sym (key-one p r m n c l)) (keys c (omega arith))))
+      (λ (l : m ≤ 1). alone c m (bestKey p (suc r) n c m) (winnerFlags p (suc r) n m) (omega arith) hc (subst (λ (i : ℕ). Spells W b p f i (S c)) (sym (key-one p r m n c l)) (keys c (omega arith))))
       (below-or-not 1 m)

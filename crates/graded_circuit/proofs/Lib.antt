@@ -8,8 +8,8 @@ pub mod CandidateBlocks
 pub mod SumLaws
 pub mod Near
 pub mod NearestLaws
-pub mod OutwardBlocks
-pub mod OutwardLaws
+pub mod TieBreakBlocks
+pub mod TieBreakLaws
 pub mod ContestLaws
 pub mod MergeLaws
 pub mod LevelsLaws

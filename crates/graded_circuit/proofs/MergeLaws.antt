@@ -20,11 +20,11 @@ use Rattle.graded_circuit.specs.Plan.{Planned}
 use Rattle.graded_circuit.specs.RunningSums.{wordSpan}
 use Rattle.graded_circuit.specs.Key.{keySpan, lowAt}
 use Rattle.graded_circuit.specs.Contest.{contest, resultAt}
-use Rattle.graded_circuit.specs.Merge.{bothOf, stillWon, verdict, highDigits, leftStays, rightStays, wonAt, merge, mergeSpan, better}
+use Rattle.graded_circuit.specs.Merge.{andAll, keepWinners, selectFlags, highDigits, leftStays, rightStays, wonAt, merge, mergeSpan, better}
 use Rattle.graded_circuit.proofs.Blocks.{Block, none-block, both-block, gate-block, choose-block}
 use Rattle.graded_circuit.proofs.Cutting.{cut4}
 use Rattle.graded_circuit.proofs.SumLaws.{Sums, Spells}
-use Rattle.graded_circuit.proofs.OutwardLaws.{Ahead, Outcome}
+use Rattle.graded_circuit.proofs.TieBreakLaws.{Ahead, Outcome}
 use Rattle.graded_circuit.proofs.ContestLaws.{Leaves, contest-block, contest-law}
 use Rattle.basics.proofs.Arithmetic.{bit-cases}
 use Rattle.gate_words.proofs.PointsBack.{good-copy}
@@ -32,20 +32,20 @@ use Rattle.gate_words.proofs.PointsBack.{good-not}
 use Rattle.gate_words.proofs.PointsBack.{good-and}
 use Rattle.gate_words.proofs.PointsBack.{good-xor}
 
-pub both-of-block : (n at stays m : ℕ) → at + m ≤ n → stays < n → Block n (bothOf at stays m) m
-unfolding bothOf
-both-of-block n at stays zero h s = none-block n
-both-of-block n at stays (suc m) h s = gate-block (good-and n at stays (omega arith) s) (both-of-block (suc n) (at + 1) stays m (omega arith) (omega arith))
+pub and-all-block : (n at stays m : ℕ) → at + m ≤ n → stays < n → Block n (andAll at stays m) m
+unfolding andAll
+and-all-block n at stays zero h s = none-block n
+and-all-block n at stays (suc m) h s = gate-block (good-and n at stays (omega arith) s) (and-all-block (suc n) (at + 1) stays m (omega arith) (omega arith))
 
-pub still-won-block : (n at stays m : ℕ) → (1 < m → at + m ≤ n) → stays < n → Block n (stillWon at stays m) m
-unfolding stillWon
-still-won-block n at stays zero h s = none-block n
-still-won-block n at stays (suc zero) h s = gate-block (good-copy n stays s) (none-block (suc n))
-still-won-block n at stays (suc (suc m)) h s = both-of-block n at stays (suc (suc m)) (h (omega arith)) s
+pub keep-winners-block : (n at stays m : ℕ) → (1 < m → at + m ≤ n) → stays < n → Block n (keepWinners at stays m) m
+unfolding keepWinners
+keep-winners-block n at stays zero h s = none-block n
+keep-winners-block n at stays (suc zero) h s = gate-block (good-copy n stays s) (none-block (suc n))
+keep-winners-block n at stays (suc (suc m)) h s = and-all-block n at stays (suc (suc m)) (h (omega arith)) s
 
-pub verdict-block : (q : ℕ) → Block (q + 2) (verdict q) 4
-unfolding verdict
-verdict-block q =
+pub select-flags-block : (q : ℕ) → Block (q + 2) (selectFlags q) 4
+unfolding selectFlags
+select-flags-block q =
     gate-block (good-and (q + 2) q (q + 1) (omega arith) (omega arith))
     (gate-block (good-xor (suc (q + 2)) q (q + 2) (omega arith) (omega arith))
     (gate-block (good-not (suc (suc (q + 2))) (q + 3) (omega arith))
@@ -65,9 +65,9 @@ module _ (p : Plan) (f : Planned p) where
   merge-block n x y u v l m hx hy hu hv =
       let q = resultAt p n in
       both-block (both-block (both-block (contest-block p f n x y (highDigits p (l + m)) (high-leaves p (l + m)) hx hy) (omega arith)
-      (verdict-block q)) (omega arith)
-      (still-won-block (q + 6) u (leftStays p n) l (λ k. let h = hu k in omega arith) (omega arith))) (omega arith)
-      (still-won-block (q + 6 + l) v (rightStays p n) m (λ k. let h = hv k in omega arith) (omega arith))
+      (select-flags-block q)) (omega arith)
+      (keep-winners-block (q + 6) u (leftStays p n) l (λ k. let h = hu k in omega arith) (omega arith))) (omega arith)
+      (keep-winners-block (q + 6 + l) v (rightStays p n) m (λ k. let h = hv k in omega arith) (omega arith))
 
   pub better-block : (at n x y : ℕ) → resultAt p n + 1 < at → x + keySpan p ≤ at → y + keySpan p ≤ at → Block at (better p n x y) (keySpan p)
   unfolding better
@@ -90,27 +90,27 @@ unfolding wonBit
 won-alone W at i = refl
 
 module _ (W : ℕ → ℕ) (b : Binary W) where
-  both-of-law : (n at stays m i : ℕ) → i < m → Holds W n (bothOf at stays m) → W (n + i) ≡ min (W (at + i)) (W stays)
-  unfolding bothOf
-  both-of-law n at stays zero i l h = absurd (omega arith)
-  both-of-law n at stays (suc m) zero l h = rw (add-zero n, add-zero at) (holds-first W n (andOf at stays) (bothOf (at + 1) stays m) h ∙ and-is W b at stays)
-  both-of-law n at stays (suc m) (suc i) l h =
+  and-all-law : (n at stays m i : ℕ) → i < m → Holds W n (andAll at stays m) → W (n + i) ≡ min (W (at + i)) (W stays)
+  unfolding andAll
+  and-all-law n at stays zero i l h = absurd (omega arith)
+  and-all-law n at stays (suc m) zero l h = rw (add-zero n, add-zero at) (holds-first W n (andOf at stays) (andAll (at + 1) stays m) h ∙ and-is W b at stays)
+  and-all-law n at stays (suc m) (suc i) l h =
       let p : n + suc i ≡ n + 1 + i = omega arith in
       let q : at + suc i ≡ at + 1 + i = omega arith in
-      rw (p, q) (both-of-law (n + 1) (at + 1) stays m i (omega arith) (holds-rest W n (andOf at stays) (bothOf (at + 1) stays m) h))
+      rw (p, q) (and-all-law (n + 1) (at + 1) stays m i (omega arith) (holds-rest W n (andOf at stays) (andAll (at + 1) stays m) h))
 
-  still-won-law : (n at stays m i : ℕ) → i < m → Holds W n (stillWon at stays m) → W (n + i) ≡ min (wonBit W at m i) (W stays)
-  unfolding stillWon wonBit
-  still-won-law n at stays zero i l h = absurd (omega arith)
-  still-won-law n at stays (suc zero) zero l h = omega (arith, ap W (add-zero n), holds-first W n (copyOf stays) [] h ∙ copy-is W b stays, b stays)
-  still-won-law n at stays (suc zero) (suc i) l h = absurd (omega arith)
-  still-won-law n at stays (suc (suc m)) i l h = both-of-law n at stays (suc (suc m)) i l h
+  keep-winners-law : (n at stays m i : ℕ) → i < m → Holds W n (keepWinners at stays m) → W (n + i) ≡ min (wonBit W at m i) (W stays)
+  unfolding keepWinners wonBit
+  keep-winners-law n at stays zero i l h = absurd (omega arith)
+  keep-winners-law n at stays (suc zero) zero l h = omega (arith, ap W (add-zero n), holds-first W n (copyOf stays) [] h ∙ copy-is W b stays, b stays)
+  keep-winners-law n at stays (suc zero) (suc i) l h = absurd (omega arith)
+  keep-winners-law n at stays (suc (suc m)) i l h = and-all-law n at stays (suc (suc m)) i l h
 
-  -- what a contest's verdict is: x first, y first, x's group stays, y's group stays
-  verdict-law : (q : ℕ) → Holds W (q + 2) (verdict q)
+  -- what follows a contest: x first, y first, x's group stays, y's group stays
+  select-flags-law : (q : ℕ) → Holds W (q + 2) (selectFlags q)
       → (W (q + 2) ≡ min (W q) (W (q + 1))) × (W (q + 3) ≡ (W q + W (q + 2)) % 2) × (W (q + 4) ≡ 1 - W (q + 3)) × (W (q + 5) ≡ 1 - W (q + 2))
-  unfolding verdict
-  verdict-law q h =
+  unfolding selectFlags
+  select-flags-law q h =
       let g = holds-three W (q + 2) (andOf q (q + 1)) (xorOf q (q + 2)) (notOf (q + 3)) (notOf (q + 2) ∷ []) h in
       let p₁ : q + 2 + 1 ≡ q + 3 = omega arith in
       let p₂ : q + 2 + 2 ≡ q + 4 = omega arith in
@@ -219,9 +219,9 @@ module _ (p : Plan) (f : Planned p) (S : ℕ → ℕ → ℕ) (Before : ℕ → 
       left : Standing (W (q + 4)) l best
       right : Standing (W (q + 5)) r best
 
-    met : (q l r : ℕ) → l < p .candidates → r < p .candidates → Holds W (q + 2) (verdict q) → Outcome (W q) (W (q + 1)) (p .ballots) (p .grades - 1) (S l) (S r) → Met q l r
+    met : (q l r : ℕ) → l < p .candidates → r < p .candidates → Holds W (q + 2) (selectFlags q) → Outcome (W q) (W (q + 1)) (p .ballots) (p .grades - 1) (S l) (S r) → Met q l r
     met q l r hl hr h o =
-        let v = verdict-law W b q h in
+        let v = select-flags-law W b q h in
         let v₂ = v .0 in
         let v₃ = v .1 in
         let v₄ = v .2 in
@@ -256,7 +256,7 @@ module _ (p : Plan) (f : Planned p) (S : ℕ → ℕ → ℕ) (Before : ℕ → 
       pub standing : (i : ℕ) → i < l + m → Standing (W (won + i)) (c + i) best
 
     joined : (n c x y u v l m : ℕ) → c + (l + m) ≤ p .candidates → (a : Group c l x u) (d : Group (c + l) m y v) → Met (resultAt p n) (a .best) (d .best)
-        → Holds W (resultAt p n + 6) (stillWon u (leftStays p n) l) → Holds W (resultAt p n + 6 + l) (stillWon v (rightStays p n) m) → Joined c l m (resultAt p n) x y (wonAt p n)
+        → Holds W (resultAt p n + 6) (keepWinners u (leftStays p n) l) → Holds W (resultAt p n + 6 + l) (keepWinners v (rightStays p n) m) → Joined c l m (resultAt p n) x y (wonAt p n)
     joined n c x y u v l m inside a d t one two =
         record {
           best = t .best;
@@ -277,7 +277,7 @@ module _ (p : Plan) (f : Planned p) (S : ℕ → ℕ → ℕ) (Before : ℕ → 
 
         first : (g : ℕ) → g < l → Standing (W (wonAt p n + g)) (c + g) (t .best)
         first g k =
-            subst (λ (w : ℕ). Standing w (c + g) (t .best)) (sym (still-won-law W b (resultAt p n + 6) u (leftStays p n) l g k one))
+            subst (λ (w : ℕ). Standing w (c + g) (t .best)) (sym (keep-winners-law W b (resultAt p n + 6) u (leftStays p n) l g k one))
             (next-standing (wonBit W u l g) (W (leftStays p n)) (c + g) (a .best) (t .best) (omega arith) (omega (arith, a .most)) (omega (arith, within .1)) (a .standing g k) (t .left))
 
         second : (g : ℕ) → l ≤ g → g < l + m → Standing (W (wonAt p n + g)) (c + g) (t .best)
@@ -285,7 +285,7 @@ module _ (p : Plan) (f : Planned p) (S : ℕ → ℕ → ℕ) (Before : ℕ → 
             let at : resultAt p n + 6 + l + (g - l) ≡ wonAt p n + g = omega arith in
             let who : c + l + (g - l) ≡ c + g = omega arith in
             subst (λ (w : ℕ). Standing (W (wonAt p n + g)) w (t .best)) who
-            (subst (λ (w : ℕ). Standing w (c + l + (g - l)) (t .best)) (sym (still-won-law W b (resultAt p n + 6 + l) v (rightStays p n) m (g - l) (omega arith) two) ∙ ap W at)
+            (subst (λ (w : ℕ). Standing w (c + l + (g - l)) (t .best)) (sym (keep-winners-law W b (resultAt p n + 6 + l) v (rightStays p n) m (g - l) (omega arith) two) ∙ ap W at)
             (next-standing (wonBit W v m (g - l)) (W (rightStays p n)) (c + l + (g - l)) (d .best) (t .best) (omega arith) (omega (arith, d .most)) (omega (arith, within .1)) (d .standing (g - l) (omega arith)) (t .right)))
 
     pub merge-law : (medians : ℕ → ℕ) → ((i : ℕ) → i < p .candidates → Sums (p .ballots) (p .grades) (S i) (medians i))
@@ -294,9 +294,9 @@ module _ (p : Plan) (f : Planned p) (S : ℕ → ℕ → ℕ) (Before : ℕ → 
     unfolding merge
     merge-law medians sums n c x y u v l m inside hx hy hu hv a d h =
         let q = resultAt p n in
-        let o = cut4 W n (contest p n x y (highDigits p (l + m))) (verdict q) (stillWon u (leftStays p n) l) (stillWon v (rightStays p n) m) (q + 2) (q + 6) (q + 6 + l)
-        (omega (arith, contest-block p f n x y (highDigits p (l + m)) (high-leaves p (l + m)) hx hy .long)) (omega (arith, verdict-block q .long))
-        (omega (arith, still-won-block (q + 6) u (leftStays p n) l (λ k. let z = hu k in omega arith) (omega arith) .long)) h in
+        let o = cut4 W n (contest p n x y (highDigits p (l + m))) (selectFlags q) (keepWinners u (leftStays p n) l) (keepWinners v (rightStays p n) m) (q + 2) (q + 6) (q + 6 + l)
+        (omega (arith, contest-block p f n x y (highDigits p (l + m)) (high-leaves p (l + m)) hx hy .long)) (omega (arith, select-flags-block q .long))
+        (omega (arith, keep-winners-block (q + 6) u (leftStays p n) l (λ k. let z = hu k in omega arith) (omega arith) .long)) h in
         let hi : a .best < p .candidates = omega (arith, a .most) in
         let hj : d .best < p .candidates = omega (arith, d .most) in
         joined n c x y u v l m inside a d

@@ -17,7 +17,7 @@ use Rattle.gate_words.proofs.ChoiceSteps.{length-choose}
 use Rattle.gate_words.proofs.ChoiceLaws.{choose-one, choose-zero}
 use Rattle.gate_words.proofs.Ends.{chain-below}
 use Rattle.gate_words.specs.Halves.{unequalCut, unequalSpan, unequalAt}
-use Rattle.graded_circuit.specs.Nearest.{stride, side, sideSpan, belowAt, fromAt, sides, either, eitherSpan, lastOf, firstOf, leftEnd, rightEnd}
+use Rattle.graded_circuit.specs.Nearest.{stride, sideFlags, sideSpan, belowAt, fromAt, sides, either, eitherSpan, lastOf, firstOf, leftEnd, rightEnd}
 use Rattle.graded_circuit.proofs.Blocks.{Block, none-block, both-block, sized, gate-block, choose-block, unequal-block}
 use Rattle.gate_words.proofs.HalvesLaws.{length-unequal-cut, unequal-cut-zero, unequal-cut-one}
 use Rattle.graded_circuit.proofs.Cutting.{cut2}
@@ -26,9 +26,9 @@ use Rattle.basics.proofs.Arithmetic.{next-place}
 use Rattle.gate_words.proofs.PointsBack.{good-and}
 use Rattle.gate_words.proofs.PointsBack.{good-xor}
 
-pub side-block : (n x y r h : ℕ) → h ≤ r → x + suc (suc r) ≤ n → y + suc r ≤ n → Block n (side n x y r h) (sideSpan r)
-unfolding side
-side-block n x y r h hr hx hy =
+pub side-flags-block : (n x y r h : ℕ) → h ≤ r → x + suc (suc r) ≤ n → y + suc r ≤ n → Block n (sideFlags n x y r h) (sideSpan r)
+unfolding sideFlags
+side-flags-block n x y r h hr hx hy =
     let q = n + unequalSpan r in
     let e = chain-below (n + suc r) n r q (omega arith) (omega arith) in
     both-block (unequal-block n x y r h hr (omega arith) (omega arith)) refl
@@ -41,7 +41,7 @@ sides-block n x y r h zero hr hx hy = sized (sym (zero-mul (sideSpan r))) (none-
 sides-block n x y r h (suc t) hr hx hy =
     let e = suc-mul t (stride r) in
     sized (omega (arith, suc-mul t (sideSpan r)))
-    (both-block (side-block n x y r h hr (omega arith) (omega arith)) refl (sides-block (n + sideSpan r) (x + stride r) (y + stride r) r h t hr (omega arith) (omega arith)))
+    (both-block (side-flags-block n x y r h hr (omega arith) (omega arith)) refl (sides-block (n + sideSpan r) (x + stride r) (y + stride r) r h t hr (omega arith) (omega arith)))
 
 pub either-block : (n f x y u v r : ℕ) → f < n → x + suc r ≤ n → y + suc r ≤ n → u + suc r ≤ n → v + suc r ≤ n → Block n (either f x y u v r) (eitherSpan r)
 unfolding either
@@ -129,9 +129,9 @@ module _ (W : ℕ → ℕ) (b : Binary W) where
     pub from-one : W (fromAt n r) ≡ 1 → (spelled r x ≢ spelled r y) × (W (x + suc r) ≡ 0)
     pub from-zero : W (fromAt n r) ≡ 0 → W (x + suc r) ≡ 0 → spelled r x ≡ spelled r y
 
-  side-law : (n x y r k : ℕ) → k ≤ r → Holds W n (side n x y r k) → Side n x y r
-  unfolding side
-  side-law n x y r k hr h =
+  side-flags-law : (n x y r k : ℕ) → k ≤ r → Holds W n (sideFlags n x y r k) → Side n x y r
+  unfolding sideFlags
+  side-flags-law n x y r k hr h =
       let q = n + unequalSpan r in
       let e = unequalAt n r in
       let f = x + suc r in
@@ -156,11 +156,11 @@ module _ (W : ℕ → ℕ) (b : Binary W) where
   sides-law n x y r k zero hr hx hy h i l = absurd (omega arith)
   sides-law n x y r k (suc t) hr hx hy h zero l =
       let e = suc-mul t (stride r) in
-      let c = cut2 W n (side n x y r k) (sides (n + sideSpan r) (x + stride r) (y + stride r) r k t) (n + sideSpan r) (omega (arith, side-block n x y r k hr (omega arith) (omega arith) .long)) h in
-      rw (first-place n (sideSpan r), first-place x (stride r), first-place y (stride r)) (side-law n x y r k hr (c .0))
+      let c = cut2 W n (sideFlags n x y r k) (sides (n + sideSpan r) (x + stride r) (y + stride r) r k t) (n + sideSpan r) (omega (arith, side-flags-block n x y r k hr (omega arith) (omega arith) .long)) h in
+      rw (first-place n (sideSpan r), first-place x (stride r), first-place y (stride r)) (side-flags-law n x y r k hr (c .0))
   sides-law n x y r k (suc t) hr hx hy h (suc i) l =
       let e = suc-mul t (stride r) in
-      let c = cut2 W n (side n x y r k) (sides (n + sideSpan r) (x + stride r) (y + stride r) r k t) (n + sideSpan r) (omega (arith, side-block n x y r k hr (omega arith) (omega arith) .long)) h in
+      let c = cut2 W n (sideFlags n x y r k) (sides (n + sideSpan r) (x + stride r) (y + stride r) r k t) (n + sideSpan r) (omega (arith, side-flags-block n x y r k hr (omega arith) (omega arith) .long)) h in
       rw (← next-place n (sideSpan r) i, ← next-place x (stride r) i, ← next-place y (stride r) i)
       (sides-law (n + sideSpan r) (x + stride r) (y + stride r) r k t hr (omega arith) (omega arith) (c .1) i (omega arith))
 

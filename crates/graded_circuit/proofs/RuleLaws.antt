@@ -18,7 +18,7 @@ use Rattle.rule_judgment.proofs.Statements.{running, Precedes}
 use Rattle.rule_judgment.proofs.Order.{precedes-trans}
 use Rattle.rule_judgment.proofs.SumRule.{sum-rule}
 use Rattle.graded_circuit.proofs.SumLaws.{Sums}
-use Rattle.graded_circuit.proofs.OutwardLaws.{Ahead}
+use Rattle.graded_circuit.proofs.TieBreakLaws.{Ahead}
 use Rattle.graded_circuit.proofs.MergeLaws.{Same, Rule}
 
 -- a row of d counts of n grades

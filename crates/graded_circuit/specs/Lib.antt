@@ -3,7 +3,7 @@ pub mod RunningSums
 pub mod Key
 pub mod Median
 pub mod Nearest
-pub mod Outward
+pub mod TieBreak
 pub mod Contest
 pub mod Merge
 pub mod OwnList

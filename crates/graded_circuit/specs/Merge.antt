@@ -13,17 +13,17 @@ use Rattle.graded_circuit.specs.Contest.{contest, contestSpan, resultAt}
 
 -- Who of a group's m candidates, whose wires stand at `at`, stays if the wire `stays` says that the group does. A
 -- group of one has no wires.
-unfoldable pub bothOf : ℕ → ℕ → ℕ → List Gate
-bothOf at stays zero = []
-bothOf at stays (suc m) = andOf at stays ∷ bothOf (at + 1) stays m
+unfoldable pub andAll : ℕ → ℕ → ℕ → List Gate
+andAll at stays zero = []
+andAll at stays (suc m) = andOf at stays ∷ andAll (at + 1) stays m
 
-unfoldable pub stillWon : ℕ → ℕ → ℕ → List Gate
-stillWon at stays zero = []
-stillWon at stays (suc zero) = copyOf stays ∷ []
-stillWon at stays (suc (suc m)) = bothOf at stays (suc (suc m))
+unfoldable pub keepWinners : ℕ → ℕ → ℕ → List Gate
+keepWinners at stays zero = []
+keepWinners at stays (suc zero) = copyOf stays ∷ []
+keepWinners at stays (suc (suc m)) = andAll at stays (suc (suc m))
 
-unfoldable pub verdict : ℕ → List Gate
-verdict q = andOf q (q + 1) ∷ xorOf q (q + 2) ∷ notOf (q + 3) ∷ notOf (q + 2) ∷ []
+unfoldable pub selectFlags : ℕ → List Gate
+selectFlags q = andOf q (q + 1) ∷ xorOf q (q + 2) ∷ notOf (q + 3) ∷ notOf (q + 2) ∷ []
 
 abbrev pub leftStays : Plan → ℕ → ℕ
 leftStays p n = resultAt p n + 4
@@ -44,9 +44,9 @@ highDigits p both = cond (leb both 2) 0 (p .digits / 2)
 unfoldable pub merge : Plan → ℕ → ℕ → ℕ → ℕ → ℕ → ℕ → ℕ → List Gate
 merge p n x y u v l m =
     contest p n x y (highDigits p (l + m))
-    ++ verdict (resultAt p n)
-    ++ stillWon u (leftStays p n) l
-    ++ stillWon v (rightStays p n) m
+    ++ selectFlags (resultAt p n)
+    ++ keepWinners u (leftStays p n) l
+    ++ keepWinners v (rightStays p n) m
 
 abbrev pub mergeSpan : Plan → ℕ → ℕ → ℕ
 mergeSpan p l m = contestSpan p + 4 + l + m

@@ -13,8 +13,8 @@ stride r = r + 2
 
 -- Of one grade: whether the words at x and y differ, and the median is worse, as the wire behind the word at x says;
 -- and whether they differ and it is not. The words' h highest digits are gone through by themselves.
-unfoldable pub side : ℕ → ℕ → ℕ → ℕ → ℕ → List Gate
-side n x y r h =
+unfoldable pub sideFlags : ℕ → ℕ → ℕ → ℕ → ℕ → List Gate
+sideFlags n x y r h =
     unequalCut n x y r h
     ++ (andOf (unequalAt n r) (x + suc r) ∷ xorOf (unequalAt n r) (n + unequalSpan r) ∷ [])
 
@@ -30,7 +30,7 @@ fromAt n r = n + unequalSpan r + 1
 -- Of t grades.
 unfoldable pub sides : ℕ → ℕ → ℕ → ℕ → ℕ → ℕ → List Gate
 sides n x y r h zero = []
-sides n x y r h (suc t) = side n x y r h ++ sides (n + sideSpan r) (x + stride r) (y + stride r) r h t
+sides n x y r h (suc t) = sideFlags n x y r h ++ sides (n + sideSpan r) (x + stride r) (y + stride r) r h t
 
 -- The words at x and y where wire f is 1, else those at u and v.
 unfoldable pub either : ℕ → ℕ → ℕ → ℕ → ℕ → ℕ → List Gate

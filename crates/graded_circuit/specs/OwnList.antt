@@ -34,9 +34,9 @@ bestKey p (suc r) n c m =
     cond (leb m 1) (keyAt p c)
     (n + levelsSpan p r (m / 2) + levelsSpan p r (m - m / 2) + mergeSpan p (m / 2) (m - m / 2))
 
-unfoldable pub groupWon : Plan → ℕ → ℕ → ℕ → ℕ
-groupWon p zero n m = 0
-groupWon p (suc r) n m = cond (leb m 1) 0 (wonAt p (n + levelsSpan p r (m / 2) + levelsSpan p r (m - m / 2)))
+unfoldable pub winnerFlags : Plan → ℕ → ℕ → ℕ → ℕ
+winnerFlags p zero n m = 0
+winnerFlags p (suc r) n m = cond (leb m 1) 0 (wonAt p (n + levelsSpan p r (m / 2) + levelsSpan p r (m - m / 2)))
 
 -- Two halves are merged: the first is written from wire n on, the other behind it, and the merge behind both.
 abbrev pub otherAt : Plan → ℕ → ℕ → ℕ → ℕ
@@ -49,7 +49,7 @@ unfoldable pub halvesMerge : Plan → ℕ → ℕ → ℕ → ℕ → List Gate
 halvesMerge p r n c m =
     merge p (mergeAt p r n m)
     (bestKey p r n c (m / 2)) (bestKey p r (otherAt p r n m) (c + m / 2) (m - m / 2))
-    (groupWon p r n (m / 2)) (groupWon p r (otherAt p r n m) (m - m / 2))
+    (winnerFlags p r n (m / 2)) (winnerFlags p r (otherAt p r n m) (m - m / 2))
     (m / 2) (m - m / 2)
 
 unfoldable pub halvesBetter : Plan → ℕ → ℕ → ℕ → ℕ → List Gate

@@ -1,5 +1,5 @@
 // The contest of two keys.
-use crate::outward::outward;
+use crate::tie_break::tie_break;
 use gate_words::halves::above_at;
 use gate_words::halves::unequal_at;
 use gate_words::writer::Writer;
@@ -15,7 +15,7 @@ ghost use Rattle.gate_words.specs.Halves.{unequalAt, compareCut, aboveAt};
 ghost use Rattle.gate_words.specs.Writing.{Room, Wrote};
 ghost use Rattle.graded_circuit.specs.RunningSums.{wordSpan};
 ghost use Rattle.graded_circuit.specs.Median.{compareOnes};
-ghost use Rattle.graded_circuit.specs.Contest.{lower, lowerSpan, contest, contestSpan};
+ghost use Rattle.graded_circuit.specs.Contest.{tieBreakBelow, tieBreakBelowSpan, contest, contestSpan};
 ghost use Rattle.graded_contest.specs.inner.Ready.{KeysReady, MediansReady, SumReady};
 
 // What the medians say, as it is.
@@ -52,10 +52,20 @@ fn one_sum(
 }
 
 // What the medians, by wires e and s, and the sums say.
-fn lower(w: Writer, table: &mut [u32], p: Plan, x: u32, y: u32, e: u32, s: u32, high: u32) -> Writer
-    requires { ⌜ KeysReady w (lowerSpan (p .digits) (p .grades - 2) + 2) p x y high ⌝ }
+fn tie_break_below(
+    w: Writer,
+    table: &mut [u32],
+    p: Plan,
+    x: u32,
+    y: u32,
+    e: u32,
+    s: u32,
+    high: u32,
+) -> Writer
+    requires { ⌜ KeysReady w (tieBreakBelowSpan (p .digits) (p .grades - 2) + 2) p x y high ⌝ }
     ensures { λ r. ⌜
-        Wrote w (now (table .entry)) (lower p (w .wire) x y e s (p .digits) high (p .grades - 2)) (now (table .exit)) r
+        Wrote w (now (table .entry)) (tieBreakBelow p (w .wire) x y e s (p .digits) high (p .grades - 2))
+        (now (table .exit)) r
         ⌝ }
 {
     let digits = p.digits;
@@ -68,7 +78,7 @@ fn lower(w: Writer, table: &mut [u32], p: Plan, x: u32, y: u32, e: u32, s: u32, 
     if grades == 2 {
         return one_sum(w, table, x, y, e, s, above, high);
     }
-    outward(w, table, bit, x, y, e, s, above, high, grades - 3)
+    tie_break(w, table, bit, x, y, e, s, above, high, grades - 3)
 }
 
 // Which of the medians that the keys at x and y tell of is worse.
@@ -98,5 +108,5 @@ pub fn contest(w: Writer, table: &mut [u32], p: Plan, x: u32, y: u32, high: u32)
     let compared = compare_medians(w, table, p, x, y);
     let e = ones_differ(w.wire, compared.wire, p.grades - 1, p.places);
     let s = ones_larger(w.wire, compared.wire, y + p.digits, p.grades - 1, p.places);
-    lower(compared, table, p, x, y, e, s, high)
+    tie_break_below(compared, table, p, x, y, e, s, high)
 }

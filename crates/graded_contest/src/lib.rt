@@ -1,3 +1,3 @@
 // Two keys compared by full majority judgment, written into a table.
 pub mod contest;
-mod outward;
+mod tie_break;

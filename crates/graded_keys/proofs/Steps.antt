@@ -10,12 +10,12 @@ use Rattle.gate_words.specs.Halves.{unequalAt, compareCut, compareSpan, aboveAt
 use Rattle.graded_circuit.specs.Median.{Fits, differAt, differenceSpan, nextDigit, laterDigits, laterSpan, onesSpan, differEnd, largerEnd}
 use Rattle.graded_circuit.proofs.MedianLaws.{fits-half, fits-some, ones-span}
 use Rattle.graded_circuit.specs.declared.plan.Plan.{Plan}
-use Rattle.graded_circuit.specs.Outward.{resolveAt, outward}
-use Rattle.graded_circuit.specs.Contest.{lower, lowerSpan}
-use Rattle.graded_circuit.specs.Nearest.{stride, side, sideSpan, sides, either, eitherSpan, lastOf, firstOf, leftEnd, rightEnd}
+use Rattle.graded_circuit.specs.TieBreak.{resolveAt, tieBreak}
+use Rattle.graded_circuit.specs.Contest.{tieBreakBelow, tieBreakBelowSpan}
+use Rattle.graded_circuit.specs.Nearest.{stride, sideFlags, sideSpan, sides, either, eitherSpan, lastOf, firstOf, leftEnd, rightEnd}
 use Rattle.basics.proofs.Arithmetic.{count-down, one-less}
 
-pub sides-step : (n x y r k t : ℕ) → 0 < t → sides n x y r k t ≡ side n x y r k ++ sides (n + sideSpan r) (x + stride r) (y + stride r) r k (t - 1)
+pub sides-step : (n x y r k t : ℕ) → 0 < t → sides n x y r k t ≡ sideFlags n x y r k ++ sides (n + sideSpan r) (x + stride r) (y + stride r) r k (t - 1)
 sides-step n x y r k t h = ap (sides n x y r k) (count-down t h) ∙ (unfold sides in refl)
 
 pub sides-none : (n x y r k t : ℕ) → t ≤ 0 → sides n x y r k t ≡ []
@@ -104,19 +104,19 @@ right-none n v r t e = rw e
 
 -- the part below the medians, by its cases
 module _ (p : Plan) (n x y e s digits h t : ℕ) where
-  pub lower-zero : digits ≡ 0 → copyOf e ∷ copyOf s ∷ [] ≡ lower p n x y e s digits h t
-  unfolding lower
-  lower-zero q = rw q
+  pub tie-break-below-zero : digits ≡ 0 → copyOf e ∷ copyOf s ∷ [] ≡ tieBreakBelow p n x y e s digits h t
+  unfolding tieBreakBelow
+  tie-break-below-zero q = rw q
 
-  pub lower-one : 0 < digits → t ≡ 0 → compareCut n x y (digits - 1) h ++ (orOf e (unequalAt n (digits - 1)) ∷ muxOf e s (aboveAt n x (digits - 1)) ∷ []) ≡ lower p n x y e s digits h t
-  lower-one k q = sym (ap (λ (d : ℕ). lower p n x y e s d h t) (count-down digits k) ∙ ap (lower p n x y e s (suc (digits - 1)) h) q ∙ (unfold lower in refl))
+  pub tie-break-below-one : 0 < digits → t ≡ 0 → compareCut n x y (digits - 1) h ++ (orOf e (unequalAt n (digits - 1)) ∷ muxOf e s (aboveAt n x (digits - 1)) ∷ []) ≡ tieBreakBelow p n x y e s digits h t
+  tie-break-below-one k q = sym (ap (λ (d : ℕ). tieBreakBelow p n x y e s d h t) (count-down digits k) ∙ ap (tieBreakBelow p n x y e s (suc (digits - 1)) h) q ∙ (unfold tieBreakBelow in refl))
 
-  pub lower-more : 0 < digits → 0 < t → outward (p .ballots % 2) n x y e s (digits - 1) h (t - 1) ≡ lower p n x y e s digits h t
-  lower-more k q = sym (ap (λ (d : ℕ). lower p n x y e s d h t) (count-down digits k) ∙ ap (lower p n x y e s (suc (digits - 1)) h) (count-down t q) ∙ (unfold lower in refl))
+  pub tie-break-below-more : 0 < digits → 0 < t → tieBreak (p .ballots % 2) n x y e s (digits - 1) h (t - 1) ≡ tieBreakBelow p n x y e s digits h t
+  tie-break-below-more k q = sym (ap (λ (d : ℕ). tieBreakBelow p n x y e s d h t) (count-down digits k) ∙ ap (tieBreakBelow p n x y e s (suc (digits - 1)) h) (count-down t q) ∙ (unfold tieBreakBelow in refl))
 
 module _ (digits t : ℕ) where
-  pub lower-span-one : 0 < digits → t ≡ 0 → lowerSpan digits t ≡ compareSpan (digits - 1)
-  lower-span-one h e = ap (λ (d : ℕ). lowerSpan d t) (count-down digits h) ∙ ap (lowerSpan (suc (digits - 1))) e ∙ (unfold lowerSpan in refl)
+  pub tie-break-below-span-one : 0 < digits → t ≡ 0 → tieBreakBelowSpan digits t ≡ compareSpan (digits - 1)
+  tie-break-below-span-one h e = ap (λ (d : ℕ). tieBreakBelowSpan d t) (count-down digits h) ∙ ap (tieBreakBelowSpan (suc (digits - 1))) e ∙ (unfold tieBreakBelowSpan in refl)
 
-  pub lower-span-more : 0 < digits → 0 < t → lowerSpan digits t ≡ resolveAt 0 (digits - 1) (t - 1) + 14
-  lower-span-more h k = ap (λ (d : ℕ). lowerSpan d t) (count-down digits h) ∙ ap (lowerSpan (suc (digits - 1))) (count-down t k) ∙ (unfold lowerSpan in refl)
+  pub tie-break-below-span-more : 0 < digits → 0 < t → tieBreakBelowSpan digits t ≡ resolveAt 0 (digits - 1) (t - 1) + 14
+  tie-break-below-span-more h k = ap (λ (d : ℕ). tieBreakBelowSpan d t) (count-down digits h) ∙ ap (tieBreakBelowSpan (suc (digits - 1))) (count-down t k) ∙ (unfold tieBreakBelowSpan in refl)

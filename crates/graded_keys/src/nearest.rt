@@ -7,15 +7,15 @@ ghost use mathlib.Core.Path.{_≡_};
 ghost use Prim.Native.Nat.{_+_, _*_, _≤_, _<_};
 ghost use Rattle.gate_words.specs.Limits.{writerLimit};
 ghost use Rattle.gate_words.specs.Writing.{Wrote};
-ghost use Rattle.graded_circuit.specs.Nearest.{side, sides, either, eitherSpan, lastOf, firstOf};
+ghost use Rattle.graded_circuit.specs.Nearest.{sideFlags, sides, either, eitherSpan, lastOf, firstOf};
 ghost use Rattle.graded_circuit.specs.Nearest.{leftEnd, rightEnd};
 ghost use Rattle.graded_keys.specs.inner.Nearest.{SideReady, SidesReady, EitherReady, LastReady, FirstReady};
 
 // Of one grade: whether the words, of which the highest `high` digits are gone through by themselves, differ on either
 // side of the median.
-fn side(w: Writer, table: &mut [u32], x: u32, y: u32, above: u32, high: u32) -> Writer
+fn side_flags(w: Writer, table: &mut [u32], x: u32, y: u32, above: u32, high: u32) -> Writer
     requires { ⌜ SideReady w x y above high ⌝ }
-    ensures { λ r. ⌜ Wrote w (now (table .entry)) (side (w .wire) x y above high) (now (table .exit)) r ⌝ }
+    ensures { λ r. ⌜ Wrote w (now (table .entry)) (sideFlags (w .wire) x y above high) (now (table .exit)) r ⌝ }
 {
     let differ = unequal_at(w.wire, above);
     let compared = w.unequal_halves(table, x, y, above - high, high);
@@ -41,7 +41,7 @@ pub fn sides(
     let mut right = y;
     let mut more = count;
     while 0 < more {
-        next = side(next, table, left, right, above, high);
+        next = side_flags(next, table, left, right, above, high);
         left += above + 2;
         right += above + 2;
         more -= 1;

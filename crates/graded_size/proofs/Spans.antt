@@ -13,7 +13,7 @@ use Rattle.graded_circuit.proofs.MedianLaws.{fits-half, fits-some}
 use Rattle.graded_circuit.specs.Nearest.{sideSpan, eitherSpan}
 use Rattle.graded_circuit.specs.Plan.{Planned}
 use Rattle.graded_circuit.specs.Key.{keySpan, candidateSpan}
-use Rattle.graded_circuit.specs.Contest.{lowerSpan, contestSpan}
+use Rattle.graded_circuit.specs.Contest.{tieBreakBelowSpan, contestSpan}
 use Rattle.graded_circuit.specs.OwnList.{levelsSpan}
 use Rattle.graded_circuit.proofs.LevelsLaws.{span-one, span-more}
 use Rattle.graded_circuit.proofs.BoundLaws.{merge-few, candidate-small}
@@ -21,25 +21,25 @@ use Rattle.graded_circuit.proofs.CandidateBlocks.{candidate-span}
 use Rattle.basics.proofs.Cases.{below-or-not}
 
 -- below the medians
-pub lower-none : (r t : ℕ) → r ≡ 0 → lowerSpan r t ≡ 0
-unfolding lowerSpan
-lower-none r t e = rw e
+pub tie-break-below-none : (r t : ℕ) → r ≡ 0 → tieBreakBelowSpan r t ≡ 0
+unfolding tieBreakBelowSpan
+tie-break-below-none r t e = rw e
 
-pub lower-single : (r t : ℕ) → (r ≡ 0 → ⊥) → t ≡ 0 → lowerSpan r t ≡ 3 * r - 2
-unfolding lowerSpan
-lower-single zero t h e = absurd (h refl)
-lower-single (suc r) zero h e = omega arith
-lower-single (suc r) (suc t) h e = absurd (omega arith)
+pub tie-break-below-single : (r t : ℕ) → (r ≡ 0 → ⊥) → t ≡ 0 → tieBreakBelowSpan r t ≡ 3 * r - 2
+unfolding tieBreakBelowSpan
+tie-break-below-single zero t h e = absurd (h refl)
+tie-break-below-single (suc r) zero h e = omega arith
+tie-break-below-single (suc r) (suc t) h e = absurd (omega arith)
 
-pub lower-more : (r t : ℕ) → (r ≡ 0 → ⊥) → 0 < t → lowerSpan r t ≡ (t - 1) * (6 * r + 1) + 6 * r + 2 * reachSpan (r - 1) + 10
-lower-more zero t h z = absurd (h refl)
-lower-more (suc r) zero h z = absurd (omega arith)
-lower-more (suc r) (suc t) h z =
+pub tie-break-below-more : (r t : ℕ) → (r ≡ 0 → ⊥) → 0 < t → tieBreakBelowSpan r t ≡ (t - 1) * (6 * r + 1) + 6 * r + 2 * reachSpan (r - 1) + 10
+tie-break-below-more zero t h z = absurd (h refl)
+tie-break-below-more (suc r) zero h z = absurd (omega arith)
+tie-break-below-more (suc r) (suc t) h z =
     let e : sideSpan r + eitherSpan r + eitherSpan r ≡ 6 * suc r + 1 = omega arith in
     omega (arith, span, ap reachSpan {x = suc r - 1} {y = r} (omega arith), ap (λ (x : ℕ). t * x) e, mul-add t (sideSpan r + eitherSpan r) (eitherSpan r), mul-add t (sideSpan r) (eitherSpan r), ap (λ (x : ℕ). x * (6 * suc r + 1)) {x = suc t - 1} {y = t} (omega arith))
   where
-    span : lowerSpan (suc r) (suc t) ≡ t * sideSpan r + t * eitherSpan r + t * eitherSpan r + (6 * r + 2 + 2 * reachSpan r) + 14
-    span = unfold lowerSpan in (omega arith)
+    span : tieBreakBelowSpan (suc r) (suc t) ≡ t * sideSpan r + t * eitherSpan r + t * eitherSpan r + (6 * r + 2 + 2 * reachSpan r) + 14
+    span = unfold tieBreakBelowSpan in (omega arith)
 
 -- a digit of the medians' comparison, and the digits left
 pub later-turn : (m w : ℕ) → 0 < w → Fits m w → Fits (m / 2) (w - 1) × (laterSpan m w ≡ 2 * m + 1 + laterSpan (m / 2) (w - 1))

@@ -5,7 +5,7 @@ ghost use Prim.Native.Nat.{suc, _-_, _≤_, _<_};
 ghost use Rattle.gate_words.specs.Reach.{reachSpan};
 ghost use Rattle.graded_circuit.specs.Plan.{Planned};
 ghost use Rattle.graded_circuit.specs.Median.{Fits, onesSpan};
-ghost use Rattle.graded_circuit.specs.Contest.{lowerSpan, contestSpan};
+ghost use Rattle.graded_circuit.specs.Contest.{tieBreakBelowSpan, contestSpan};
 
 // The number of gates that compare two median grades' numbers in above + 1 digits: of each digit both sums modulo 2 and
 // whether they differ, and, but for the lowest, two gates more.
@@ -41,9 +41,9 @@ fn reach_span(digits: u32) -> u32
 // The one sum of two grades is compared as it is, with three gates a digit less two. Else each grade between the
 // first and the last has its side, two gates a digit and one, and two choices of two words, four a digit; the chosen
 // words are compared and told to reach n twice, and fourteen gates come before the two that say the result.
-fn lower_span(digits: u32, grades: u32) -> u32
+fn tie_break_below_span(digits: u32, grades: u32) -> u32
     requires { ⌜ (digits ≤ 7) × (2 ≤ grades) × (grades ≤ 7) ⌝ }
-    ensures { λ r. ⌜ r ≡ lowerSpan digits (grades - 2) ⌝ }
+    ensures { λ r. ⌜ r ≡ tieBreakBelowSpan digits (grades - 2) ⌝ }
 {
     if digits == 0 {
         return 0;
@@ -63,6 +63,6 @@ pub(crate) fn contest_span(p: Plan) -> u32
     ensures { λ r. ⌜ r ≡ contestSpan p ⌝ }
 {
     let medians = medians_span(p.grades - 1, p.places);
-    let lower = lower_span(p.digits, p.grades);
+    let lower = tie_break_below_span(p.digits, p.grades);
     medians + lower + RESULT
 }

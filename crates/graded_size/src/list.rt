@@ -10,11 +10,11 @@ ghost use Rattle.jury.specs.Shape.{gradedLimits};
 ghost use Rattle.graded_circuit.specs.OwnList.{levelsSpan, circuit, ownList};
 ghost use Rattle.graded_size.specs.inner.Ready.{GroupReady, CircuitReady};
 
-// What follows a contest in a merge: who comes first, and which of both groups stays.
-const VERDICT: u32 = 4;
+// The gates that follow a contest in a merge: who comes first, and which of both groups stays.
+const SELECT_FLAGS: u32 = 4;
 
-// The best of one or two candidates: their merge, with the better key, where there are two. A merge is a contest, its
-// verdict and a wire for each candidate; `contest` and `key` are the spans of those.
+// The best of one or two candidates: their merge, with the better key, where there are two. A merge is a contest,
+// these four gates and a wire for each candidate; `contest` and `key` are the spans of those.
 fn pair_span(p: Plan, contest: u32, key: u32, count: u32) -> u32
     requires { ⌜ GroupReady p contest key count 2 ⌝ }
     ensures { λ r. ⌜ r ≡ levelsSpan p 1 count ⌝ }
@@ -22,7 +22,7 @@ fn pair_span(p: Plan, contest: u32, key: u32, count: u32) -> u32
     if count <= 1 {
         return 0;
     }
-    contest + VERDICT + count + key
+    contest + SELECT_FLAGS + count + key
 }
 
 // The best of one to four candidates: both halves, their merge, and the better key.
@@ -36,7 +36,7 @@ fn four_span(p: Plan, contest: u32, key: u32, count: u32) -> u32
     let first = count / 2;
     let low = pair_span(p, contest, key, first);
     let high = pair_span(p, contest, key, count - first);
-    low + high + contest + VERDICT + count + key
+    low + high + contest + SELECT_FLAGS + count + key
 }
 
 // The circuits of all candidates, the levels of both halves, and the last merge, which keeps no key.
@@ -50,7 +50,7 @@ fn circuit_span(p: Plan) -> u32
     let count = p.candidates;
     let low = four_span(p, contest, key, count / 2);
     let high = four_span(p, contest, key, count - count / 2);
-    count * each + low + high + contest + VERDICT + count
+    count * each + low + high + contest + SELECT_FLAGS + count
 }
 
 // G of the own list of a shape.

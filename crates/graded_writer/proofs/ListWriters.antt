@@ -24,8 +24,8 @@ use Rattle.graded_circuit.specs.declared.plan.Plan.{Plan}
 use Rattle.graded_circuit.specs.Plan.{planOf, Planned}
 use Rattle.graded_circuit.specs.Key.{keySpan, candidate, candidateSpan}
 use Rattle.graded_circuit.specs.Contest.{resultAt}
-use Rattle.graded_circuit.specs.Merge.{bothOf, stillWon, merge, mergeSpan, wonAt, better}
-use Rattle.graded_circuit.specs.OwnList.{candidates, keyAt, levelsSpan, bestKey, groupWon, otherAt, mergeAt, halvesMerge, halvesBetter, levels, lowLevels, levelsAt, circuit, ownList}
+use Rattle.graded_circuit.specs.Merge.{andAll, keepWinners, merge, mergeSpan, wonAt, better}
+use Rattle.graded_circuit.specs.OwnList.{candidates, keyAt, levelsSpan, bestKey, winnerFlags, otherAt, mergeAt, halvesMerge, halvesBetter, levels, lowLevels, levelsAt, circuit, ownList}
 use Rattle.graded_circuit.proofs.Planning.{planned}
 use Rattle.graded_circuit.proofs.CandidateBlocks.{key-of}
 use Rattle.graded_circuit.proofs.LevelsLaws.{key-before, span-more, key-one, key-more, won-more, levels-more}
@@ -89,27 +89,27 @@ plan-many s p l e h = subst (λ (q : Plan). 1 < q .candidates) (sym e) (two s (w
     two s k h = unfold planOf in (⊎-elim (λ (z : 1 < s .candidates). z) (λ (z : s .candidates ≤ 1). absurd (h (omega arith))) (below-or-not 1 (s .candidates)))
 
 -- one wire, or many
-pub both-step : (at stays i m : ℕ) → i < m → bothOf (at + i) stays (m - i) ≡ (andOf (at + i) stays ∷ []) ++ bothOf (at + (i + 1)) stays (m - (i + 1))
+pub both-step : (at stays i m : ℕ) → i < m → andAll (at + i) stays (m - i) ≡ (andOf (at + i) stays ∷ []) ++ andAll (at + (i + 1)) stays (m - (i + 1))
 both-step at stays i m h =
     let e : m - i ≡ suc (m - (i + 1)) = omega arith in
     let p : at + i + 1 ≡ at + (i + 1) = omega arith in
-    ap (bothOf (at + i) stays) e ∙ first (m - (i + 1)) ∙ ap (λ (k : ℕ). andOf (at + i) stays ∷ bothOf k stays (m - (i + 1))) p
+    ap (andAll (at + i) stays) e ∙ first (m - (i + 1)) ∙ ap (λ (k : ℕ). andOf (at + i) stays ∷ andAll k stays (m - (i + 1))) p
   where
-    first : (m : ℕ) → bothOf (at + i) stays (suc m) ≡ andOf (at + i) stays ∷ bothOf (at + i + 1) stays m
-    first m = unfold bothOf in refl
+    first : (m : ℕ) → andAll (at + i) stays (suc m) ≡ andOf (at + i) stays ∷ andAll (at + i + 1) stays m
+    first m = unfold andAll in refl
 
-pub both-none : (at stays i m : ℕ) → m ≤ i → bothOf at stays (m - i) ≡ []
-unfolding bothOf
+pub both-none : (at stays i m : ℕ) → m ≤ i → andAll at stays (m - i) ≡ []
+unfolding andAll
 both-none at stays i m h = let e : m - i ≡ 0 = omega arith in rw e
 
-pub won-single : (at stays m : ℕ) → m ≡ 1 → copyOf stays ∷ [] ≡ stillWon at stays m
-unfolding stillWon
+pub won-single : (at stays m : ℕ) → m ≡ 1 → copyOf stays ∷ [] ≡ keepWinners at stays m
+unfolding keepWinners
 won-single at stays m e = rw e
 
-pub won-many : (at stays m : ℕ) → 1 < m → bothOf at stays m ≡ stillWon at stays m
+pub won-many : (at stays m : ℕ) → 1 < m → andAll at stays m ≡ keepWinners at stays m
 won-many at stays zero h = absurd (omega arith)
 won-many at stays (suc zero) h = absurd (omega arith)
-won-many at stays (suc (suc m)) h = unfold stillWon in refl
+won-many at stays (suc (suc m)) h = unfold keepWinners in refl
 
 -- the candidates that are left
 pub candidates-step : (p : Plan) (n c k : ℕ) → c < k → candidates p n c (k - c) ≡ candidate p n c ++ candidates p (n + candidateSpan p) (c + 1) (k - (c + 1))
@@ -129,7 +129,7 @@ module _ (p : Plan) (r n m : ℕ) where
       (λ (l : m ≤ 1). key-one p r m n c l ∙ sym (ap (λ (t : Bool). cond t (keyAt p c) (n + levelsSpan p (suc r) m - keySpan p)) (le-leb m 1 l)))
       (below-or-not 1 m)
 
-  pub won-is : groupWon p (suc r) n m ≡ cond (leb m 1) 0 (n + levelsSpan p (suc r) m - keySpan p - m)
+  pub won-is : winnerFlags p (suc r) n m ≡ cond (leb m 1) 0 (n + levelsSpan p (suc r) m - keySpan p - m)
   won-is = ⊎-elim
       (λ (l : 1 < m).
       let e : wonAt p (mergeAt p r n m) ≡ n + levelsSpan p (suc r) m - keySpan p - m = omega (arith, span-more p r m l) in
@@ -137,13 +137,13 @@ module _ (p : Plan) (r n m : ℕ) where
       (λ (l : m ≤ 1). none l ∙ sym (ap (λ (t : Bool). cond {A = ℕ} t 0 (n + levelsSpan p (suc r) m - keySpan p - m)) (le-leb m 1 l)))
       (below-or-not 1 m)
     where
-      none : m ≤ 1 → groupWon p (suc r) n m ≡ 0
-      none l = unfold groupWon in (rw (le-leb m 1 l))
+      none : m ≤ 1 → winnerFlags p (suc r) n m ≡ 0
+      none l = unfold winnerFlags in (rw (le-leb m 1 l))
 
 -- two candidates: no merge before theirs
 pair-parts : (p : Plan) (n c : ℕ) → levels p 0 n c 1 ++ levels p 0 (otherAt p 0 n 2) (c + 1) 1 ++ halvesMerge p 0 n c 2 ++ halvesBetter p 0 n c 2
     ≡ merge p (n + 0 + 0) (keyAt p c) (keyAt p (c + 1)) 0 0 1 1 ++ choose (resultAt p (n + 0 + 0) + 1) (keyAt p c) (keyAt p (c + 1)) (keySpan p)
-unfolding levels halvesMerge halvesBetter bestKey groupWon levelsSpan better
+unfolding levels halvesMerge halvesBetter bestKey winnerFlags levelsSpan better
 pair-parts p n c = refl
 
 pub pair-is : (p : Plan) (n c : ℕ) → levels p 1 n c 2
@@ -179,7 +179,7 @@ merge-same p r n c m k mid end ek em ee =
     ∙ ap (λ (i : ℕ). merge p q i (keyBy p (c + l) h q) (wonBy p l o) (wonBy p h q) l h) (sym (key-is p r n l c))
     ∙ ap (λ (i : ℕ). merge p q (bestKey p (suc r) n c l) i (wonBy p l o) (wonBy p h q) l h) (sym (key-is p r o h (c + l)))
     ∙ ap (λ (i : ℕ). merge p q (bestKey p (suc r) n c l) (bestKey p (suc r) o (c + l) h) i (wonBy p h q) l h) (sym (won-is p r n l))
-    ∙ ap (λ (i : ℕ). merge p q (bestKey p (suc r) n c l) (bestKey p (suc r) o (c + l) h) (groupWon p (suc r) n l) i l h) (sym (won-is p r o h))
+    ∙ ap (λ (i : ℕ). merge p q (bestKey p (suc r) n c l) (bestKey p (suc r) o (c + l) h) (winnerFlags p (suc r) n l) i l h) (sym (won-is p r o h))
 
 pub better-same : (p : Plan) (r n c m q mid end : ℕ) → q ≡ resultAt p (mergeAt p (suc r) n m) + 1 → mid ≡ otherAt p (suc r) n m → end ≡ mergeAt p (suc r) n m
     → choose q (cond (leb (m / 2) 1) (keyAt p c) (mid - keySpan p)) (cond (leb (m - m / 2) 1) (keyAt p (c + m / 2)) (end - keySpan p)) (keySpan p)
@@ -203,8 +203,8 @@ small-case m x y h = sym (ap (λ (t : Bool). cond t x y) (le-leb m 1 h))
 pub large-case : (m x y : ℕ) → 1 < m → y ≡ cond (leb m 1) x y
 large-case m x y h = sym (ap (λ (t : Bool). cond t x y) (lt-leb m 1 h))
 
-pub length-both : (at stays m : ℕ) → length (bothOf at stays m) ≡ m
-unfolding bothOf
+pub length-both : (at stays m : ℕ) → length (andAll at stays m) ≡ m
+unfolding andAll
 length-both at stays zero = refl
 length-both at stays (suc m) = ap suc (length-both (at + 1) stays m)
 

@@ -18,7 +18,7 @@ ghost use Rattle.graded_circuit.specs.Key.{keySpan};
 ghost use Rattle.graded_circuit.specs.Merge.{merge};
 ghost use Rattle.graded_circuit.specs.OwnList.{candidates, keyAt, levelsSpan, levels, otherAt, halvesMerge};
 ghost use Rattle.graded_circuit.specs.OwnList.{lowLevels, levelsAt, circuit, ownList};
-ghost use Rattle.graded_writer.specs.inner.Ready.{CandidatesReady, KeyAtReady, BestReady, WonReady, GroupReady};
+ghost use Rattle.graded_writer.specs.inner.Ready.{CandidatesReady, KeyAtReady, BestReady, WinnersReady, GroupReady};
 ghost use Rattle.graded_writer.specs.inner.Ready.{HalvesReady, LevelsReady, CircuitReady};
 
 // The circuits of all candidates.
@@ -56,8 +56,8 @@ fn best_key(p: Plan, span: u32, c: u32, count: u32, end: u32) -> u32
 }
 
 // The wires of these candidates.
-fn group_won(p: Plan, count: u32, end: u32) -> u32
-    requires { ⌜ WonReady p count end ⌝ }
+fn winner_flags(p: Plan, count: u32, end: u32) -> u32
+    requires { ⌜ WinnersReady p count end ⌝ }
     ensures { λ r. ⌜ r ≡ cond (leb count 1) 0 (end - keySpan p - count) ⌝ }
 {
     if count <= 1 {
@@ -103,8 +103,8 @@ fn halves(
 {
     let x = best_key(p, span, c, first, middle);
     let y = best_key(p, span, c + first, second, w.wire);
-    let u = group_won(p, first, middle);
-    let v = group_won(p, second, w.wire);
+    let u = winner_flags(p, first, middle);
+    let v = winner_flags(p, second, w.wire);
     merge(w, table, p, x, y, u, v, first, second)
 }
 

@@ -9,14 +9,14 @@ ghost use Rattle.gate_words.specs.Writing.{Wrote};
 ghost use Rattle.graded_circuit.specs.Plan.{Planned};
 ghost use Rattle.graded_circuit.specs.Key.{keySpan};
 ghost use Rattle.gate_words.specs.Choice.{choose};
-ghost use Rattle.graded_circuit.specs.Merge.{bothOf, stillWon, verdict, highDigits, merge};
+ghost use Rattle.graded_circuit.specs.Merge.{andAll, keepWinners, selectFlags, highDigits, merge};
 ghost use Rattle.gate_words.specs.inner.Ready.{WordReady};
-ghost use Rattle.graded_writer.specs.inner.Ready.{StillReady, VerdictReady, MergeReady, BetterReady};
+ghost use Rattle.graded_writer.specs.inner.Ready.{KeepReady, SelectReady, MergeReady, BetterReady};
 
 // Each of so many wires from `at` on, and the wire `stays`.
-fn both_of(w: Writer, table: &mut [u32], at: u32, stays: u32, count: u32) -> Writer
+fn and_all(w: Writer, table: &mut [u32], at: u32, stays: u32, count: u32) -> Writer
     requires { ⌜ WordReady w count at count ⌝ }
-    ensures { λ r. ⌜ Wrote w (now (table .entry)) (bothOf at stays count) (now (table .exit)) r ⌝ }
+    ensures { λ r. ⌜ Wrote w (now (table .entry)) (andAll at stays count) (now (table .exit)) r ⌝ }
 {
     let mut next = w;
     let mut i: u32 = 0;
@@ -28,20 +28,20 @@ fn both_of(w: Writer, table: &mut [u32], at: u32, stays: u32, count: u32) -> Wri
 }
 
 // Who of a group of so many candidates stays.
-fn still_won(w: Writer, table: &mut [u32], at: u32, stays: u32, count: u32) -> Writer
-    requires { ⌜ StillReady w at count ⌝ }
-    ensures { λ r. ⌜ Wrote w (now (table .entry)) (stillWon at stays count) (now (table .exit)) r ⌝ }
+fn keep_winners(w: Writer, table: &mut [u32], at: u32, stays: u32, count: u32) -> Writer
+    requires { ⌜ KeepReady w at count ⌝ }
+    ensures { λ r. ⌜ Wrote w (now (table .entry)) (keepWinners at stays count) (now (table .exit)) r ⌝ }
 {
     if count == 1 {
         return w.emit(table, kind::COPY, stays, 0, 0);
     }
-    both_of(w, table, at, stays, count)
+    and_all(w, table, at, stays, count)
 }
 
 // Who comes first and which group stays, behind a contest whose result stands at q.
-fn verdict(w: Writer, table: &mut [u32], q: u32) -> Writer
-    requires { ⌜ VerdictReady w q ⌝ }
-    ensures { λ r. ⌜ Wrote w (now (table .entry)) (verdict q) (now (table .exit)) r ⌝ }
+fn select_flags(w: Writer, table: &mut [u32], q: u32) -> Writer
+    requires { ⌜ SelectReady w q ⌝ }
+    ensures { λ r. ⌜ Wrote w (now (table .entry)) (selectFlags q) (now (table .exit)) r ⌝ }
 {
     let first = w.emit(table, kind::AND, q, q + 1, 0);
     let second = first.emit(table, kind::XOR, q, q + 2, 0);
@@ -76,9 +76,9 @@ pub(crate) fn merge(
 {
     let compared = contest(w, table, p, x, y, high_digits(p, l + m));
     let q = compared.wire - 2;
-    let judged = verdict(compared, table, q);
-    let first = still_won(judged, table, u, q + 4, l);
-    still_won(first, table, v, q + 5, m)
+    let judged = select_flags(compared, table, q);
+    let first = keep_winners(judged, table, u, q + 4, l);
+    keep_winners(first, table, v, q + 5, m)
 }
 
 // The better of two keys, by a contest whose result stands at q.

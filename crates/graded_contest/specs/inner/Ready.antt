@@ -10,7 +10,7 @@ use Rattle.graded_circuit.specs.Plan.{Planned}
 use Rattle.graded_circuit.specs.Key.{keySpan}
 use Rattle.graded_circuit.specs.Contest.{mediansSpan}
 use Rattle.graded_circuit.specs.Nearest.{stride}
-use Rattle.graded_circuit.specs.Outward.{compareAndReachSpan, resolveSpan}
+use Rattle.graded_circuit.specs.TieBreak.{compareAndReachSpan, resolveSpan}
 
 -- A block over the keys at x and y, whose sums are cut behind digit `high`.
 pub record KeysReady (w : Writer) (gates : ℕ) (p : Plan) (x y high : ℕ) : Type 0 where
@@ -35,7 +35,7 @@ pub record SumReady (w : Writer) (x y above high : ℕ) : Type 0 where
   pub cut : high ≤ above
 
 -- The walk outward over the sums between the ends of two keys.
-pub record OutwardReady (w : Writer) (gates x y above high between : ℕ) : Type 0 where
+pub record TieBreakReady (w : Writer) (gates x y above high between : ℕ) : Type 0 where
   pub room : Room w gates
   pub firstBelow : x + suc (suc between) * stride above ≤ w .wire
   pub secondBelow : y + suc (suc between) * stride above ≤ w .wire

@@ -32,7 +32,7 @@ pub record BestReady (p : Plan) (span c count end : ℕ) : Type 0 where
   pub keyBelow : 1 < count → keySpan p ≤ end
 
 -- The wires that say who of so many has won.
-pub record WonReady (p : Plan) (count end : ℕ) : Type 0 where
+pub record WinnersReady (p : Plan) (count end : ℕ) : Type 0 where
   pub plan : Planned p
   pub below : 1 < count → count + keySpan p ≤ end
 
@@ -76,13 +76,13 @@ pub record CircuitReady (w : Writer) (p : Plan) : Type 0 where
   pub several : 1 < p .candidates
 
 -- Who of so many has still won: of one there is no wire.
-pub record StillReady (w : Writer) (at count : ℕ) : Type 0 where
+pub record KeepReady (w : Writer) (at count : ℕ) : Type 0 where
   pub room : Room w count
   pub some : 0 < count
   pub below : 1 < count → at + count ≤ w .wire
 
--- The verdict on a contest that ends with wire q + 1.
-pub record VerdictReady (w : Writer) (q : ℕ) : Type 0 where
+-- The flags of a contest that ends with wire q + 1.
+pub record SelectReady (w : Writer) (q : ℕ) : Type 0 where
   pub room : Room w 4
   pub place : w .wire ≡ q + 2
 

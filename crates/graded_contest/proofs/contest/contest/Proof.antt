@@ -8,7 +8,7 @@ use Rattle.gate_words.proofs.Writing.{room-less}
 use Rattle.gate_words.proofs.Standing.{Stands, stands, stands-after, wrote-then}
 use Rattle.graded_circuit.specs.RunningSums.{wordSpan}
 use Rattle.graded_circuit.specs.Median.{onesDiffer}
-use Rattle.graded_circuit.specs.Contest.{lower, lowerSpan, lowerAt, contest}
+use Rattle.graded_circuit.specs.Contest.{tieBreakBelow, tieBreakBelowSpan, tieBreakBelowAt, contest}
 use Rattle.graded_circuit.proofs.MedianLaws.{ones-block}
 use Rattle.graded_circuit.proofs.ContestLaws.{grade-fits, flags-end, key-some}
 use Rattle.graded_contest.proofs.contest.contest.Statement.{statement}
@@ -30,7 +30,7 @@ compare-medians-requires c κs =
     record { planned = s .pre .plan; room = room-less (s .args .w) _ _ (omega arith) (s .pre .room); firstBelow = s .pre .firstBelow; secondBelow = s .pre .secondBelow }
 
 -- behind the medians
-compared : (c : tie.After-compare-medians) → let s = from-compared c in Stands (c .compare-medians .result) (lowerAt (s .args .p) (s .args .w .wire)) (lowerSpan (s .args .p .digits) (s .args .p .grades - 2) + 2)
+compared : (c : tie.After-compare-medians) → let s = from-compared c in Stands (c .compare-medians .result) (tieBreakBelowAt (s .args .p) (s .args .w .wire)) (tieBreakBelowSpan (s .args .p .digits) (s .args .p .grades - 2) + 2)
 compared c =
     let s = from-compared c in
     let a = s .args in
@@ -61,8 +61,8 @@ ones-larger-requires c κs =
     let h = from-differ (c .before .before) in
     record { some = omega (arith, from-compared h .pre .plan .d-least); span = compared h .place; small = omega (arith, compared h .left .small) }
 
-lower-requires : tie.Need-lower-requires
-lower-requires c κs =
+tie-break-below-requires : tie.Need-tie-break-below-requires
+tie-break-below-requires c κs =
     let h = from-differ (from-larger (c .before)) in
     let q = compared h in
     let s = from-compared h in
@@ -80,7 +80,7 @@ same-length c = search needs
 returns : tie.Need-returns
 unfolding contest
 returns c =
-    let v = c .before .before .lower in
+    let v = c .before .before .tie-break-below in
     let l = c .before .before .before .before in
     let k = from-larger l in
     let h = from-differ k in
@@ -90,11 +90,11 @@ returns c =
     let d = h .compare-medians in
     let e = k .ones-differ in
     let s = l .ones-larger in
-    let at = lowerAt p n in
+    let at = tieBreakBelowAt p n in
     wrote-then (a .w) (a .table .now) _ (d .last .1 .0) (d .result) _ _ (v .last .1 .0) (v .result) (d .ensures) (v .ensures)
-    (ap (λ (i : ℕ). lower p i (a .x) (a .y) (e .result) (s .result) (p .digits) (a .high) (p .grades - 2)) (compared h .place)
-    ∙ ap (λ (i : ℕ). lower p at (a .x) (a .y) i (s .result) (p .digits) (a .high) (p .grades - 2)) (e .ensures)
-    ∙ ap (λ (i : ℕ). lower p at (a .x) (a .y) (onesDiffer n (p .grades - 1) (p .places)) i (p .digits) (a .high) (p .grades - 2)) (s .ensures))
+    (ap (λ (i : ℕ). tieBreakBelow p i (a .x) (a .y) (e .result) (s .result) (p .digits) (a .high) (p .grades - 2)) (compared h .place)
+    ∙ ap (λ (i : ℕ). tieBreakBelow p at (a .x) (a .y) i (s .result) (p .digits) (a .high) (p .grades - 2)) (e .ensures)
+    ∙ ap (λ (i : ℕ). tieBreakBelow p at (a .x) (a .y) (onesDiffer n (p .grades - 1) (p .places)) i (p .digits) (a .high) (p .grades - 2)) (s .ensures))
 
 pub contest-spec : {M : Type 1} → statement M
-contest-spec = tie.close (tie.spec compare-medians-requires sub-ones-differ ones-differ-requires add-ones-larger sub-ones-larger ones-larger-requires lower-requires same-length returns)
+contest-spec = tie.close (tie.spec compare-medians-requires sub-ones-differ ones-differ-requires add-ones-larger sub-ones-larger ones-larger-requires tie-break-below-requires same-length returns)

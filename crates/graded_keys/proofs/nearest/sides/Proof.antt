@@ -4,8 +4,8 @@ use mathlib.Core.Path.{_≡_, refl, sym, ap}
 use Prim.Native.Nat.{ℕ, _+_, _-_, _*_, _≤_}
 use native.Mathlib.Omega.{arith}
 use Rattle.gate_words.proofs.Going.{Goes, goes-start, goes-as, goes-on, goes-room, goes-end}
-use Rattle.graded_circuit.specs.Nearest.{stride, side, sideSpan, sides}
-use Rattle.graded_circuit.proofs.NearestLaws.{side-block, sides-block}
+use Rattle.graded_circuit.specs.Nearest.{stride, sideSpan, sides}
+use Rattle.graded_circuit.proofs.NearestLaws.{side-flags-block, sides-block}
 use Rattle.graded_keys.proofs.Steps.{sides-step, sides-none}
 use Rattle.graded_keys.proofs.nearest.sides.Statement.{statement}
 use Rattle.graded_keys.proofs.nearest.sides.Tie as tie
@@ -36,8 +36,8 @@ wires-left c =
     let a = (c .before .before .before .args) in
     omega (arith, l .inv .2 .wireLeft, sides-block (l .next .wire) (l .left) (l .right) (a .above) (a .high) (l .more) ((c .before .before .before) .pre .cut) (l .inv .0) (l .inv .1) .long, sides-block (a .w .wire) (a .x) (a .y) (a .above) (a .high) (a .count) ((c .before .before .before) .pre .cut) ((c .before .before .before) .pre .firstBelow) ((c .before .before .before) .pre .secondBelow) .long)
 
-side-requires : tie.Need-side-requires Inv-loop μ-loop
-side-requires c κs =
+side-flags-requires : tie.Need-side-flags-requires Inv-loop μ-loop
+side-flags-requires c κs =
     let a = (c .before .before .before .before .args) in
     let l = (c .before .before .loop) in
     record {
@@ -78,8 +78,8 @@ loop-again c =
     let a = (c .before .before .before .before .before .before .before .args) in
     let l = (c .before .before .before .before .before .loop) in
     let t = (c .before .before .before .before .loop-test) .taken in
-    let h = (c .before .before .side) in
-    let ends : h .result .wire ≡ l .next .wire + sideSpan (a .above) = omega (arith, h .ensures .wires, side-block (l .next .wire) (l .left) (l .right) (a .above) (a .high) ((c .before .before .before .before .before .before .before) .pre .cut) (omega (arith, there (c .before .before .before .before))) (omega (arith, there (c .before .before .before .before))) .long) in
+    let h = (c .before .before .side-flags) in
+    let ends : h .result .wire ≡ l .next .wire + sideSpan (a .above) = omega (arith, h .ensures .wires, side-flags-block (l .next .wire) (l .left) (l .right) (a .above) (a .high) ((c .before .before .before .before .before .before .before) .pre .cut) (omega (arith, there (c .before .before .before .before))) (omega (arith, there (c .before .before .before .before))) .long) in
     let e : stride (a .above) ≡ a .above + 2 = refl in (
       omega (arith, l .inv .0, one-less (l .more) (stride (a .above)) t),
       omega (arith, l .inv .1, one-less (l .more) (stride (a .above)) t),
@@ -100,4 +100,4 @@ returns c =
     goes-end (a .w) (a .table .now) (sides (a .w .wire) (a .x) (a .y) (a .above) (a .high) (a .count)) (l .next) (l .table) _ (sides-none (l .next .wire) (l .left) (l .right) (a .above) (a .high) (l .more) ((c .loop-test) .left)) (l .inv .2)
 
 pub sides-spec : {M : Type 1} → statement M
-sides-spec = tie.close (tie.spec Inv-loop μ-loop loop-holds side-requires add-left add-left-2 add-right add-right-2 sub-more loop-less loop-again same-length returns)
+sides-spec = tie.close (tie.spec Inv-loop μ-loop loop-holds side-flags-requires add-left add-left-2 add-right add-right-2 sub-more loop-less loop-again same-length returns)

@@ -40,13 +40,13 @@ best-key-requires-2 c κs =
       keyBelow = λ z. let k = q .secondBelow z in omega arith;
     }
 
-group-won-requires : tie.Need-group-won-requires
-group-won-requires c κs =
+winner-flags-requires : tie.Need-winner-flags-requires
+winner-flags-requires c κs =
     let q = (c .before .before .before) .pre in
     record { plan = (c .before .before .before) .pre .plan; below = λ z. let k = q .firstBelow z in omega arith }
 
-group-won-requires-2 : tie.Need-group-won-requires-2
-group-won-requires-2 c κs =
+winner-flags-requires-2 : tie.Need-winner-flags-requires-2
+winner-flags-requires-2 c κs =
     let q = (c .before .before .before .before) .pre in
     record { plan = (c .before .before .before .before) .pre .plan; below = λ z. let k = q .secondBelow z in omega arith }
 
@@ -63,8 +63,8 @@ merge-requires c κs =
       secondBelow = omega (arith, (c .before .before .before .best-key2) .ensures, key-below (a .p) f (a .c + a .first) (a .second) n n (omega (arith, q)) (omega (arith, q)) (omega arith) (λ z. let k = q .secondBelow z in omega arith));
       firstSome = q .firstSome;
       secondSome = q .secondSome;
-      firstWon = λ z. omega (arith, (c .before .before .group-won) .ensures, won-below (a .p) f (a .first) (a .middle) n (omega (arith, q)) (λ y. let k = q .firstBelow y in omega arith) z);
-      secondWon = λ z. omega (arith, (c .before .group-won2) .ensures, won-below (a .p) f (a .second) n n (omega arith) (λ y. let k = q .secondBelow y in omega arith) z);
+      firstWon = λ z. omega (arith, (c .before .before .winner-flags) .ensures, won-below (a .p) f (a .first) (a .middle) n (omega (arith, q)) (λ y. let k = q .firstBelow y in omega arith) z);
+      secondWon = λ z. omega (arith, (c .before .winner-flags2) .ensures, won-below (a .p) f (a .second) n n (omega arith) (λ y. let k = q .secondBelow y in omega arith) z);
     }
 
 returns : tie.Need-returns
@@ -76,14 +76,14 @@ returns c =
     let y = cond (leb (a .second) 1) (keyAt p (a .c + a .first)) (n - keySpan p) in
     let u = cond (leb (a .first) 1) 0 (a .middle - keySpan p - a .first) in
     wrote-as (a .w) (a .table .now) _ _ _ _
-    (ap (λ (k : ℕ). merge p n k ((c .before .before .before .before .before .before .best-key2) .result) ((c .before .before .before .before .before .group-won) .result) ((c .before .before .before .before .group-won2) .result) (a .first) (a .second)) ((c .before .before .before .before .before .before .before .best-key) .ensures)
-    ∙ ap (λ (k : ℕ). merge p n x k ((c .before .before .before .before .before .group-won) .result) ((c .before .before .before .before .group-won2) .result) (a .first) (a .second)) ((c .before .before .before .before .before .before .best-key2) .ensures)
-    ∙ ap (λ (k : ℕ). merge p n x y k ((c .before .before .before .before .group-won2) .result) (a .first) (a .second)) ((c .before .before .before .before .before .group-won) .ensures)
-    ∙ ap (λ (k : ℕ). merge p n x y u k (a .first) (a .second)) ((c .before .before .before .before .group-won2) .ensures))
+    (ap (λ (k : ℕ). merge p n k ((c .before .before .before .before .before .before .best-key2) .result) ((c .before .before .before .before .before .winner-flags) .result) ((c .before .before .before .before .winner-flags2) .result) (a .first) (a .second)) ((c .before .before .before .before .before .before .before .best-key) .ensures)
+    ∙ ap (λ (k : ℕ). merge p n x k ((c .before .before .before .before .before .winner-flags) .result) ((c .before .before .before .before .winner-flags2) .result) (a .first) (a .second)) ((c .before .before .before .before .before .before .best-key2) .ensures)
+    ∙ ap (λ (k : ℕ). merge p n x y k ((c .before .before .before .before .winner-flags2) .result) (a .first) (a .second)) ((c .before .before .before .before .before .winner-flags) .ensures)
+    ∙ ap (λ (k : ℕ). merge p n x y u k (a .first) (a .second)) ((c .before .before .before .before .winner-flags2) .ensures))
     ((c .before .before .merge) .ensures)
 
 same-length : tie.Need-same-length
 same-length c = search needs
 
 pub halves-spec : {M : Type 1} → statement M
-halves-spec = tie.close (tie.spec best-key-requires add-best-key best-key-requires-2 group-won-requires group-won-requires-2 merge-requires same-length returns)
+halves-spec = tie.close (tie.spec best-key-requires add-best-key best-key-requires-2 winner-flags-requires winner-flags-requires-2 merge-requires same-length returns)

@@ -1,4 +1,4 @@
--- `graded_writer::merge::merge` meets its contract: the contest, its verdict, and who stays of either group.
+-- `graded_writer::merge::merge` meets its contract: the contest, which group stays, and who stays of either group.
 -- Assumes nothing.
 use mathlib.Core.Path.{_≡_, refl, ap}
 use Prim.Native.Nat.{ℕ, _+_, _-_}
@@ -6,9 +6,9 @@ use native.Mathlib.Omega.{arith}
 use Rattle.gate_words.proofs.Writing.{wrote-as, room-less, wrote-long}
 use Rattle.gate_words.proofs.Standing.{Stands, stands, stands-after, room-of, wrote-then}
 use Rattle.graded_circuit.specs.Contest.{contest, resultAt, contestSpan}
-use Rattle.graded_circuit.specs.Merge.{stillWon, verdict, merge}
+use Rattle.graded_circuit.specs.Merge.{keepWinners, selectFlags, merge}
 use Rattle.graded_circuit.proofs.ContestLaws.{contest-block}
-use Rattle.graded_circuit.proofs.MergeLaws.{high-leaves, verdict-block, still-won-block}
+use Rattle.graded_circuit.proofs.MergeLaws.{high-leaves, select-flags-block, keep-winners-block}
 use Rattle.graded_writer.proofs.merge.merge.Statement.{statement}
 use Rattle.graded_writer.proofs.merge.merge.Tie as tie
 
@@ -24,7 +24,7 @@ contest-requires c κs =
       cut = omega (arith, (c .high-digits) .ensures, high-leaves (s .args .p) (s .args .l + s .args .m));
     }
 
--- behind the contest, its verdict, and the first group
+-- behind the contest, which group stays, and the first group
 
 compared : (c : tie.After-contest) → Stands (c .contest .result) ((c .before .before .before .before) .args .w .wire + contestSpan ((c .before .before .before .before) .args .p)) (4 + ((c .before .before .before .before) .args .l + (c .before .before .before .before) .args .m))
 compared c =
@@ -39,45 +39,45 @@ sub-q : tie.Need-sub-q
 sub-q c =
     omega (arith, compared (c .before .before .before) .place)
 
-verdict-requires : tie.Need-verdict-requires
-verdict-requires c κs =
+select-flags-requires : tie.Need-select-flags-requires
+select-flags-requires c κs =
     record {
       room = room-of ((c .before .before .before .before .contest) .result) _ _ _ (compared (c .before .before .before .before)) (omega arith);
       place = omega (arith, compared (c .before .before .before .before) .place);
     }
 
-judged : (c : tie.After-verdict) → Stands (c .verdict .result) ((c .before .before .before .before .before .before .before .before .before) .args .w .wire + contestSpan ((c .before .before .before .before .before .before .before .before .before) .args .p) + 4) ((c .before .before .before .before .before .before .before .before .before) .args .l + (c .before .before .before .before .before .before .before .before .before) .args .m)
+judged : (c : tie.After-select-flags) → Stands (c .select-flags .result) ((c .before .before .before .before .before .before .before .before .before) .args .w .wire + contestSpan ((c .before .before .before .before .before .before .before .before .before) .args .p) + 4) ((c .before .before .before .before .before .before .before .before .before) .args .l + (c .before .before .before .before .before .before .before .before .before) .args .m)
 judged c =
-    stands-after ((c .before .before .before .before .before .contest) .result) ((c .before .before .before .before .before .contest) .last .1 .0) _ (c .verdict .last .1 .0) (c .verdict .result) _ _ _ (c .verdict .ensures) (verdict-block ((c .before .before .before .before .before .contest) .result .wire - 2) .long) (compared (c .before .before .before .before .before))
+    stands-after ((c .before .before .before .before .before .contest) .result) ((c .before .before .before .before .before .contest) .last .1 .0) _ (c .select-flags .last .1 .0) (c .select-flags .result) _ _ _ (c .select-flags .ensures) (select-flags-block ((c .before .before .before .before .before .contest) .result .wire - 2) .long) (compared (c .before .before .before .before .before))
 
-add-still-won : tie.Need-add-still-won
-add-still-won c =
+add-keep-winners : tie.Need-add-keep-winners
+add-keep-winners c =
     omega (arith, compared (c .before .before .before .before .before .before .before .before) .place, (c .before .before .before .before .before .before .before .before .before .before .before .before) .pre .room .small)
 
-still-won-requires : tie.Need-still-won-requires
-still-won-requires c κs =
+keep-winners-requires : tie.Need-keep-winners-requires
+keep-winners-requires c κs =
     let q = (c .before .before .before .before .before .before .before .before .before .before .before .before) .pre in
     let p = judged (c .before .before .before) .place in
     record {
-      room = room-of ((c .before .before .before .verdict) .result) _ _ _ (judged (c .before .before .before)) (omega arith);
+      room = room-of ((c .before .before .before .select-flags) .result) _ _ _ (judged (c .before .before .before)) (omega arith);
       some = q .firstSome;
       below = λ k. let z = q .firstWon k in omega arith;
     }
 
-first : (c : tie.After-still-won) → Stands (c .still-won .result) ((c .before .before .before .before .before .before .before .before .before .before .before .before .before) .args .w .wire + contestSpan ((c .before .before .before .before .before .before .before .before .before .before .before .before .before) .args .p) + 4 + (c .before .before .before .before .before .before .before .before .before .before .before .before .before) .args .l) ((c .before .before .before .before .before .before .before .before .before .before .before .before .before) .args .m)
+first : (c : tie.After-keep-winners) → Stands (c .keep-winners .result) ((c .before .before .before .before .before .before .before .before .before .before .before .before .before) .args .w .wire + contestSpan ((c .before .before .before .before .before .before .before .before .before .before .before .before .before) .args .p) + 4 + (c .before .before .before .before .before .before .before .before .before .before .before .before .before) .args .l) ((c .before .before .before .before .before .before .before .before .before .before .before .before .before) .args .m)
 first c =
     let a = (c .before .before .before .before .before .before .before .before .before .before .before .before .before) .args in
     let q = (c .before .before .before .before .before .before .before .before .before .before .before .before .before) .pre in
     let p = judged (c .before .before .before .before) .place in
-    stands-after ((c .before .before .before .before .verdict) .result) ((c .before .before .before .before .verdict) .last .1 .0) _ (c .still-won .last .1 .0) (c .still-won .result) _ _ _ (c .still-won .ensures)
-    (still-won-block ((c .before .before .before .before .verdict) .result .wire) (a .u) ((c .before .before .before .before .before .before .before .before .before .contest) .result .wire - 2 + 4) (a .l) (λ k. let z = q .firstWon k in omega arith) (omega (arith, compared (c .before .before .before .before .before .before .before .before .before) .place, p)) .long) (judged (c .before .before .before .before))
+    stands-after ((c .before .before .before .before .select-flags) .result) ((c .before .before .before .before .select-flags) .last .1 .0) _ (c .keep-winners .last .1 .0) (c .keep-winners .result) _ _ _ (c .keep-winners .ensures)
+    (keep-winners-block ((c .before .before .before .before .select-flags) .result .wire) (a .u) ((c .before .before .before .before .before .before .before .before .before .contest) .result .wire - 2 + 4) (a .l) (λ k. let z = q .firstWon k in omega arith) (omega (arith, compared (c .before .before .before .before .before .before .before .before .before) .place, p)) .long) (judged (c .before .before .before .before))
 
-add-still-won-2 : tie.Need-add-still-won-2
-add-still-won-2 c =
+add-keep-winners-2 : tie.Need-add-keep-winners-2
+add-keep-winners-2 c =
     omega (arith, compared (c .before .before .before .before .before .before .before .before .before .before .before .before) .place, (c .before .before .before .before .before .before .before .before .before .before .before .before .before .before .before .before) .pre .room .small)
 
-still-won-requires-2 : tie.Need-still-won-requires-2
-still-won-requires-2 c κs =
+keep-winners-requires-2 : tie.Need-keep-winners-requires-2
+keep-winners-requires-2 c κs =
     let q = (c .before .before .before .before .before .before .before .before .before .before .before .before .before .before .before .before) .pre in
     let p = first (c .before .before .before) .place in
     record {
@@ -91,18 +91,18 @@ unfolding merge
 returns c =
     let a = (c .before .before .before .before .before .before .before .before .before .before .before .before .before .before .before .before .before .before .before) .args in
     let e : (c .before .before .before .before .before .before .before .before .before .before .before .before .before .before .before .contest) .result .wire - 2 ≡ resultAt (a .p) (a .w .wire) = omega (arith, compared (c .before .before .before .before .before .before .before .before .before .before .before .before .before .before .before) .place) in
-    wrote-then (a .w) (a .table .now) _ ((c .before .before .before .before .before .before .still-won) .last .1 .0) ((c .before .before .before .before .before .before .still-won) .result) _ _ _ _
-    (wrote-then (a .w) (a .table .now) _ ((c .before .before .before .before .before .before .before .before .before .before .verdict) .last .1 .0) ((c .before .before .before .before .before .before .before .before .before .before .verdict) .result) _ _ _ _
+    wrote-then (a .w) (a .table .now) _ ((c .before .before .before .before .before .before .keep-winners) .last .1 .0) ((c .before .before .before .before .before .before .keep-winners) .result) _ _ _ _
+    (wrote-then (a .w) (a .table .now) _ ((c .before .before .before .before .before .before .before .before .before .before .select-flags) .last .1 .0) ((c .before .before .before .before .before .before .before .before .before .before .select-flags) .result) _ _ _ _
     (wrote-then (a .w) (a .table .now) _ ((c .before .before .before .before .before .before .before .before .before .before .before .before .before .before .before .contest) .last .1 .0) ((c .before .before .before .before .before .before .before .before .before .before .before .before .before .before .before .contest) .result) _ _ _ _
     (wrote-as (a .w) (a .table .now) _ _ _ _ (ap (contest (a .p) (a .w .wire) (a .x) (a .y)) ((c .before .before .before .before .before .before .before .before .before .before .before .before .before .before .before .before .high-digits) .ensures)) ((c .before .before .before .before .before .before .before .before .before .before .before .before .before .before .before .contest) .ensures))
-    ((c .before .before .before .before .before .before .before .before .before .before .verdict) .ensures) (ap verdict e))
-    ((c .before .before .before .before .before .before .still-won) .ensures) (ap (λ (k : ℕ). stillWon (a .u) (k + 4) (a .l)) e))
-    ((c .before .before .still-won2) .ensures) (ap (λ (k : ℕ). stillWon (a .v) (k + 5) (a .m)) e)
+    ((c .before .before .before .before .before .before .before .before .before .before .select-flags) .ensures) (ap selectFlags e))
+    ((c .before .before .before .before .before .before .keep-winners) .ensures) (ap (λ (k : ℕ). keepWinners (a .u) (k + 4) (a .l)) e))
+    ((c .before .before .keep-winners2) .ensures) (ap (λ (k : ℕ). keepWinners (a .v) (k + 5) (a .m)) e)
 
 same-length : tie.Need-same-length
 same-length c =
     let a = (c .before .before .before .before .before .before .before .before .before .before .before .before .before .before .before .before .before .before .before) .args in
-    wrote-long (a .w) (a .table .now) (merge (a .p) (a .w .wire) (a .x) (a .y) (a .u) (a .v) (a .l) (a .m)) ((c .before .before .still-won2) .last .1 .0) ((c .before .before .still-won2) .result) (returns c)
+    wrote-long (a .w) (a .table .now) (merge (a .p) (a .w .wire) (a .x) (a .y) (a .u) (a .v) (a .l) (a .m)) ((c .before .before .keep-winners2) .last .1 .0) ((c .before .before .keep-winners2) .result) (returns c)
 
 add-high-digits : tie.Need-add-high-digits
 add-high-digits c =
@@ -113,4 +113,4 @@ high-digits-requires c κs =
     omega (arith, (c .before .before) .pre .room .small)
 
 pub merge-spec : {M : Type 1} → statement M
-merge-spec = tie.close (tie.spec add-high-digits high-digits-requires contest-requires sub-q verdict-requires add-still-won still-won-requires add-still-won-2 still-won-requires-2 same-length returns)
+merge-spec = tie.close (tie.spec add-high-digits high-digits-requires contest-requires sub-q select-flags-requires add-keep-winners keep-winners-requires add-keep-winners-2 keep-winners-requires-2 same-length returns)
