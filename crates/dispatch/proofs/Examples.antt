@@ -33,7 +33,7 @@ two-bytes : ballotBytes (shapeOf oneHeader) ≡ 2
 unfolding oneHeader ballotBytes isRanking columns
 two-bytes = refl
 
--- tables in which the first jury is one of the example, with these pieces in front
+-- tables that begin with the pieces of the example's first jury
 record Front (t : Tables) (ballots tape wires board : List ℕ) : Type 0 where
   pub list : pieceOf 4 (t .lists) ≡ oneGate
   pub ballots-are : pieceOf 2 (t .ballots) ≡ ballots
@@ -68,12 +68,12 @@ module _ (t : Tables) (ballots tape wires board : List ℕ) (f : Front t ballots
     its-zeros : zeroWires oneHeader (piecesOf oneHeader t) ≡ replicate (length wires) 0
     its-zeros = ap (λ (p : Tables). replicate (length (p .wires)) 0) in-front
 
--- the first call's one jury
+-- the first call's only jury
 first-front : Front (oneJury .tables) (1 ∷ 0 ∷ []) (0 ∷ []) (9 ∷ 9 ∷ 9 ∷ []) (9 ∷ 9 ∷ [])
 unfolding oneJury oneGate pieceOf fitting
 first-front = record { list = refl; ballots-are = refl; tape-is = refl; wires-are = refl; board-is = refl }
 
--- the other calls' first jury, and the second behind it
+-- the other calls' first jury, and the second one after it
 module _ (mask : ℕ) where
   two-front : Front (twoJuries mask .tables) (1 ∷ 0 ∷ []) (0 ∷ []) (9 ∷ 9 ∷ 9 ∷ []) (9 ∷ 9 ∷ [])
   unfolding twoJuries oneGate pieceOf fitting

@@ -378,7 +378,7 @@ refusals =
     name c r true true p q e =
         inr (inr (between 1 (c .count) 8 p, between 1 (c .quantum) 65536 q, of-run (juriesIn c) (c .tables) r (found-at 0 (juriesIn c) (c .tables) r (sym (by-juries c p q) ∙ e))))
 
--- a call is accepted where all its juries are
+-- a call is accepted if all its juries are
 accepted-as-all : AcceptedAsAll
 accepted-as-all c = (
   λ e. let f = limits (leb 1 (c .count) && leb (c .count) 8) (leb 1 (c .quantum) && leb (c .quantum) 65536) refl refl (no-reason c none e) in
@@ -417,7 +417,7 @@ largest-at (suc n) g = go (largest-at n g)
         (λ (l : g (suc n) ≤ g (b .0)). (b .0, omega (arith, b .1), λ (i : ℕ) h. last (g (b .0)) i h (b .2) l))
         (below-or-not (g (b .0)) (g (suc n)))
 
--- the rounds of the jury that takes most
+-- the rounds of the jury that takes the most
 module _ (c : Call) (j : ℕ) (a : AcceptedJury c j) where
   abbrev its : ℕ → ℕ
   its i = getD (dispatchResult c .rounds) i 0

@@ -16,6 +16,6 @@ GetsGate quantum r ss j = min (r * quantum) (juryAt j ss .gates) < min (suc r * 
 abbrev pub NoIdleRound : (quantum done : ℕ) → List JuryHeader → Type 0
 NoIdleRound quantum done ss = (r : ℕ) → r < done → (j : ℕ) × (j < length ss) × GetsGate quantum r ss j
 
--- After so many rounds every jury has all its gates.
+-- After `done` rounds every jury has all its gates.
 abbrev pub AllDone : (quantum done : ℕ) → List JuryHeader → Type 0
 AllDone quantum done ss = (j : ℕ) → j < length ss → juryAt j ss .gates ≤ done * quantum

@@ -29,7 +29,7 @@ fn level_sum(n: u32, s: u32, count: u32, e: u32) -> u32
     if adders == 0 { s } else { n + 3 * adders - 2 }
 }
 
-// The number of gates of a counter's levels: three for each carry, and a level's carries are the next one's bits.
+// The number of gates of a counter's levels: three for each carry; a level's carries are the next level's bits.
 pub fn count_size(count: u32, extra: u32, levels: u32) -> u32
     requires { ⌜ CountSizeReady count extra levels ⌝ }
     ensures { λ r. ⌜ r ≡ countSize count extra levels ⌝ }
@@ -47,7 +47,7 @@ pub fn count_size(count: u32, extra: u32, levels: u32) -> u32
     gates
 }
 
-// One level: adds to wire sum so many bits a stride apart, and a public bit.
+// One level: adds to wire sum `count` bits, a stride apart, and a public bit.
 pub(crate) fn level(
     start: Writer,
     table: &mut [u32],
@@ -82,7 +82,7 @@ pub(crate) fn level(
     increment(w, table, s)
 }
 
-// The levels that count so many bits and a public number.
+// The levels that count `count` bits and a public number.
 pub fn count_levels(
     start: Writer,
     table: &mut [u32],
@@ -150,7 +150,7 @@ pub fn count_digits(
     w.emit(table, top, at, 0, 0)
 }
 
-// Counts so many bits a stride apart, and a public number.
+// Counts `count` bits, a stride apart, and a public number.
 pub fn counter(
     start: Writer,
     table: &mut [u32],

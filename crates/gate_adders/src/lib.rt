@@ -1,6 +1,6 @@
 // Adders and counters, written for every width: the blocks of `gate_words` that add words and count bits.
 //
-// Each function writes the gates of one block and returns the next writer. Its `requires` asks for room and for
+// Each function writes the gates of one block and returns the next writer. Its `requires` asks for room, and for
 // operands that are wires already.
 pub mod adder;
 pub mod counter;

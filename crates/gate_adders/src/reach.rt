@@ -1,4 +1,4 @@
-// Whether the sum of two words and a public bit has a digit more than they: a carry without the sum.
+// Whether the sum of two words and a public bit needs one more digit than they have: a carry without the sum.
 use gate_words::choice::chain_end;
 use gate_words::writer::Writer;
 use gates::kind;
@@ -27,7 +27,7 @@ fn carry_next(w: Writer, table: &mut [u32], x: u32, y: u32, carry: u32) -> Write
     differ.emit(table, kind::CHOICE, w.wire, carry, x)
 }
 
-// The carry out of so many digits.
+// The carry out of `digits` digits.
 fn carries(w: Writer, table: &mut [u32], x: u32, y: u32, carry: u32, digits: u32) -> Writer
     requires { ⌜ WordsReady w (2 * digits) x y digits ⌝ }
     ensures { λ r. ⌜ Wrote w (now (table .entry)) (carries (w .wire) x y carry digits) (now (table .exit)) r ⌝ }
@@ -44,7 +44,7 @@ fn carries(w: Writer, table: &mut [u32], x: u32, y: u32, carry: u32, digits: u32
     next
 }
 
-// The same where the wires from f on say in which digits the words differ.
+// The same, if the wires from f on say in which digits the words differ.
 fn carries_by(w: Writer, table: &mut [u32], f: u32, x: u32, carry: u32, digits: u32) -> Writer
     requires { ⌜ WordsReady w digits f x digits ⌝ }
     ensures { λ r. ⌜ Wrote w (now (table .entry)) (carriesBy (w .wire) f x carry digits) (now (table .exit)) r ⌝ }
@@ -61,7 +61,7 @@ fn carries_by(w: Writer, table: &mut [u32], f: u32, x: u32, carry: u32, digits: 
     next
 }
 
-// The high half, of high + 1 digits, into which wire `carry` carries.
+// The high half, of high + 1 digits; wire `carry` is its carry in.
 fn high_reach(w: Writer, table: &mut [u32], x: u32, y: u32, carry: u32, high: u32) -> Writer
     requires { ⌜ WordsReady w (3 * high + 2) x y (suc high) ⌝ }
     ensures { λ r. ⌜ Wrote w (now (table .entry)) (highReach (w .wire) x y carry high) (now (table .exit)) r ⌝ }
@@ -94,7 +94,8 @@ fn reach_halves(
     high_reach(lower, table, x + 1 + low, y + 1 + low, n + 2 * low, high)
 }
 
-// The sum of the words of above + 1 digits at x and y and the public bit: the last wire says that it has a digit more.
+// The sum of the words of above + 1 digits at x and y and the public bit: the last wire says that it needs one more
+// digit.
 pub fn reach(w: Writer, table: &mut [u32], x: u32, y: u32, bit: u32, above: u32) -> Writer
     requires { ⌜ WordsReady w (reachSpan above) x y (suc above) ⌝ }
     ensures { λ r. ⌜ Wrote w (now (table .entry)) (reach (w .wire) x y bit above) (now (table .exit)) r ⌝ }

@@ -59,7 +59,7 @@ pub chain-none : (kind n s at d m : ℕ) → m ≤ 0 → chain kind n s at d m �
 unfolding chain
 chain-none kind n s at d m h = let e : m ≡ 0 = omega arith in rw e
 
--- the end of a chain is the end of the chain behind its first gate
+-- the end of a chain is the end of the chain after its first gate
 pub chain-next : (n s m : ℕ) → chainEnd (n + 1) n m ≡ chainEnd n s (suc m)
 unfolding chainEnd
 chain-next n s zero = sym (add-zero n)

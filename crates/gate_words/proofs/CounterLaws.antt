@@ -1,4 +1,4 @@
--- What counters spell: for all numbers of bits, starts and strides at once.
+-- What counters spell, for all numbers of bits, starts and strides at once.
 -- Assumes nothing.
 use mathlib.Core.Path.{_≡_, _∙_, refl, sym, ap, subst}
 use mathlib.Core.List.{[]}
@@ -35,7 +35,7 @@ two-more : (m e : ℕ) → adders (suc (suc m)) e ≡ suc (adders m e)
 unfolding adders
 two-more m e = omega arith
 
--- the sum of a level with two bits more is the sum of the level behind its first adder
+-- the sum of a level with two more bits is the sum of the level after its first adder
 sum-next : (n s m e : ℕ) → levelSum (n + 3) (n + 1) m e ≡ levelSum n s (suc (suc m)) e
 sum-next n s m e = go (adders m e) refl
   where
@@ -77,7 +77,7 @@ module _ (W : ℕ → ℕ) (b : Binary W) where
         ones-more W (at + d) d m,
       )
 
-  -- the digits of a count: the levels stand at n, and the copies of their sums at q
+  -- the digits of a count: the levels start at n, and the copies of their sums at q
   pub count-law : (n at d m x r q : ℕ) → Countable m x r → Holds W n (countLevels n at d m x r) → Holds W q (countDigits n at m x r)
       → number W q 1 (suc r) ≡ ones W at d m + x
   unfolding countLevels countDigitsAs
@@ -122,7 +122,8 @@ module _ (W : ℕ → ℕ) (b : Binary W) where
       let r = parity-law (n + 1) n (at + d) d m (holds-rest W n (xorOf s at) (parity (n + 1) n (at + d) d m) h) in
       omega (arith, g, r, ap W (chain-next n s m), ones-more W at d m)
 
--- m bits and a number are countable in r + 1 digits where their most needs just those digits and the number fits below the top one
+-- m bits and a number can be counted in r + 1 digits if the largest count needs just those digits and the number fits
+-- below the top one
 pub countable : (m x r : ℕ) → 2 ^ r ≤ m + x → m + x < 2 ^ suc r → x < 2 ^ r → Countable m x r
 countable m x zero low high small = (omega arith, omega arith)
 countable m x (suc r) low high small =

@@ -100,7 +100,7 @@ pub length-counter : (n at d m x r : ℕ) → length (counter n at d m x r) ≡ 
 unfolding counter
 length-counter n at d m x r = omega (arith, length-append (countLevels n at d m x r) (countDigits n at m x r), length-count n at d m x r, length-digits 2 2 n at m x r)
 
--- a level's carries are there once it is written
+-- a level's carries exist once it is written
 pub below-carries : (n t : ℕ) → Below (n + 3 * t) (n + 2) 3 t
 below-carries n zero = tt
 below-carries n (suc t) = (omega arith, subst₂ (λ (x y : ℕ). Below x y 3 t) (omega arith) (omega arith) (below-carries (n + 3) t))
@@ -109,7 +109,7 @@ pub few-adders : (m e : ℕ) → e ≤ 1 → adders m e ≤ m + 1
 unfolding adders
 few-adders m e h = omega arith
 
--- a level has at most as many adders as the bits it may have, so each is at most twice as many gates and two
+-- a level has at most as many adders as it may have bits, so it has at most twice as many gates and two
 pub count-size-most : (m x r most : ℕ) → m ≤ most → 0 < most → countSize m x r ≤ r * (2 * most + 2)
 unfolding countSize adders
 count-size-most m x zero most h l = omega arith

@@ -1,4 +1,4 @@
--- Where a block's answer stands: one of its own wires, or the wire that was handed in where it has no gate.
+-- Where a block's answer is: one of its own wires, or the wire it was given if it has no gate.
 -- Assumes nothing.
 use Prim.Native.Nat.{ℕ, zero, suc, _+_, _≤_, _<_}
 use native.Mathlib.Omega.{arith}

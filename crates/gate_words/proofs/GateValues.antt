@@ -15,7 +15,7 @@ use Rattle.gate_words.proofs.Numbers.{Binary}
 abbrev pub valueOn : (ℕ → ℕ) → Gate → ℕ
 valueOn W g = valueOf (g .kind) (W (g .a)) (W (g .b)) (W (g .c))
 
--- the first gate and those behind it, whose wires are counted by sums here
+-- the first gate and those after it, whose wires are counted by sums here
 pub holds-first : (W : ℕ → ℕ) (n : ℕ) (g : Gate) (gs : List Gate) → Holds W n (g ∷ gs) → W n ≡ valueOn W g
 holds-first W n g gs h = h .0
 

@@ -37,7 +37,7 @@ module _ (w₀ : Writer) (t₀ : List ℕ) (whole : List Gate) where
         counted = omega (arith, a .gates, a .conditionals, g .counted, count-most b);
       }
 
-  -- there is room for so many gates of the rest
+  -- there is room for m gates of the rest
   pub goes-room : (w : Writer) (t : List ℕ) (rest : List Gate) (m n : ℕ) → Goes w₀ t₀ whole w t rest → m ≤ length rest → length whole ≤ n → Room w₀ n → Room w m
   goes-room w t rest m n g l k r =
       record {

@@ -1,4 +1,4 @@
--- What words compared in two halves tell, for all widths and cuts; their lengths, and that they are well-formed.
+-- What words compared in two halves say, for all widths and cuts; their lengths, and that they are well-formed.
 -- Assumes nothing.
 use mathlib.Core.Path.{_≡_, _∙_, refl, sym, ap, subst}
 use mathlib.Core.Logic.{_⊎_, inl, inr, ⊎-elim, _≢_}
@@ -23,7 +23,7 @@ use Rattle.gate_words.proofs.ComparisonLaws.{above-words}
 use Rattle.gate_words.proofs.Ends.{chain-below}
 use Rattle.gate_words.proofs.PointsBack.{behind, good-or, good-mux, any-good, differences-good, above-good}
 
--- e says that two numbers differ; where they do, s says that the first is larger
+-- e says that two numbers differ; if they do, s says that the first is larger
 pub record Tells (e s a c : ℕ) : Type 0 where
   pub same : a ≡ c → e ≡ 0
   pub differ : a ≢ c → e ≡ 1
@@ -108,7 +108,7 @@ high-unequal-some n l h m p e =
     let f : m ≡ n + suc (l + suc (h - 1)) + l = omega arith in
     ap (λ (i : ℕ). chainEnd i (n + 1 + l) (h - 1)) f ∙ sym (ap (highUnequalAt n l) q ∙ (unfold highUnequalAt in refl))
 
--- the wires that answer are below what comes next
+-- the wires with the answer are below what comes next
 
 end-more : (n s l h : ℕ) → chainEnd n s (l + suc h) ≡ n + l + h
 unfolding chainEnd
@@ -178,7 +178,7 @@ cut3 W n gs hs is k l e₁ e₂ h =
     let e₃ : n + length (gs ++ hs) ≡ l = omega (arith, length-append gs hs) in
     (t .0, subst (λ (i : ℕ). Holds W i hs) e₁ (t .1), subst (λ (i : ℕ). Holds W i is) e₃ (s .1))
 
--- what both halves tell together: the high one, where it differs
+-- what both halves say together: the high one decides if it differs
 joined : {e₁ s₁ a₁ c₁ e₀ s₀ a₀ c₀ e s a c : ℕ} → Tells e₁ s₁ a₁ c₁ → Tells e₀ s₀ a₀ c₀
     → (a₁ < c₁ → a < c) → (c₁ < a₁ → c < a) → (a₁ ≡ c₁ → a + c₀ ≡ c + a₀)
     → (e₁ ≡ 1 → e ≡ 1) → (e₁ ≡ 0 → e ≡ e₀) → (e₁ ≡ 1 → s ≡ s₁) → (e₁ ≡ 0 → s ≡ s₀) → Tells e s a c
@@ -200,7 +200,7 @@ joined {e₁} {s₁} {a₁} {c₁} {e₀} {s₀} {a₀} {c₀} {e} {s} {a} {c} t
     unlike h z = omega arith
 
 module _ (W : ℕ → ℕ) (b : Binary W) where
-  -- words are equal exactly where no digit differs
+  -- words are equal exactly if no digit differs
   differ-none : (n x y w : ℕ) → number W x 1 w ≡ number W y 1 w → Holds W n (differences x y w) → ones W n 1 w ≡ 0
   unfolding differences
   differ-none n x y zero e h = ones-none W n 1
@@ -286,7 +286,7 @@ module _ (W : ℕ → ℕ) (b : Binary W) where
       let s = holds-append W n (unequalHalves n x y l h) (aboveHalves (n + unequalSpan (l + h)) n x (highUnequalAt n l h) l h) g in
       (s .0, subst (λ (i : ℕ). Holds W (n + i) (aboveHalves (n + unequalSpan (l + h)) n x (highUnequalAt n l h) l h)) (length-unequal-halves n x y l h) (s .1))
 
-  -- one half: what it tells
+  -- one half: what it says
   half-tells : (d n m x y w : ℕ) → Holds W d (differences x y (suc w)) → Holds W n (anyOf n d (d + 1) 1 w) → Holds W m (above m (d + 1) (x + 1) x w)
       → Tells (W (chainEnd n d w)) (W (chainEnd m x w)) (number W x 1 (suc w)) (number W y 1 (suc w))
   half-tells d n m x y w g h k =
@@ -338,7 +338,7 @@ module _ (W : ℕ → ℕ) (b : Binary W) where
           → number W (x + 1 + l) 1 (suc h) ≡ number W (y + 1 + l) 1 (suc h) → number W x 1 (suc (l + suc h)) + number W y 1 (suc l) ≡ number W y 1 (suc (l + suc h)) + number W x 1 (suc l)
       parts-same x y l h e px py q = rw (← e) (high-same x y (suc l) (suc h) (rw (px, py) q))
 
-  -- whether words differ, by itself
+  -- whether words differ, on its own
   ones-parts : (at l h : ℕ) → ones W at 1 (l + h) ≡ ones W at 1 l + ones W (at + l) 1 h
   ones-parts at zero h = rw (zero-add h, add-zero at) (omega (arith, ones-none W at 1))
   ones-parts at (suc l) h =
@@ -380,7 +380,7 @@ module _ (W : ℕ → ℕ) (b : Binary W) where
       let u = cut-unequal n x y l h g in
       any-halves-one (n + suc (l + h)) n (n + 1) l h (positive (ones W n 1 (suc (l + h))) (W n + ones W (n + 1) 1 (l + h)) (ones-more W n 1 (l + h)) (λ z. e (same-none n x y (suc (l + h)) z (u .0)))) (u .1)
 
--- a word that is cut has all its digits
+-- a word that is cut keeps all its digits
 whole-word : (w h : ℕ) → h ≤ w → w - h + h ≡ w
 whole-word w h q = omega arith
 

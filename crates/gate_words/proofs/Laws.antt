@@ -1,4 +1,4 @@
--- What the layers above use of this one: of each block, what its wires spell, that it is well-formed, and its number of gates.
+-- What the layers above use: for each block, what its wires spell, that it is well-formed, and its number of gates.
 -- Assumes nothing.
 
 -- words and the bits that they are made of

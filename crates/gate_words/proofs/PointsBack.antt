@@ -1,4 +1,4 @@
--- Every block is a well-formed list: its operands point back, where those handed to it do.
+-- Every block is a well-formed list: its operands point back if those it was given do.
 -- Assumes nothing.
 use mathlib.Core.Path.{_≡_, refl, sym, ap, subst}
 use mathlib.Core.Bool.{Bool, true, false, cond}
@@ -45,7 +45,7 @@ good-xor n x y h k = good-two n 6 x y (omega arith) (operand-counts .6) h k
 pub good-mux : (n f x y : ℕ) → f < n → x < n → y < n → T (goodGate n (muxOf f x y))
 good-mux n f x y l h k = good-three n 7 f x y (omega arith) (operand-counts .7) l h k
 
--- what stands behind a block of so many gates
+-- what comes after a block of k gates
 pub behind : (n k : ℕ) (gs hs : List Gate) → length gs ≡ k → AllGood n gs → AllGood (n + k) hs → AllGood n (gs ++ hs)
 behind n k gs hs e p q = good-append n gs hs p (subst (λ (j : ℕ). AllGood (n + j) hs) (sym e) q)
 
@@ -147,7 +147,7 @@ count-levels-good n at d m x (suc r) bl k =
     (level-good n at (at + d) d (x % 2) (m - 1) (bl′ .0) (bl′ .1))
     (count-levels-good (n + 3 * t) (n + 2) 3 t (x / 2) r (below-carries n t) (k .1))
 
--- the sum of a level is a wire of it, or the wire that it starts from
+-- the sum of a level is one of its wires, or the wire that it starts from
 sum-below : (n s m e q : ℕ) → s < q → n + 3 * adders m e ≤ q → levelSum n s m e < q
 unfolding levelSum
 sum-below n s m e q hs h = go (adders m e) refl

@@ -1,4 +1,4 @@
--- What the carry out of two words tells, for all widths; its length, and that it is well-formed.
+-- What the carry out of two words says, for all widths; its length, and that it is well-formed.
 -- Assumes nothing.
 use mathlib.Core.Path.{_≡_, _∙_, refl, sym, ap, subst}
 use mathlib.Core.Bool.{Bool, true, false, cond}
@@ -170,9 +170,9 @@ unfolding reach
 reach-good n x y e zero hx hy = carry-bit-good n x y e (omega arith) (omega arith)
 reach-good n x y e (suc r) hx hy = reach-halves-good n x y e (r / 2) (r - r / 2) (omega arith) (omega arith)
 
--- what they tell
+-- what they say
 
--- one digit: where two bits are equal, the carry is their bit, and else the one that comes in
+-- one digit: if two bits are equal, the carry is that bit, and else the carry in
 one-carry : (x y s t k : ℕ) → x ≤ 1 → y ≤ 1 → s ≤ 1 → t ≡ (x + y) % 2 → (t ≡ 0 → k ≡ x) → (t ≡ 1 → k ≡ s) → (k ≤ 1) × (2 * k ≤ x + y + s) × (x + y + s ≤ 2 * k + 1)
 one-carry x y s t k hx hy hs e k₀ k₁ =
     ⊎-elim (λ (z : t ≡ 0). let p = k₀ z in (omega arith, omega arith, omega arith)) (λ (z : t ≡ 1). let p = k₁ z in (omega arith, omega arith, omega arith)) (bit-cases t (omega arith))
@@ -182,7 +182,7 @@ pub record Reaches (bit limit sum : ℕ) : Type 0 where
   pub reached : limit ≤ sum → bit ≡ 1
   pub missed : sum < limit → bit ≡ 0
 
--- so it says of a digit more: twice the limit, and twice the sum and the lowest digits
+-- so it does with one more digit: twice the limit, and twice the sum and the lowest digits
 one-more : (sum k low : ℕ) {bit limit twice whole : ℕ} → Reaches bit limit (sum + k) → twice ≡ 2 * limit → whole ≡ low + 2 * sum → 2 * k ≤ low → low ≤ 2 * k + 1 → Reaches bit twice whole
 one-more sum k low r e f g h = record { reached = λ q. r .reached (omega arith); missed = λ q. r .missed (omega arith) }
 
@@ -193,7 +193,7 @@ module _ (W : ℕ → ℕ) (b : Binary W) where
   carry-bit-law n x y (suc zero) l h = let g = holds-first W n (orOf x y) [] h ∙ or-is W b x y in (omega (arith, b x, b y), omega (arith, b x, b y))
   carry-bit-law n x y (suc (suc e)) l h = absurd (omega arith)
 
-  -- a chain of carries below a part of which a bit is known to say it
+  -- a chain of carries above a part for which a bit is known to say it
   carries-law : (n x y c w h bit : ℕ) → Holds W n (carries n x y c w)
       → ((k : ℕ) → (w ≡ 0 → k ≡ c) → (0 < w → k + 1 ≡ n + 2 * w) → Reaches bit (2 ^ h) (number W (x + w) 1 h + number W (y + w) 1 h + W k))
       → Reaches bit (2 ^ (w + h)) (number W x 1 (w + h) + number W y 1 (w + h) + W c)
@@ -236,7 +236,7 @@ module _ (W : ℕ → ℕ) (b : Binary W) where
       let s : Reaches (W (chainEnd (n + 1) n w)) (2 ^ suc w) (number W x 1 (suc w) + number W y 1 (suc w) + W c) = one-more (number W (x + 1) 1 w + number W (y + 1) 1 w) (W n) (W x + W y + W c) r (pow-succ' 2 w) (omega (arith, number-more W x 1 w, number-more W y 1 w)) (d .1) (d .2) in
       subst (λ (i : ℕ). Reaches (W i) (2 ^ suc w) (number W x 1 (suc w) + number W y 1 (suc w) + W c)) (chain-next n c w) s
 
-  -- all digits differ exactly where the words add up to all ones
+  -- all digits differ exactly if the words add up to all ones
   all-one : (n s f x y w : ℕ) → Holds W f (differences x y w) → Holds W n (allOf n s f 1 w) → W (chainEnd n s w) ≡ 1 → (W s ≡ 1) × (number W x 1 w + number W y 1 w + 1 ≡ 2 ^ w)
   unfolding chain differences
   all-one n s f x y zero g h e = unfold chainEnd number in (e, omega arith)

@@ -86,12 +86,12 @@ module _ (W : ℕ → ℕ) (b : Binary W) where
       let first : m ≡ suc (m - 1) = omega arith in
       (omega (arith, f, ap (ones W at d) first, ones-more W at d (m - 1)), subst (λ (z : ℕ). Holds W z rest) (ap (λ (z : ℕ). n + z) (length-level n at (at + d) d e (m - 1) (omega arith))) (p .1))
 
-  -- the digits of a total at q, its top digit complemented: where that is 1, the total has no top digit
+  -- the digits of a total at q, its top digit complemented: if that is 1, the total has no top digit
   pub record Told (q r total : ℕ) : Type 0 where
     pub short : W (q + r) ≡ 1 → number W q 1 r ≡ total
     pub long : W (q + r) ≡ 0 → number W q 1 r + 2 ^ r ≡ total
 
-  -- a count's low digits are copied and its top digit is complemented: they tell of the count
+  -- a count's low digits are copied and its top digit is complemented: they describe the count
   pub copied-law : (n at d m x r q : ℕ) → Countable m x r → Holds W n (countLevels n at d m x r) → Holds W q (countDigitsAs 2 3 n at m x r) → Told q r (ones W at d m + x)
   unfolding countDigitsAs
   copied-law n at d m x zero q k h g =
@@ -112,7 +112,8 @@ module _ (W : ℕ → ℕ) (b : Binary W) where
       let w = ap W place in
       record { short = λ i. omega (arith, e, c .0, a .short (sym w ∙ i), number-more W q 1 r); long = λ i. omega (arith, e, c .0, a .long (sym w ∙ i), number-more W q 1 r, pow-succ' 2 r) }
 
-  -- its low digits are complemented and its top digit is copied: they tell of what the count and one more lack to the next power
+  -- its low digits are complemented and its top digit is copied: they describe what the count plus one lacks to the
+  -- next power
   pub complemented-law : (n at d m x r q total : ℕ) → Countable m x r → total + 1 + (ones W at d m + x) ≡ 2 ^ suc r → Holds W n (countLevels n at d m x r) → Holds W q (countDigitsAs 3 2 n at m x r)
       → Told q r total
   unfolding countDigitsAs

@@ -1,4 +1,4 @@
--- What the writers of blocks share: where a writer stands and what room it has left, and blocks put one behind the other.
+-- What the writers of blocks share: where a writer is and what room it has left, and blocks one after the other.
 -- Assumes nothing.
 use mathlib.Core.Path.{_≡_, _∙_, ap}
 use mathlib.Core.List.{List, [], _∷_, _++_}
@@ -11,7 +11,7 @@ use Rattle.gate_words.specs.declared.writer.Writer.{Writer}
 use Rattle.gate_words.specs.Writing.{Room, Wrote}
 use Rattle.gate_words.proofs.Writing.{wrote-both, wrote-as, room-less, room-after}
 
--- a writer stands at wire n, and has room for m gates
+-- a writer is at wire n, and has room for m gates
 pub record Stands (w : Writer) (n m : ℕ) : Type 0 where
   pub place : w .wire ≡ n
   pub left : Room w m
@@ -19,7 +19,7 @@ pub record Stands (w : Writer) (n m : ℕ) : Type 0 where
 pub stands : (w : Writer) (n l m : ℕ) → w .wire ≡ n → m ≤ l → Room w l → Stands w n m
 stands w n l m e h r = record { place = e; left = room-less w m l h r }
 
--- so it does behind a block of l gates
+-- so it is after a block of l gates
 pub stands-after : (w : Writer) (t : List ℕ) (gs : List Gate) (t₁ : List ℕ) (w₁ : Writer) (n l m : ℕ) → Wrote w t gs t₁ w₁ → length gs ≡ l → Stands w n (l + m) → Stands w₁ (n + l) m
 stands-after w t gs t₁ w₁ n l m a e s =
     record { place = omega (arith, a .wires, s .place); left = room-after w t gs t₁ w₁ m (l + m) a (omega arith) (s .left) }

@@ -1,4 +1,4 @@
--- Adders. Each digit takes three gates, the first at wire n: the sum stands at n + 1 and the carry at n + 2.
+-- Adders. Each digit takes three gates, the first at wire n: the sum is at n + 1 and the carry at n + 2.
 use mathlib.Core.Bool.{cond}
 use mathlib.Core.List.{List, [], _∷_}
 use Prim.Native.Nat.{ℕ}
@@ -14,6 +14,6 @@ fullAdder n s u v = xorOf s u ∷ xorOf n v ∷ muxOf n v s ∷ []
 unfoldable pub halfAdder : ℕ → ℕ → ℕ → ℕ → List Gate
 halfAdder n s u e = cond (eqb e 0) (xorOf s u ∷ copyOf n ∷ andOf s u ∷ []) (xorOf s u ∷ notOf n ∷ orOf s u ∷ [])
 
--- Adds 1 to the wire s. No gate of it is conditional.
+-- Adds 1 to the wire s. None of its gates is conditional.
 unfoldable pub increment : ℕ → ℕ → List Gate
 increment n s = notOf s ∷ copyOf n ∷ copyOf s ∷ []

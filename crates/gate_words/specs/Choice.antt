@@ -4,23 +4,23 @@ use Prim.Native.Nat.{ℕ, zero, suc, _+_}
 use Rattle.gates.specs.Gate.{Gate}
 use Rattle.gate_words.specs.Gates.{gate, andOf, muxOf}
 
--- The word at x where wire f is 1, the word at y where it is 0.
+-- The word at x if wire f is 1, the word at y if it is 0.
 unfoldable pub choose : ℕ → ℕ → ℕ → ℕ → List Gate
 choose f x y zero = []
 choose f x y (suc w) = muxOf f x y ∷ choose f (x + 1) (y + 1) w
 
--- The word at x where wire f is 1, 0 where it is 0.
+-- The word at x if wire f is 1, else 0.
 unfoldable pub masked : ℕ → ℕ → ℕ → List Gate
 masked f x zero = []
 masked f x (suc w) = andOf f x ∷ masked f (x + 1) w
 
--- A chain of m gates of a kind with two operands, the first making wire n: it takes the wires s and `at`, and each
--- next one the wire made before it and the next of the wires a stride d apart.
+-- A chain of m gates of a kind with two operands, the first being wire n. It takes the wires s and `at`; each next
+-- gate takes the wire of the gate before and the next of the wires, d apart.
 unfoldable pub chain : ℕ → ℕ → ℕ → ℕ → ℕ → ℕ → List Gate
 chain kind n s at d zero = []
 chain kind n s at d (suc m) = gate kind s at 0 ∷ chain kind (n + 1) n (at + d) d m
 
--- The last wire of a chain: s itself where it has no gate.
+-- The last wire of a chain: s itself if it has no gate.
 unfoldable pub chainEnd : ℕ → ℕ → ℕ → ℕ
 chainEnd n s zero = s
 chainEnd n s (suc m) = n + m

@@ -9,14 +9,14 @@ use Rattle.gate_words.specs.Gates.{andOf, xorOf, muxOf}
 unfoldable pub firstDigit : ℕ → ℕ → ℕ → List Gate
 firstDigit n x y = xorOf x y ∷ andOf x n ∷ xorOf n (n + 1) ∷ []
 
--- Two words compared both ways, above digits of which the wires up and down say that x is above y, and below it. Both
--- ways share each digit's difference.
+-- Two words compared both ways, after lower digits for which the wires up and down say that x is above y, and below
+-- it. Both ways share each digit's difference.
 unfoldable pub compareWords : ℕ → ℕ → ℕ → ℕ → ℕ → ℕ → List Gate
 compareWords n x y up down zero = []
 compareWords n x y up down (suc w) =
     xorOf x y ∷ muxOf n x up ∷ muxOf n y down ∷ compareWords (n + 3) (x + 1) (y + 1) (n + 1) (n + 2) w
 
--- The wires that say so of all digits.
+-- The wires that say so for all digits.
 unfoldable pub upEnd : ℕ → ℕ → ℕ → ℕ
 upEnd n up zero = up
 upEnd n up (suc w) = n + 3 * w + 1
@@ -30,9 +30,9 @@ unfoldable pub differences : ℕ → ℕ → ℕ → List Gate
 differences x y zero = []
 differences x y (suc w) = xorOf x y ∷ differences (x + 1) (y + 1) w
 
--- A word compared one way with another, from which it differs where the wires from f on say so. The highest such
--- digit decides: from the lowest of w digits up, x's digit where they differ in it, else what wire s says of the
--- digits before. The last wire made says that x is above.
+-- A word compared one way with another; the wires from f on say in which digits they differ. The highest such digit
+-- decides: from the lowest of w digits up, x's digit if they differ in it, else what wire s says about the digits
+-- before. The last wire says that x is above.
 unfoldable pub above : ℕ → ℕ → ℕ → ℕ → ℕ → List Gate
 above n f x s zero = []
 above n f x s (suc w) = muxOf f x s ∷ above (n + 1) (f + 1) (x + 1) n w

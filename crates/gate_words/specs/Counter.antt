@@ -8,18 +8,18 @@ use Rattle.gates.specs.Gate.{Gate}
 use Rattle.gate_words.specs.Gates.{gate}
 use Rattle.gate_words.specs.Adder.{fullAdder, halfAdder, increment}
 
--- One level: adds to the wire s the m bits at `at`, at + d, and so on, two at a time, and at the end the public bit
--- e. Each adder hands its sum on to the next.
+-- One level: adds to the wire s the m bits at `at`, at + d, and so on, two at a time, and at the end the public bit e.
+-- Each adder passes its sum on to the next.
 unfoldable pub level : ℕ → ℕ → ℕ → ℕ → ℕ → ℕ → List Gate
 level n s at d e zero = cond (eqb e 0) [] (increment n s)
 level n s at d e (suc zero) = halfAdder n s at e
 level n s at d e (suc (suc m)) = fullAdder n s at (at + d) ++ level (n + 3) (n + 1) (at + d + d) d e m
 
--- The number of a level's adders. Its carries stand at n + 2, n + 5, and so on: they are the next level's bits.
+-- The number of a level's adders. Its carries are at n + 2, n + 5, and so on: they are the next level's bits.
 unfoldable pub adders : ℕ → ℕ → ℕ
 adders m e = (m + e + 1) / 2
 
--- The wire of a level's sum: the last adder's, or s itself where there is none.
+-- The wire of a level's sum: the last adder's, or s itself if there is none.
 unfoldable pub levelSum : ℕ → ℕ → ℕ → ℕ → ℕ
 levelSum n s m e = cond (eqb (adders m e) 0) s (n + 3 * adders m e - 2)
 
@@ -30,9 +30,8 @@ countLevels n at d m extra (suc r) =
     level n at (at + d) d (extra % 2) (m - 1)
     ++ countLevels (n + 3 * adders (m - 1) (extra % 2)) (n + 2) 3 (adders (m - 1) (extra % 2)) (extra / 2) r
 
--- Of each level's sum, and of the one bit that is left, a gate of one operand: of kind `low` for the sums, of kind
--- `top` for the bit. They are the digits of the count, side by side, copied or complemented. The levels start at wire
--- n.
+-- A gate with one operand for each level's sum, of kind `low`, and one for the single bit that is left, of kind `top`.
+-- They are the digits of the count, side by side, copied or complemented. The levels start at wire n.
 unfoldable pub countDigitsAs : ℕ → ℕ → ℕ → ℕ → ℕ → ℕ → ℕ → List Gate
 countDigitsAs low top n at m extra zero = gate top at 0 0 ∷ []
 countDigitsAs low top n at m extra (suc r) =
@@ -52,8 +51,8 @@ unfoldable pub countSize : ℕ → ℕ → ℕ → ℕ
 countSize m extra zero = 0
 countSize m extra (suc r) = 3 * adders (m - 1) (extra % 2) + countSize (adders (m - 1) (extra % 2)) (extra / 2) r
 
--- m bits and the number `extra` can be counted in r + 1 digits: each of r levels has a bit to start from, and one bit
--- and nothing else is left for the top digit.
+-- m bits and the number `extra` can be counted in r + 1 digits: each of r levels has a bit to start from, and exactly
+-- one bit is left for the top digit.
 abbrev pub Countable : ℕ → ℕ → ℕ → Type 0
 Countable m extra zero = (m ≡ 1) × (extra ≡ 0)
 Countable m extra (suc r) = (0 < m) × Countable (adders (m - 1) (extra % 2)) (extra / 2) r

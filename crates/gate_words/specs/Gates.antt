@@ -24,6 +24,6 @@ orOf a b = gate 5 a b 0
 abbrev pub xorOf : ℕ → ℕ → Gate
 xorOf a b = gate 6 a b 0
 
--- Wire b where wire a is 1, wire c where it is 0.
+-- Wire b if wire a is 1, wire c if it is 0.
 abbrev pub muxOf : ℕ → ℕ → ℕ → Gate
 muxOf a b c = gate 7 a b c

@@ -1,6 +1,6 @@
 -- Words compared in two halves, both at the same time, in half as many rounds. The low half has l digits above its
--- lowest one, the high half h digits; where h is 0 there is one half. Neither the number of gates nor that of
--- conditional gates depends on where a word is cut.
+-- lowest one, the high half h digits; if h is 0 there is one half. Where a word is cut changes neither the number of
+-- gates nor that of conditional gates.
 use mathlib.Core.List.{List, [], _∷_, _++_}
 use Prim.Native.Nat.{ℕ, zero, suc, _+_, _-_}
 use Rattle.gates.specs.Gate.{Gate}
@@ -8,7 +8,7 @@ use Rattle.gate_words.specs.Gates.{orOf, muxOf}
 use Rattle.gate_words.specs.Choice.{anyOf, chainEnd}
 use Rattle.gate_words.specs.Comparison.{differences, above}
 
--- Whether the wire s or one of l + h wires from `at` on is 1: the first l of them with s, the others by themselves.
+-- Whether the wire s or one of l + h wires from `at` on is 1: the first l of them with s, the others on their own.
 unfoldable pub anyOfHalves : ℕ → ℕ → ℕ → ℕ → ℕ → List Gate
 anyOfHalves n s at l zero = anyOf n s at 1 l
 anyOfHalves n s at l (suc h) =
@@ -27,8 +27,8 @@ unequalSpan w = suc w + w
 abbrev pub unequalAt : ℕ → ℕ → ℕ
 unequalAt n w = chainEnd (n + suc w) n w
 
--- Which of two words is above, where they differ: wire f and the next ones say in which digits they do, and wire e that
--- they do in the high half. In the lowest digit of a half x's own digit says it.
+-- Which of two words is above, if they differ: wire f and the next ones say in which digits they do, and wire e that
+-- they do in the high half. In the lowest digit of a half, x's own digit says it.
 unfoldable pub aboveHalves : ℕ → ℕ → ℕ → ℕ → ℕ → ℕ → List Gate
 aboveHalves n f x e l zero = above n (f + 1) (x + 1) x l
 aboveHalves n f x e l (suc h) =
@@ -36,12 +36,12 @@ aboveHalves n f x e l (suc h) =
     ++ above (n + l) (f + 1 + l + 1) (x + 1 + l + 1) (x + 1 + l) h
     ++ (muxOf e (chainEnd (n + l) (x + 1 + l) h) (chainEnd n x l) ∷ [])
 
--- The wire that says that the high halves differ; where there is none, any wire.
+-- The wire that says that the high halves differ; any wire if there is no high half.
 unfoldable pub highUnequalAt : ℕ → ℕ → ℕ → ℕ
 highUnequalAt n l zero = n
 highUnequalAt n l (suc h) = chainEnd (n + suc (l + suc h) + l) (n + 1 + l) h
 
--- Whether the words at x and y differ, and, where they do, whether x is above y.
+-- Whether the words at x and y differ, and, if they do, whether x is above y.
 unfoldable pub compareHalves : ℕ → ℕ → ℕ → ℕ → ℕ → List Gate
 compareHalves n x y l h =
     unequalHalves n x y l h ++ aboveHalves (n + unequalSpan (l + h)) n x (highUnequalAt n l h) l h

@@ -9,7 +9,7 @@ ghost use Rattle.gate_words.specs.Choice.{choose, masked, chain};
 ghost use Rattle.gate_words.specs.Choice.{chainEnd, anyOf, allOf, parity};
 ghost use Rattle.gate_words.specs.inner.Ready.{WordReady, WordsReady, WiresReady, ChainReady};
 
-// The last wire of a chain of so many gates.
+// The last wire of a chain of `count` gates.
 pub fn chain_end(n: u32, s: u32, count: u32) -> u32
     requires { ⌜ n + count < writerLimit ⌝ }
     ensures { λ r. ⌜ r ≡ chainEnd n s count ⌝ }
@@ -18,7 +18,7 @@ pub fn chain_end(n: u32, s: u32, count: u32) -> u32
 }
 
 impl Writer {
-    // The word at x where wire f is 1, else the word at y.
+    // The word at x if wire f is 1, else the word at y.
     pub fn choose(self, table: &mut [u32], f: u32, x: u32, y: u32, digits: u32) -> Writer
         requires { ⌜ WordsReady self digits x y digits ⌝ }
         ensures { λ r. ⌜ Wrote self (now (table .entry)) (choose f x y digits) (now (table .exit)) r ⌝ }
@@ -32,7 +32,7 @@ impl Writer {
         w
     }
 
-    // The word at x where wire f is 1, else 0.
+    // The word at x if wire f is 1, else 0.
     pub fn masked(self, table: &mut [u32], f: u32, x: u32, digits: u32) -> Writer
         requires { ⌜ WordReady self digits x digits ⌝ }
         ensures { λ r. ⌜ Wrote self (now (table .entry)) (masked f x digits) (now (table .exit)) r ⌝ }
@@ -75,7 +75,7 @@ impl Writer {
         w
     }
 
-    // Whether wire s or one of so many wires a stride apart is 1.
+    // Whether wire s or one of `count` wires, a stride apart, is 1.
     pub fn any_of(self, table: &mut [u32], s: u32, first: u32, stride: u32, count: u32) -> Writer
         requires { ⌜ WiresReady self count first stride count ⌝ }
         ensures { λ r. ⌜
@@ -85,7 +85,7 @@ impl Writer {
         self.chain(table, kind::OR, s, first, stride, count)
     }
 
-    // Whether wire s and all of so many wires a stride apart are 1.
+    // Whether wire s and all of `count` wires, a stride apart, are 1.
     pub fn all_of(self, table: &mut [u32], s: u32, first: u32, stride: u32, count: u32) -> Writer
         requires { ⌜ WiresReady self count first stride count ⌝ }
         ensures { λ r. ⌜
@@ -95,7 +95,7 @@ impl Writer {
         self.chain(table, kind::AND, s, first, stride, count)
     }
 
-    // The sum modulo 2 of wire s and so many wires a stride apart.
+    // The sum modulo 2 of wire s and `count` wires, a stride apart.
     pub fn parity(self, table: &mut [u32], s: u32, first: u32, stride: u32, count: u32) -> Writer
         requires { ⌜ WiresReady self count first stride count ⌝ }
         ensures { λ r. ⌜

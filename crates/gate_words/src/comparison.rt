@@ -31,7 +31,7 @@ impl Writer {
         second.emit(table, kind::CHOICE, n, y, down)
     }
 
-    // Two words compared both ways, above what wires up and down say of the digits before.
+    // Two words compared both ways, after lower digits about which the wires up and down say who is above.
     pub fn compare_words(
         self,
         table: &mut [u32],
@@ -60,7 +60,7 @@ impl Writer {
         w
     }
 
-    // Where the words at x and y differ.
+    // In which digits the words at x and y differ.
     pub fn differences(self, table: &mut [u32], x: u32, y: u32, digits: u32) -> Writer
         requires { ⌜ WordsReady self digits x y digits ⌝ }
         ensures { λ r. ⌜ Wrote self (now (table .entry)) (differences x y digits) (now (table .exit)) r ⌝ }
@@ -74,8 +74,8 @@ impl Writer {
         w
     }
 
-    // A word compared one way with another, from which it differs where the wires from `differ` on say so, above what
-    // wire s says of the digits before.
+    // A word compared one way with another; the wires from `differ` on say in which digits they differ, and wire s
+    // what the digits before them say.
     pub fn above(self, table: &mut [u32], differ: u32, x: u32, s: u32, digits: u32) -> Writer
         requires { ⌜ WordsReady self digits differ x digits ⌝ }
         ensures { λ r. ⌜

@@ -11,7 +11,7 @@ ghost use Rattle.gate_words.specs.Halves.{anyOfHalves, unequalHalves, un
 ghost use Rattle.gate_words.specs.Halves.{highUnequalAt, compareHalves, compareSpan, aboveAt};
 ghost use Rattle.gate_words.specs.inner.Ready.{WordReady, WordsReady};
 
-// The wire that says that words of above + 1 digits differ, of a comparison from wire n on.
+// The wire that says that words of above + 1 digits differ, in a comparison from wire n on.
 pub fn unequal_at(n: u32, above: u32) -> u32
     requires { ⌜ n + unequalSpan above < writerLimit ⌝ }
     ensures { λ r. ⌜ r ≡ unequalAt n above ⌝ }
@@ -88,7 +88,7 @@ impl Writer {
         differ.any_of_halves(table, n, n + 1, low, high)
     }
 
-    // Whether they differ, and, where they do, whether x is above y.
+    // Whether they differ, and, if they do, whether x is above y.
     pub fn compare_halves(self, table: &mut [u32], x: u32, y: u32, low: u32, high: u32) -> Writer
         requires { ⌜ WordsReady self (compareSpan (low + high)) x y (suc (low + high)) ⌝ }
         ensures { λ r. ⌜

@@ -1,4 +1,4 @@
-// The list writer [forms]: where the next gate goes, by value; a step takes one and returns the next.
+// The list writer [forms]: where the next gate goes, by value. A step takes one and returns the next.
 use gates::kind;
 ghost use mathlib.Core.Path.{_≡_};
 ghost use mathlib.Core.Bool.{cond};
@@ -18,14 +18,14 @@ pub struct Writer {
     pub conditional: usize,
 }
 
-// Operand i of a gate that uses so many: the wire, or 0 where it is not in use.
+// Operand i of a gate that uses `count` operands: the wire, or 0 if it is not used.
 fn operand(i: u32, count: u32, wire: u32) -> u32
     ensures { λ r. ⌜ r ≡ cond (ltb i count) wire 0 ⌝ }
 {
     if i < count { wire } else { 0 }
 }
 
-// Stores the four numbers of a gate where the table has room for them.
+// Stores the four numbers of a gate if the table has room for them.
 fn store(table: &mut [u32], at: usize, kind: u32, a: u32, b: u32, c: u32)
     requires { ⌜ at < 4 * writerLimit ⌝ }
     ensures { λ _. ⌜
@@ -43,7 +43,7 @@ fn store(table: &mut [u32], at: usize, kind: u32, a: u32, b: u32, c: u32)
 }
 
 impl Writer {
-    // Before the first gate of a list with so many inputs.
+    // Before the first gate of a list with `inputs` inputs.
     pub fn new(inputs: u32) -> Writer
         ensures { λ r. ⌜ r ≡ record { gate = 0; wire = inputs; conditional = 0 } ⌝ }
     {
@@ -54,8 +54,8 @@ impl Writer {
         }
     }
 
-    // Writes one gate where the table has room for it, and counts it in any case: writing into an empty table
-    // measures a list. Its kind says which operands it uses; the others are written as 0.
+    // Writes one gate if the table has room for it, and counts it in any case: writing into an empty table measures a
+    // list. Its kind says which operands it uses; the others are written as 0.
     pub fn emit(self, table: &mut [u32], kind: u32, a: u32, b: u32, c: u32) -> Writer
         requires { ⌜ Room self 1 ⌝ }
         ensures { λ r. ⌜ Wrote self (now (table .entry)) (emitted kind a b c ∷ []) (now (table .exit)) r ⌝ }

@@ -44,7 +44,7 @@ use Rattle.graded_circuit.proofs.RuleLaws.{Row, upTo, row-sums, same-se
 use Rattle.graded_circuit.proofs.Columns.{column, one-grade}
 use Rattle.basics.proofs.Flags.{never-true}
 
--- wires of the circuit, over candidates with these rows of counts
+-- wires of the circuit, for candidates with these rows of counts
 module _ (W : ℕ → ℕ) (b : Binary W) (p : Plan) (f : Planned p) (two : 1 < p .candidates) (h : Holds W (p .inputs) (circuit p))
     (rows : List (List ℕ)) (long : length rows ≡ p .candidates) (row-is : (c : ℕ) → c < p .candidates → Row (p .ballots) (p .grades) (getD rows c []))
     (counted : (c g : ℕ) → c < p .candidates → g < p .grades → ones W (bitsAt p c g) (apart p) (p .ballots) ≡ getD (getD rows c []) g 0)
@@ -52,7 +52,7 @@ module _ (W : ℕ → ℕ) (b : Binary W) (p : Plan) (f : Planned p) (two : 1 < 
   some : 0 < p .grades
   some = omega (arith, f .d-least)
 
-  -- the best candidate, and how all stand to it
+  -- the best candidate, and how all compare with it
   pub record Judged : Type 0 where
     pub best : ℕ
     pub inside : best < p .candidates
@@ -86,7 +86,7 @@ module _ (W : ℕ → ℕ) (b : Binary W) (p : Plan) (f : Planned p) (two : 1 < 
   judged : Judged
   judged = judged-by (circuit-law p f two W b h (λ c. upTo (getD rows c [])) (λ i j. Precedes (getD rows i []) (getD rows j [])) rule (λ c. medianOf (getD rows c [])) sums first-count next-count single)
 
-  -- no sequence precedes the best one's
+  -- no sequence precedes the best candidate's
   unpreceded : (j : Judged) (c : ℕ) → c < p .candidates → precedes (sequenceOf (getD rows c [])) (sequenceOf (getD rows (j .best) [])) ≡ false
   unpreceded j c l = ⊎-elim
       (λ (z : (W (wonFrom p f two + c) ≡ 1) × (sequenceOf (getD rows c []) ≡ sequenceOf (getD rows (j .best) []))).

@@ -1,4 +1,4 @@
--- A candidate's circuit is well-formed, and its length says where each part stands.
+-- A candidate's circuit is well-formed, and its length says where each part is.
 -- Assumes nothing.
 use mathlib.Core.Path.{_≡_, refl, sym, ap}
 use Prim.Native.Nat.{ℕ, zero, suc, _+_, _-_, _*_, _≤_, _<_}
@@ -33,7 +33,7 @@ module _ (p : Plan) (f : Planned p) where
   some-grades : 0 < p .grades
   some-grades = omega (arith, f .d-least)
 
-  -- what the sum of a grade counts is there once its row is
+  -- what the sum of a grade counts exists once its row does
   pub counted-below : (n m c g : ℕ) → p .inputs ≤ n → c < p .candidates → n + g * p .ballots ≤ m → Below m (rowAt p n c g) (rowApart p g) (p .ballots)
   unfolding rowAt rowApart
   counted-below n m c zero h hc hm = bits-below p f m c 0 (omega (arith, zero-mul (p .ballots))) hc some-grades

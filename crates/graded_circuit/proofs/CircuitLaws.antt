@@ -1,4 +1,4 @@
--- The circuit of a plan is well-formed, and its last wires tell who is as good as the best candidate.
+-- The circuit of a plan is well-formed, and its last wires say who is as good as the best candidate.
 -- Assumes nothing.
 use mathlib.Core.Path.{_≡_, refl, sym, subst}
 use Prim.Native.Nat.{ℕ, suc, _+_, _-_, _*_, _/_, _<_}
@@ -69,7 +69,7 @@ module _ (p : Plan) (f : Planned p) (two : 1 < p .candidates) where
     keys : (c : ℕ) → c < p .candidates → Spells W b p f (keyAt p c) (S c)
     keys c l = candidate-law W b p f (S c) (medians c) (sums c l) c l (none-before c l) (λ g m. one-more c g l m) (λ i m. single c i l m) (p .inputs + c * candidateSpan p) (omega arith) (each-candidate p f W (parts .0) c l)
 
-    -- how each candidate stands to the best one
+    -- how each candidate compares with the best one
     pub record Final : Type 0 where
       pub best : ℕ
       pub inside : best < p .candidates

@@ -1,4 +1,4 @@
--- A contest of two keys is well-formed, and tells which comes first.
+-- A contest of two keys is well-formed, and says which comes first.
 -- Assumes nothing.
 use mathlib.Core.Path.{_≡_, _∙_, refl, sym, ap, subst}
 use mathlib.Core.Logic.{_⊎_, inl, inr, ⊎-elim}
@@ -149,7 +149,7 @@ module _ (p : Plan) (f : Planned p) where
             (λ (l : median ≤ g). omega (arith, a .reached g l, c .reached g l, a .most g, c .most g))
             (below-or-not g median)
 
-        -- one sum alone
+        -- a single sum
         alone : (r n h : ℕ) → h ≤ r → p .digits ≡ suc r → p .grades - 2 ≡ 0 → Holds W n (compareCut n x y r h) → Outcome (W (unequalAt n r)) (W (aboveAt n x r)) (p .ballots) (p .grades - 1) A C
         alone r n k hr e z h =
             let d : 0 < p .grades - 1 = omega (arith, f .d-least) in

@@ -23,7 +23,7 @@ use Rattle.graded_circuit.proofs.CandidateBlocks.{candidate-block, key-
 use Rattle.graded_circuit.proofs.SumLaws.{Sums, Spells}
 use Rattle.graded_circuit.proofs.MergeLaws.{merge-block, better-block, better-one, better-zero, wonBit, won-bit, won-alone, Rule, Standing, Group, Joined, merge-law}
 
--- one candidate alone, or two halves
+-- a single candidate, or two halves
 module _ (p : Plan) (r m : ℕ) where
   pub span-one : m ≤ 1 → levelsSpan p (suc r) m ≡ 0
   unfolding levelsSpan
@@ -59,7 +59,7 @@ halves : (r m : ℕ) → 1 < m → m ≤ 2 ^ suc r → (0 < m / 2) × (m / 2 ≤
 halves r m l h = let e = pow-succ' 2 r in (omega arith, omega arith, omega arith, omega arith, omega arith)
 
 module _ (p : Plan) (f : Planned p) where
-  -- the candidates' keys stand before the levels
+  -- the candidates' keys come before the levels
   pub key-before : (c : ℕ) → c < p .candidates → keyAt p c + keySpan p ≤ levelsAt p
   key-before c h =
       omega (arith, key-of p (p .inputs + c * candidateSpan p), suc-mul c (candidateSpan p), mul-le-mul-right {m = suc c} {n = p .candidates} (candidateSpan p) (omega arith))

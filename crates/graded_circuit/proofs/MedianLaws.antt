@@ -24,7 +24,7 @@ use Rattle.graded_circuit.proofs.Cutting.{cut2, cut3}
 use Rattle.basics.proofs.Arithmetic.{next-place}
 use Rattle.basics.proofs.Cases.{below-or-not}
 
--- so do every second of them with a digit less
+-- so do every second of them with one digit less
 pub fits-half : (m w : ℕ) → Fits m (suc w) → Fits (m / 2) w
 fits-half m w f = let e = pow-succ' 2 w in record { enough = omega (arith, f .enough); needed = omega (arith, f .needed) }
 
@@ -35,7 +35,7 @@ fits-some m w f = omega (arith, f .needed, pow-succ' 2 w, positive w)
     positive zero = omega arith
     positive (suc w) = omega (arith, positive w, pow-succ' 2 w)
 
--- the last of every second wire stands no further than the last
+-- the last of every second wire is no further than the last
 pub half-apart : (m d : ℕ) → m / 2 * (d + d) ≤ m * d
 half-apart m d =
     let k = m / 2 in
@@ -139,7 +139,7 @@ pub ones-span : (m w : ℕ) → onesSpan m w ≡ differenceSpan m + laterSpan (m
 unfolding onesSpan
 ones-span m w = refl
 
--- just the first `most` of m wires are 1
+-- exactly the first `most` of m wires are 1
 pub record Unary (W : ℕ → ℕ) (at d m most : ℕ) : Type 0 where
   pub within : most ≤ m
   pub first : (i : ℕ) → i < most → W (at + i * d) ≡ 1

@@ -148,7 +148,7 @@ module _ (W : ℕ → ℕ) (b : Binary W) where
       omega (arith, rest, first, number-more W x 1 w, number-more W y 1 w)
 
   module _ (p : Plan) (f : Planned p) where
-    -- a copy of a key tells of the same sums
+    -- a copy of a key describes the same sums
     copied-key : (x z : ℕ) (S : ℕ → ℕ) → ((i : ℕ) → i < keySpan p → W (z + i) ≡ W (x + i)) → Spells W b p f x S → Spells W b p f z S
     copied-key x z S same k g l =
         let w = k g l in
@@ -177,7 +177,8 @@ module _ (W : ℕ → ℕ) (b : Binary W) where
 abbrev pub Same : ℕ → (ℕ → ℕ → ℕ) → ℕ → ℕ → Type 0
 Same d S i j = (g : ℕ) → g < d → S i g ≡ S j g
 
--- What the circuit rests on: an order of k candidates with sums S of n grades. Where some grade decides for i against j, i comes before j.
+-- What the circuit needs: an order of k candidates with sums S of n grades. If some grade decides for i against j, i
+-- comes before j.
 pub record Rule (n d k : ℕ) (S : ℕ → ℕ → ℕ) (Before : ℕ → ℕ → Type 0) : Type 0 where
   pub ahead : (i j : ℕ) → i < k → j < k → Ahead n d (S i) (S j) → Before i j
   pub chained : (h i j : ℕ) → h < k → i < k → j < k → Before h i → Before i j → Before h j
@@ -204,7 +205,7 @@ module _ (p : Plan) (f : Planned p) (S : ℕ → ℕ → ℕ) (Before : ℕ → 
       a
 
   module _ (W : ℕ → ℕ) (b : Binary W) where
-    -- m candidates from candidate c on: the key tells of the best one's sums, and the wires of who is as good
+    -- m candidates from candidate c on: the key describes the best one's sums, and the wires say who is as good
     pub record Group (c m key won : ℕ) : Type 0 where
       pub best : ℕ
       pub least : c ≤ best
@@ -212,7 +213,7 @@ module _ (p : Plan) (f : Planned p) (S : ℕ → ℕ → ℕ) (Before : ℕ → 
       pub spells : Spells W b p f key (S best)
       pub standing : (i : ℕ) → i < m → Standing (wonBit W won m i) (c + i) best
 
-    -- the best of two, and how both stand to it
+    -- the best of two, and how both compare with it
     record Met (q l r : ℕ) : Type 0 where
       best : ℕ
       choice : ((W (q + 1) ≡ 1) × (best ≡ l)) ⊎ ((W (q + 1) ≡ 0) × (best ≡ r))
@@ -247,7 +248,7 @@ module _ (p : Plan) (f : Planned p) (S : ℕ → ℕ → ℕ) (Before : ℕ → 
         record { best = r; choice = inr (s, refl); left = inr (omega arith, rule .ahead r l hr hl (t .2)); right = inl (omega arith, λ g i. refl) }))
         o
 
-    -- both groups together: the key that is chosen is the best one's, and each candidate's wire tells how it stands
+    -- both groups together: the chosen key is the best one's, and each candidate's wire says how it compares with it
     pub record Joined (c l m q x y won : ℕ) : Type 0 where
       pub best : ℕ
       pub least : c ≤ best

@@ -1,4 +1,4 @@
--- What the sides of some grades tell, and which words are chosen by them.
+-- What the sides of some grades say, and which words are chosen by them.
 -- Assumes nothing.
 use mathlib.Core.Path.{_≡_, _∙_, refl, sym, ap}
 use mathlib.Core.Logic.{_⊎_, inl, inr, ⊎-elim, _≢_}
@@ -122,7 +122,7 @@ module _ (W : ℕ → ℕ) (b : Binary W) where
   abbrev pub spelled : ℕ → ℕ → ℕ
   spelled r at = number W at 1 (suc r)
 
-  -- what a side tells
+  -- what a side says
   pub record Side (n x y r : ℕ) : Type 0 where
     pub below-one : W (belowAt n r) ≡ 1 → (spelled r x ≢ spelled r y) × (W (x + suc r) ≡ 1)
     pub below-zero : W (belowAt n r) ≡ 0 → W (x + suc r) ≡ 1 → spelled r x ≡ spelled r y

@@ -26,7 +26,7 @@ pub circuit-list : (s : Shape) → (s .candidates ≡ 1 → ⊥) → ownList s �
 unfolding ownList
 circuit-list s e = rw (ne-eqb (s .candidates) 1 e)
 
--- what holds of the length of both the circuit and one gate alone holds of the own list's
+-- what holds for the length of both the circuit and a single gate holds for the own list's
 either : (s : Shape) (bound : ℕ) → gradedLimits s ≡ true → 1 ≤ bound → (1 < s .candidates → length (circuit (planOf s)) ≤ bound) → length (ownList s) ≤ bound
 either s bound e one all = ⊎-elim
     (λ (l : 1 < s .candidates). subst (λ (gs : List Gate). length gs ≤ bound) (sym (circuit-list s (λ q. omega arith))) (all l))

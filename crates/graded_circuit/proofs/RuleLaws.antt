@@ -1,4 +1,4 @@
--- The order of candidates by full majority judgment is one that the circuit can rest on.
+-- The order of candidates by full majority judgment is one that the circuit can use.
 -- Assumes nothing.
 use mathlib.Core.Path.{_≡_, _∙_, sym, ap, subst}
 use mathlib.Core.Bool.{true}
@@ -26,7 +26,7 @@ pub record Row (n d : ℕ) (row : List ℕ) : Type 0 where
   pub long : length row ≡ d
   pub total : sum row ≡ n
 
--- the sum up to a grade, this one included
+-- the sum up to a grade, including it
 abbrev pub upTo : List ℕ → ℕ → ℕ
 upTo row g = running row (suc g)
 

@@ -1,4 +1,4 @@
--- What the running sums of a candidate spell, and what its key tells of them.
+-- What the running sums of a candidate spell, and what its key says about them.
 -- Assumes nothing.
 use mathlib.Core.Path.{_≡_, _∙_, sym, ap, subst}
 use mathlib.Core.Logic.{⊎-elim}
@@ -48,18 +48,18 @@ four : (gs hs is js : List Gate) → length (gs ++ hs ++ is ++ js) ≡ length gs
 four gs hs is js = omega (arith, length-append (gs ++ hs ++ is) js, length-append (gs ++ hs) is, length-append gs hs)
 
 module _ (W : ℕ → ℕ) (b : Binary W) (p : Plan) (f : Planned p) where
-  -- the word of a key at `at` tells of a sum v: its r low digits, and whether twice the sum is below n
+  -- the word of a key at `at` describes a sum v: its r low digits, and whether twice the sum is below n
   pub record Word (r at v : ℕ) : Type 0 where
     pub worse : 2 * v < p .ballots → W (at + r) ≡ 1
     pub better : p .ballots ≤ 2 * v → W (at + r) ≡ 0
     pub low-worse : 2 * v < p .ballots → number W at 1 r ≡ p .offset + v
     pub low-better : p .ballots ≤ 2 * v → number W at 1 r + (p .ballots + 1) / 2 ≡ v
 
-  -- the key at x tells of the sums S
+  -- the key at x describes the sums S
   abbrev pub Spells : ℕ → (ℕ → ℕ) → Type 0
   Spells x S = (g : ℕ) → g < p .grades - 1 → Word (p .digits) (lowAt p x g) (S g)
 
-  -- a word that tells of the offset and a sum
+  -- a word that describes the offset and a sum
   told-word : (q v : ℕ) → Told W b q (p .digits) (p .offset + v) → Word (p .digits) q v
   told-word q v t =
       let r = p .digits in
@@ -164,7 +164,7 @@ module _ (W : ℕ → ℕ) (b : Binary W) (p : Plan) (f : Planned p) where
               single i l,
             )
 
-    -- each of t rows behind that of grade g
+    -- each of t rows after that of grade g
     each-row : (n g t i : ℕ) → p .inputs ≤ n → g + t < p .grades → Counted n g → i ≤ t → Holds W (n + g * p .ballots) (rows p n c g t) → Counted n (g + i)
     unfolding rows
     each-row n g t zero h hg a l w = let e : g ≡ g + 0 = omega arith in subst (Counted n) e a
@@ -194,7 +194,7 @@ module _ (W : ℕ → ℕ) (b : Binary W) (p : Plan) (f : Planned p) where
         let total : p .offset + S g + 1 + (ones W bits (apart p) (p .ballots) + p .worst) ≡ 2 ^ suc (p .digits) = omega (arith, f .offset-is, f .worst-is, pow-succ' 2 (p .digits)) in
         told-word q (S g) (complemented-law W b m bits (apart p) (p .ballots) (p .worst) (p .digits) q (p .offset + S g) (worst-countable p f) total lev dig)
 
-    -- the key of candidate c, whose circuit starts at wire n, tells of its sums
+    -- the key of candidate c, whose circuit starts at wire n, describes its sums
     pub candidate-law : (n : ℕ) → p .inputs ≤ n → Holds W n (candidate p n c) → Spells (keyOf p n) S
     unfolding candidate
     candidate-law n h w g l =

@@ -84,7 +84,7 @@ resolve-block n e s e₁ s₁ e₂ s₂ j k f g he hs a₁ b₁ a₂ b₂ hj hk 
     (gate-block (good-xor (p 15) (n + 13) (n + 12) (new 13 15 (omega arith)) (new 12 15 (omega arith)))
     (none-block (p 16)))))))))))))))))
 
--- the words chosen end where the words are chosen
+-- the chosen words end where the words are chosen
 module _ (n x y r t : ℕ) (hx : x + suc (suc t) * stride r ≤ n) (hy : y + suc (suc t) * stride r ≤ n) where
   pub down-left-below : downLeft n x r t + suc r ≤ nearestEnd n r t
   down-left-below = let e = suc-mul (suc t) (stride r) in left-below (downAt n r t) x r t (nearestEnd n r t) (omega arith) (omega arith)

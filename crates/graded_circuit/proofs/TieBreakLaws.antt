@@ -1,4 +1,4 @@
--- Which of two keys with equal medians comes first, as the wires tell it.
+-- Which of two keys with equal medians comes first, as the wires say.
 -- Assumes nothing.
 use mathlib.Core.Path.{_≡_, _∙_, sym, ap, subst}
 use mathlib.Core.Logic.{_⊎_, inl, inr, ⊎-elim, _≢_}
@@ -32,7 +32,7 @@ pub record Ahead (n d : ℕ) (A C : ℕ → ℕ) : Type 0 where
   pub grade : ℕ
   pub decides : Decides n d A C grade
 
--- e says that two rows differ; where they do, s says that A comes first
+-- e says that two rows differ; if they do, s says that A comes first
 abbrev pub Outcome : ℕ → ℕ → ℕ → ℕ → (ℕ → ℕ) → (ℕ → ℕ) → Type 0
 Outcome e s n d A C = ((e ≡ 0) × ((g : ℕ) → g < d → A g ≡ C g)) ⊎ (((e ≡ 1) × (s ≡ 1) × Ahead n d A C) ⊎ ((e ≡ 1) × (s ≡ 0) × Ahead n d C A))
 
@@ -194,14 +194,14 @@ module _ (W : ℕ → ℕ) (b : Binary W) where
         let same : suc r + 1 ≡ stride r = omega arith in
         subst (λ (i : ℕ). Word W b p f (suc r) (z + g * i) (S g)) same (subst (λ (i : ℕ). Word W b p f i (z + g * (i + 1)) (S g)) er (k g (omega arith)))
 
-    -- as both sums differ, so do the low digits of the two keys
+    -- the low digits of the two keys differ exactly if both sums do
     matched : (g : ℕ) → g < suc (suc t) → wordOf W b x r g + C g ≡ wordOf W b y r g + A g
     matched g l = ⊎-elim
         (λ (m : g < median). omega (arith, word x A kx g l .low-worse (a .passed g m), word y C ky g l .low-worse (c .passed g m)))
         (λ (m : median ≤ g). omega (arith, word x A kx g l .low-better (a .reached g m), word y C ky g l .low-better (c .reached g m)))
         (below-or-not g median)
 
-    -- the wire behind x's word
+    -- the wire after x's word
     worse-one : (g : ℕ) → g < suc (suc t) → g < median → W (x + g * stride r + suc r) ≡ 1
     worse-one g l m = word x A kx g l .worse (a .passed g m)
 
@@ -244,7 +244,7 @@ module _ (W : ℕ → ℕ) (b : Binary W) where
       from-place : (i : ℕ) → flagAt W b (fromAt n r) r i ≡ W (fromAt (n + i * sideSpan r) r)
       from-place i = let e : fromAt n r + i * sideSpan r ≡ fromAt (n + i * sideSpan r) r = omega arith in ap W e
 
-      -- what the side of a grade tells of the sums
+      -- what the side of a grade says about the sums
       below-found : (i : ℕ) → i < t → flagAt W b (belowAt n r) r i ≡ 1 → (suc i < median) × (A (suc i) ≢ C (suc i))
       below-found i l z =
           let q = sided i l .below-one (sym (below-place i) ∙ z) in
@@ -342,7 +342,7 @@ module _ (W : ℕ → ℕ) (b : Binary W) where
               rest zero k l m = absurd (omega arith)
               rest (suc i) k l m = from-none i (omega (arith, q .inside)) (q .earlier i (omega arith)) m
 
-    -- the sums of a row at both grades, and the carry that tells whether they reach n
+    -- the sums of a row at both grades, and the carry that says whether they reach n
     module _ (S : ℕ → ℕ) (s : Sums (p .ballots) (p .grades) S median) (z : ℕ) (k : Spells W b p f z S) (down up : ℕ) (hd : down < suc (suc t)) (hu : up < suc (suc t)) where
       reach-is : (m u v : ℕ) → down < median → median ≤ up → spelled W b r u ≡ wordOf W b z r down → spelled W b r v ≡ wordOf W b z r up
           → Holds W m (reach m u v (p .ballots % 2) r) → Reaches (W (m + reachLast r)) (p .ballots) (S down + S up)
@@ -387,7 +387,7 @@ module _ (W : ℕ → ℕ) (b : Binary W) where
         record { reached = λ q. omega arith; missed = λ q. absurd (omega (arith, s .reached down (omega arith), s .reached up (omega arith))) })
         (below-or-not 0 median)
 
-    -- words that differ just as sums do tell of the sums
+    -- words that differ exactly if sums do describe the sums
     tells-sums : {e s i j u v : ℕ} → i + v ≡ j + u → Tells e s i j → Tells e s u v
     tells-sums q k = record { same = λ z. k .same (omega arith); differ = λ z. k .differ (λ y. z (omega arith)); over = λ l. k .over (omega arith); under = λ l. k .under (omega arith) }
 

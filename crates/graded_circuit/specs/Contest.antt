@@ -9,17 +9,16 @@ use Rattle.graded_circuit.specs.RunningSums.{wordSpan}
 use Rattle.graded_circuit.specs.Median.{compareOnes, onesSpan, onesDiffer, onesLarger}
 use Rattle.graded_circuit.specs.TieBreak.{tieBreak, resolveAt}
 
--- Which of two keys comes first, where wires e and s tell of their medians: sums of so many low digits, of which the
--- h highest are gone through by themselves, of the best grade and t grades more. The last two wires say whether the
--- keys differ, and, where they do, that x comes first. Without a low digit there is one ballot, and its grade is the
--- median. One sum alone is compared as it is.
+-- Which of two keys comes first; wires e and s compare their medians. Sums have the given number of low digits, the h
+-- highest handled separately, for the best grade and t more. The last two wires say whether the keys differ, and, if
+-- they do, that x comes first. Without a low digit the median decides; a single sum is compared as it is.
 unfoldable pub tieBreakBelow : Plan → ℕ → ℕ → ℕ → ℕ → ℕ → ℕ → ℕ → ℕ → List Gate
 tieBreakBelow p n x y e s zero h t = copyOf e ∷ copyOf s ∷ []
 tieBreakBelow p n x y e s (suc r) h zero =
     compareCut n x y r h ++ (orOf e (unequalAt n r) ∷ muxOf e s (aboveAt n x r) ∷ [])
 tieBreakBelow p n x y e s (suc r) h (suc t) = tieBreak (p .ballots % 2) n x y e s r h t
 
--- How many gates stand before those two.
+-- How many gates come before those two.
 unfoldable pub tieBreakBelowSpan : ℕ → ℕ → ℕ
 tieBreakBelowSpan zero t = 0
 tieBreakBelowSpan (suc r) zero = compareSpan r
@@ -43,6 +42,6 @@ contest p n x y h =
     (onesDiffer n (p .grades - 1) (p .places)) (onesLarger n (y + p .digits) (p .grades - 1) (p .places))
     (p .digits) h (p .grades - 2)
 
--- Wire `resultAt` says that the keys differ, and the next one, where they do, that x comes first.
+-- Wire `resultAt` says that the keys differ, and the next one, if they do, that x comes first.
 abbrev pub contestSpan : Plan → ℕ
 contestSpan p = mediansSpan p + tieBreakBelowSpan (p .digits) (p .grades - 2) + 2

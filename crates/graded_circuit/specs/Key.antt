@@ -1,4 +1,4 @@
--- What decides of one candidate, side by side: its key.
+-- What decides about one candidate, side by side: its key.
 use mathlib.Core.List.{List, [], _++_}
 use Prim.Native.Nat.{ℕ, zero, suc, _+_, _-_, _*_}
 use Rattle.gates.specs.Gate.{Gate}
@@ -8,17 +8,17 @@ use Rattle.graded_circuit.specs.Plan.{bitsAt}
 use Rattle.graded_circuit.specs.RunningSums.{wordSpan, sumSize, worstSize, rowAt, rows, levelsFrom, allLevels}
 use Rattle.graded_circuit.specs.RunningSums.{worstLevels}
 
--- Of the sum of grade g: its low digits, and then whether twice the number of grades is below n. Where it is, the
--- median grade is worse than this grade. The rows and the levels stand from wires n and m on.
+-- For the sum of grade g: its low digits, and then whether twice the number of grades is below n. If it is, the median
+-- grade is worse than this grade. The rows start at wire n, and the levels at wire m.
 unfoldable pub keyWord : Plan → ℕ → ℕ → ℕ → ℕ → List Gate
 keyWord p n m c g = countDigitsAs 2 3 (levelsFrom p m g) (rowAt p n c g) (p .ballots) (p .offset) (p .digits)
 
--- The same of t grades from grade g on.
+-- The same for t grades from grade g on.
 unfoldable pub keyWords : Plan → ℕ → ℕ → ℕ → ℕ → ℕ → List Gate
 keyWords p n m c g zero = []
 keyWords p n m c g (suc t) = keyWord p n m c g ++ keyWords p n m c (suc g) t
 
--- The same of the worst grade but one: the digits of the worst grade's count, whose levels start at wire m, say the
+-- The same for the second worst grade: the digits of the worst grade's count, whose levels start at wire m, say the
 -- opposite.
 unfoldable pub worstWord : Plan → ℕ → ℕ → List Gate
 worstWord p m c = countDigitsAs 3 2 m (bitsAt p c (p .grades - 1)) (p .ballots) (p .worst) (p .digits)
@@ -38,7 +38,7 @@ candidate p n c =
     ++ keyWords p n (sumsAt p n) c 0 (p .grades - 2)
     ++ worstWord p (worstAt p n) c
 
--- Where its key stands, and how many gates it has.
+-- Where its key is, and how many gates it has.
 abbrev pub keyOf : Plan → ℕ → ℕ
 keyOf p n = worstAt p n + worstSize p
 

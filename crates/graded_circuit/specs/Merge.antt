@@ -1,5 +1,5 @@
--- Two groups of candidates are merged, each with the key of its best candidate and, for more than one, a wire a
--- candidate that says who is as good as that.
+-- Two groups of candidates are merged, each with the key of its best candidate and, if it has more than one, a wire
+-- for each candidate that says who is as good as the best.
 use mathlib.Core.Bool.{cond}
 use mathlib.Core.List.{List, [], _∷_, _++_}
 use Prim.Native.Nat.{ℕ, zero, suc, _+_, _/_}
@@ -11,7 +11,7 @@ use Rattle.graded_circuit.specs.declared.plan.Plan.{Plan}
 use Rattle.graded_circuit.specs.Key.{keySpan}
 use Rattle.graded_circuit.specs.Contest.{contest, contestSpan, resultAt}
 
--- Who of a group's m candidates, whose wires stand at `at`, stays if the wire `stays` says that the group does. A
+-- Who of a group's m candidates, whose wires start at `at`, stays if the wire `stays` says that the group does. A
 -- group of one has no wires.
 unfoldable pub andAll : ℕ → ℕ → ℕ → List Gate
 andAll at stays zero = []
@@ -31,7 +31,7 @@ leftStays p n = resultAt p n + 4
 abbrev pub rightStays : Plan → ℕ → ℕ
 rightStays p n = resultAt p n + 5
 
--- The merge of groups of l and m candidates, whose wires stand at u and v. The wires of both groups together stand at
+-- The merge of groups of l and m candidates, whose wires start at u and v. The wires of both groups together start at
 -- `wonAt`.
 abbrev pub wonAt : Plan → ℕ → ℕ
 wonAt p n = resultAt p n + 6

@@ -1,4 +1,4 @@
--- Of two keys with equal medians, the sums of the two grades nearest to the median at which they differ, one on either
+-- In two keys with equal medians, the sums of the two grades nearest to the median at which they differ, one on either
 -- side of it.
 use mathlib.Core.List.{List, [], _∷_, _++_}
 use Prim.Native.Nat.{ℕ, zero, suc, _+_, _*_}
@@ -7,12 +7,12 @@ use Rattle.gate_words.specs.Gates.{andOf, xorOf}
 use Rattle.gate_words.specs.Choice.{choose}
 use Rattle.gate_words.specs.Halves.{unequalCut, unequalSpan, unequalAt}
 
--- Words have r + 1 digits here, and stand r + 2 wires apart in a key.
+-- Words have r + 1 digits here, and start r + 2 wires apart in a key.
 abbrev pub stride : ℕ → ℕ
 stride r = r + 2
 
--- Of one grade: whether the words at x and y differ, and the median is worse, as the wire behind the word at x says;
--- and whether they differ and it is not. The words' h highest digits are gone through by themselves.
+-- For one grade: whether the words at x and y differ and the median is worse, as the wire after the word at x says;
+-- and whether they differ and it is not. The words' h highest digits are handled separately.
 unfoldable pub sideFlags : ℕ → ℕ → ℕ → ℕ → ℕ → List Gate
 sideFlags n x y r h =
     unequalCut n x y r h
@@ -27,32 +27,32 @@ belowAt n r = n + unequalSpan r
 abbrev pub fromAt : ℕ → ℕ → ℕ
 fromAt n r = n + unequalSpan r + 1
 
--- Of t grades.
+-- For t grades.
 unfoldable pub sides : ℕ → ℕ → ℕ → ℕ → ℕ → ℕ → List Gate
 sides n x y r h zero = []
 sides n x y r h (suc t) = sideFlags n x y r h ++ sides (n + sideSpan r) (x + stride r) (y + stride r) r h t
 
--- The words at x and y where wire f is 1, else those at u and v.
+-- The words at x and y if wire f is 1, else those at u and v.
 unfoldable pub either : ℕ → ℕ → ℕ → ℕ → ℕ → ℕ → List Gate
 either f x y u v r = choose f x u (suc r) ++ choose f y v (suc r)
 
 abbrev pub eitherSpan : ℕ → ℕ
 eitherSpan r = suc r + suc r
 
--- The words of the last of t grades whose wire, the first being f, is 1; those at u and v where there is none.
+-- The words of the last of t grades whose wire, the first being f, is 1; those at u and v if there is none.
 unfoldable pub lastOf : ℕ → ℕ → ℕ → ℕ → ℕ → ℕ → ℕ → ℕ → List Gate
 lastOf n f x y u v r zero = []
 lastOf n f x y u v r (suc t) =
     either f x y u v r ++ lastOf (n + eitherSpan r) (f + sideSpan r) (x + stride r) (y + stride r) n (n + suc r) r t
 
--- The words of the first such grade: the grades are gone through from the last one.
+-- The words of the first such grade: the grades are visited from the last one on.
 unfoldable pub firstOf : ℕ → ℕ → ℕ → ℕ → ℕ → ℕ → ℕ → ℕ → List Gate
 firstOf n f x y u v r zero = []
 firstOf n f x y u v r (suc t) =
     either (f + t * sideSpan r) (x + t * stride r) (y + t * stride r) u v r
     ++ firstOf (n + eitherSpan r) f x y n (n + suc r) r t
 
--- Where the words chosen stand: u and v themselves where there is no grade to choose from.
+-- Where the chosen words are: u and v themselves if there is no grade to choose from.
 unfoldable pub leftEnd : ℕ → ℕ → ℕ → ℕ → ℕ
 leftEnd n u r zero = u
 leftEnd n u r (suc t) = n + t * eitherSpan r

@@ -11,7 +11,7 @@ use Rattle.graded_circuit.specs.Plan.{planOf}
 use Rattle.graded_circuit.specs.Key.{candidate, keyOf, keySpan, candidateSpan}
 use Rattle.graded_circuit.specs.Merge.{merge, mergeSpan, wonAt, better}
 
--- The circuits of m candidates, from candidate c on. They stand first, so that each one's key has its place.
+-- The circuits of m candidates, from candidate c on. They come first, so that each one's key has its place.
 unfoldable pub candidates : Plan → ℕ → ℕ → ℕ → List Gate
 candidates p n c zero = []
 candidates p n c (suc m) = candidate p n c ++ candidates p (n + candidateSpan p) (c + 1) m
@@ -27,7 +27,7 @@ levelsSpan p (suc r) m =
     cond (leb m 1) 0
     (levelsSpan p r (m / 2) + levelsSpan p r (m - m / 2) + mergeSpan p (m / 2) (m - m / 2) + keySpan p)
 
--- Where the group's key and its candidates' wires stand, the levels being written from wire n on.
+-- Where the group's key and its candidates' wires are, if the levels are written from wire n on.
 unfoldable pub bestKey : Plan → ℕ → ℕ → ℕ → ℕ → ℕ
 bestKey p zero n c m = keyAt p c
 bestKey p (suc r) n c m =
@@ -38,7 +38,7 @@ unfoldable pub winnerFlags : Plan → ℕ → ℕ → ℕ → ℕ
 winnerFlags p zero n m = 0
 winnerFlags p (suc r) n m = cond (leb m 1) 0 (wonAt p (n + levelsSpan p r (m / 2) + levelsSpan p r (m - m / 2)))
 
--- Two halves are merged: the first is written from wire n on, the other behind it, and the merge behind both.
+-- Two halves are merged: the first is written from wire n on, then the other, then the merge.
 abbrev pub otherAt : Plan → ℕ → ℕ → ℕ → ℕ
 otherAt p r n m = n + levelsSpan p r (m / 2)
 

@@ -6,11 +6,9 @@ use Rattle.jury.specs.Shape.{ballotBytes}
 use Rattle.jury.specs.Width.{widthOf}
 use Rattle.graded_circuit.specs.declared.plan.Plan.{Plan}
 
--- Sums have as many digits as n: `digits` low ones and a top one. The number of a median grade, which is at most d −
--- 1, has as many digits as d − 1: `places` low ones and a top one. `offset` is added to every running sum: then its
--- top digit is 1 exactly where the sum is at least (n + 1) / 2, that is where twice the sum is at least n. `worst` is
--- added to the count of the worst grade: then all digits complemented are the offset and the counts of the other
--- grades.
+-- Sums have as many digits as n, and the number of a median grade as many as d − 1: the low ones, `digits` and
+-- `places`, and a top one. With `offset` added, a running sum's top digit is 1 exactly if twice the sum is at least n.
+-- With `worst` added, the worst grade's count complemented is the offset plus the counts of the others.
 unfoldable pub planOf : Shape → Plan
 planOf s =
     record {
@@ -24,7 +22,7 @@ planOf s =
       places = widthOf (s .grades - 1) - 1;
     }
 
--- What holds of the plan of a shape within its limits.
+-- What holds for the plan of a shape within its limits.
 pub record Planned (p : Plan) : Type 0 where
   pub k-least : 1 ≤ p .candidates
   pub k-most : p .candidates ≤ 8
@@ -40,8 +38,8 @@ pub record Planned (p : Plan) : Type 0 where
   pub median-high : p .grades - 1 < 2 ^ suc (p .places)
   pub inputs-is : p .inputs ≡ p .ballots * p .candidates * p .grades
 
--- Candidate c's bits of grade g: the first stands in the first ballot, where a candidate's grades stand side by side,
--- and the next ones a ballot apart each.
+-- Candidate c's bits of grade g: the first is in the first ballot, which has a candidate's grades side by side; the
+-- next ones are a ballot apart.
 abbrev pub bitsAt : Plan → ℕ → ℕ → ℕ
 bitsAt p c g = c * p .grades + g
 

@@ -9,9 +9,9 @@ use Rattle.gate_words.specs.Reach.{reach, reachLast, reachSpan}
 use Rattle.graded_circuit.specs.Nearest.{stride, sides, sideSpan, belowAt, fromAt, lastOf, firstOf, eitherSpan}
 use Rattle.graded_circuit.specs.Nearest.{leftEnd, rightEnd}
 
--- Words have r + 1 digits, of which the h highest are gone through by themselves, and t grades stand between the best
--- one and the worst one but one. Wire after wire: the sides of those t grades; the words at the last one below the
--- median, or at the best grade; those at the first one from the median on, or at the last grade of the key.
+-- Words have r + 1 digits, the h highest of which are handled separately, and t grades lie between the best and the
+-- second worst. In this order: the sides of those t grades; the words at the last one below the median, or at the best
+-- grade; those at the first one from the median on, or at the last grade of the key.
 abbrev pub downAt : ℕ → ℕ → ℕ → ℕ
 downAt n r t = n + t * sideSpan r
 
@@ -30,7 +30,7 @@ nearest n x y r h t =
     ++ lastOf (downAt n r t) (belowAt n r) (x + stride r) (y + stride r) x y r t
     ++ firstOf (upAt n r t) (fromAt n r) (x + stride r) (y + stride r) (farAt x r t) (farAt y r t) r t
 
--- Of both keys the words chosen on either side.
+-- The words chosen on either side, for both keys.
 abbrev pub downLeft : ℕ → ℕ → ℕ → ℕ → ℕ
 downLeft n x r t = leftEnd (downAt n r t) x r t
 
@@ -43,13 +43,13 @@ upLeft n x r t = leftEnd (upAt n r t) (farAt x r t) r t
 abbrev pub upRight : ℕ → ℕ → ℕ → ℕ → ℕ
 upRight n y r t = rightEnd (upAt n r t) (farAt y r t) r t
 
--- Words that were chosen have all their digits at once, and are compared in halves.
+-- Chosen words have all their digits at once, and are compared in halves.
 unfoldable pub chosenHigh : ℕ → ℕ → ℕ → ℕ
 chosenHigh r h zero = h
 chosenHigh r h (suc t) = suc r / 2
 
--- The words at a and c, below the median, and those at u and v, from it on, are compared; and of each key both are
--- added, with the bit e, which says whether the two sums reach n.
+-- The words at a and c, below the median, and those at u and v, from it on, are compared; for each key both are added,
+-- with the bit e, which says whether the two sums reach n.
 unfoldable pub compareAndReach : ℕ → ℕ → ℕ → ℕ → ℕ → ℕ → ℕ → ℕ → List Gate
 compareAndReach n a c u v e r h =
     compareCut n a c r h
@@ -67,15 +67,13 @@ leftCarry n r = n + 2 * compareSpan r + reachLast r
 abbrev pub rightCarry : ℕ → ℕ → ℕ
 rightCarry n r = n + 2 * compareSpan r + reachSpan r + reachLast r
 
--- Which decides. Wires e and s tell of the medians whether the keys differ in them and whether x comes first, e₁ and
--- s₁ of the grade below the median, e₂ and s₂ of the other one; j and k are the carries of x and y; the median is
--- worse than the best grade where wire f is 1, and than the last where g is. In order: the sums of the key that is
--- larger below the median reach n (wire n); the grades lie on both sides of the median (n + 2); the lower one is
--- struck first (n + 3), which is so for grades that are all from the median on, and not for grades that are all below
--- it; both differ (n + 4), or one does (n + 6); x comes first if the upper one decides, where it differs (n + 7);
--- both differ, they say the opposite and the medians are equal (n + 11), and the lower one decides then (n + 12).
--- Wire n + 14 says that the keys differ, and n + 15, where they do, that x comes first.
+-- Which decides. Wires e and s say whether the medians differ and whether x comes first; e₁ and s₁ say it for the
+-- grade below the median, e₂ and s₂ for the other one. j and k are the carries of x and y. The median is worse than
+-- the best grade if wire f is 1, and than the last if g is.
 unfoldable pub resolve : ℕ → ℕ → ℕ → ℕ → ℕ → ℕ → ℕ → ℕ → ℕ → ℕ → ℕ → List Gate
+-- Wire n: the sums of the key that is larger below the median reach n; n + 2: the grades are on both sides of it; n +
+-- 3: the lower one is struck first; n + 4, n + 6: both differ, any does; n + 7: x comes first by the upper one; n +
+-- 12: the lower one decides; n + 14: the keys differ; n + 15: x comes first, if they do.
 resolve n e s e₁ s₁ e₂ s₂ j k f g =
     muxOf s₁ j k
     ∷ notOf f
@@ -98,7 +96,7 @@ resolve n e s e₁ s₁ e₂ s₂ j k f g =
 abbrev pub resolveSpan : ℕ
 resolveSpan = 16
 
--- All of it, from wire n on, with the medians' wires e and s; `bit` is 1 where the number of ballots is odd.
+-- All of it, from wire n on, with the medians' wires e and s; `bit` is 1 if the number of ballots is odd.
 abbrev pub resolveAt : ℕ → ℕ → ℕ → ℕ
 resolveAt n r t = nearestEnd n r t + compareAndReachSpan r
 

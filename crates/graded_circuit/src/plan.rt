@@ -19,7 +19,7 @@ pub struct Plan {
     pub places: u32,
 }
 
-// 2 to the power of so many digits.
+// 2 to the power `digits`.
 fn power(digits: u32) -> u32
     requires { ⌜ digits ≤ 7 ⌝ }
     ensures { λ r. ⌜ r ≡ 2 ^ digits ⌝ }

@@ -27,7 +27,7 @@ fn medians_alone(w: Writer, table: &mut [u32], e: u32, s: u32) -> Writer
     differ.emit(table, kind::COPY, s, 0, 0)
 }
 
-// One sum alone, of above + 1 digits.
+// A single sum, of above + 1 digits.
 fn one_sum(
     w: Writer,
     table: &mut [u32],
@@ -100,7 +100,7 @@ fn compare_medians(w: Writer, table: &mut [u32], p: Plan, x: u32, y: u32) -> Wri
     )
 }
 
-// The contest of the keys at x and y, whose words' highest `high` digits are gone through by themselves.
+// The contest of the keys at x and y, whose words' highest `high` digits are handled separately.
 pub fn contest(w: Writer, table: &mut [u32], p: Plan, x: u32, y: u32, high: u32) -> Writer
     requires { ⌜ KeysReady w (contestSpan p) p x y high ⌝ }
     ensures { λ r. ⌜ Wrote w (now (table .entry)) (contest p (w .wire) x y high) (now (table .exit)) r ⌝ }

@@ -1,5 +1,5 @@
-// Two keys compared below their medians. Words have `above` digits above the lowest, of which the highest `high` are
-// gone through by themselves, and `between` grades stand between the first and the last of a key.
+// Two keys compared below their medians. Words have `above` digits above the lowest, the highest `high` of which are
+// handled separately; `between` grades lie between the first and the last of a key.
 use gate_adders::reach::reach;
 use gate_words::halves::above_at;
 use gate_words::halves::unequal_at;
@@ -57,7 +57,7 @@ fn nearest(
     )
 }
 
-// How many digits of the words chosen are gone through by themselves: half of them, where there was a choice.
+// How many digits of the chosen words are handled separately: half of them, if there was a choice.
 fn chosen_high(above: u32, high: u32, between: u32) -> u32
     requires { ⌜ above ≤ 7 ⌝ }
     ensures { λ r. ⌜ r ≡ chosenHigh above high between ⌝ }
@@ -116,7 +116,7 @@ fn lower_first(
     apart.emit(table, kind::CHOICE, q + 2, q, q + 1)
 }
 
-// What both grades say: e₁ and s₁ tell of the lower one, e₂ and s₂ of the upper one.
+// What both grades say: e₁ and s₁ are about the lower one, e₂ and s₂ about the upper one.
 fn both_say(w: Writer, table: &mut [u32], q: u32, e1: u32, s1: u32, e2: u32, s2: u32) -> Writer
     requires { ⌜ PartReady w 5 q ⌝ }
     ensures { λ r. ⌜
@@ -131,7 +131,7 @@ fn both_say(w: Writer, table: &mut [u32], q: u32, e1: u32, s1: u32, e2: u32, s2:
     upper.emit(table, kind::XOR, s1, s2, 0)
 }
 
-// Whether the lower grade decides against the upper one, where wire e says that the medians differ.
+// Whether the lower grade decides against the upper one; wire e says whether the medians differ.
 fn lower_decides(w: Writer, table: &mut [u32], q: u32, e: u32) -> Writer
     requires { ⌜ PartReady w 4 q ⌝ }
     ensures { λ r. ⌜

@@ -76,7 +76,7 @@ some-later m (suc w) h = omega (arith, ones-span m (suc w), later-span-step (m /
 pub stride-most : (m d : ℕ) → 0 < m → m * d ≤ 2000 → d ≤ 2000
 stride-most m d some h = omega (arith, one-less m d some)
 
--- a digit or more: there are wires, and half of them fit a digit less
+-- one digit or more: there are wires, and half of them fit one digit less
 pub fits-step : (m w : ℕ) → 0 < w → Fits m w → (0 < m) × Fits (m / 2) (w - 1)
 fits-step m w h f = let g = subst (Fits m) (count-down w h) f in (fits-some m (w - 1) g, fits-half m (w - 1) g)
 

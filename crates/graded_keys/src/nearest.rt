@@ -1,4 +1,4 @@
-// The words of two keys at the grades nearest to the median where they differ. Words have `above` digits above the
+// The words of two keys at the grades nearest to the median at which they differ. Words have `above` digits above the
 // lowest.
 use gate_words::halves::unequal_at;
 use gate_words::writer::Writer;
@@ -11,8 +11,8 @@ ghost use Rattle.graded_circuit.specs.Nearest.{sideFlags, sides, either, either
 ghost use Rattle.graded_circuit.specs.Nearest.{leftEnd, rightEnd};
 ghost use Rattle.graded_keys.specs.inner.Nearest.{SideReady, SidesReady, EitherReady, LastReady, FirstReady};
 
-// Of one grade: whether the words, of which the highest `high` digits are gone through by themselves, differ on either
-// side of the median.
+// For one grade: whether the words, whose highest `high` digits are handled separately, differ on either side of the
+// median.
 fn side_flags(w: Writer, table: &mut [u32], x: u32, y: u32, above: u32, high: u32) -> Writer
     requires { ⌜ SideReady w x y above high ⌝ }
     ensures { λ r. ⌜ Wrote w (now (table .entry)) (sideFlags (w .wire) x y above high) (now (table .exit)) r ⌝ }
@@ -23,7 +23,7 @@ fn side_flags(w: Writer, table: &mut [u32], x: u32, y: u32, above: u32, high: u3
     below.emit(table, kind::XOR, differ, compared.wire, 0)
 }
 
-// Of so many grades.
+// For `count` grades.
 pub fn sides(
     w: Writer,
     table: &mut [u32],
@@ -49,7 +49,7 @@ pub fn sides(
     next
 }
 
-// The words at x and y where wire f is 1, else those at u and v.
+// The words at x and y if wire f is 1, else those at u and v.
 fn either(
     w: Writer,
     table: &mut [u32],
@@ -67,7 +67,7 @@ fn either(
     left.choose(table, f, y, v, above + 1)
 }
 
-// The words of the last of so many grades whose wire, the first being f, is 1; else those at u and v.
+// The words of the last of `count` grades whose wire, the first being f, is 1; else those at u and v.
 pub fn last_of(
     w: Writer,
     table: &mut [u32],
@@ -142,7 +142,7 @@ pub fn first_of(
     next
 }
 
-// Where the words chosen stand.
+// Where the chosen words are.
 pub fn left_end(n: u32, u: u32, above: u32, count: u32) -> u32
     requires { ⌜ (n + count * eitherSpan above < writerLimit) × (above ≤ 7) × (count ≤ 6) ⌝ }
     ensures { λ r. ⌜ r ≡ leftEnd n u above count ⌝ }

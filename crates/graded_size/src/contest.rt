@@ -24,8 +24,8 @@ fn medians_span(count: u32, above: u32) -> u32
     gates
 }
 
-// Whether two words of so many digits reach a limit: one gate for one digit. Else the low half takes two gates a digit
-// less one, and the high half three a digit less one.
+// Whether two words of `digits` digits reach a limit: one gate for one digit. Else the low half takes two gates a
+// digit less one, and the high half three a digit less one.
 fn reach_span(digits: u32) -> u32
     requires { ⌜ (0 < digits) × (digits ≤ 7) ⌝ }
     ensures { λ r. ⌜ r ≡ reachSpan (digits - 1) ⌝ }
@@ -37,10 +37,9 @@ fn reach_span(digits: u32) -> u32
     2 * low + 3 * (digits - 2 - low) + 3
 }
 
-// What stands before the result of a contest and behind the medians' comparison. Without a low digit it is nothing.
-// The one sum of two grades is compared as it is, with three gates a digit less two. Else each grade between the
-// first and the last has its side, two gates a digit and one, and two choices of two words, four a digit; the chosen
-// words are compared and told to reach n twice, and fourteen gates come before the two that say the result.
+// What comes between the medians' comparison and the result: nothing without a low digit; for two grades, three gates
+// a digit less two. Else each grade between the first and the last takes two a digit and one for its side, and four a
+// digit for two choices; the chosen words are compared and tested twice to reach n, and fourteen gates follow.
 fn tie_break_below_span(digits: u32, grades: u32) -> u32
     requires { ⌜ (digits ≤ 7) × (2 ≤ grades) × (grades ≤ 7) ⌝ }
     ensures { λ r. ⌜ r ≡ tieBreakBelowSpan digits (grades - 2) ⌝ }

@@ -86,7 +86,7 @@ module _ (p : Plan) (n c : ℕ) where
     unfolding keyWords
     words-end g t h = let e : t - g ≡ 0 = omega arith in rw e
 
--- wherever all rows are written, so are those of the first grades
+-- if all rows are written, so are those of the first grades
 pub rows-there : (p : Plan) (n m t : ℕ) → t ≤ p .grades - 2 → n + (p .grades - 3) * p .ballots ≤ m → RowsBefore p n m t
 rows-there p n m t few h g l = omega (arith, mul-le-mul-right {m = g} {n = p .grades - 3} (p .ballots) (omega arith))
 
@@ -105,7 +105,7 @@ module _ (p : Plan) (f : Planned p) where
   row-apart-most zero = apart-most
   row-apart-most (suc g) = omega arith
 
-  -- so many rows
+  -- g rows are at most 1,785 wires
   pub rows-most : (g : ℕ) → g < p .grades → g * p .ballots ≤ 1785
   rows-most g h = mul-le-mul {n₁ = g} {m₁ = p .ballots} {n₂ = 7} {m₂ = 255} (omega (arith, f .d-most)) (f .n-most)
 

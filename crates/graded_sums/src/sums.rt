@@ -19,7 +19,7 @@ pub(crate) fn bits_at(p: Plan, c: u32, g: u32) -> u32
     c * p.grades + g
 }
 
-// How far apart they stand.
+// How far apart they are.
 fn apart(p: Plan) -> u32
     requires { ⌜ Planned p ⌝ }
     ensures { λ r. ⌜ r ≡ apart p ⌝ }
@@ -27,7 +27,7 @@ fn apart(p: Plan) -> u32
     p.candidates * p.grades
 }
 
-// What the sum of a grade counts: the best grade's bits, or a row. The rows stand from wire n on.
+// What the sum of a grade counts: the best grade's bits, or a row. The rows start at wire n.
 pub(crate) fn row_at(p: Plan, n: u32, c: u32, g: u32) -> u32
     requires { ⌜ RowOf p n c g ⌝ }
     ensures { λ r. ⌜ r ≡ rowAt p n c g ⌝ }
@@ -48,7 +48,7 @@ fn row_apart(p: Plan, g: u32) -> u32
     1
 }
 
-// The row behind that of grade g: it adds the next grade's bits.
+// The row after that of grade g: it adds the next grade's bits.
 fn next_row(w: Writer, table: &mut [u32], p: Plan, n: u32, c: u32, g: u32) -> Writer
     requires { ⌜ GradeReady w p n (w .wire) c g (p .ballots) ⌝ }
     ensures { λ r. ⌜
@@ -94,7 +94,7 @@ fn sum_levels(w: Writer, table: &mut [u32], p: Plan, n: u32, c: u32, g: u32) -> 
     count_levels(w, table, row, step, p.ballots, p.offset, p.digits)
 }
 
-// Those of all grades but the two worst. The rows stand from wire n on.
+// Those of all grades but the two worst. The rows start at wire n.
 pub(crate) fn all_levels(w: Writer, table: &mut [u32], p: Plan, n: u32, c: u32) -> Writer
     requires { ⌜ GradesReady w p n (w .wire) c ((p .grades - 2) * sumSize p) ⌝ }
     ensures { λ r. ⌜

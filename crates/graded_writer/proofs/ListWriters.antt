@@ -1,4 +1,4 @@
--- What the list's writers share: the own list by its cases, and where keys and wires of groups stand.
+-- What the list's writers share: the own list by its cases, and where keys and wires of groups are.
 -- Assumes nothing.
 use mathlib.Core.Path.{_≡_, _∙_, refl, sym, ap, subst}
 use mathlib.Core.Bool.{Bool, cond}
@@ -40,7 +40,7 @@ pub own-more : (s : Shape) (p : Plan) → p ≡ planOf s → (s .candidates ≡ 
 unfolding ownList
 own-more s p e h = ap circuit e ∙ rw (ne-eqb (s .candidates) 1 h)
 
--- what stands behind the candidates
+-- what comes after the candidates
 abbrev pub allLevels : Plan → List Gate
 allLevels p =
     levels p lowLevels (levelsAt p) 0 (p .candidates / 2)
@@ -119,7 +119,7 @@ pub candidates-none : (p : Plan) (n c k : ℕ) → k ≤ c → candidates p n c 
 unfolding candidates
 candidates-none p n c k h = let e : k - c ≡ 0 = omega arith in rw e
 
--- where the key of a group and its wires stand, by the end of its merges
+-- where the key of a group and its wires are, by the end of its merges
 module _ (p : Plan) (r n m : ℕ) where
   pub key-is : (c : ℕ) → bestKey p (suc r) n c m ≡ cond (leb m 1) (keyAt p c) (n + levelsSpan p (suc r) m - keySpan p)
   key-is c = ⊎-elim
@@ -196,7 +196,7 @@ better-same p r n c m q mid end eq em ee =
     ∙ ap (λ (i : ℕ). choose at i (keyBy p (c + l) h (mergeAt p (suc r) n m)) (keySpan p)) (sym (key-is p r n l c))
     ∙ ap (λ (i : ℕ). choose at (bestKey p (suc r) n c l) i (keySpan p)) (sym (key-is p r o h (c + l)))
 
--- a choice by a number that is 1 at most, or more
+-- a choice by a number that is at most 1, or more
 pub small-case : (m x y : ℕ) → m ≤ 1 → x ≡ cond (leb m 1) x y
 small-case m x y h = sym (ap (λ (t : Bool). cond t x y) (le-leb m 1 h))
 

@@ -36,7 +36,7 @@ fn candidates(w: Writer, table: &mut [u32], p: Plan) -> Writer
     next
 }
 
-// Where the key of candidate c stands; a candidate's circuit has `span` gates.
+// Where the key of candidate c is; a candidate's circuit has `span` gates.
 fn key_at(p: Plan, span: u32, c: u32) -> u32
     requires { ⌜ KeyAtReady p span c ⌝ }
     ensures { λ r. ⌜ r ≡ keyAt p c ⌝ }
@@ -44,7 +44,7 @@ fn key_at(p: Plan, span: u32, c: u32) -> u32
     p.inputs + (c + 1) * span - key_span(p)
 }
 
-// The key of the best of so many candidates from candidate c on, whose merges end before wire `end`.
+// The key of the best of `count` candidates from candidate c on, whose merges end before wire `end`.
 fn best_key(p: Plan, span: u32, c: u32, count: u32, end: u32) -> u32
     requires { ⌜ BestReady p span c count end ⌝ }
     ensures { λ r. ⌜ r ≡ cond (leb count 1) (keyAt p c) (end - keySpan p) ⌝ }
@@ -80,8 +80,8 @@ fn pair(w: Writer, table: &mut [u32], p: Plan, span: u32, c: u32, count: u32) ->
     better(met, table, p, met.wire - 8, x, y)
 }
 
-// The merge of the best of `first` candidates from candidate c on and of the `second` ones behind them: their own
-// merges end before the wires `middle` and the writer's.
+// The merge of the best of `first` candidates from candidate c on with the best of the `second` ones after them: their
+// own merges end before the wires `middle` and the writer's.
 fn halves(
     w: Writer,
     table: &mut [u32],
@@ -134,7 +134,7 @@ fn four(w: Writer, table: &mut [u32], p: Plan, span: u32, c: u32, count: u32) ->
     two_to_four(w, table, p, span, c, count)
 }
 
-// Three levels of merges, behind the circuits of all candidates.
+// Three levels of merges, after the circuits of all candidates.
 fn all_levels(all: Writer, table: &mut [u32], p: Plan, span: u32) -> Writer
     requires { ⌜ LevelsReady all p span ⌝ }
     ensures { λ r. ⌜

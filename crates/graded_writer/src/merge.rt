@@ -13,7 +13,7 @@ ghost use Rattle.graded_circuit.specs.Merge.{andAll, keepWinners, selectFlags, 
 ghost use Rattle.gate_words.specs.inner.Ready.{WordReady};
 ghost use Rattle.graded_writer.specs.inner.Ready.{KeepReady, SelectReady, MergeReady, BetterReady};
 
-// Each of so many wires from `at` on, and the wire `stays`.
+// Each of `count` wires from `at` on, and the wire `stays`.
 fn and_all(w: Writer, table: &mut [u32], at: u32, stays: u32, count: u32) -> Writer
     requires { ⌜ WordReady w count at count ⌝ }
     ensures { λ r. ⌜ Wrote w (now (table .entry)) (andAll at stays count) (now (table .exit)) r ⌝ }
@@ -27,7 +27,7 @@ fn and_all(w: Writer, table: &mut [u32], at: u32, stays: u32, count: u32) -> Wri
     next
 }
 
-// Who of a group of so many candidates stays.
+// Who of a group of `count` candidates stays.
 fn keep_winners(w: Writer, table: &mut [u32], at: u32, stays: u32, count: u32) -> Writer
     requires { ⌜ KeepReady w at count ⌝ }
     ensures { λ r. ⌜ Wrote w (now (table .entry)) (keepWinners at stays count) (now (table .exit)) r ⌝ }
@@ -38,7 +38,7 @@ fn keep_winners(w: Writer, table: &mut [u32], at: u32, stays: u32, count: u32) -
     and_all(w, table, at, stays, count)
 }
 
-// Who comes first and which group stays, behind a contest whose result stands at q.
+// Who comes first and which group stays, after a contest whose result is at q.
 fn select_flags(w: Writer, table: &mut [u32], q: u32) -> Writer
     requires { ⌜ SelectReady w q ⌝ }
     ensures { λ r. ⌜ Wrote w (now (table .entry)) (selectFlags q) (now (table .exit)) r ⌝ }
@@ -49,7 +49,7 @@ fn select_flags(w: Writer, table: &mut [u32], q: u32) -> Writer
     left.emit(table, kind::NOT, q + 2, 0, 0)
 }
 
-// How many digits of two keys' words are gone through by themselves: half of them, where a key was chosen.
+// How many digits of two keys' words are handled separately: half of them, if a key was chosen.
 fn high_digits(p: Plan, both: u32) -> u32
     ensures { λ r. ⌜ r ≡ highDigits p both ⌝ }
 {
@@ -81,7 +81,7 @@ pub(crate) fn merge(
     keep_winners(first, table, v, q + 5, m)
 }
 
-// The better of two keys, by a contest whose result stands at q.
+// The better of two keys, by a contest whose result is at q.
 pub(crate) fn better(w: Writer, table: &mut [u32], p: Plan, q: u32, x: u32, y: u32) -> Writer
     requires { ⌜ BetterReady w p q x y ⌝ }
     ensures { λ r. ⌜ Wrote w (now (table .entry)) (choose (q + 1) x y (keySpan p)) (now (table .exit)) r ⌝ }

@@ -131,7 +131,7 @@ module _ (k n w at i j : ℕ) where
   unfolding votesBlock
   votes-moved e q ne = ap (λ (x : ℕ). counter at x (k * k) n 0 w) (sym q) ∙ sym (ap (λ (c : Bool). cond c [] (counter at (i * k + j) (k * k) n 0 w)) (ne-eqb i j ne))
 
--- blocks once for two candidates: none where the row is not the later one, or has none
+-- blocks once for two candidates: none unless the row is the later one and has blocks
 pub not-later : (rows : ℕ → Bool) (i j : ℕ) → i ≤ j → (ltb j i && rows i) ≡ false
 not-later rows i j l = ap (λ (c : Bool). c && rows i) (le-ltb j i l)
 
@@ -145,7 +145,7 @@ no-row rows i j e = ap (λ (c : Bool). ltb j i && c) e ∙ none (ltb j i)
 pub a-row : (rows : ℕ → Bool) (i j : ℕ) → j < i → rows i ≡ true → (ltb j i && rows i) ≡ true
 a-row rows i j l e = and-both (ltb j i) (rows i) (lt-ltb j i l) e
 
--- the wires that tell of them are kept
+-- the wires about them are kept
 pub same-links : (rows : ℕ → Bool) (ls : List ℕ) (k i j wire : ℕ) → (ltb j i && rows i) ≡ false → ls ≡ keepLinks rows ls k i j wire
 same-links rows ls k i j wire e = sym (ap (λ (t : Bool). cond t (set (set ls (i * k + j) (wire - 2)) (j * k + i) (wire - 1)) ls) e)
 
@@ -182,7 +182,7 @@ module _ (l : ℕ) (words met : ℕ → ℕ → ℕ) (w at i j : ℕ) where
   pub meetings-long : (ltb j i && ltb i l) ≡ true → length (meetingsBlock l words met w at i j) ≡ 10 * w + 14
   meetings-long e = ap length (sym (meetings-moved e)) ∙ meeting-long
 
--- what is kept: a test that holds leaves all as it was
+-- what is kept: a test that holds leaves everything as it was
 pub keeps : {A : Type 0} (t : Bool) (a b : A) → t ≡ true → a ≡ cond t a b
 keeps t a b e = sym (ap (λ (c : Bool). cond c a b) e)
 

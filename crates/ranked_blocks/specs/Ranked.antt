@@ -1,4 +1,4 @@
--- The public numbers that a ranked tasting's own list is written with, and where its words stand.
+-- The public numbers that a ranked tasting's own list is written with, and where its words are.
 use mathlib.Core.Bool.{Bool, cond, _&&_}
 use mathlib.Core.Logic.{_≢_}
 use mathlib.Core.List.{List}
@@ -21,16 +21,16 @@ pub record Ranked (p : Ranks) : Type 0 where
 abbrev pub keptOf : List ℕ → ℕ → ℕ → ℕ → ℕ
 keptOf wires k i j = getD wires (i * k + j) 0
 
--- Such wires once x is kept for number e too, unless it stays as it was.
+-- Such wires after x is kept for number e too, unless it stays as it was.
 abbrev pub keep : Bool → List ℕ → ℕ → ℕ → List ℕ
 keep stays wires e x = cond stays wires (set wires e x)
 
--- Once a block of i and an earlier j, in one of these rows, ends before `wire`: its last wire but one tells that i is
--- above, its last that it is below.
+-- After the block of i and an earlier j, in one of these rows, which ends before `wire`: its last wire but one says
+-- that i is above, its last that it is below.
 abbrev pub keepLinks : (ℕ → Bool) → List ℕ → ℕ → ℕ → ℕ → ℕ → List ℕ
 keepLinks rows wires k i j wire =
     cond (ltb j i && rows i) (set (set wires (i * k + j) (wire - 2)) (j * k + i) (wire - 1)) wires
 
--- The words kept for each two candidates end before a wire, a word having a digit and w more.
+-- The words kept for each two candidates end before a wire; a word has one digit and w more.
 abbrev pub WordsBelow : List ℕ → ℕ → ℕ → ℕ → Type 0
 WordsBelow words k w wire = (i j : ℕ) → i < k → j < k → i ≢ j → keptOf words k i j + suc w ≤ wire

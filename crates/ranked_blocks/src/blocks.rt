@@ -43,7 +43,7 @@ fn order(w: Writer, table: &mut [u32], x: u32, y: u32, digits: u32) -> Writer
     differ.above(table, n, x + 1, x, digits)
 }
 
-// Of two words the one at `high` where the word at x is the larger one, else the one at `low`.
+// Of two words the one at `high` if the word at x is the larger one, else the one at `low`.
 fn one_of(w: Writer, table: &mut [u32], x: u32, y: u32, high: u32, low: u32, digits: u32) -> Writer
     requires { ⌜ Room w (2 * digits + suc digits) ⌝ }
     requires { ⌜ (x + suc digits ≤ w .wire) × (y + suc digits ≤ w .wire) ⌝ }
@@ -58,7 +58,7 @@ fn one_of(w: Writer, table: &mut [u32], x: u32, y: u32, high: u32, low: u32, dig
     told.choose(table, end, high, low, digits + 1)
 }
 
-// The larger of two words where wire f is 1, else the word at y.
+// The larger of two words if wire f is 1, else the word at y.
 fn larger_if(w: Writer, table: &mut [u32], f: u32, x: u32, y: u32, digits: u32) -> Writer
     requires { ⌜ Room w (2 * digits + 1 + suc digits) ⌝ }
     requires { ⌜ (x + suc digits ≤ w .wire) × (y + suc digits ≤ w .wire) ⌝ }
@@ -71,7 +71,7 @@ fn larger_if(w: Writer, table: &mut [u32], f: u32, x: u32, y: u32, digits: u32) 
     both.choose(table, flag, x, y, digits + 1)
 }
 
-// The stronger of the link, if wire f says that there is one, and of the way whose links are x and y.
+// The stronger of the link, if wire f says that there is one, and the way whose links are x and y.
 pub(crate) fn link_or_way(
     w: Writer,
     table: &mut [u32],
@@ -93,7 +93,7 @@ pub(crate) fn link_or_way(
     larger_if(weaker, table, f, v, way, digits)
 }
 
-// The stronger of the path so far and of the way whose parts are x and y.
+// The stronger of the path so far and the way whose parts are x and y.
 pub(crate) fn path_or_way(
     w: Writer,
     table: &mut [u32],

@@ -19,7 +19,7 @@ ghost use Rattle.ranked_circuit.specs.Contests.{meetingOf, meetingsBlock};
 ghost use Rattle.ranked_blocks.specs.Ranked.{Ranked, keptOf, keep, WordsBelow};
 ghost use Rattle.ranked_blocks.specs.inner.Entries.{Entry, Entered, Meets};
 
-// The public numbers that the list is written with: k, n, and the digits of a word beside the lowest.
+// The public numbers that the list is written with: k, n, and the digits of a word besides the lowest.
 pub struct Ranks {
     pub candidates: u32,
     pub ballots: u32,
@@ -55,8 +55,8 @@ pub fn votes_entry(w: Writer, table: &mut [u32], words: &mut [u32], p: Ranks, e:
     next
 }
 
-// The words of two candidates compared, once for both, the later one being no earlier than `first`: the wires that
-// tell which is larger are kept.
+// The words of two candidates compared, once for both, if the later one is no earlier than `first`: the wires that say
+// which is larger are kept.
 pub fn links_entry(
     w: Writer,
     table: &mut [u32],
@@ -127,7 +127,7 @@ fn meet(
     )
 }
 
-// The same for number e, if there is such a meeting: the wires that tell who beats whom are kept.
+// The same for number e, if there is such a meeting: the wires that say who beats whom are kept.
 pub fn meetings_entry(
     w: Writer,
     table: &mut [u32],

@@ -1,5 +1,5 @@
-// What is kept of each two of k candidates: where their word stands, or a wire that tells of them. That of i and j has
-// number i k + j.
+// What is kept for each two of k candidates: where their word is, or a wire about them. That of i and j has number i k
+// + j.
 ghost use mathlib.Core.Path.{_≡_};
 ghost use Prim.Native.Nat.{_≤_, _<_};
 ghost use lib.ListN.{length};

@@ -259,7 +259,7 @@ module _ (r n w : ℕ) where
     unfolding pathGates
     spelled i j hi hj ne = paths-spelled k₂ n w W b v countable counted k₂ (omega arith) (before-duels .0) i j hi hj ne ∙ after-detours v (suc r) i j
 
-    -- whether one of two beats the other, where one is the last
+    -- whether one of two beats the other, if one is the last
     duel-told : (i j : ℕ) → i < k₂ → j < k₂ → i ≢ j → l₂ ≤ max i j → Above (W (duelAt k₂ n w i j)) (spelt i j) (spelt j i)
     unfolding duelGates duels duelAt
     duel-told = link-told W b words₂ spelt k₂ w (λ i j hi hj ne. refl) (k₂ - 1) (duelsFrom k₂ n w) (before-duels .1)
@@ -284,7 +284,7 @@ module _ (r n w : ℕ) where
         subst (λ (c : Bool). Above (W (cond c (meetingAt k₂ n w i j) (duelAt k₂ n w i j))) (all i j) (all j i)) (sym (le-ltb (max i j) l₂ row))
         ((λ q. t .0 (omega arith)), (λ q. t .1 (omega arith)))
 
-    -- whether i beats j, of whom none is the last
+    -- whether i beats j, if neither is the last
     abbrev L : ℕ
     L = suc (suc r)
 
@@ -307,7 +307,7 @@ module _ (r n w : ℕ) where
             unfold beatsAt in
             (subst (λ (c : Bool). TellsSix (W (cond c (meetingAt k₂ n w i j) (duelAt k₂ n w i j))) (spelt j i) (spelt i j) (spelt l₂ j) (spelt i l₂) (spelt l₂ i)) (sym (lt-ltb (max i j) l₂ (omega arith))) met)
 
-    -- who is not beaten by the last candidate is beaten by another as six strengths tell
+    -- who is not beaten by the last candidate is beaten by another exactly as six strengths say
     by-six : (i j : ℕ) → i < L → j < L → i ≢ j → all L i ≤ all i L → (all i j < all j i) ↔ BeatsBySix (part i j) (part j i) (part L i) (part j L) (part L j)
     by-six i j hi hj ne u = beats-by-six (link v) L i j hi hj ne (omega (arith, last-to (link v) L i hi, last-from (link v) L i hi))
 
@@ -326,7 +326,7 @@ module _ (r n w : ℕ) where
         last : L ≤ max j i → W (beatsAt k₂ n w j i) ≡ 0
         last q = last-told j i hj hi ne (omega arith) .1 unbeaten
 
-    -- whom nobody beats wins
+    -- a candidate that nobody beats wins
     unbeaten-wins-here : (i : ℕ) → i < k₂ → ((j : ℕ) → j < k₂ → j ≢ i → W (beatsAt k₂ n w j i) ≡ 0) → wins v k₂ i ≡ true
     unbeaten-wins-here i hi none = unbeaten-wins v k₂ i (λ j hj ne. ⊎-elim (other j hj ne) (last j hj ne) (below-or-not (max j i) L))
       where

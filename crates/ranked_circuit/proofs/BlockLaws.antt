@@ -117,7 +117,7 @@ module _ (W : ℕ → ℕ) (b : Binary W) where
         let p = holds-append W n (firstDigit n x y) rest h in
         (p .0, subst (λ (l : ℕ). Holds W (n + l) rest) (length-first-digit n x y) (p .1))
 
-    -- the wire up tells whether the word at x is above the word at y, the wire down whether it is below
+    -- the wire up says whether the word at x is above the word at y, the wire down whether it is below
     pub compare-up : (number W y 1 (suc w) < number W x 1 (suc w) → W (upEnd (n + 3) (n + 1) w) ≡ 1) × (number W x 1 (suc w) ≤ number W y 1 (suc w) → W (upEnd (n + 3) (n + 1) w) ≡ 0)
     compare-up =
         let d = first-up W b n x y (parts .0) in
@@ -170,7 +170,7 @@ module _ (W : ℕ → ℕ) (b : Binary W) where
         ends zero = unfold chainEnd in (omega arith)
         ends (suc w) = unfold chainEnd in (omega arith)
 
-    -- the last wire tells whether the word at x is above the word at y
+    -- the last wire says whether the word at x is above the word at y
     pub strictly-law : (number W y 1 (suc w) < number W x 1 (suc w) → W (n + 2 * w + 1) ≡ 1) × (number W x 1 (suc w) ≤ number W y 1 (suc w) → W (n + 2 * w + 1) ≡ 0)
     strictly-law =
         let r = above-law W b (n + 2 + w) (n + 2) (x + 1) (y + 1) (n + 1) w (highs .0) (highs .1) in

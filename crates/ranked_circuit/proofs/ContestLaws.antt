@@ -1,4 +1,4 @@
--- What the contests of candidates before the last one tell: who beats whom, by six strengths each.
+-- What the contests of candidates before the last one say: who beats whom, by six strengths each.
 -- Assumes nothing.
 use mathlib.Core.Path.{_≡_, _∙_, refl, sym, ap, subst}
 use mathlib.Core.Bool.{Bool, true}

@@ -43,7 +43,8 @@ pub record Figure (f : List Gate → ℕ) : Type 0 where
   pub none : f [] ≡ 0
   pub both : (gs hs : List Gate) → f (gs ++ hs) ≡ f gs + f hs
 
--- what is counted of each block: a counter, two words compared, a link's strength, the first and a further detour, two who meet; and of each gate that joins and of each last one
+-- what is counted for each block: a counter, two words compared, a link's strength, the first and a further detour,
+-- two candidates that meet; and for each gate that joins and each last one
 pub record Each (f : List Gate → ℕ) (n w c p s d e q o x : ℕ) : Type 0 where
   pub counters : (at from step : ℕ) → f (counter at from step n 0 w) ≡ c
   pub compares : (at a b : ℕ) → f (compare at a b w) ≡ p
@@ -54,7 +55,7 @@ pub record Each (f : List Gate → ℕ) (n w c p s d e q o x : ℕ) : Type 0 whe
   pub joins : (a b : ℕ) → f (orOf a b ∷ []) ≡ o
   pub lasts : (a : ℕ) → f (notOf a ∷ []) ≡ x
 
--- of a table's entries
+-- for a table's entries
 pub apartOf : ℕ → ℕ → ℕ → ℕ
 apartOf c i j = cond (eqb i j) 0 c
 
@@ -64,7 +65,7 @@ laterOnes rows p i j = cond (ltb j i && rows i) p 0
 pub stageOf : ℕ → ℕ → ℕ → ℕ → ℕ
 stageOf x m i j = cond (stays m i j) 0 x
 
--- of the blocks of each stage
+-- for the blocks of each stage
 pub stageFigure : ℕ → ℕ → ℕ → ℕ → ℕ
 stageFigure s d e zero = s
 stageFigure s d e (suc zero) = d
@@ -158,7 +159,7 @@ module _ (f : List Gate → ℕ) (g : Figure f) where
           outputs-figure (beatsAt k n w) (suc r) (losersFrom k n w) k,
         )
 
-    -- of the list of two candidates
+    -- for the list of two candidates
     pub pair-figure : f (rankedList 2 n w) ≡ tableSum (apartOf c) 2 + tableSum (laterOnes (leb 0) p) 2 + 2 * x
     pair-figure =
         omega (

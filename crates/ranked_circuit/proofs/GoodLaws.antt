@@ -63,7 +63,7 @@ module _ (k w : ℕ) where
       (λ i j hi hj l row.
       whole-good (entryStart n k (laterOf (leb first) (comparing words w)) i j) (words i j) (words j i) w (omega (arith, below i j hi hj (λ e. omega arith))) (omega (arith, below j i hj hi (λ e. omega arith)))))
 
-  -- the wires that tell of links are wires of their table
+  -- the wires that say whether there is a link are wires of their table
   pub links-below : (first : ℕ) (words : ℕ → ℕ → ℕ) (n i j : ℕ) → i < k → j < k → i ≢ j → first ≤ max i j
       → linkAt n k (linksBlock first words w) i j < n + length (table n k (linksBlock first words w))
   links-below first words n i j hi hj ne f =

@@ -1,4 +1,4 @@
--- Tables with one block for each two candidates, whose last two wires tell of them: where these stand.
+-- Tables with one block for each two candidates, whose last two wires are about them: where these are.
 -- Assumes nothing.
 use mathlib.Core.Path.{_≡_, _∙_, refl, ap, subst}
 use mathlib.Core.Bool.{Bool, true, false, cond, _&&_}

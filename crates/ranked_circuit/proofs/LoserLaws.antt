@@ -1,4 +1,4 @@
--- Rows of gates that tell whether one of the others beats a candidate.
+-- Rows of gates that say whether one of the others beats a candidate.
 -- Assumes nothing.
 use mathlib.Core.Path.{_≡_, _∙_, refl, sym, ap}
 use mathlib.Core.Bool.{Bool, cond}
@@ -17,7 +17,7 @@ use Rattle.basics.proofs.Cases.{below-or-not}
 use Rattle.ranked_circuit.specs.RankedList.{other, joined, loserRow}
 use Rattle.ranked_circuit.proofs.TableLaws.{startOf, length-same, block-holds, blocks-good}
 
--- the others are just those who are not i
+-- the others are exactly those who are not i
 other-below : (i s : ℕ) → s < i → other i s ≡ s
 unfolding other
 other-below i s h = ap (λ (t : Bool). cond t s (suc s)) (lt-ltb s i h)
@@ -59,7 +59,7 @@ module _ (beats : ℕ → ℕ → ℕ) (r at i : ℕ) where
   row-start : (t : ℕ) → startOf at rowGate t ≡ at + t
   row-start t = omega (arith, length-same at rowGate 1 (λ wire t. refl) t)
 
-  -- what a row joins stands before a gate of it
+  -- what a row joins comes before its gate
   pub item-before : (wire t s : ℕ) → s < suc r + t → at + t ≤ wire → ((s : ℕ) → s ≤ r → beats (other i s) i < wire) → item s < wire
   item-before wire t s h l below =
       ⊎-elim (λ (q : s < suc r). omega (arith, item-other s (omega arith), below s (omega arith)))

@@ -1,4 +1,5 @@
--- What holds of the own list of a ranking shape: the tester takes it, it keeps its bound, and its closing bytes are Schulze's.
+-- What holds for the own list of a ranking shape: the tester accepts it, it keeps its bound, and its closing bytes are
+-- Schulze's.
 -- Assumes nothing.
 use mathlib.Core.Path.{_≡_, _∙_, sym, ap, subst}
 use mathlib.Core.Bool.{Bool, true, cond}
@@ -56,7 +57,7 @@ closing-from k n xs gs enough h =
 bits-of : (xs : List ℕ) (gs : List Gate) → ((p : ℕ) → getD xs p 0 ≤ 1) → AllGood (length xs) gs → Binary (wire (wiresOf xs gs))
 bits-of xs gs bits good = wire-bit (wiresOf xs gs) (wires-bits xs gs good bits)
 
--- one candidate alone wins
+-- a single candidate wins
 single : (n : ℕ) (xs : List ℕ) → ((p : ℕ) → getD xs p 0 ≤ 1) → outputsOf 1 (wiresOf xs (constant 1 ∷ [])) ≡ closingBytes (votes 1 n xs) 1
 single n xs bits =
     let gs = constant 1 ∷ [] in

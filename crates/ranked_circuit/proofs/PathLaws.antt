@@ -70,7 +70,7 @@ module _ (k n w : ℕ) (W : ℕ → ℕ) (b : Binary W) (v : ℕ → ℕ → ℕ
       let e : entryEnd (n * k * k) k (votesBlock k n w) i j - suc w ≡ at + countSize n 0 w = omega (arith, entry-end (n * k * k) k (votesBlock k n w) i j hj, votes-length k n w at i j ne) in
       ap (λ (x : ℕ). number W x 1 (suc w)) e ∙ votes-law W b k n w at i j ne countable (entry-holds (n * k * k) k (votesBlock k n w) i j hj W hi h) ∙ counted i j hi hj ne
 
-  -- of any number of stages those before the first
+  -- of any number of stages, those before the first
   first-holds : (m : ℕ) → Holds W (n * k * k) (pathsTo k n w m .gates) → Holds W (n * k * k) (votesTable k n w) × Holds W (linksFrom k n w) (linksTable k n w)
   unfolding pathsTo nextPaths linksFrom
   first-holds zero h = holds-append W (n * k * k) (votesTable k n w) (linksTable k n w) h

@@ -85,7 +85,7 @@ pub links-are : (first : ℕ) (words : ℕ → ℕ → ℕ) (w : ℕ) → linksB
 unfolding linksBlock
 links-are first words w = refl
 
--- the two wires that tell of links are the last of their block
+-- the two wires about a link are the last of their block
 pub up-last : (at w : ℕ) → upEnd (at + 3) (at + 1) w ≡ at + (3 + 3 * w) - 2
 unfolding upEnd
 up-last at zero = omega arith
@@ -97,7 +97,7 @@ down-last at zero = omega arith
 down-last at (suc w) = omega arith
 
 module _ (W : ℕ → ℕ) (b : Binary W) where
-  -- a smaller word, and what stands behind it
+  -- a smaller word, and what comes after it
   behind-smaller : (at x y w : ℕ) (gs : List Gate) → Holds W at (smaller at x y w ++ gs) → Holds W at (smaller at x y w) × Holds W (at + (2 * w + suc w)) gs
   behind-smaller at x y w gs h =
       let p = holds-append W at (smaller at x y w) gs h in
@@ -108,7 +108,7 @@ module _ (W : ℕ → ℕ) (b : Binary W) where
   votes-law k n w at i j ne c h =
       counter-law W b at (i * k + j) (k * k) n 0 w c (subst (λ (gs : List Gate). Holds W at gs) (votes-moves k n w at i j ne) h) ∙ add-zero (ones W (i * k + j) (k * k) n)
 
-  -- words that are compared, of which a wire tells whether one is larger
+  -- words that are compared; a wire says whether one is larger
   module _ (words t : ℕ → ℕ → ℕ) (k w : ℕ) (spelled : (i j : ℕ) → i < k → j < k → i ≢ j → number W (words i j) 1 (suc w) ≡ t i j) where
     abbrev pub Tells : (ℕ → ℕ → ℕ) → ℕ → ℕ → Type 0
     Tells wires i j = (t j i < t i j → W (wires i j) ≡ 1) × (t i j ≤ t j i → W (wires i j) ≡ 0)
@@ -143,7 +143,7 @@ module _ (W : ℕ → ℕ) (b : Binary W) where
         held : Holds W n (table n k (laterOf (leb first) (comparing words w)))
         held = rw (links-are first words w) at h
 
-  -- a link's strength: the number of ballots where the link is there
+  -- a link's strength: the number of ballots if there is a link
   pub strength-law : (f x w at v v′ : ℕ) → number W x 1 (suc w) ≡ v → (v′ < v → W f ≡ 1) × (v ≤ v′ → W f ≡ 0) → Holds W at (masked f x (suc w))
       → (v′ < v → number W (at + 0) 1 (suc w) ≡ v) × (v ≤ v′ → number W (at + 0) 1 (suc w) ≡ 0)
   strength-law f x w at v v′ e told h =
@@ -159,7 +159,7 @@ module _ (W : ℕ → ℕ) (b : Binary W) where
       let e : at + (2 * w + suc w) + 2 * w ≡ at + (2 * w + suc w + 2 * w) = omega arith in
       sym (ap (λ (m : ℕ). number W m 1 (suc w)) e) ∙ omega (arith, r, s)
 
-  -- the same where the path so far counts only if a link is there
+  -- the same if the path so far counts only if there is a link
   pub first-way-law : (links words v : ℕ → ℕ → ℕ) (w at i j c d : ℕ) → number W (words i j) 1 (suc w) ≡ v i j → (v j i < v i j → W (links i j) ≡ 1) × (v i j ≤ v j i → W (links i j) ≡ 0) →
       number W (words i 0) 1 (suc w) ≡ c → number W (words 0 j) 1 (suc w) ≡ d →
       Holds W at (smaller at (words i 0) (words 0 j) w ++ largerIf (at + (2 * w + suc w)) (links i j) (words i j) (at + 2 * w) w) → number W (at + (2 * w + suc w + (2 * w + 1))) 1 (suc w) ≡ max (link v i j) (min c d)

@@ -1,4 +1,4 @@
--- Tables of blocks: where each block stands, and that its gates stand there.
+-- Tables of blocks: where each block is, and that its gates are there.
 -- Assumes nothing.
 use mathlib.Core.Path.{_≡_, _∙_, ap, subst}
 use mathlib.Core.Logic.{⊎-elim}
@@ -89,7 +89,7 @@ module _ (n k : ℕ) (block : ℕ → ℕ → ℕ → List Gate) where
     unfolding entryEnd entries
     entry-end = start-next n numbered (i * k + j) ∙ ap (λ (gs : List Gate). startOf n numbered (i * k + j) + length gs) (here (startOf n numbered (i * k + j)))
 
-    -- the gates of row i and column j stand at their place
+    -- the gates of row i and column j are at their place
     pub entry-holds : (W : ℕ → ℕ) → i < k → Holds W n (table n k block) → Holds W (entryStart n k block i j) (block (entryStart n k block i j) i j)
     unfolding table entries
     entry-holds W hi h =
@@ -100,7 +100,7 @@ module _ (n k : ℕ) (block : ℕ → ℕ → ℕ → List Gate) where
     unfolding table entries entryEnd
     end-within hi = start-grows n numbered (k * k) (suc (i * k + j)) (number-low k i j hi hj)
 
-  -- a table is well-formed where each of its blocks is
+  -- a table is well-formed if each of its blocks is
   pub table-good : ((i j : ℕ) → i < k → j < k → AllGood (entryStart n k block i j) (block (entryStart n k block i j) i j)) → AllGood n (table n k block)
   unfolding table entries
   table-good good =

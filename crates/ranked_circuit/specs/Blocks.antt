@@ -1,5 +1,5 @@
 -- The blocks of a ranked tasting's circuit that `gate_words` lacks: two whole words compared, and the smaller or
--- larger of them. A word has a digit and w more.
+-- larger of them. A word has one digit and w more.
 use mathlib.Core.List.{List, _∷_, _++_}
 use Prim.Native.Nat.{ℕ, suc, _+_, _*_}
 use Rattle.gates.specs.Gate.{Gate}
@@ -16,16 +16,16 @@ unfoldable pub strictly : ℕ → ℕ → ℕ → ℕ → List Gate
 strictly n x y w =
     xorOf x y ∷ andOf x n ∷ (differences (x + 1) (y + 1) w ++ above (n + 2 + w) (n + 2) (x + 1) (n + 1) w)
 
--- The word at x compared one way with the word at y. The lowest digit of x starts the chain at no cost: where the
--- words are equal, either answer will do.
+-- The word at x compared one way with the word at y. The lowest digit of x starts the chain at no cost: if the words
+-- are equal, either answer will do.
 unfoldable pub order : ℕ → ℕ → ℕ → ℕ → List Gate
 order n x y w = differences (x + 1) (y + 1) w ++ above (n + w) n (x + 1) x w
 
--- The wire that is 1 only where the word at x is not below the other, and 0 only where it is not above it.
+-- The wire that is 1 only if the word at x is not below the other, and 0 only if it is not above it.
 unfoldable pub orderEnd : ℕ → ℕ → ℕ → ℕ
 orderEnd n x w = chainEnd (n + w) x w
 
--- The smaller of two words, the larger of them, and the larger where wire f is 1 but the word at y where it is 0.
+-- The smaller of two words, the larger of them, and the larger if wire f is 1 but the word at y if it is 0.
 unfoldable pub smaller : ℕ → ℕ → ℕ → ℕ → List Gate
 smaller n x y w = order n x y w ++ choose (orderEnd n x w) y x (suc w)
 

@@ -1,4 +1,4 @@
--- Who beats whom. There is no detour over the last candidate l: the paths that do not pass l tell it too, as
+-- Who beats whom. There is no detour over the last candidate l: the paths that do not pass l say it too, as
 -- `beats-by-six` of `rule_schulze` shows. First l has a duel with each of the others, then they meet each other.
 use mathlib.Core.Bool.{cond}
 use mathlib.Core.List.{List, [], _∷_, _++_}
@@ -12,7 +12,7 @@ use Rattle.ranked_circuit.specs.Table.{table}
 use Rattle.ranked_circuit.specs.Stages.{laterOf, linksBlock, linkAt}
 use Rattle.ranked_circuit.specs.Paths.{pathsTo}
 
--- The duels of k candidates: from which wire on, and the wire that tells whether i beats j, one of whom is the last.
+-- The duels of k candidates: from which wire on, and the wire that says whether i beats j, one of whom is the last.
 unfoldable pub duelsFrom : ℕ → ℕ → ℕ → ℕ
 duelsFrom k n w = n * k * k + length (pathsTo k n w k .gates)
 
@@ -22,9 +22,9 @@ duels k n w = table (duelsFrom k n w) k (linksBlock (k - 1) (pathsTo k n w k .wo
 unfoldable pub duelAt : ℕ → ℕ → ℕ → ℕ → ℕ → ℕ
 duelAt k n w = linkAt (duelsFrom k n w) k (linksBlock (k - 1) (pathsTo k n w k .words) w)
 
--- Two others, i and j. Where l has a weaker path to i than to j, i beats j if it beats l; else if its path to j is
--- stronger than the one back and than l's. The words are those of l to i and to j and of i and j to each other; mi and
--- mj tell whether i and j beat l. The last wires tell whether i beats j, and whether j beats i.
+-- Two others, i and j. If l has a weaker path to i than to j, i beats j if it beats l; else if its path to j is
+-- stronger than the one back and than l's. The words: l to i and to j, i and j to each other; mi and mj say whether i
+-- and j beat l. The last wires say whether i beats j, and whether j beats i.
 unfoldable pub meeting : ℕ → ℕ → ℕ → ℕ → ℕ → ℕ → ℕ → ℕ → List Gate
 meeting li lj ij ji mi mj w at =
     let c = 3 + 3 * w in
@@ -54,6 +54,6 @@ meetings k n w = table (meetingsFrom k n w) k (meetingsBlock (k - 1) (pathsTo k 
 unfoldable pub meetingAt : ℕ → ℕ → ℕ → ℕ → ℕ → ℕ
 meetingAt k n w = linkAt (meetingsFrom k n w) k (meetingsBlock (k - 1) (pathsTo k n w k .words) (duelAt k n w) w)
 
--- The wire that tells whether i beats j.
+-- The wire that says whether i beats j.
 unfoldable pub beatsAt : ℕ → ℕ → ℕ → ℕ → ℕ → ℕ
 beatsAt k n w i j = cond (ltb (max i j) (k - 1)) (meetingAt k n w i j) (duelAt k n w i j)

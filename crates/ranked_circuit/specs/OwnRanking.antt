@@ -1,4 +1,4 @@
--- The own list of a ranking shape, and what holds of it (request 2.2).
+-- The own list of a ranking shape, and what holds for it (request 2.2).
 use mathlib.Core.Path.{_≡_}
 use mathlib.Core.List.{List}
 use Prim.Native.Nat.{ℕ, _+_, _-_, _*_, _≤_}

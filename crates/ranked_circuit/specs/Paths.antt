@@ -8,7 +8,7 @@ use Rattle.gates.specs.Gate.{Gate}
 use Rattle.ranked_circuit.specs.Table.{table, entryEnd}
 use Rattle.ranked_circuit.specs.Stages.{votesBlock, linksBlock, linkAt, stays, pathBlock}
 
--- The number of ballots for i against j: its word, and behind all of them the links.
+-- The number of ballots for i against j: its word, and after all of them the links.
 unfoldable pub votesAt : ℕ → ℕ → ℕ → ℕ → ℕ → ℕ
 votesAt k n w i j = entryEnd (n * k * k) k (votesBlock k n w) i j - suc w
 
@@ -24,7 +24,7 @@ linksTable k n w = table (linksFrom k n w) k (linksBlock 0 (votesAt k n w) w)
 unfoldable pub linkWire : ℕ → ℕ → ℕ → ℕ → ℕ → ℕ
 linkWire k n w = linkAt (linksFrom k n w) k (linksBlock 0 (votesAt k n w) w)
 
--- A list from the first ballots' wire on, and where the words of each two candidates stand.
+-- A list from the first ballot wire on, and where the words of each two candidates are.
 pub record Paths : Type 0 where
   pub gates : List Gate
   pub words : ℕ → ℕ → ℕ

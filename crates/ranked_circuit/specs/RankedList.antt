@@ -15,8 +15,8 @@ use Rattle.ranked_circuit.specs.Contests.{duels, meetingsFrom, meetings,
 unfoldable pub other : ℕ → ℕ → ℕ
 other i s = cond (ltb s i) s (suc s)
 
--- What a row of gates from wire `at` on joins for candidate i, r others being there: first the wires by which they
--- beat i, then the row's own wires. Gate t of the row joins numbers 2 t and 2 t + 1.
+-- What a row of gates from wire `at` on joins for candidate i, who has r others: first the wires by which they beat i,
+-- then the row's own wires. Gate t of the row joins numbers 2 t and 2 t + 1.
 unfoldable pub joined : (ℕ → ℕ → ℕ) → ℕ → ℕ → ℕ → ℕ → ℕ
 joined beats r at i s = cond (ltb s r) (beats (other i s) i) (at + (s - r))
 
@@ -26,7 +26,7 @@ unfoldable pub loserRow : (ℕ → ℕ → ℕ) → ℕ → ℕ → ℕ → List
 loserRow beats r at i =
     blocks at (λ wire t. orOf (joined beats (suc r) at i (2 * t)) (joined beats (suc r) at i (2 * t + 1)) ∷ []) r
 
--- Rows of r gates for k candidates from wire n on, and behind them who is not beaten.
+-- Rows of r gates for k candidates from wire n on, and after them who is not beaten.
 unfoldable pub loserRows : (ℕ → ℕ → ℕ) → ℕ → ℕ → ℕ → List Gate
 loserRows beats r n k = blocks n (loserRow beats r) k
 
@@ -36,11 +36,11 @@ outputGates beats r n k = blocks (n + k * r) (λ wire i. notOf (joined beats (su
 unfoldable pub losersFrom : ℕ → ℕ → ℕ → ℕ
 losersFrom k n w = meetingsFrom k n w + length (meetings k n w)
 
--- Where the output gates of two candidates start: behind their links, which tell at once who is beaten.
+-- Where the output gates of two candidates start: after their links, which say at once who is beaten.
 unfoldable pub pairFrom : ℕ → ℕ → ℕ
 pairFrom n w = n * 2 * 2 + length (pathsTo 2 n w 0 .gates)
 
--- The list for one candidate alone, who wins, for two, and for r + 3.
+-- The list for a single candidate, who wins, for two, and for r + 3.
 unfoldable pub rankedList : ℕ → ℕ → ℕ → List Gate
 rankedList zero n w = []
 rankedList (suc zero) n w = constant 1 ∷ []

@@ -4,19 +4,19 @@ use Prim.Native.Nat.{ℕ, zero, suc, _+_, _*_, _/_, _%_}
 use lib.ListN.{length}
 use Rattle.gates.specs.Gate.{Gate}
 
--- So many blocks, one behind the other from wire n on; a block is told the wire at which it starts and its number.
+-- m blocks, one after the other from wire n on; each gets the wire at which it starts and its number.
 unfoldable pub blocks : ℕ → (ℕ → ℕ → List Gate) → ℕ → List Gate
 blocks n block zero = []
 blocks n block (suc m) = blocks n block m ++ block (n + length (blocks n block m)) m
 
--- k rows of k blocks, row after row: the first m of them. A block is told the wire at which it starts, its row and
--- its column.
+-- k rows of k blocks, row after row: the first m of them. Each gets the wire at which it starts, its row and its
+-- column.
 unfoldable pub entries : ℕ → ℕ → (ℕ → ℕ → ℕ → List Gate) → ℕ → List Gate
 entries n k block m = blocks n (λ at e. block at (e / k) (e % k)) m
 
 unfoldable pub table : ℕ → ℕ → (ℕ → ℕ → ℕ → List Gate) → List Gate
 table n k block = entries n k block (k * k)
 
--- The wire behind the block of row i and column j.
+-- The wire after the block of row i and column j.
 unfoldable pub entryEnd : ℕ → ℕ → (ℕ → ℕ → ℕ → List Gate) → ℕ → ℕ → ℕ
 entryEnd n k block i j = n + length (entries n k block (suc (i * k + j)))

@@ -40,7 +40,9 @@ module _ (w₀ : Writer) (t₀ : List ℕ) (block : ℕ → ℕ → List Gate) w
   pub fill-end : (m most : ℕ) (t : List ℕ) (w : Writer) → most ≤ m → m ≤ most → Filled m t w → Filled most t w
   fill-end m most t w h g a = subst (λ (n : ℕ). Filled n t w) {x = m} {y = most} (omega arith) a
 
--- A turn of the loop over a table of k rows, x being k: block e stands in row e / x and column e % x.
+-- A turn of the loop over a table of k rows, x being k: block e is in row e
+--
+-- x and column e % x.
 pub record Turn (x k e : ℕ) : Type 0 where
   pub row : e / x < k
   pub column : e % x < k
@@ -80,7 +82,7 @@ module _ (w₀ : Writer) (t₀ : List ℕ) (k : ℕ) (block : ℕ → ℕ → �
   unfolding entries table
   table-end e t w h g a = fill-end w₀ t₀ numbered e (k * k) t w h g a
 
-  -- where the writer stands: behind the blocks so far, and the next one ends behind its own
+  -- where the writer is: after the blocks so far; the next one is after its own block
   pub table-from : (e : ℕ) (t : List ℕ) (w : Writer) → TableTo e t w → w₀ .wire ≤ w .wire
   table-from e t w a = omega (arith, a .wires)
 

@@ -1,4 +1,4 @@
--- What the loops over the tables keep of each two candidates.
+-- What the loops over the tables keep for each two candidates.
 -- Assumes nothing.
 use mathlib.Core.Path.{_≡_, _∙_, refl, sym, ap}
 use mathlib.Core.Bool.{Bool, true, false, cond, _&&_, _||_, true≢false}
@@ -26,7 +26,7 @@ use Rattle.ranked_writer.proofs.Filling.{TableTo, table-from, end-befor
 use Rattle.ranked_blocks.proofs.Entering.{index-small}
 use Rattle.ranked_writer.specs.Tables.{Keeps}
 
--- row and column tell the number, and the number tells them
+-- row and column give the number, and the number gives them
 same-place : (k i j e : ℕ) → j < k → i * k + j ≡ e → (i ≡ e / k) × (j ≡ e % k)
 same-place k i j e hj q = (sym (row-of k i j hj) ∙ ap (λ (x : ℕ). x / k) q, sym (column-of k i j hj) ∙ ap (λ (x : ℕ). x % k) q)
 
@@ -36,7 +36,7 @@ one-place k i j i′ j′ hj hj′ q =
     let p = same-place k i j (i′ * k + j′) hj q in
     (p .0 ∙ row-of k i′ j′ hj′, p .1 ∙ column-of k i′ j′ hj′)
 
--- Words: stay i j leaves that of i and j; new i j is where it stands otherwise.
+-- Words: stay i j leaves that of i and j; otherwise it is at new i j.
 module _ (k : ℕ) (stay : ℕ → ℕ → Bool) (new : ℕ → ℕ → ℕ) (ws₀ : List ℕ) where
   -- after e blocks
   pub record KeptTo (e : ℕ) (ws : List ℕ) : Type 0 where
@@ -106,7 +106,7 @@ module _ (k : ℕ) (stay : ℕ → ℕ → Bool) (new : ℕ → ℕ → ℕ) (ws
             (λ s. t .moved i j hi hj (omega (arith, number-low k i j hi hj)) s ∙ sym (ap (λ (c : Bool). cond c (keptOf ws₀ k i j) (new i j)) s));
       }
 
--- Wires that tell of two candidates: for j < i, in one of these rows, the block of number i k + j ends before `ends i j`.
+-- Wires about two candidates: for j < i, in one of these rows, the block of number i k + j ends before `ends i j`.
 module _ (k : ℕ) (rows : ℕ → Bool) (ends : ℕ → ℕ → ℕ) (ls₀ : List ℕ) where
   pub record LinksTo (e : ℕ) (ls : List ℕ) : Type 0 where
     pub long : length ls ≡ 64
@@ -238,7 +238,7 @@ unfolding linksBlock laterOf
 links-agree first words words′ w at i j h =
     ⊎-elim (λ (l : j < i). rw (h l .0, h l .1)) (λ (l : i ≤ j). rw (le-ltb j i l)) (below-or-not j i)
 
--- a meeting reads the words of three candidates, and what the duels of two of them tell
+-- a meeting reads the words of three candidates, and what the duels of two of them say
 pub meetings-agree : (l : ℕ) (words words′ met met′ : ℕ → ℕ → ℕ) (w at i j : ℕ)
     → (j < i → i < l → (words l i ≡ words′ l i) × (words l j ≡ words′ l j) × (words i j ≡ words′ i j) × (words j i ≡ words′ j i) × (met i l ≡ met′ i l) × (met j l ≡ met′ j l))
     → meetingsBlock l words met w at i j ≡ meetingsBlock l words′ met′ w at i j
@@ -277,7 +277,7 @@ module _ (n k : ℕ) (block block′ : ℕ → ℕ → ℕ → List Gate) (same 
       ap (λ (x : ℕ). cond (ltb j i) (x - 2) (entryEnd n k block j i - 1)) (end-agree i j hi hj)
       ∙ ap (λ (x : ℕ). cond (ltb j i) (entryEnd n k block′ i j - 2) (x - 1)) (end-agree j i hj hi)
 
--- who is left by the stage of a detour over l
+-- whose word the stage of a detour over l leaves
 row-true : (l i : ℕ) → stays (suc l) i l ≡ true
 unfolding stays
 row-true l i = or-first (eqb i l || eqb l l) (eqb i l) (or-second (eqb i l) (eqb l l) (eq-eqb l l refl))
@@ -322,7 +322,7 @@ module _ (w₀ : Writer) (t₀ : List ℕ) (k w m : ℕ) (links ws₀ : List ℕ
         ))
         (λ (l : e ≤ i * k + j). omega (arith, t .later i j hi hj l, below i j hi hj ne)) (below-or-not (i * k + j) e))
 
--- The meetings, as they are being written: what they read of the duels stays.
+-- The meetings, as they are being written: what they read about the duels stays.
 module _ (k w : ℕ) (words met₀ : List ℕ) (ends : ℕ → ℕ → ℕ) (e : ℕ) (met : List ℕ) (t : LinksTo k (λ i. ltb i (k - 1)) ends met₀ e met) where
   pub met-agree : (at : ℕ) → e < k * k → meetingsBlock (k - 1) (keptOf words k) (keptOf met k) w at (e / k) (e % k) ≡ meetingsBlock (k - 1) (keptOf words k) (keptOf met₀ k) w at (e / k) (e % k)
   met-agree at low =

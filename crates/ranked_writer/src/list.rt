@@ -69,7 +69,7 @@ fn path_tables(w: Writer, table: &mut [u32], words: &mut [u32], p: Ranks) -> Wri
     next
 }
 
-// Who beats whom: the last candidate and each of the others, then the others.
+// Who beats whom: first between the last candidate and each of the others, then among the others.
 fn contests(w: Writer, table: &mut [u32], words: &[u32], beats: &mut [u32], p: Ranks) -> Writer
     requires { ⌜ ContestsReady w (now words) (now beats) p ⌝ }
     ensures { λ r. ⌜ ContestsDone w (now (table .entry)) (now (table .exit)) r p (now (beats .exit)) ⌝ }
@@ -78,7 +78,7 @@ fn contests(w: Writer, table: &mut [u32], words: &[u32], beats: &mut [u32], p: R
     meetings_table(met, table, words, beats, p)
 }
 
-// The list for two candidates: their links tell who is beaten.
+// The list for two candidates: their links say who is beaten.
 fn pair_circuit(w: Writer, table: &mut [u32], p: Ranks) -> Writer
     requires { ⌜ Ranked p ⌝ }
     requires { ⌜ Room w (length (rankedList (p .candidates) (p .ballots) (p .digits))) ⌝ }
@@ -108,8 +108,8 @@ fn circuit(w: Writer, table: &mut [u32], p: Ranks) -> Writer
     output_gates(lost, table, &beats, p.candidates, met.wire)
 }
 
-// Writes the own list for so many candidates and ballots from the table's first number on, as far as the table goes.
-// The writer says how many gates the list has, and how many of them are conditional, whatever the table.
+// Writes the own list for this number of candidates and ballots from the table's first number on, as far as the table
+// goes. The writer says how many gates the list has, and how many of them are conditional, whatever the table.
 pub fn ranked_list(candidates: u32, ballots: u32, table: &mut [u32]) -> Writer
     requires { ⌜ (1 ≤ candidates) × (candidates ≤ 8) × (1 ≤ ballots) × (ballots ≤ 255) ⌝ }
     ensures { λ r. ⌜

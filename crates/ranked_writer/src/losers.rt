@@ -69,7 +69,7 @@ pub(crate) fn loser_rows(w: Writer, table: &mut [u32], beats: &[u32], k: u32) ->
     next
 }
 
-// Who is not beaten, the rows standing from `rows` on.
+// Who is not beaten; the rows start at `rows`.
 pub(crate) fn output_gates(w: Writer, table: &mut [u32], beats: &[u32], k: u32, rows: u32) -> Writer
     requires { ⌜ Room w k ⌝ }
     requires { ⌜ (2 ≤ k) × (k ≤ 8) × (length (now beats) ≡ 64) × (w .wire ≡ rows + k * (k - 2)) ⌝ }

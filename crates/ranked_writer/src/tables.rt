@@ -46,7 +46,7 @@ pub(crate) fn votes_table(w: Writer, table: &mut [u32], words: &mut [u32], p: Ra
     next
 }
 
-// Words compared, the later candidate being no earlier than `first`.
+// Words compared, if the later candidate is no earlier than `first`.
 pub(crate) fn links_table(
     w: Writer,
     table: &mut [u32],

@@ -98,7 +98,7 @@ unfolding outcome
 outcome-refused none values r e = let z : _≡_ {A = ℕ} 0 1 = cc in absurd (omega arith)
 outcome-refused (some q) values r e = let same : q ≡ r = cc in ap some same
 
--- where it is accepted there is none, and the values are those told
+-- if it is accepted there is none, and the values are as given
 pub accepted-values : {A : Type 0} (o : Option Reason) (v w : A) → outcome o v ≡ accepted w → (o ≡ none) × (v ≡ w)
 unfolding outcome
 accepted-values none v w e = (refl, cc)

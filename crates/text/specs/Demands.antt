@@ -18,7 +18,7 @@ pub record TextMemory : Type 0 where
   pub read : (s : Shape) (text output : List ℕ)
       → KeepsMemory (1 ∷ 2 ∷ 23 ∷ 3 ∷ 24 ∷ []) (readOutcome s text output)
       (record { before = output; after = numbersRead s text output } ∷ []) []
-  -- an accepted call answers how much it wrote, and what stood behind that stays
+  -- an accepted call says how much it wrote, and what comes after that is unchanged
   pub writes-its-length : (s : Shape) (table output : List ℕ) (n : ℕ) → textOutcome s table output ≡ accepted n
       → (length (textOf (gatesOf table)) ≡ n) × (textWritten s table output ≡ textOf (gatesOf table) ++ drop n output)
   pub reads-its-length : (s : Shape) (text output : List ℕ) (n : ℕ) → readOutcome s text output ≡ accepted n

@@ -90,7 +90,7 @@ module _ (c : Call) (size : Size) (yes : trusteesResult c .answer ≡ accepted s
       joined-cong (c .trustees) (holdingsIn c (suc (roundsIn c)) .published) (publishedIn c)
       (λ (p : ℕ) l. made p l .1 ∙ ap (λ (n : ℕ). publishedOf (c .trustees) n (gatesOf (c .table)) (c .shape .candidates) (c .lent .dealing) p) (sym long))
 
-  -- the sums that are heard are those that the one call opens
+  -- the sums that are heard are those that the single call opens
   opens : closingHeard c ≡ closingSums (c .trustees) (c .shape .candidates) (wirePartsIn c)
   unfolding closingHeard sizeOf
   opens =
@@ -126,7 +126,7 @@ module _ (c : Call) (size : Size) (yes : trusteesResult c .answer ≡ accepted s
       ∙ ap (λ (parts : List (List ℕ)). seen (length (c .ballots)) parts (publishedAtEnd c)) (others-cong (c .trustees) q (partsAtEnd c) (wirePartsIn c) (λ (p : ℕ) l n. same-parts p l))
       ∙ ap (λ (bits : List ℕ). seen (length (c .ballots)) final bits) joined-is
 
--- demands 2 and 3 of the one call are those of trustees apart
+-- demands 2 and 3 of the single call are those of trustees apart
 apart-accuracy : (c : Call) (size : Size) → trusteesResult c .answer ≡ accepted size → Accuracy apart c size
 apart-accuracy c size e =
     let a = one-call.demands .tallies .accuracy c size e in

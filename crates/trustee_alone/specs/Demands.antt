@@ -64,7 +64,7 @@ partsIn c p = ballotsOf (inputsIn c) (c .lent .dealing) p
 abbrev pub dealtIn : Call → Held
 dealtIn c p = dealtOf (gatesOf (c .table)) (c .lent .dealing) p
 
--- What all hold and have published, trustee after trustee, when the rounds 0 to R are done.
+-- What all hold and have published, trustee after trustee, after rounds 0 to R.
 abbrev pub partsAtEnd : Call → Held
 partsAtEnd c = holdingsIn c (suc (roundsIn c)) .wireParts
 
@@ -154,7 +154,7 @@ OwnTablesOnly =
     → one .wireParts p ≡ other .wireParts p → one .published p ≡ other .published p
     → publishedAfter t inputs gs k d r one p ≡ publishedAfter t inputs gs k e r other p
 
--- Demands 2 and 3 of `apart` are those of the one call, for the elections that it accepts.
+-- Demands 2 and 3 of `apart` are those of the single call, for the elections that it accepts.
 pub record Demands : Type 0 where
   pub memory : Memory
   pub own-tables-only : OwnTablesOnly

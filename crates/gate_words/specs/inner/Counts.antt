@@ -13,7 +13,7 @@ pub record LevelReady (w : Writer) (gates first stride count : ℕ) : Type 0 whe
   pub room : Room w gates
   pub below : Below (w .wire) first stride count
 
--- A counter: there are few bits, and the levels are enough for them and the public number.
+-- A counter: the bits are few, and the levels are enough for them and the public number.
 pub record CountReady (w : Writer) (gates first stride count extra levels : ℕ) : Type 0 where
   pub room : Room w gates
   pub below : Below (w .wire) first stride count
@@ -21,7 +21,7 @@ pub record CountReady (w : Writer) (gates first stride count extra levels : ℕ)
   pub few : count < writerLimit
   pub countable : Countable count extra levels
 
--- A counter's digits, by kinds with one operand: its levels are there already, from wire base on.
+-- A counter's digits, by kinds with one operand: its levels exist already, from wire base on.
 pub record CountDigitsReady (w : Writer) (low top base count extra levels : ℕ) : Type 0 where
   pub room : Room w (levels + 1)
   pub lowOne : operandsOf low ≡ 1

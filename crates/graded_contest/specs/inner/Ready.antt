@@ -12,7 +12,7 @@ use Rattle.graded_circuit.specs.Contest.{mediansSpan}
 use Rattle.graded_circuit.specs.Nearest.{stride}
 use Rattle.graded_circuit.specs.TieBreak.{compareAndReachSpan, resolveSpan}
 
--- A block over the keys at x and y, whose sums are cut behind digit `high`.
+-- A block over the keys at x and y, whose sums are cut after digit `high`.
 pub record KeysReady (w : Writer) (gates : ℕ) (p : Plan) (x y high : ℕ) : Type 0 where
   pub plan : Planned p
   pub room : Room w gates
@@ -52,7 +52,7 @@ pub record ReachReady (w : Writer) (a c u v above high : ℕ) : Type 0 where
   pub vBelow : v + suc above ≤ w .wire
   pub cut : high ≤ above
 
--- The end, which starts at wire q: one of its parts, and all of it behind the comparisons from wire m on.
+-- The end, which starts at wire q: one of its parts, and all of it after the comparisons from wire m on.
 pub record PartReady (w : Writer) (gates q : ℕ) : Type 0 where
   pub room : Room w gates
   pub small : q + resolveSpan < writerLimit

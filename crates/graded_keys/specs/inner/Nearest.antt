@@ -5,7 +5,7 @@ use Rattle.gate_words.specs.Writing.{Room}
 use Rattle.gate_words.specs.declared.writer.Writer.{Writer}
 use Rattle.graded_circuit.specs.Nearest.{stride, sideSpan, eitherSpan}
 
--- One side of the sums at x and y, and so many of them.
+-- One side of the sums at x and y, and the sides of `count` of them.
 pub record SideReady (w : Writer) (x y above high : ℕ) : Type 0 where
   pub room : Room w (sideSpan above)
   pub firstBelow : x + stride above ≤ w .wire
@@ -27,7 +27,7 @@ pub record EitherReady (w : Writer) (x y u v above : ℕ) : Type 0 where
   pub uBelow : u + suc above ≤ w .wire
   pub vBelow : v + suc above ≤ w .wire
 
--- So many choices, by the sides from wire f on, from the first place up or from the last one down.
+-- `count` choices, by the sides from wire f on, from the first place up or from the last one down.
 pub record LastReady (w : Writer) (f x y u v above count : ℕ) : Type 0 where
   pub room : Room w (count * eitherSpan above)
   pub sidesBelow : f + count * sideSpan above < w .wire + sideSpan above

@@ -13,26 +13,26 @@ pub record GradeOf (p : Plan) (c g : ℕ) : Type 0 where
   pub candidate : c < p .candidates
   pub grade : g < p .grades
 
--- What the sum of a grade counts, where the rows stand from wire n on.
+-- What the sum of a grade counts, if the rows start at wire n.
 pub record RowOf (p : Plan) (n c g : ℕ) : Type 0 where
   pub of : GradeOf p c g
   pub small : n < writerLimit
 
--- A part of the circuit of candidate c: there is room for its gates, and the inputs stand before wire n.
+-- A part of the circuit of candidate c: there is room for its gates, and the inputs come before wire n.
 pub record PartReady (w : Writer) (p : Plan) (n c gates : ℕ) : Type 0 where
   pub planned : Planned p
   pub candidate : c < p .candidates
   pub inputs : p .inputs ≤ n
   pub room : Room w gates
 
--- Of one grade: what its sum counts stands before wire m.
+-- For one grade: what its sum counts comes before wire m.
 pub record GradeReady (w : Writer) (p : Plan) (n m c g gates : ℕ) : Type 0 where
   pub part : PartReady w p n c gates
   pub grade : suc g < p .grades
   pub row : n + g * p .ballots ≤ m
   pub there : m ≤ w .wire
 
--- Of all grades but the two worst.
+-- For all grades but the two worst.
 pub record GradesReady (w : Writer) (p : Plan) (n m c gates : ℕ) : Type 0 where
   pub part : PartReady w p n c gates
   pub rows : n + (p .grades - 3) * p .ballots ≤ m
@@ -47,7 +47,7 @@ pub record WordsReady (w : Writer) (p : Plan) (n m c : ℕ) : Type 0 where
   pub of : GradesReady w p n m c ((p .grades - 2) * wordSpan p)
   pub levels : levelsFrom p m (p .grades - 2) ≤ w .wire
 
--- The word of the worst grade but one: the levels of the worst grade's count start at wire base.
+-- The word of the second worst grade: the levels of the worst grade's count start at wire base.
 pub record WorstReady (w : Writer) (p : Plan) (base c : ℕ) : Type 0 where
   pub part : PartReady w p base c (wordSpan p)
   pub levels : base + worstSize p ≤ w .wire

@@ -1,4 +1,4 @@
--- What the writers of tables with one block for each two candidates ask.
+-- What the writers of tables with one block for each two candidates ask for.
 use mathlib.Core.Path.{_≡_}
 use mathlib.Core.Bool.{Bool}
 use mathlib.Core.List.{List}
@@ -10,7 +10,8 @@ use Rattle.gate_words.specs.declared.writer.Writer.{Writer}
 use Rattle.ranked_blocks.specs.Ranked.{Ranked, keepLinks, WordsBelow}
 use Rattle.ranked_blocks.specs.declared.entries.Ranks.{Ranks}
 
--- The words of each two candidates stand before the writer; they and the wires that tell of them are 64 each.
+-- The words of each two candidates come before the writer's wire; there are 64 of them, and 64 wires about two
+-- candidates.
 pub record Kept (w : Writer) (words wires : List ℕ) (p : Ranks) : Type 0 where
   pub ranked : Ranked p
   pub words-long : length words ≡ 64
@@ -31,7 +32,7 @@ pub record Meets (w : Writer) (words wires : List ℕ) (p : Ranks) (i j : ℕ) :
   pub later : j < i
   pub other : suc i < p .candidates
 
--- The block of i and j was written, and where there is one the wires that tell of them are kept.
+-- The block of i and j was written, and if there is one, the wires about them are kept.
 pub record Entered (w : Writer) (table : List ℕ) (block : List Gate) (table′ : List ℕ) (next : Writer)
     (rows : ℕ → Bool) (wires : List ℕ) (k i j : ℕ) (wires′ : List ℕ) : Type 0 where
   pub wrote : Wrote w table block table′ next

@@ -1,9 +1,9 @@
--- What the writers of a meeting's blocks ask.
+-- What the writers of a meeting's blocks ask for.
 use Prim.Native.Nat.{ℕ, suc, _+_, _*_, _≤_}
 use Rattle.gate_words.specs.Writing.{Room}
 use Rattle.gate_words.specs.declared.writer.Writer.{Writer}
 
--- Room for the gates that decide, behind comparisons that end before a, b and s.
+-- Room for the gates that decide, after comparisons that end before a, b and s.
 pub record Deciding (w : Writer) (a b s : ℕ) : Type 0 where
   pub room : Room w 4
   pub first : 2 ≤ a

@@ -1,4 +1,4 @@
--- What the writers of the contests ask and do.
+-- What the writers of the contests ask for and do.
 use mathlib.Core.Path.{_≡_}
 use mathlib.Core.Bool.{Bool, cond}
 use mathlib.Core.List.{List, _++_}
@@ -22,13 +22,13 @@ pub record TableReady (w : Writer) (words wires : List ℕ) (p : Ranks) (block :
   pub kept : Kept w words wires p
   pub room : Room w (length (table (w .wire) (p .candidates) block))
 
--- It was written, and the wires that tell of two candidates are kept where the later one's row has blocks.
+-- It was written, and the wires about two candidates are kept if the later one's row has blocks.
 pub record TableDone (w : Writer) (table₀ table₁ : List ℕ) (next : Writer) (k : ℕ) (block : ℕ → ℕ → ℕ → List Gate)
     (rows : ℕ → Bool) (wires wires′ : List ℕ) : Type 0 where
   pub wrote : Wrote w table₀ (table (w .wire) k block) table₁ next
   pub kept : Keeps k wires′ (λ i j. cond (rows (max i j)) (linkAt (w .wire) k block i j) (keptOf wires k i j))
 
--- Room for the contests, behind the paths.
+-- Room for the contests, after the paths.
 pub record ContestsReady (w : Writer) (words wires : List ℕ) (p : Ranks) : Type 0 where
   pub ranked : Ranked p
   pub room : Room w (length (duels (p .candidates) (p .ballots) (p .digits))
@@ -37,7 +37,7 @@ pub record ContestsReady (w : Writer) (words wires : List ℕ) (p : Ranks) : Typ
   pub paths : Keeps (p .candidates) words (pathsTo (p .candidates) (p .ballots) (p .digits) (p .candidates) .words)
   pub long : length wires ≡ 64
 
--- They were written, and the wires that tell who beats whom are kept.
+-- They were written, and the wires that say who beats whom are kept.
 pub record ContestsDone (w : Writer) (table₀ table₁ : List ℕ) (next : Writer) (p : Ranks) (wires : List ℕ)
     : Type 0 where
   pub wrote : Wrote w table₀

@@ -26,7 +26,7 @@ loop-holds c =
     let p = c .before .pre in
     (p .levelsBelow, p .few, p .countable, goes-start (a .start) (a .table .now) (countDigitsAs (a .low) (a .top) (a .base) (a .first) (a .count) (a .extra) (a .levels)) (a .levels + 1) (p .room))
 
--- in a turn there is a bit to start from, and the level's wires are there already
+-- in a turn there is a bit to start from, and the level's wires exist already
 some-bit : (c : tie.In-loop Inv-loop μ-loop) → 1 ≤ c .before .loop .m
 some-bit c = let l = c .before .loop in countable-step (l .m) (l .rest) (l .left) (c .loop-test .taken) (l .inv .2) .0
 

@@ -1,4 +1,4 @@
--- `gate_adders::reach::high_reach` meets its contract: its parts, one behind the other.
+-- `gate_adders::reach::high_reach` meets its contract: its parts, one after the other.
 -- Assumes nothing.
 use mathlib.Core.Path.{_≡_, _∙_, refl, ap}
 use Prim.Native.Nat.{ℕ, suc, _+_, _-_, _*_}
@@ -31,7 +31,7 @@ differences-requires c κs =
       secondBelow = omega (arith, s .pre);
     }
 
--- behind the differences, the carries and the chain that says that all digits differ
+-- after the differences, the carries, and the chain that says that all digits differ
 
 differ : (c : tie.After-differences) → Stands (c .differences .result) ((c .before .before .before) .args .w .wire + ((c .before .before .before) .args .high + 1)) (2 * (c .before .before .before) .args .high + 1)
 differ c =

@@ -15,7 +15,7 @@ carry-bit-requires : tie.Need-carry-bit-requires
 carry-bit-requires c κs =
     room-less ((c .before .before) .args .w) _ _ (omega arith) ((c .before .before) .pre .room)
 
--- behind the lowest digit, and behind the low half
+-- after the lowest digit, and after the low half
 
 first : (c : tie.After-carry-bit) → Stands (c .carry-bit .result) ((c .before .before .before) .args .w .wire + 1) (2 * (c .before .before .before) .args .low + (3 * (c .before .before .before) .args .high + 2))
 first c =

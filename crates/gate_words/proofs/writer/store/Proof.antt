@@ -1,4 +1,4 @@
--- `gate_words::writer::store` meets its contract: four stores where there is room, else none.
+-- `gate_words::writer::store` meets its contract: four stores if there is room, else none.
 -- Assumes nothing.
 use mathlib.Core.Path.{_∙_, sym, ap}
 use mathlib.Core.Bool.{Bool, cond}

@@ -28,7 +28,7 @@ compare-halves-requires c κs =
       secondBelow = omega (arith, q .cBelow, q .cut);
     }
 
--- behind each of them
+-- after each of them
 
 down : (c : tie.After-compare-halves) → Stands (c .compare-halves .result) ((c .before .before .before) .args .w .wire + compareSpan ((c .before .before .before) .args .above)) (compareSpan ((c .before .before .before) .args .above) + (reachSpan ((c .before .before .before) .args .above) + reachSpan ((c .before .before .before) .args .above)))
 down c =

@@ -43,7 +43,7 @@ products r t hr ht =
       far-is = ap (λ (k : ℕ). k * (r + 2)) (add-one t);
     }
 
--- a key's last word stands before the writer
+-- a key's last word comes before the writer's wire
 far-there : (x r t n : ℕ) → Products r t → x + suc (suc t) * stride r ≤ n → x + (t + 1) * (r + 2) + (r + 2) ≤ n
 far-there x r t n p h = omega (arith, p .far-is, suc-mul (suc t) (stride r))
 
@@ -115,7 +115,7 @@ chosen-high-requires : tie.Need-chosen-high-requires
 chosen-high-requires c κs =
     (c .before .before .before .before .before .before) .pre .narrow
 
--- the words chosen
+-- the chosen words
 
 a-is : (c : tie.After-left-end) → c .left-end .result ≡ downLeft ((c .before .before .before) .args .w .wire) ((c .before .before .before) .args .x) ((c .before .before .before) .args .above) ((c .before .before .before) .args .between)
 a-is c =
@@ -156,7 +156,7 @@ nearest-requires c κs =
       cut = (c .before .before .before .before .before .before .before .before) .pre .cut;
     }
 
--- behind the choice
+-- after the choice
 
 chosen : (c : tie.After-nearest) → Stands (c .nearest .result) ((c .before .before .before .before .before .before .before .before .before) .args .w .wire + (((c .before .before .before .before .before .before .before .before .before) .args .between) * sideSpan ((c .before .before .before .before .before .before .before .before .before) .args .above) + ((c .before .before .before .before .before .before .before .before .before) .args .between) * eitherSpan ((c .before .before .before .before .before .before .before .before .before) .args .above) + ((c .before .before .before .before .before .before .before .before .before) .args .between) * eitherSpan ((c .before .before .before .before .before .before .before .before .before) .args .above))) (compareAndReachSpan ((c .before .before .before .before .before .before .before .before .before) .args .above) + resolveSpan)
 chosen c =

@@ -25,7 +25,7 @@ choose-requires c κs =
       secondBelow = omega (arith, (c .before .before) .pre);
     }
 
--- behind the first choice
+-- after the first choice
 
 first : (c : tie.After-choose) → Stands ((c .choose) .result) ((c .before .before .before .args) .w .wire + ((c .before .before .before .args) .above + 1)) ((c .before .before .before .args) .above + 1)
 first c =

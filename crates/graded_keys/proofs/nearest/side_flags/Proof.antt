@@ -30,7 +30,7 @@ unequal-halves-requires c κs =
       secondBelow = omega (arith, s .pre);
     }
 
--- behind the comparison
+-- after the comparison
 
 differ : (c : tie.After-unequal-halves) → Stands (c .unequal-halves .result) ((c .before .before .before .before) .args .w .wire + unequalSpan ((c .before .before .before .before) .args .above)) 2
 differ c =

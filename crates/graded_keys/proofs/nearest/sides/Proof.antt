@@ -23,7 +23,7 @@ loop-holds c =
     let q = (c .before) .pre in
     (q .firstBelow, q .secondBelow, goes-start ((c .before .args) .w) ((c .before .args) .table .now) (sides ((c .before .args) .w .wire) ((c .before .args) .x) ((c .before .args) .y) ((c .before .args) .above) ((c .before .args) .high) ((c .before .args) .count)) ((c .before .args) .count * sideSpan ((c .before .args) .above)) ((c .before) .pre .room))
 
--- the next words stand before the writer
+-- the next words come before the writer's wire
 
 there : (c : tie.In-loop Inv-loop μ-loop) → ((c .before .loop) .left + stride ((c .before .before .before .args) .above) ≤ (c .before .loop) .next .wire) × ((c .before .loop) .right + stride ((c .before .before .before .args) .above) ≤ (c .before .loop) .next .wire)
 there c =

@@ -1,4 +1,4 @@
--- `graded_sums::key::candidate` meets its contract: the rows, the levels of all sums, and the key behind them.
+-- `graded_sums::key::candidate` meets its contract: the rows, the levels of all sums, and then the key.
 -- Assumes nothing.
 use mathlib.Core.Path.{_≡_, refl, ap}
 use mathlib.Core.List.{List}
@@ -19,7 +19,7 @@ use Rattle.graded_sums.proofs.Writers.{rows-there}
 use Rattle.graded_sums.proofs.key.candidate.Statement.{statement}
 use Rattle.graded_sums.proofs.key.candidate.Tie as tie
 
--- what is left behind the rows, behind the levels, and behind those of the worst grade
+-- what is left after the rows, after the levels, and after those of the worst grade
 abbrev keyGates : Plan → ℕ
 keyGates p = (p .grades - 2) * wordSpan p + wordSpan p
 
@@ -81,7 +81,7 @@ rowed c =
     (next-rows-block (a .p) (q .planned) (a .w .wire) (a .c) 0 (a .p .grades - 3) (q .inputs) (q .candidate) (omega (arith, q .planned .d-least)) .long)
     (stands (a .w) (a .w .wire) _ _ refl (omega (arith, parts (a .p) (q .planned))) (q .room))
 
--- all rows stand before the levels
+-- all rows come before the levels
 before : (c : tie.After-rows) → let s = from-rows c in RowsBefore (s .args .p) (s .args .w .wire) (c .rows .result .wire) (0 + (s .args .p .grades - 2))
 before c = let a = from-rows c .args in rows-there (a .p) (a .w .wire) (c .rows .result .wire) (0 + (a .p .grades - 2)) (omega arith) (omega (arith, rowed c .place))
 

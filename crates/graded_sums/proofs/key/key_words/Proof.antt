@@ -43,7 +43,7 @@ loop-holds c =
 add-if1 : tie.Need-add-if1 Inv-loop μ-loop
 add-if1 c = omega (arith, c .loop .inv .0, c .before .before .before .pre .of .part .planned .d-most)
 
--- a turn: the levels of this grade are there
+-- a turn: the levels of this grade exist
 levels-there : (c : tie.Then1 Inv-loop μ-loop) → let l = c .before .before .loop in l .base + sumSize (c .before .before .before .before .before .args .p) ≤ c .before .before .before .before .before .args .w .wire
 levels-there c =
     let l = c .before .before .loop in

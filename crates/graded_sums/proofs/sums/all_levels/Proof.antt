@@ -34,7 +34,7 @@ loop-holds c =
 add-if1 : tie.Need-add-if1 Inv-loop μ-loop
 add-if1 c = omega (arith, c .loop .inv .0, c .before .before .pre .part .planned .d-most)
 
--- a turn: what the sum counts is there, and there is room for its levels
+-- a turn: what the sum counts exists, and there is room for its levels
 sum-levels-requires : tie.Need-sum-levels-requires Inv-loop μ-loop
 sum-levels-requires c κs =
     let l = c .before .before .before .loop in

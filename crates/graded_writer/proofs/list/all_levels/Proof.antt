@@ -1,4 +1,4 @@
--- `graded_writer::list::all_levels` meets its contract: three levels of merges behind the candidates.
+-- `graded_writer::list::all_levels` meets its contract: three levels of merges after the candidates.
 -- Assumes nothing.
 use mathlib.Core.Path.{ap}
 use Prim.Native.Nat.{ℕ, _+_, _-_, _/_}

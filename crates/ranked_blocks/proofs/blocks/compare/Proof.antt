@@ -15,7 +15,7 @@ use Rattle.gate_words.proofs.Standing.{wrote-then}
 first-digit-requires : tie.Need-first-digit-requires
 first-digit-requires c κs = search needs
 
--- the writer behind the lowest digits
+-- the writer after the lowest digits
 lowest : (c : tie.After-first-digit) → (c .first-digit) .result .wire ≡ (c .before .before .before .args) .w .wire + 3
 lowest c = behind ((c .before .before .before .args) .w) ((c .before .before .before .args) .table .now) _ ((c .first-digit) .last .1 .0) ((c .first-digit) .result) 3 ((c .first-digit) .ensures) (length-first-digit ((c .before .before .before .args) .w .wire) ((c .before .before .before .args) .x) ((c .before .before .before .args) .y))
 

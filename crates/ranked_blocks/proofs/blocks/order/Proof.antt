@@ -1,4 +1,4 @@
--- `ranked_blocks::blocks::order` meets its contract: where the words differ, then the comparison.
+-- `ranked_blocks::blocks::order` meets its contract: in which digits the words differ, then the comparison.
 -- Assumes nothing.
 use mathlib.Core.Path.{_≡_, ap}
 use Prim.Native.Nat.{ℕ, _+_}
@@ -21,7 +21,7 @@ add-differences-2 c = search needs
 differences-requires : tie.Need-differences-requires
 differences-requires c κs = search needs
 
--- the writer behind the differences
+-- the writer after the differences
 differ : (c : tie.After-differences) → (c .differences) .result .wire ≡ (c .before .before .before .args) .w .wire + (c .before .before .before .args) .digits
 differ c = behind ((c .before .before .before .args) .w) ((c .before .before .before .args) .table .now) _ ((c .differences) .last .1 .0) ((c .differences) .result) ((c .before .before .before .args) .digits) ((c .differences) .ensures) (length-differences ((c .before .before .before .args) .x + 1) ((c .before .before .before .args) .y + 1) ((c .before .before .before .args) .digits))
 

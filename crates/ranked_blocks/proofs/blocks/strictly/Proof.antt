@@ -1,4 +1,5 @@
--- `ranked_blocks::blocks::strictly` meets its contract: the lowest digits, where the others differ, then the comparison.
+-- `ranked_blocks::blocks::strictly` meets its contract: the lowest digits, in which others the words differ, then the
+-- comparison.
 -- Assumes nothing.
 use mathlib.Core.Path.{_≡_, refl, ap}
 use mathlib.Core.List.{[], _∷_}

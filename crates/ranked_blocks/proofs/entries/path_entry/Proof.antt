@@ -1,4 +1,5 @@
--- `ranked_blocks::entries::path_entry` meets its contract: nothing where the stage leaves the word, else a new word that is kept.
+-- `ranked_blocks::entries::path_entry` meets its contract: nothing if the stage leaves the word, else a new word that
+-- is kept.
 -- Assumes nothing.
 use mathlib.Core.Path.{_≡_, _∙_, sym, ap}
 use mathlib.Core.Bool.{true, false}

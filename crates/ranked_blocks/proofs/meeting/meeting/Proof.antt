@@ -91,7 +91,7 @@ strictly-requires-2 c κs =
       secondBelow = omega (arith, s .pre .li-below, three p .place);
     }
 
--- behind the comparisons
+-- after the comparisons
 four : (c : tie.After-strictly2) → Stands (c .strictly2 .result) (start (first (second (third c))) .args .w .wire + both (start (first (second (third c))) .args .digits) + both (start (first (second (third c))) .args .digits) + single (start (first (second (third c))) .args .digits) + single (start (first (second (third c))) .args .digits)) 4
 four c =
     let p = third c in

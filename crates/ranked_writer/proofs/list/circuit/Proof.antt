@@ -50,7 +50,7 @@ path-tables-requires c κs =
     let a = s .args in
     (s .pre .ranked, (room-less (a .w) _ _ (omega (arith, known (a .p) (s .pre .many) .long)) (s .pre .room), (s .pre .place, refl)))
 
--- behind the paths
+-- after the paths
 paths-end : (c : tie.After-path-tables) → c .path-tables .result .wire ≡ duelsFrom (start c .args .p .candidates) (start c .args .p .ballots) (start c .args .p .digits)
 paths-end c = let p = start c .args .p in omega (arith, c .path-tables .ensures .0 .wires, start c .pre .place, duels-from (p .candidates) (p .ballots) (p .digits))
 
@@ -72,7 +72,7 @@ contests-requires c κs =
       long = refl;
     }
 
--- behind the contests
+-- after the contests
 both-long : (p : Ranks) → length (duels (p .candidates) (p .ballots) (p .digits) ++ meetings (p .candidates) (p .ballots) (p .digits)) ≡ length (duels (p .candidates) (p .ballots) (p .digits)) + length (meetings (p .candidates) (p .ballots) (p .digits))
 both-long p = length-append (duels (p .candidates) (p .ballots) (p .digits)) (meetings (p .candidates) (p .ballots) (p .digits))
 

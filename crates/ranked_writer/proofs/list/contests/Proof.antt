@@ -47,7 +47,7 @@ links-table-requires c κs =
       room = room-less (s .args .w) _ _ (omega (arith, ap length (same s))) (s .pre .room);
     }
 
--- the writer behind the duels, and the meetings there
+-- the writer after the duels, and the meetings there
 stands : (c : tie.After-links-table) → c .links-table .result .wire ≡ meetingsFrom (start c .args .p .candidates) (start c .args .p .ballots) (start c .args .p .digits)
 stands c =
     let s = start c in

@@ -1,4 +1,4 @@
--- `ranked_writer::losers::other` meets its contract: those before i keep their number, those behind it move up.
+-- `ranked_writer::losers::other` meets its contract: those before i keep their number, those after it move up.
 -- Assumes nothing.
 use mathlib.Core.Path.{_∙_, sym, ap}
 use mathlib.Core.Bool.{Bool, cond}

@@ -1,4 +1,4 @@
--- `ranked_writer::losers::output_gates` meets its contract: the complement of what each row tells.
+-- `ranked_writer::losers::output_gates` meets its contract: the complement of what each row says.
 -- Assumes nothing.
 use mathlib.Core.Path.{_≡_, _∙_, refl, ap}
 use mathlib.Core.List.{List, [], _∷_}

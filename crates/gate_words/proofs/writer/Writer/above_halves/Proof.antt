@@ -30,7 +30,7 @@ above-requires c κs =
       secondBelow = omega (arith, s .pre);
     }
 
--- behind the low half
+-- after the low half
 
 lower : (c : tie.After-above) → Stands (c .above .result) ((c .before .before .before) .args .self .wire + (c .before .before .before) .args .low) ((c .before .before .before) .args .high)
 lower c =
@@ -97,7 +97,7 @@ above-requires-2 c κs =
       secondBelow = omega (arith, l .place, (c .before .before .before .before .before .before .before .before) .pre);
     }
 
--- behind the high half
+-- after the high half
 
 upper : (c : tie.After-above2) → Stands (c .above2 .result) ((c .before .before .before .before .before .before .before .before .before) .args .self .wire + (c .before .before .before .before .before .before .before .before .before) .args .low + ((c .before .before .before .before .before .before .before .before .before) .args .high - 1)) 1
 upper c =

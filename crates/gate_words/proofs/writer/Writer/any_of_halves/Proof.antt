@@ -23,7 +23,7 @@ any-of-requires c κs =
       near = omega arith;
     }
 
--- behind the low half
+-- after the low half
 
 lower : (c : tie.After-any-of) → Stands (c .any-of .result) ((c .before .before .before) .args .self .wire + (c .before .before .before) .args .low) ((c .before .before .before) .args .high)
 lower c =
@@ -75,7 +75,7 @@ any-of-requires-2 c κs =
       near = omega arith;
     }
 
--- behind the high half
+-- after the high half
 
 upper : (c : tie.After-any-of2) → Stands (c .any-of2 .result) ((c .before .before .before .before .before .before .before .before .before) .args .self .wire + (c .before .before .before .before .before .before .before .before .before) .args .low + ((c .before .before .before .before .before .before .before .before .before) .args .high - 1)) 1
 upper c =

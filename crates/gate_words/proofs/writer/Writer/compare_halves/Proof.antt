@@ -24,7 +24,7 @@ unequal-halves-requires c κs =
       secondBelow = s .pre .secondBelow;
     }
 
--- behind the first part
+-- after the first part
 
 differ : (c : tie.After-unequal-halves) → Stands (c .unequal-halves .result) ((c .before .before .before .before) .args .self .wire + unequalSpan ((c .before .before .before .before) .args .low + (c .before .before .before .before) .args .high)) ((c .before .before .before .before) .args .low + (c .before .before .before .before) .args .high)
 differ c =

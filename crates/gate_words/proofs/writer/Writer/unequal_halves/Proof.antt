@@ -30,7 +30,7 @@ differences-requires c κs =
       secondBelow = omega (arith, s .pre);
     }
 
--- behind the differences
+-- after the differences
 
 differ : (c : tie.After-differences) → Stands (c .differences .result) ((c .before .before .before) .args .self .wire + ((c .before .before .before) .args .low + (c .before .before .before) .args .high + 1)) ((c .before .before .before) .args .low + (c .before .before .before) .args .high)
 differ c =
