@@ -9,7 +9,7 @@ use graded_keys::median::compare_ones;
 use graded_keys::median::ones_differ;
 use graded_keys::median::ones_larger;
 ghost use mathlib.Core.List.{_∷_, _++_, []};
-ghost use Prim.Native.Nat.{suc, _+_, _-_};
+ghost use Prim.Native.Nat.{_+_, _-_};
 ghost use Rattle.gate_words.specs.Gates.{copyOf, orOf, muxOf};
 ghost use Rattle.gate_words.specs.Halves.{unequalAt, compareCut, aboveAt};
 ghost use Rattle.gate_words.specs.Writing.{Room, Wrote};
