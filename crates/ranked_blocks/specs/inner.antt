@@ -1,3 +1,4 @@
 -- What the functions of this crate ask; no entry point's contract needs it.
+pub mod Orders
 pub mod Meeting
 pub mod Entries

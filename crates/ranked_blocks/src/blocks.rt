@@ -1,18 +1,21 @@
 // The smaller or larger of two words, and two words compared.
 use gate_words::choice::chain_end;
+use gate_words::halves::above_at;
+use gate_words::halves::unequal_at;
 use gate_words::writer::Writer;
 use gates::kind;
 ghost use mathlib.Core.List.{_++_};
-ghost use Prim.Native.Nat.{suc, _+_, _*_, _≤_};
-ghost use Rattle.gate_words.specs.Writing.{Room, Wrote};
+ghost use Prim.Native.Nat.{suc, _+_, _*_};
+ghost use Rattle.gate_words.specs.Writing.{Wrote};
 ghost use Rattle.gate_words.specs.inner.Ready.{WordsReady};
 ghost use Rattle.gate_words.specs.Choice.{choose};
-ghost use Rattle.ranked_circuit.specs.Blocks.{compare, strictly, order, orderEnd, smaller, larger, largerIf};
+ghost use Rattle.ranked_circuit.specs.Blocks.{compare, strictly, order, orderCut, orderSize, cutEnd};
+ghost use Rattle.ranked_circuit.specs.Blocks.{smaller, larger, largerIf};
+ghost use Rattle.ranked_blocks.specs.inner.Orders.{CutReady, OneReady, WayReady};
 
 // Two words compared both ways.
 pub(crate) fn compare(w: Writer, table: &mut [u32], x: u32, y: u32, digits: u32) -> Writer
-    requires { ⌜ Room w (3 + 3 * digits) ⌝ }
-    requires { ⌜ (x + suc digits ≤ w .wire) × (y + suc digits ≤ w .wire) ⌝ }
+    requires { ⌜ WordsReady w (3 + 3 * digits) x y (suc digits) ⌝ }
     ensures { λ r. ⌜ Wrote w (now (table .entry)) (compare (w .wire) x y digits) (now (table .exit)) r ⌝ }
 {
     let n = w.wire;
@@ -34,8 +37,7 @@ pub(crate) fn strictly(w: Writer, table: &mut [u32], x: u32, y: u32, digits: u32
 
 // The word at x compared one way with the word at y.
 fn order(w: Writer, table: &mut [u32], x: u32, y: u32, digits: u32) -> Writer
-    requires { ⌜ Room w (2 * digits) ⌝ }
-    requires { ⌜ (x + suc digits ≤ w .wire) × (y + suc digits ≤ w .wire) ⌝ }
+    requires { ⌜ WordsReady w (2 * digits) x y (suc digits) ⌝ }
     ensures { λ r. ⌜ Wrote w (now (table .entry)) (order (w .wire) x y digits) (now (table .exit)) r ⌝ }
 {
     let n = w.wire;
@@ -43,32 +45,58 @@ fn order(w: Writer, table: &mut [u32], x: u32, y: u32, digits: u32) -> Writer
     differ.above(table, n, x + 1, x, digits)
 }
 
-// Of two words the one at `high` where the word at x is the larger one, else the one at `low`.
-fn one_of(w: Writer, table: &mut [u32], x: u32, y: u32, high: u32, low: u32, digits: u32) -> Writer
-    requires { ⌜ Room w (2 * digits + suc digits) ⌝ }
-    requires { ⌜ (x + suc digits ≤ w .wire) × (y + suc digits ≤ w .wire) ⌝ }
-    requires { ⌜ (high + suc digits ≤ w .wire) × (low + suc digits ≤ w .wire) ⌝ }
+// The same, the `cut` highest digits being compared beside the others.
+fn order_cut(w: Writer, table: &mut [u32], x: u32, y: u32, digits: u32, cut: u32) -> Writer
+    requires { ⌜ CutReady w (orderSize digits cut) x y digits cut ⌝ }
+    ensures { λ r. ⌜ Wrote w (now (table .entry)) (orderCut (w .wire) x y digits cut) (now (table .exit)) r ⌝ }
+{
+    if cut == 0 {
+        return order(w, table, x, y, digits);
+    }
+    let low = digits - cut;
+    let end = chain_end(w.wire + low, x, low);
+    let told = order(w, table, x, y, low);
+    let n = told.wire;
+    let high = x + low + 1;
+    let differ = unequal_at(n, cut - 1);
+    let over = above_at(n, high, cut - 1);
+    let compared = told.compare_halves(table, high, y + low + 1, cut - 1, 0);
+    compared.emit(table, kind::CHOICE, differ, over, end)
+}
+
+// Of two words the one at `more` where the word at x is the larger one, else the one at `less`.
+fn one_of(
+    w: Writer,
+    table: &mut [u32],
+    x: u32,
+    y: u32,
+    more: u32,
+    less: u32,
+    digits: u32,
+    cut: u32,
+) -> Writer
+    requires { ⌜ OneReady w x y more less digits cut ⌝ }
     ensures { λ r. ⌜
-        Wrote w (now (table .entry)) (order (w .wire) x y digits ++ choose (orderEnd (w .wire) x digits) high low
-        (suc digits)) (now (table .exit)) r
+        Wrote w (now (table .entry)) (orderCut (w .wire) x y digits cut ++ choose (cutEnd (w .wire) x digits cut) more
+        less (suc digits)) (now (table .exit)) r
         ⌝ }
 {
-    let end = chain_end(w.wire + digits, x, digits);
-    let told = order(w, table, x, y, digits);
-    told.choose(table, end, high, low, digits + 1)
+    let n = w.wire;
+    let told = order_cut(w, table, x, y, digits, cut);
+    let end = chain_end(n, x, told.wire - n);
+    told.choose(table, end, more, less, digits + 1)
 }
 
 // The larger of two words where wire f is 1, else the word at y.
-fn larger_if(w: Writer, table: &mut [u32], f: u32, x: u32, y: u32, digits: u32) -> Writer
-    requires { ⌜ Room w (2 * digits + 1 + suc digits) ⌝ }
-    requires { ⌜ (x + suc digits ≤ w .wire) × (y + suc digits ≤ w .wire) ⌝ }
-    ensures { λ r. ⌜ Wrote w (now (table .entry)) (largerIf (w .wire) f x y digits) (now (table .exit)) r ⌝ }
+fn larger_if(w: Writer, table: &mut [u32], f: u32, x: u32, y: u32, digits: u32, cut: u32) -> Writer
+    requires { ⌜ CutReady w (orderSize digits cut + 1 + suc digits) x y digits cut ⌝ }
+    ensures { λ r. ⌜ Wrote w (now (table .entry)) (largerIf (w .wire) f x y digits cut) (now (table .exit)) r ⌝ }
 {
-    let flag = w.wire + 2 * digits;
-    let end = chain_end(w.wire + digits, x, digits);
-    let told = order(w, table, x, y, digits);
+    let n = w.wire;
+    let told = order_cut(w, table, x, y, digits, cut);
+    let end = chain_end(n, x, told.wire - n);
     let both = told.emit(table, kind::AND, f, end, 0);
-    both.choose(table, flag, x, y, digits + 1)
+    both.choose(table, told.wire, x, y, digits + 1)
 }
 
 // The stronger of the link, if wire f says that there is one, and of the way whose links are x and y.
@@ -80,17 +108,17 @@ pub(crate) fn link_or_way(
     x: u32,
     y: u32,
     digits: u32,
+    cut: u32,
 ) -> Writer
-    requires { ⌜ Room w (2 * digits + suc digits + (2 * digits + 1) + suc digits) ⌝ }
-    requires { ⌜ (v + suc digits ≤ w .wire) × (x + suc digits ≤ w .wire) × (y + suc digits ≤ w .wire) × (digits ≤ 7) ⌝ }
+    requires { ⌜ WayReady w (orderSize digits cut + 1 + suc digits) v x y digits cut ⌝ }
     ensures { λ r. ⌜
-        Wrote w (now (table .entry)) (smaller (w .wire) x y digits ++ largerIf (w .wire + (2 * digits + suc digits)) f
-        v (w .wire + 2 * digits) digits) (now (table .exit)) r
+        Wrote w (now (table .entry)) (smaller (w .wire) x y digits cut
+        ++ largerIf (w .wire + orderSize digits cut + suc digits) f v (w .wire + orderSize digits cut) digits cut)
+        (now (table .exit)) r
         ⌝ }
 {
-    let way = w.wire + 2 * digits;
-    let weaker = one_of(w, table, x, y, y, x, digits);
-    larger_if(weaker, table, f, v, way, digits)
+    let weaker = one_of(w, table, x, y, y, x, digits, cut);
+    larger_if(weaker, table, f, v, weaker.wire - digits - 1, digits, cut)
 }
 
 // The stronger of the path so far and of the way whose parts are x and y.
@@ -101,15 +129,16 @@ pub(crate) fn path_or_way(
     x: u32,
     y: u32,
     digits: u32,
+    cut: u32,
 ) -> Writer
-    requires { ⌜ Room w (2 * digits + suc digits + 2 * digits + suc digits) ⌝ }
-    requires { ⌜ (v + suc digits ≤ w .wire) × (x + suc digits ≤ w .wire) × (y + suc digits ≤ w .wire) × (digits ≤ 7) ⌝ }
+    requires { ⌜ WayReady w (orderSize digits cut + suc digits) v x y digits cut ⌝ }
     ensures { λ r. ⌜
-        Wrote w (now (table .entry)) (smaller (w .wire) x y digits ++ larger (w .wire + (2 * digits + suc digits)) v
-        (w .wire + 2 * digits) digits) (now (table .exit)) r
+        Wrote w (now (table .entry)) (smaller (w .wire) x y digits cut
+        ++ larger (w .wire + orderSize digits cut + suc digits) v (w .wire + orderSize digits cut) digits cut)
+        (now (table .exit)) r
         ⌝ }
 {
-    let way = w.wire + 2 * digits;
-    let weaker = one_of(w, table, x, y, y, x, digits);
-    one_of(weaker, table, v, way, v, way, digits)
+    let weaker = one_of(w, table, x, y, y, x, digits, cut);
+    let way = weaker.wire - digits - 1;
+    one_of(weaker, table, v, way, v, way, digits, cut)
 }

@@ -38,9 +38,9 @@ compare-words-requires c κs =
     let n = (c .before .before .before .first-digit) .result .wire in
     record {
       room = room-behind (a .w) (a .table .now) _ ((c .before .before .before .first-digit) .last .1 .0) ((c .before .before .before .first-digit) .result) 3 _ _ ((c .before .before .before .first-digit) .ensures) (length-first-digit (a .w .wire) (a .x) (a .y))
-          (omega (arith, length-compare n (a .x + 1) (a .y + 1) (a .w .wire + 1) (a .w .wire + 2) (a .digits))) ((c .before .before .before .before .before .before .pre) .0);
-      firstBelow = omega (arith, (c .before .before .before .before .before .before .pre) .1);
-      secondBelow = omega (arith, (c .before .before .before .before .before .before .pre) .1);
+          (omega (arith, length-compare n (a .x + 1) (a .y + 1) (a .w .wire + 1) (a .w .wire + 2) (a .digits))) (c .before .before .before .before .before .before .pre .room);
+      firstBelow = omega (arith, c .before .before .before .before .before .before .pre .firstBelow);
+      secondBelow = omega (arith, c .before .before .before .before .before .before .pre .secondBelow);
     }
 
 returns : tie.Need-returns

@@ -33,9 +33,9 @@ above-requires c κs =
     let a = (c .before .before .before .before .before .before .args) in
     let e = differ (c .before .before .before) in
     record {
-      room = room-behind (a .w) (a .table .now) _ ((c .before .before .before .differences) .last .1 .0) ((c .before .before .before .differences) .result) (a .digits) (a .digits) _ ((c .before .before .before .differences) .ensures) (length-differences (a .x + 1) (a .y + 1) (a .digits)) (omega arith) ((c .before .before .before .before .before .before .pre) .0);
-      firstBelow = omega (arith, (c .before .before .before .before .before .before .pre) .1);
-      secondBelow = omega (arith, (c .before .before .before .before .before .before .pre) .1);
+      room = room-behind (a .w) (a .table .now) _ ((c .before .before .before .differences) .last .1 .0) ((c .before .before .before .differences) .result) (a .digits) (a .digits) _ ((c .before .before .before .differences) .ensures) (length-differences (a .x + 1) (a .y + 1) (a .digits)) (omega arith) (c .before .before .before .before .before .before .pre .room);
+      firstBelow = omega arith;
+      secondBelow = omega (arith, c .before .before .before .before .before .before .pre .firstBelow);
     }
 
 returns : tie.Need-returns
