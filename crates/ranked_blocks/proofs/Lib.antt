@@ -1,3 +1,1 @@
-pub mod Behind
 pub mod Entering
-pub mod Cutting

@@ -1,4 +1,2 @@
--- What the functions of this crate ask; no entry point's contract needs it.
-pub mod Orders
-pub mod Meeting
+-- What the functions of this crate ask and do; no entry point's contract needs it.
 pub mod Entries

@@ -1,13 +1,13 @@
 // The blocks of the tables: number e is that of row e / k and column e % k.
-use crate::blocks::compare;
-use crate::blocks::link_or_way;
-use crate::blocks::path_or_way;
 use crate::kept::cut_at;
 use crate::kept::kept;
 use crate::kept::stays;
-use crate::meeting::meeting;
 use gate_adders::counter::counter;
 use gate_words::writer::Writer;
+use ranked_words::blocks::compare;
+use ranked_words::blocks::link_or_way;
+use ranked_words::blocks::path_or_way;
+use ranked_words::meeting::meeting;
 ghost use mathlib.Core.Path.{_≡_};
 ghost use Prim.Native.Nat.{suc, _+_, _-_, _*_, _/_, _%_, _≤_, _<_};
 ghost use lib.Dec.{eqb, leb, ltb};

@@ -1,4 +1,4 @@
--- `ranked_blocks::blocks::link_or_way` meets its contract: the weaker part of the way, then the stronger of two.
+-- `ranked_words::blocks::link_or_way` meets its contract: the weaker part of the way, then the stronger of two.
 -- Assumes nothing.
 use mathlib.Core.Path.{_≡_, _∙_, refl, ap}
 use Prim.Native.Nat.{ℕ, suc, _+_, _-_}
@@ -7,9 +7,9 @@ use borrow.Author.Needs.{needs}
 use Rattle.gate_words.proofs.Writing.{room-less, wrote-as}
 use Rattle.gate_words.proofs.Standing.{Stands, stands, stands-after, wrote-then}
 use Rattle.ranked_circuit.specs.Blocks.{orderSize, smaller, largerIf}
-use Rattle.ranked_blocks.proofs.Cutting.{smaller-is, smaller-long}
-use Rattle.ranked_blocks.proofs.blocks.link_or_way.Statement.{statement}
-use Rattle.ranked_blocks.proofs.blocks.link_or_way.Tie as tie
+use Rattle.ranked_words.proofs.Cutting.{smaller-is, smaller-long}
+use Rattle.ranked_words.proofs.blocks.link_or_way.Statement.{statement}
+use Rattle.ranked_words.proofs.blocks.link_or_way.Tie as tie
 
 -- the start, and after the way
 abbrev start : tie.After-one-of → tie.Start

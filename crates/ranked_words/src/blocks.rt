@@ -11,10 +11,10 @@ ghost use Rattle.gate_words.specs.inner.Ready.{WordsReady};
 ghost use Rattle.gate_words.specs.Choice.{choose};
 ghost use Rattle.ranked_circuit.specs.Blocks.{compare, strictly, order, orderCut, orderSize, cutEnd};
 ghost use Rattle.ranked_circuit.specs.Blocks.{smaller, larger, largerIf};
-ghost use Rattle.ranked_blocks.specs.inner.Orders.{CutReady, OneReady, WayReady};
+ghost use Rattle.ranked_words.specs.inner.Orders.{CutReady, OneReady, WayReady};
 
 // Two words compared both ways.
-pub(crate) fn compare(w: Writer, table: &mut [u32], x: u32, y: u32, digits: u32) -> Writer
+pub fn compare(w: Writer, table: &mut [u32], x: u32, y: u32, digits: u32) -> Writer
     requires { ⌜ WordsReady w (3 + 3 * digits) x y (suc digits) ⌝ }
     ensures { λ r. ⌜ Wrote w (now (table .entry)) (compare (w .wire) x y digits) (now (table .exit)) r ⌝ }
 {
@@ -24,7 +24,7 @@ pub(crate) fn compare(w: Writer, table: &mut [u32], x: u32, y: u32, digits: u32)
 }
 
 // Whether the word at x is above the word at y.
-pub(crate) fn strictly(w: Writer, table: &mut [u32], x: u32, y: u32, digits: u32) -> Writer
+pub fn strictly(w: Writer, table: &mut [u32], x: u32, y: u32, digits: u32) -> Writer
     requires { ⌜ WordsReady w (2 + 2 * digits) x y (suc digits) ⌝ }
     ensures { λ r. ⌜ Wrote w (now (table .entry)) (strictly (w .wire) x y digits) (now (table .exit)) r ⌝ }
 {
@@ -100,7 +100,7 @@ fn larger_if(w: Writer, table: &mut [u32], f: u32, x: u32, y: u32, digits: u32, 
 }
 
 // The stronger of the link, if wire f says that there is one, and of the way whose links are x and y.
-pub(crate) fn link_or_way(
+pub fn link_or_way(
     w: Writer,
     table: &mut [u32],
     f: u32,
@@ -122,7 +122,7 @@ pub(crate) fn link_or_way(
 }
 
 // The stronger of the path so far and of the way whose parts are x and y.
-pub(crate) fn path_or_way(
+pub fn path_or_way(
     w: Writer,
     table: &mut [u32],
     v: u32,

@@ -1,4 +1,4 @@
--- `ranked_blocks::meeting::meeting` meets its contract: four comparisons, and the gates that decide.
+-- `ranked_words::meeting::meeting` meets its contract: four comparisons, and the gates that decide.
 -- Assumes nothing.
 use mathlib.Core.Path.{_≡_, refl, ap}
 use mathlib.Core.List.{List, [], _∷_, _++_}
@@ -12,8 +12,8 @@ use Rattle.gate_words.proofs.Standing.{Stands, stands, stands-after, room-of, w
 use Rattle.ranked_circuit.specs.Blocks.{compare, strictly}
 use Rattle.ranked_circuit.specs.Contests.{meeting}
 use Rattle.ranked_circuit.proofs.BlockLaws.{length-whole, length-strictly}
-use Rattle.ranked_blocks.proofs.meeting.meeting.Statement.{statement}
-use Rattle.ranked_blocks.proofs.meeting.meeting.Tie as tie
+use Rattle.ranked_words.proofs.meeting.meeting.Statement.{statement}
+use Rattle.ranked_words.proofs.meeting.meeting.Tie as tie
 
 -- the start, and after each comparison
 abbrev start : tie.After-compare → tie.Start

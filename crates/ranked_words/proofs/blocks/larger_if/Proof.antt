@@ -1,4 +1,4 @@
--- `ranked_blocks::blocks::larger_if` meets its contract: an order, the gate of both conditions, and the choice by it.
+-- `ranked_words::blocks::larger_if` meets its contract: an order, the gate of both conditions, and the choice by it.
 -- Assumes nothing.
 use mathlib.Core.Path.{_≡_, _∙_, refl, ap}
 use mathlib.Core.List.{[], _∷_}
@@ -13,9 +13,9 @@ use Rattle.gate_words.proofs.Writing.{room-less, wrote-both}
 use Rattle.gate_words.proofs.Standing.{Stands, stands, stands-after, room-of, wrote-then}
 use Rattle.ranked_circuit.specs.Blocks.{orderCut, orderSize, cutEnd, largerIf}
 use Rattle.ranked_circuit.proofs.BlockLaws.{length-cut}
-use Rattle.ranked_blocks.proofs.Cutting.{cut-end}
-use Rattle.ranked_blocks.proofs.blocks.larger_if.Statement.{statement}
-use Rattle.ranked_blocks.proofs.blocks.larger_if.Tie as tie
+use Rattle.ranked_words.proofs.Cutting.{cut-end}
+use Rattle.ranked_words.proofs.blocks.larger_if.Statement.{statement}
+use Rattle.ranked_words.proofs.blocks.larger_if.Tie as tie
 
 -- the start, after the order, and after its last wire was found
 abbrev start : tie.After-order-cut → tie.Start

@@ -1,4 +1,4 @@
--- `ranked_blocks::blocks::one_of` meets its contract: an order, and the choice by its last wire.
+-- `ranked_words::blocks::one_of` meets its contract: an order, and the choice by its last wire.
 -- Assumes nothing.
 use mathlib.Core.Path.{_≡_, _∙_, refl, ap}
 use Prim.Native.Nat.{ℕ, suc, _+_, _-_}
@@ -10,9 +10,9 @@ use Rattle.gate_words.proofs.Writing.{room-less}
 use Rattle.gate_words.proofs.Standing.{Stands, stands, stands-after, wrote-then}
 use Rattle.ranked_circuit.specs.Blocks.{orderCut, orderSize, cutEnd}
 use Rattle.ranked_circuit.proofs.BlockLaws.{length-cut}
-use Rattle.ranked_blocks.proofs.Cutting.{cut-end}
-use Rattle.ranked_blocks.proofs.blocks.one_of.Statement.{statement}
-use Rattle.ranked_blocks.proofs.blocks.one_of.Tie as tie
+use Rattle.ranked_words.proofs.Cutting.{cut-end}
+use Rattle.ranked_words.proofs.blocks.one_of.Statement.{statement}
+use Rattle.ranked_words.proofs.blocks.one_of.Tie as tie
 
 -- the start, and after the order
 abbrev start : tie.After-order-cut → tie.Start

@@ -1,4 +1,4 @@
--- `ranked_blocks::blocks::order_cut` meets its contract: one chain, or the low digits, the high ones, and what decides.
+-- `ranked_words::blocks::order_cut` meets its contract: one chain, or the low digits, the high ones, and what decides.
 -- Assumes nothing.
 use mathlib.Core.Path.{_≡_, _∙_, refl, ap}
 use mathlib.Core.List.{_++_}
@@ -13,9 +13,9 @@ use Rattle.gate_words.proofs.Writing.{room-less, wrote-as}
 use Rattle.gate_words.proofs.Standing.{Stands, stands, stands-after, wrote-then, one-gate}
 use Rattle.ranked_circuit.specs.Blocks.{order, orderEnd}
 use Rattle.ranked_circuit.proofs.BlockLaws.{length-order}
-use Rattle.ranked_blocks.proofs.Cutting.{cut-zero, cut-some}
-use Rattle.ranked_blocks.proofs.blocks.order_cut.Statement.{statement}
-use Rattle.ranked_blocks.proofs.blocks.order_cut.Tie as tie
+use Rattle.ranked_words.proofs.Cutting.{cut-zero, cut-some}
+use Rattle.ranked_words.proofs.blocks.order_cut.Statement.{statement}
+use Rattle.ranked_words.proofs.blocks.order_cut.Tie as tie
 
 -- the start, after the low digits, after the wires that answer were found, and after the high digits
 abbrev start : tie.Else1 → tie.Start

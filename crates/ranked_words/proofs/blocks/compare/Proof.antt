@@ -1,4 +1,4 @@
--- `ranked_blocks::blocks::compare` meets its contract: the lowest digits, then the others.
+-- `ranked_words::blocks::compare` meets its contract: the lowest digits, then the others.
 -- Assumes nothing.
 use mathlib.Core.Path.{_≡_, ap}
 use Prim.Native.Nat.{ℕ, _+_}
@@ -7,9 +7,9 @@ use borrow.Author.Needs.{needs}
 use Rattle.gate_words.specs.Comparison.{compareWords}
 use Rattle.gate_words.proofs.Laws.{length-first-digit, length-compare}
 use Rattle.ranked_circuit.specs.Blocks.{compare}
-use Rattle.ranked_blocks.proofs.Behind.{behind, room-behind}
-use Rattle.ranked_blocks.proofs.blocks.compare.Statement.{statement}
-use Rattle.ranked_blocks.proofs.blocks.compare.Tie as tie
+use Rattle.ranked_words.proofs.Behind.{behind, room-behind}
+use Rattle.ranked_words.proofs.blocks.compare.Statement.{statement}
+use Rattle.ranked_words.proofs.blocks.compare.Tie as tie
 use Rattle.gate_words.proofs.Standing.{wrote-then}
 
 first-digit-requires : tie.Need-first-digit-requires
