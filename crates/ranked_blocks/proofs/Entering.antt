@@ -15,8 +15,8 @@ use Rattle.gate_words.specs.Choice.{masked}
 use Rattle.gate_words.specs.Counter.{counter}
 use Rattle.basics.proofs.Arithmetic.{row-within}
 use Rattle.basics.proofs.Flags.{and-both, or-first, or-second}
-use Rattle.ranked_circuit.specs.Blocks.{compare, smaller, larger, largerIf}
-use Rattle.ranked_circuit.specs.Stages.{votesBlock, laterOf, linksBlock, stays, newWord, pathBlock}
+use Rattle.ranked_circuit.specs.Blocks.{compare, orderSize, smaller, larger, largerIf}
+use Rattle.ranked_circuit.specs.Stages.{votesBlock, laterOf, linksBlock, stays, cutAt, newWord, pathBlock}
 use Rattle.ranked_circuit.specs.Contests.{meetingOf, meetingsBlock}
 use Rattle.ranked_circuit.proofs.BlockLaws.{length-whole}
 use Rattle.ranked_circuit.proofs.ContestLaws.{length-meeting}
@@ -80,46 +80,69 @@ pub apart-later : (m i j : ℕ) → m ≢ 0 → stays m i j ≡ false → (i ≢
 apart-later zero i j n e = absurd (n refl)
 apart-later (suc l) i j n e = let q : suc l - 1 ≡ l = omega arith in rw q (apart-all l i j e)
 
-module _ (links words : ℕ → ℕ → ℕ) (w at i j : ℕ) where
-  pub new-zero : (m : ℕ) → m ≡ 0 → masked (links i j) (words i j) (w + 1) ≡ newWord links words w m at i j
+module _ (links words : ℕ → ℕ → ℕ) (w h at i j : ℕ) where
+  pub new-zero : (m : ℕ) → m ≡ 0 → masked (links i j) (words i j) (w + 1) ≡ newWord links words w h m at i j
   unfolding newWord
-  new-zero m z = ap (masked (links i j) (words i j)) (add-one w) ∙ sym (ap (λ (x : ℕ). newWord links words w x at i j) z)
+  new-zero m z = ap (masked (links i j) (words i j)) (add-one w) ∙ sym (ap (λ (x : ℕ). newWord links words w h x at i j) z)
 
-  pub new-first : (m : ℕ) → m ≡ 1 → smaller at (words i (m - 1)) (words (m - 1) j) w ++ largerIf (at + (2 * w + suc w)) (links i j) (words i j) (at + 2 * w) w ≡ newWord links words w m at i j
+  pub new-first : (m : ℕ) → m ≡ 1
+      → smaller at (words i (m - 1)) (words (m - 1) j) w h ++ largerIf (at + orderSize w h + suc w) (links i j) (words i j) (at + orderSize w h) w h ≡ newWord links words w h m at i j
   unfolding newWord
   new-first m z = rw z refl
 
-  pub new-later : (m : ℕ) → m ≢ 0 → m ≢ 1 → smaller at (words i (m - 1)) (words (m - 1) j) w ++ larger (at + (2 * w + suc w)) (words i j) (at + 2 * w) w ≡ newWord links words w m at i j
+  pub new-later : (m : ℕ) → m ≢ 0 → m ≢ 1
+      → smaller at (words i (m - 1)) (words (m - 1) j) w h ++ larger (at + orderSize w h + suc w) (words i j) (at + orderSize w h) w h ≡ newWord links words w h m at i j
   unfolding newWord
   new-later zero n p = absurd (n refl)
   new-later (suc zero) n p = absurd (p refl)
   new-later (suc (suc l)) n p = let e : suc (suc l) - 1 ≡ suc l = omega arith in rw e refl
 
-  pub long-zero : (m : ℕ) → m ≡ 0 → length (newWord links words w m at i j) ≡ suc w
-  long-zero m z = stage-length links words w m at i j ∙ rw z (unfold stagePad in (omega arith))
+  module _ (q : h ≤ w) where
+    pub long-zero : (m : ℕ) → m ≡ 0 → length (newWord links words w h m at i j) ≡ suc w
+    long-zero m z = stage-length links words w h m at i j q ∙ rw z (unfold stagePad in (omega arith))
 
-  pub long-first : (m : ℕ) → m ≡ 1 → length (newWord links words w m at i j) ≡ 2 * w + suc w + (2 * w + 1) + suc w
-  long-first m z = stage-length links words w m at i j ∙ rw z (unfold stagePad in refl)
+    pub long-first : (m : ℕ) → m ≡ 1 → length (newWord links words w h m at i j) ≡ orderSize w h + suc w + (orderSize w h + 1 + suc w)
+    long-first m z = stage-length links words w h m at i j q ∙ rw z (unfold stagePad in (omega arith))
 
-  pub long-later : (m : ℕ) → m ≢ 0 → m ≢ 1 → length (newWord links words w m at i j) ≡ 2 * w + suc w + 2 * w + suc w
-  long-later m n p = stage-length links words w m at i j ∙ pads m n p
-    where
-      pads : (m : ℕ) → m ≢ 0 → m ≢ 1 → stagePad w m + suc w ≡ 2 * w + suc w + 2 * w + suc w
-      pads zero n p = absurd (n refl)
-      pads (suc zero) n p = absurd (p refl)
-      pads (suc (suc l)) n p = unfold stagePad in refl
+    pub long-later : (m : ℕ) → m ≢ 0 → m ≢ 1 → length (newWord links words w h m at i j) ≡ orderSize w h + suc w + (orderSize w h + suc w)
+    long-later m n p = stage-length links words w h m at i j q ∙ pads m n p
+      where
+        pads : (m : ℕ) → m ≢ 0 → m ≢ 1 → stagePad w h m + suc w ≡ orderSize w h + suc w + (orderSize w h + suc w)
+        pads zero n p = absurd (n refl)
+        pads (suc zero) n p = absurd (p refl)
+        pads (suc (suc l)) n p = unfold stagePad in (omega arith)
 
-  -- at least a word
-  pub long-word : (m : ℕ) → suc w ≤ length (newWord links words w m at i j)
-  long-word m = omega (arith, stage-length links words w m at i j)
+    -- at least a word
+    pub long-word : (m : ℕ) → suc w ≤ length (newWord links words w h m at i j)
+    long-word m = omega (arith, stage-length links words w h m at i j q)
 
-  pub path-kept : (m : ℕ) → stays m i j ≡ true → [] ≡ pathBlock links words w m at i j
+module _ (k : ℕ) (links words : ℕ → ℕ → ℕ) (w at i j : ℕ) where
+  pub path-kept : (m : ℕ) → stays m i j ≡ true → [] ≡ pathBlock k links words w m at i j
   unfolding pathBlock
-  path-kept m e = sym (ap (λ (c : Bool). cond c [] (newWord links words w m at i j)) e)
+  path-kept m e = sym (ap (λ (c : Bool). cond c [] (newWord links words w (cutAt k w m i j) m at i j)) e)
 
-  pub path-moved : (m : ℕ) → stays m i j ≡ false → newWord links words w m at i j ≡ pathBlock links words w m at i j
+  pub path-moved : (m : ℕ) → stays m i j ≡ false → newWord links words w (cutAt k w m i j) m at i j ≡ pathBlock k links words w m at i j
   unfolding pathBlock
-  path-moved m e = sym (ap (λ (c : Bool). cond c [] (newWord links words w m at i j)) e)
+  path-moved m e = sym (ap (λ (c : Bool). cond c [] (newWord links words w (cutAt k w m i j) m at i j)) e)
+
+-- where a word is cut
+module _ (k w m i j : ℕ) where
+  pub cut-last : k - 1 ≤ m → cutAt k w m i j ≡ 0
+  unfolding cutAt
+  cut-last l = ap (λ (c : Bool). cond (c && (eqb i m || eqb j m)) (suc w / 2) 0) (le-ltb m (k - 1) l)
+
+  module _ (l : m < k - 1) where
+    pub cut-row : i ≡ m → cutAt k w m i j ≡ suc w / 2
+    unfolding cutAt
+    cut-row e = rw (lt-ltb m (k - 1) l, eq-eqb i m e)
+
+    pub cut-column : i ≢ m → j ≡ m → cutAt k w m i j ≡ suc w / 2
+    unfolding cutAt
+    cut-column n e = rw (lt-ltb m (k - 1) l, ne-eqb i m n, eq-eqb j m e)
+
+    pub cut-none : i ≢ m → j ≢ m → cutAt k w m i j ≡ 0
+    unfolding cutAt
+    cut-none n p = rw (lt-ltb m (k - 1) l, ne-eqb i m n, ne-eqb j m p)
 
 -- counters
 module _ (k n w at i j : ℕ) where

@@ -1,3 +1,2 @@
--- What the functions of this crate ask for; no entry point's contract needs it.
-pub mod Meeting
+-- What the functions of this crate ask and do; no entry point's contract needs it.
 pub mod Entries

@@ -1,14 +1,14 @@
 // The blocks of the tables: number e is that of row e / k and column e % k.
-use crate::blocks::compare;
-use crate::blocks::link_or_way;
-use crate::blocks::path_or_way;
+use crate::kept::cut_at;
 use crate::kept::kept;
 use crate::kept::stays;
-use crate::meeting::meeting;
 use gate_adders::counter::counter;
 use gate_words::writer::Writer;
+use ranked_words::blocks::compare;
+use ranked_words::blocks::link_or_way;
+use ranked_words::blocks::path_or_way;
+use ranked_words::meeting::meeting;
 ghost use mathlib.Core.Path.{_≡_};
-ghost use mathlib.Core.Bool.{false};
 ghost use Prim.Native.Nat.{suc, _+_, _-_, _*_, _/_, _%_, _≤_, _<_};
 ghost use lib.Dec.{eqb, leb, ltb};
 ghost use lib.ListN.{length};
@@ -17,7 +17,7 @@ ghost use Rattle.ranked_circuit.specs.Stages as spec;
 ghost use Rattle.ranked_circuit.specs.Stages.{votesBlock, linksBlock, newWord, pathBlock};
 ghost use Rattle.ranked_circuit.specs.Contests.{meetingOf, meetingsBlock};
 ghost use Rattle.ranked_blocks.specs.Ranked.{Ranked, keptOf, keep, WordsBelow};
-ghost use Rattle.ranked_blocks.specs.inner.Entries.{Entry, Entered, Meets};
+ghost use Rattle.ranked_blocks.specs.inner.Entries.{Entry, Entered, Meets, WordReady};
 
 // The public numbers that the list is written with: k, n, and the digits of a word besides the lowest.
 pub struct Ranks {
@@ -173,19 +173,11 @@ fn new_word(
     i: u32,
     j: u32,
 ) -> Writer
-    requires { ⌜ Ranked p ⌝ }
-    requires { ⌜
-        Room w (length (newWord (keptOf (now links) (p .candidates)) (keptOf (now words) (p .candidates)) (p .digits)
-        m (w .wire) i j))
-        ⌝ }
-    requires { ⌜
-        (m ≤ p .candidates) × (i < p .candidates) × (j < p .candidates) × (spec.stays m i j ≡ false) ×
-        (length (now links) ≡ 64) × (length (now words) ≡ 64)
-        ⌝ }
-    requires { ⌜ WordsBelow (now words) (p .candidates) (p .digits) (w .wire) ⌝ }
+    requires { ⌜ WordReady w (now words) (now links) p m i j ⌝ }
     ensures { λ r. ⌜
         Wrote w (now (table .entry)) (newWord (keptOf (now (links .entry)) (p .candidates))
-        (keptOf (now (words .entry)) (p .candidates)) (p .digits) m (w .wire) i j) (now (table .exit)) r
+        (keptOf (now (words .entry)) (p .candidates)) (p .digits) (spec.cutAt (p .candidates) (p .digits) m i j) m
+        (w .wire) i j) (now (table .exit)) r
         ⌝ }
 {
     let k = p.candidates;
@@ -196,10 +188,11 @@ fn new_word(
     }
     let to = kept(words, k, i, m - 1);
     let from = kept(words, k, m - 1, j);
+    let cut = cut_at(k, p.digits, m, i, j);
     if m == 1 {
-        return link_or_way(w, table, link, word, to, from, p.digits);
+        return link_or_way(w, table, link, word, to, from, p.digits, cut);
     }
-    path_or_way(w, table, word, to, from, p.digits)
+    path_or_way(w, table, word, to, from, p.digits, cut)
 }
 
 // The same, kept: a word that the stage leaves stays where it is.
@@ -214,8 +207,8 @@ pub fn path_entry(
 ) -> Writer
     requires { ⌜ Ranked p ⌝ }
     requires { ⌜
-        Room w (length (pathBlock (keptOf (now links) (p .candidates)) (keptOf (now words) (p .candidates))
-        (p .digits) m (w .wire) (e / p .candidates) (e % p .candidates)))
+        Room w (length (pathBlock (p .candidates) (keptOf (now links) (p .candidates)) (keptOf (now words)
+        (p .candidates)) (p .digits) m (w .wire) (e / p .candidates) (e % p .candidates)))
         ⌝ }
     requires { ⌜
         (m ≤ p .candidates) × (e < p .candidates * p .candidates) × (length (now links) ≡ 64) ×
@@ -223,7 +216,7 @@ pub fn path_entry(
         ⌝ }
     requires { ⌜ WordsBelow (now words) (p .candidates) (p .digits) (w .wire) ⌝ }
     ensures { λ r. ⌜
-        Wrote w (now (table .entry)) (pathBlock (keptOf (now (links .entry)) (p .candidates))
+        Wrote w (now (table .entry)) (pathBlock (p .candidates) (keptOf (now (links .entry)) (p .candidates))
         (keptOf (now (words .entry)) (p .candidates)) (p .digits) m (w .wire) (e / p .candidates) (e % p .candidates))
         (now (table .exit)) r
         ⌝ }

@@ -35,3 +35,21 @@ pub(crate) fn stays(m: u32, i: u32, j: u32) -> bool
     }
     j == m - 1
 }
+
+// How many of the highest of so many digits stage m compares apart: half of them where the next stage waits for the
+// word of i and j.
+pub(crate) fn cut_at(k: u32, digits: u32, m: u32, i: u32, j: u32) -> u32
+    requires { ⌜ (1 ≤ k) × (digits ≤ 7) ⌝ }
+    ensures { λ r. ⌜ r ≡ spec.cutAt k digits m i j ⌝ }
+{
+    if k - 1 <= m {
+        return 0;
+    }
+    if i == m {
+        return (digits + 1) / 2;
+    }
+    if j == m {
+        return (digits + 1) / 2;
+    }
+    0
+}

@@ -2,7 +2,5 @@
 //
 // Each function writes the gates of one block of `ranked_circuit` and returns the next writer. Its `requires` asks for
 // room and for operands that are wires already.
-mod blocks;
 pub mod entries;
 pub mod kept;
-mod meeting;

@@ -11,14 +11,15 @@ use Rattle.gates.specs.Board.{conditionalCount}
 use Rattle.gates.proofs.Laws.{marks}
 use Rattle.gates.proofs.Counting.{count-cons, count-nil, count-append}
 use Rattle.gate_words.specs.Gates.{copyOf, notOf, andOf, orOf, xorOf, muxOf}
-use Rattle.gate_words.specs.Choice.{choose, masked}
+use Rattle.gate_words.specs.Choice.{choose, masked, chain}
 use Rattle.gate_words.specs.Comparison.{firstDigit, compareWords, differences, above}
+use Rattle.gate_words.specs.Halves.{anyOfHalves, unequalHalves, unequalSpan, unequalAt, aboveHalves, aboveAt, compareHalves}
 use Rattle.gate_words.specs.Adder.{fullAdder, halfAdder}
 use Rattle.gate_words.specs.Counter.{level, adders, levelSum, countLevels, countDigitsAs, countDigits, counter, countSize}
-use Rattle.ranked_circuit.specs.Blocks.{compare, strictly, order, orderEnd, smaller, larger, largerIf}
+use Rattle.ranked_circuit.specs.Blocks.{compare, strictly, order, orderEnd, orderCut, orderSize, cutEnd, smaller, larger, largerIf}
 use Rattle.ranked_circuit.specs.Contests.{meeting}
 use Rattle.ranked_circuit.specs.RankedList.{rankedList}
-use Rattle.ranked_circuit.proofs.Figures.{Each, figure-is}
+use Rattle.ranked_circuit.proofs.Figures.{Each, moreOf, figure-is}
 
 -- a gate that counts, and one that does not
 marked : (g : Gate) (gs : List Gate) → conditionalOf (g .kind) ≡ true → conditionalCount (g ∷ gs) ≡ suc (conditionalCount gs)
@@ -125,23 +126,56 @@ order-cost : (n x y w : ℕ) → conditionalCount (order n x y w) ≡ w
 unfolding order
 order-cost n x y w = omega (arith, count-append (differences (x + 1) (y + 1) w) (above (n + w) n (x + 1) x w), differences-cost (x + 1) (y + 1) w, above-cost (n + w) n (x + 1) x w)
 
-smaller-cost : (n x y w : ℕ) → conditionalCount (smaller n x y w) ≡ 2 * w + 1
-unfolding smaller
-smaller-cost n x y w = omega (arith, count-append (order n x y w) (choose (orderEnd n x w) y x (suc w)), order-cost n x y w, choose-cost (orderEnd n x w) y x (suc w))
+chain-cost : (n s at d m : ℕ) → conditionalCount (chain 5 n s at d m) ≡ m
+unfolding chain
+chain-cost n s at d zero = count-nil
+chain-cost n s at d (suc m) = marked (orOf s at) (chain 5 (n + 1) n (at + d) d m) (marks .5) ∙ ap suc (chain-cost (n + 1) n (at + d) d m)
 
-larger-cost : (n x y w : ℕ) → conditionalCount (larger n x y w) ≡ 2 * w + 1
-unfolding larger
-larger-cost n x y w = omega (arith, count-append (order n x y w) (choose (orderEnd n x w) x y (suc w)), order-cost n x y w, choose-cost (orderEnd n x w) x y (suc w))
-
-larger-if-cost : (n f x y w : ℕ) → conditionalCount (largerIf n f x y w) ≡ 2 * w + 2
-unfolding largerIf
-larger-if-cost n f x y w =
+-- words of h + 1 digits, told in one chain
+tells-cost : (n x y h : ℕ) → conditionalCount (compareHalves n x y h 0) ≡ 2 * h
+unfolding compareHalves unequalHalves anyOfHalves aboveHalves
+tells-cost n x y h =
+    let e = h + 0 in
+    let differ = differences x y (suc e) in
+    let any = chain 5 (n + suc e) n (n + 1) 1 h in
+    let over = above (n + unequalSpan e) (n + 1) (x + 1) x h in
     omega (
       arith,
-      count-append (order n x y w) (andOf f (orderEnd n x w) ∷ choose (n + 2 * w) x y (suc w)),
-      order-cost n x y w,
-      marked (andOf f (orderEnd n x w)) (choose (n + 2 * w) x y (suc w)) (marks .4),
-      choose-cost (n + 2 * w) x y (suc w),
+      count-append (differ ++ any) over,
+      count-append differ any,
+      differences-cost x y (suc e),
+      chain-cost (n + suc e) n (n + 1) 1 h,
+      above-cost (n + unequalSpan e) (n + 1) (x + 1) x h,
+    )
+
+cut-cost : (n x y w h : ℕ) → h ≤ w → conditionalCount (orderCut n x y w h) ≡ w + (h - 1)
+unfolding orderCut
+cut-cost n x y w zero q = omega (arith, order-cost n x y w)
+cut-cost n x y w (suc h) q =
+    let l = w - suc h in
+    let high = n + 2 * l in
+    let low = order n x y l in
+    let part = compareHalves high (x + suc l) (y + suc l) h 0 in
+    let last = muxOf (unequalAt high h) (aboveAt high (x + suc l) h) (orderEnd n x l) in
+    omega (arith, count-append (low ++ part) (last ∷ []), count-append low part, order-cost n x y l, tells-cost high (x + suc l) (y + suc l) h, marked last [] (marks .7), count-nil)
+
+smaller-cost : (n x y w h : ℕ) → h ≤ w → conditionalCount (smaller n x y w h) ≡ 2 * w + 1 + (h - 1)
+unfolding smaller
+smaller-cost n x y w h q = omega (arith, count-append (orderCut n x y w h) (choose (cutEnd n x w h) y x (suc w)), cut-cost n x y w h q, choose-cost (cutEnd n x w h) y x (suc w))
+
+larger-cost : (n x y w h : ℕ) → h ≤ w → conditionalCount (larger n x y w h) ≡ 2 * w + 1 + (h - 1)
+unfolding larger
+larger-cost n x y w h q = omega (arith, count-append (orderCut n x y w h) (choose (cutEnd n x w h) x y (suc w)), cut-cost n x y w h q, choose-cost (cutEnd n x w h) x y (suc w))
+
+larger-if-cost : (n f x y w h : ℕ) → h ≤ w → conditionalCount (largerIf n f x y w h) ≡ 2 * w + 2 + (h - 1)
+unfolding largerIf
+larger-if-cost n f x y w h q =
+    omega (
+      arith,
+      count-append (orderCut n x y w h) (andOf f (cutEnd n x w h) ∷ choose (n + orderSize w h) x y (suc w)),
+      cut-cost n x y w h q,
+      marked (andOf f (cutEnd n x w h)) (choose (n + orderSize w h) x y (suc w)) (marks .4),
+      choose-cost (n + orderSize w h) x y (suc w),
     )
 
 -- two comparisons both ways, two one way, and four gates
@@ -183,8 +217,8 @@ costs n w =
       counters = λ at from step. omega (arith, counter-cost at from step n w);
       compares = λ at a b. whole-cost at a b w;
       strengths = λ l a. masked-cost l a (suc w);
-      firsts = λ at a b at′ l a′ b′. omega (arith, count-append (smaller at a b w) (largerIf at′ l a′ b′ w), smaller-cost at a b w, larger-if-cost at′ l a′ b′ w);
-      detours = λ at a b at′ a′ b′. omega (arith, count-append (smaller at a b w) (larger at′ a′ b′ w), smaller-cost at a b w, larger-cost at′ a′ b′ w);
+      firsts = λ h at a b at′ l a′ b′ q. omega (arith, count-append (smaller at a b w h) (largerIf at′ l a′ b′ w h), smaller-cost at a b w h q, larger-if-cost at′ l a′ b′ w h q);
+      detours = λ h at a b at′ a′ b′ q. omega (arith, count-append (smaller at a b w h) (larger at′ a′ b′ w h), smaller-cost at a b w h q, larger-cost at′ a′ b′ w h q);
       meets = λ li lj ij ji mi mj at. meeting-cost li lj ij ji mi mj w at;
       joins = λ a b. marked (orOf a b) [] (marks .5) ∙ ap suc count-nil;
       lasts = λ a. free (notOf a) [] (marks .3) ∙ count-nil;
@@ -193,7 +227,7 @@ costs n w =
 -- C: each counter has a third of its adders' gates, each two candidates are compared both ways, and so on
 pub conditional-are : (r n w : ℕ) → r ≤ 5 → conditionalCount (rankedList (suc (suc (suc r))) n w) ≡
     suc (suc (suc r)) * suc (suc r) * (countSize n 0 w / 3) + suc (suc (suc r)) * suc (suc r) / 2 * (2 * w + 1) + 2 * suc (suc r) * suc w + suc (suc r) * suc r * (4 * w + 3) + suc r * (suc (suc r) * suc r) * (4 * w + 2)
-    + suc (suc r) * (2 * w + 1) + suc (suc r) * suc r / 2 * (6 * w + 8) + suc (suc (suc r)) * suc r
+    + suc (suc r) * (2 * w + 1) + suc (suc r) * suc r / 2 * (6 * w + 8) + 2 * suc r * suc r * moreOf w + suc (suc (suc r)) * suc r
 conditional-are r n w h =
     let total = figure-is conditionalCount (record { none = count-nil; both = count-append }) n w (countSize n 0 w / 3) (2 * w + 1) (suc w) (4 * w + 3) (4 * w + 2) (6 * w + 8) 1 0 (costs n w) r h in
     omega arith

@@ -1,7 +1,7 @@
 -- How many gates a ranked tasting's own list has, and how many of them are conditional: both by the sums of its tables.
 -- Assumes nothing.
 use mathlib.Core.Path.{_≡_, _∙_, refl, sym, ap}
-use mathlib.Core.Bool.{Bool, true, false, cond, _&&_}
+use mathlib.Core.Bool.{Bool, true, false, cond, _&&_, _||_}
 use mathlib.Core.List.{List, [], _∷_, _++_}
 use Prim.Native.Nat.{ℕ, zero, suc, _+_, _-_, _*_, _/_, _%_, _≤_}
 use native.Mathlib.Nat.{suc-mul, zero-mul}
@@ -12,13 +12,14 @@ use Rattle.gates.specs.Gate.{Gate}
 use Rattle.gate_words.specs.Choice.{masked}
 use Rattle.gate_words.specs.Gates.{notOf, orOf}
 use Rattle.gate_words.specs.Counter.{counter}
-use Rattle.ranked_circuit.specs.Blocks.{compare, smaller, larger, largerIf}
+use Rattle.ranked_circuit.specs.Blocks.{compare, orderSize, smaller, larger, largerIf}
 use Rattle.ranked_circuit.specs.Table.{blocks, entries, table}
-use Rattle.ranked_circuit.specs.Stages.{votesBlock, laterOf, linksBlock, stays, newWord, pathBlock}
+use Rattle.ranked_circuit.specs.Stages.{votesBlock, laterOf, linksBlock, stays, cutAt, newWord, pathBlock}
 use Rattle.ranked_circuit.specs.Paths.{votesAt, votesTable, linksFrom, linksTable, linkWire, nextPaths, pathsTo}
 use Rattle.ranked_circuit.specs.Contests.{duelsFrom, duels, duelAt, meeting, meetingsBlock, meetingsFrom, meetings, beatsAt}
 use Rattle.ranked_circuit.specs.RankedList.{joined, loserRow, loserRows, outputGates, losersFrom, pairFrom, rankedList}
 use Rattle.ranked_circuit.proofs.TableLaws.{startOf}
+use Rattle.ranked_circuit.proofs.StageLaws.{cut-most}
 use Rattle.ranked_circuit.proofs.Accuracy.{pathGates, duelGates, meetingGates, rowGates, lastGates, list-is, pair-is}
 
 -- the sum of m numbers, and of the numbers of a table
@@ -49,8 +50,8 @@ pub record Each (f : List Gate → ℕ) (n w c p s d e q o x : ℕ) : Type 0 whe
   pub counters : (at from step : ℕ) → f (counter at from step n 0 w) ≡ c
   pub compares : (at a b : ℕ) → f (compare at a b w) ≡ p
   pub strengths : (l a : ℕ) → f (masked l a (suc w)) ≡ s
-  pub firsts : (at a b at′ l a′ b′ : ℕ) → f (smaller at a b w ++ largerIf at′ l a′ b′ w) ≡ d
-  pub detours : (at a b at′ a′ b′ : ℕ) → f (smaller at a b w ++ larger at′ a′ b′ w) ≡ e
+  pub firsts : (h at a b at′ l a′ b′ : ℕ) → h ≤ w → f (smaller at a b w h ++ largerIf at′ l a′ b′ w h) ≡ d + 2 * (h - 1)
+  pub detours : (h at a b at′ a′ b′ : ℕ) → h ≤ w → f (smaller at a b w h ++ larger at′ a′ b′ w h) ≡ e + 2 * (h - 1)
   pub meets : (li lj ij ji mi mj at : ℕ) → f (meeting li lj ij ji mi mj w at) ≡ q
   pub joins : (a b : ℕ) → f (orOf a b ∷ []) ≡ o
   pub lasts : (a : ℕ) → f (notOf a ∷ []) ≡ x
@@ -62,14 +63,18 @@ apartOf c i j = cond (eqb i j) 0 c
 pub laterOnes : (ℕ → Bool) → ℕ → ℕ → ℕ → ℕ
 laterOnes rows p i j = cond (ltb j i && rows i) p 0
 
-pub stageOf : ℕ → ℕ → ℕ → ℕ → ℕ
-stageOf x m i j = cond (stays m i j) 0 x
+-- of the blocks of each stage, those of words that are cut having z more
+pub stageFigure : ℕ → ℕ → ℕ → ℕ → ℕ → ℕ
+stageFigure s d e z zero = s
+stageFigure s d e z (suc zero) = d + z
+stageFigure s d e z (suc (suc l)) = e + z
 
--- for the blocks of each stage
-pub stageFigure : ℕ → ℕ → ℕ → ℕ → ℕ
-stageFigure s d e zero = s
-stageFigure s d e (suc zero) = d
-stageFigure s d e (suc (suc l)) = e
+pub stageOf : ℕ → ℕ → ℕ → ℕ → ℕ → ℕ → ℕ → ℕ → ℕ
+stageOf k s d e y m i j = cond (stays m i j) 0 (stageFigure s d e (cond (ltb m (k - 1) && (eqb i m || eqb j m)) y 0) m)
+
+-- what two orders cost more in halves
+abbrev pub moreOf : ℕ → ℕ
+moreOf w = 2 * (suc w / 2 - 1)
 
 module _ (f : List Gate → ℕ) (g : Figure f) where
   either-figure : (t : Bool) (gs hs : List Gate) (a b : ℕ) → f gs ≡ a → f hs ≡ b → f (cond t gs hs) ≡ cond t a b
@@ -100,17 +105,27 @@ module _ (f : List Gate → ℕ) (g : Figure f) where
         either-figure (ltb j i && ltb i l) (meeting (words l i) (words l j) (words i j) (words j i) (met i l) (met j l) w at) [] q 0
         (a .meets (words l i) (words l j) (words i j) (words j i) (met i l) (met j l) at) (g .none)
 
-    new-figure : (links words : ℕ → ℕ → ℕ) (m at i j : ℕ) → f (newWord links words w m at i j) ≡ stageFigure s d e m
+    new-figure : (links words : ℕ → ℕ → ℕ) (h m at i j : ℕ) → h ≤ w → f (newWord links words w h m at i j) ≡ stageFigure s d e (2 * (h - 1)) m
     unfolding newWord stageFigure
-    new-figure links words zero at i j = a .strengths (links i j) (words i j)
-    new-figure links words (suc zero) at i j = a .firsts at (words i 0) (words 0 j) (at + (2 * w + suc w)) (links i j) (words i j) (at + 2 * w)
-    new-figure links words (suc (suc l)) at i j = a .detours at (words i (suc l)) (words (suc l) j) (at + (2 * w + suc w)) (words i j) (at + 2 * w)
+    new-figure links words h zero at i j hw = a .strengths (links i j) (words i j)
+    new-figure links words h (suc zero) at i j hw = a .firsts h at (words i 0) (words 0 j) (at + orderSize w h + suc w) (links i j) (words i j) (at + orderSize w h) hw
+    new-figure links words h (suc (suc l)) at i j hw = a .detours h at (words i (suc l)) (words (suc l) j) (at + orderSize w h + suc w) (words i j) (at + orderSize w h) hw
 
-    stage-figure : (links words : ℕ → ℕ → ℕ) (m at i j : ℕ) → f (pathBlock links words w m at i j) ≡ stageOf (stageFigure s d e m) m i j
+    more-is : (k m i j : ℕ) → 2 * (cutAt k w m i j - 1) ≡ cond (ltb m (k - 1) && (eqb i m || eqb j m)) (moreOf w) 0
+    unfolding cutAt
+    more-is k m i j = either (ltb m (k - 1) && (eqb i m || eqb j m))
+      where
+        either : (t : Bool) → 2 * (cond t (suc w / 2) 0 - 1) ≡ cond t (moreOf w) 0
+        either true = refl
+        either false = omega arith
+
+    stage-figure : (k : ℕ) (links words : ℕ → ℕ → ℕ) (m at i j : ℕ) → f (pathBlock k links words w m at i j) ≡ stageOf k s d e (moreOf w) m i j
     unfolding pathBlock stageOf
-    stage-figure links words m at i j = either-figure (stays m i j) [] (newWord links words w m at i j) 0 (stageFigure s d e m) (g .none) (new-figure links words m at i j)
+    stage-figure k links words m at i j =
+        either-figure (stays m i j) [] (newWord links words w (cutAt k w m i j) m at i j) 0 (stageFigure s d e (cond (ltb m (k - 1) && (eqb i m || eqb j m)) (moreOf w) 0) m) (g .none)
+        (new-figure links words (cutAt k w m i j) m at i j (cut-most k w m i j) ∙ ap (λ (z : ℕ). stageFigure s d e z m) (more-is k m i j))
 
-    paths-figure : (k m : ℕ) → f (pathsTo k n w m .gates) ≡ tableSum (apartOf c) k + tableSum (laterOnes (leb 0) p) k + sumBelow (λ l. tableSum (stageOf (stageFigure s d e l) l) k) m
+    paths-figure : (k m : ℕ) → f (pathsTo k n w m .gates) ≡ tableSum (apartOf c) k + tableSum (laterOnes (leb 0) p) k + sumBelow (λ l. tableSum (stageOf k s d e (moreOf w) l) k) m
     unfolding pathsTo nextPaths sumBelow votesTable linksTable
     paths-figure k zero =
         omega (
@@ -122,8 +137,8 @@ module _ (f : List Gate → ℕ) (g : Figure f) where
     paths-figure k (suc m) =
         let t = pathsTo k n w m in
         let start = n * k * k + length (t .gates) in
-        let block = pathBlock (linkWire k n w) (t .words) w m in
-        omega (arith, g .both (t .gates) (table start k block), paths-figure k m, table-figure k block (stageOf (stageFigure s d e m) m) (stage-figure (linkWire k n w) (t .words) m) start)
+        let block = pathBlock k (linkWire k n w) (t .words) w m in
+        omega (arith, g .both (t .gates) (table start k block), paths-figure k m, table-figure k block (stageOf k s d e (moreOf w) m) (stage-figure k (linkWire k n w) (t .words) m) start)
 
     rows-figure : (beats : ℕ → ℕ → ℕ) (r from k : ℕ) → f (loserRows beats r from k) ≡ k * (r * o)
     unfolding loserRows
@@ -139,7 +154,7 @@ module _ (f : List Gate → ℕ) (g : Figure f) where
 
     -- all of the list
     pub by-tables : (r : ℕ) → f (rankedList (suc (suc (suc r))) n w) ≡
-        tableSum (apartOf c) (suc (suc (suc r))) + tableSum (laterOnes (leb 0) p) (suc (suc (suc r))) + sumBelow (λ l. tableSum (stageOf (stageFigure s d e l) l) (suc (suc (suc r)))) (suc (suc (suc r)))
+        tableSum (apartOf c) (suc (suc (suc r))) + tableSum (laterOnes (leb 0) p) (suc (suc (suc r))) + sumBelow (λ l. tableSum (stageOf (suc (suc (suc r))) s d e (moreOf w) l) (suc (suc (suc r)))) (suc (suc (suc r)))
         + tableSum (laterOnes (leb (suc (suc (suc r)) - 1)) p) (suc (suc (suc r))) + tableSum (laterOnes (λ y. ltb y (suc (suc (suc r)) - 1)) q) (suc (suc (suc r))) + suc (suc (suc r)) * (suc r * o) + suc (suc (suc r)) * x
     unfolding pathGates duelGates duels meetingGates meetings rowGates lastGates
     by-tables r =
@@ -167,55 +182,55 @@ module _ (f : List Gate → ℕ) (g : Figure f) where
           ap f (pair-is n w),
           g .both (pathsTo 2 n w 0 .gates) (outputGates (linkWire 2 n w) 0 (pairFrom n w) 2),
           paths-figure 2 0,
-          none-below (λ l. tableSum (stageOf (stageFigure s d e l) l) 2),
+          none-below (λ l. tableSum (stageOf 2 s d e (moreOf w) l) 2),
           outputs-figure (linkWire 2 n w) 0 (pairFrom n w) 2,
         )
 
 -- the sums of the tables of r + 3 candidates
-abbrev Sums : ℕ → ℕ → ℕ → ℕ → ℕ → ℕ → ℕ → Type 0
-Sums r c p s d e q =
-    tableSum (apartOf c) (suc (suc (suc r))) + tableSum (laterOnes (leb 0) p) (suc (suc (suc r))) + sumBelow (λ l. tableSum (stageOf (stageFigure s d e l) l) (suc (suc (suc r)))) (suc (suc (suc r)))
+abbrev Sums : ℕ → ℕ → ℕ → ℕ → ℕ → ℕ → ℕ → ℕ → Type 0
+Sums r c p s d e q y =
+    tableSum (apartOf c) (suc (suc (suc r))) + tableSum (laterOnes (leb 0) p) (suc (suc (suc r))) + sumBelow (λ l. tableSum (stageOf (suc (suc (suc r))) s d e y l) (suc (suc (suc r)))) (suc (suc (suc r)))
     + tableSum (laterOnes (leb (suc (suc (suc r)) - 1)) p) (suc (suc (suc r))) + tableSum (laterOnes (λ y. ltb y (suc (suc (suc r)) - 1)) q) (suc (suc (suc r)))
-    ≡ suc (suc (suc r)) * suc (suc r) * c + suc (suc (suc r)) * suc (suc r) / 2 * p + 2 * suc (suc r) * s + suc (suc r) * suc r * d + suc r * (suc (suc r) * suc r) * e + suc (suc r) * p + suc (suc r) * suc r / 2 * q
+    ≡ suc (suc (suc r)) * suc (suc r) * c + suc (suc (suc r)) * suc (suc r) / 2 * p + 2 * suc (suc r) * s + suc (suc r) * suc r * d + suc r * (suc (suc r) * suc r) * e + suc (suc r) * p + suc (suc r) * suc r / 2 * q + 2 * suc r * suc r * y
 
-sums-three : (c p s d e q : ℕ) → Sums 0 c p s d e q
+sums-three : (c p s d e q y : ℕ) → Sums 0 c p s d e q y
 unfolding tableSum sumBelow apartOf laterOnes stageOf stageFigure stays
-sums-three c p s d e q = omega arith
+sums-three c p s d e q y = omega arith
 
-sums-four : (c p s d e q : ℕ) → Sums 1 c p s d e q
+sums-four : (c p s d e q y : ℕ) → Sums 1 c p s d e q y
 unfolding tableSum sumBelow apartOf laterOnes stageOf stageFigure stays
-sums-four c p s d e q = omega arith
+sums-four c p s d e q y = omega arith
 
-sums-five : (c p s d e q : ℕ) → Sums 2 c p s d e q
+sums-five : (c p s d e q y : ℕ) → Sums 2 c p s d e q y
 unfolding tableSum sumBelow apartOf laterOnes stageOf stageFigure stays
-sums-five c p s d e q = omega arith
+sums-five c p s d e q y = omega arith
 
-sums-six : (c p s d e q : ℕ) → Sums 3 c p s d e q
+sums-six : (c p s d e q y : ℕ) → Sums 3 c p s d e q y
 unfolding tableSum sumBelow apartOf laterOnes stageOf stageFigure stays
-sums-six c p s d e q = omega arith
+sums-six c p s d e q y = omega arith
 
-sums-seven : (c p s d e q : ℕ) → Sums 4 c p s d e q
+sums-seven : (c p s d e q y : ℕ) → Sums 4 c p s d e q y
 unfolding tableSum sumBelow apartOf laterOnes stageOf stageFigure stays
-sums-seven c p s d e q = omega arith
+sums-seven c p s d e q y = omega arith
 
-sums-eight : (c p s d e q : ℕ) → Sums 5 c p s d e q
+sums-eight : (c p s d e q y : ℕ) → Sums 5 c p s d e q y
 unfolding tableSum sumBelow apartOf laterOnes stageOf stageFigure stays
-sums-eight c p s d e q = omega arith
+sums-eight c p s d e q y = omega arith
 
-sums : (r c p s d e q : ℕ) → r ≤ 5 → Sums r c p s d e q
-sums zero c p s d e q h = sums-three c p s d e q
-sums (suc zero) c p s d e q h = sums-four c p s d e q
-sums (suc (suc zero)) c p s d e q h = sums-five c p s d e q
-sums (suc (suc (suc zero))) c p s d e q h = sums-six c p s d e q
-sums (suc (suc (suc (suc zero)))) c p s d e q h = sums-seven c p s d e q
-sums (suc (suc (suc (suc (suc zero))))) c p s d e q h = sums-eight c p s d e q
-sums (suc (suc (suc (suc (suc (suc r)))))) c p s d e q h = absurd (omega arith)
+sums : (r c p s d e q y : ℕ) → r ≤ 5 → Sums r c p s d e q y
+sums zero c p s d e q y h = sums-three c p s d e q y
+sums (suc zero) c p s d e q y h = sums-four c p s d e q y
+sums (suc (suc zero)) c p s d e q y h = sums-five c p s d e q y
+sums (suc (suc (suc zero))) c p s d e q y h = sums-six c p s d e q y
+sums (suc (suc (suc (suc zero)))) c p s d e q y h = sums-seven c p s d e q y
+sums (suc (suc (suc (suc (suc zero))))) c p s d e q y h = sums-eight c p s d e q y
+sums (suc (suc (suc (suc (suc (suc r)))))) c p s d e q y h = absurd (omega arith)
 
 -- what is counted of the list of r + 3 candidates, and of two
 pub figure-is : (f : List Gate → ℕ) → Figure f → (n w c p s d e q o x : ℕ) → Each f n w c p s d e q o x → (r : ℕ) → r ≤ 5 → f (rankedList (suc (suc (suc r))) n w) ≡
-    suc (suc (suc r)) * suc (suc r) * c + suc (suc (suc r)) * suc (suc r) / 2 * p + 2 * suc (suc r) * s + suc (suc r) * suc r * d + suc r * (suc (suc r) * suc r) * e + suc (suc r) * p + suc (suc r) * suc r / 2 * q
+    suc (suc (suc r)) * suc (suc r) * c + suc (suc (suc r)) * suc (suc r) / 2 * p + 2 * suc (suc r) * s + suc (suc r) * suc r * d + suc r * (suc (suc r) * suc r) * e + suc (suc r) * p + suc (suc r) * suc r / 2 * q + 2 * suc r * suc r * moreOf w
     + suc (suc (suc r)) * (suc r * o) + suc (suc (suc r)) * x
-figure-is f g n w c p s d e q o x a r h = omega (arith, by-tables f g n w c p s d e q o x a r, sums r c p s d e q h)
+figure-is f g n w c p s d e q o x a r h = omega (arith, by-tables f g n w c p s d e q o x a r, sums r c p s d e q (moreOf w) h)
 
 pub pair-figure-is : (f : List Gate → ℕ) → Figure f → (n w c p s d e q o x : ℕ) → Each f n w c p s d e q o x → f (rankedList 2 n w) ≡ 2 * c + p + 2 * x
 unfolding tableSum sumBelow apartOf laterOnes

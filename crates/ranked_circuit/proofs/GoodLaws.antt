@@ -3,7 +3,7 @@
 use mathlib.Core.Path.{_≡_, _∙_, refl, sym, ap, subst}
 use mathlib.Core.Bool.{Bool, true, false, cond}
 use mathlib.Core.Logic.{_≢_}
-use mathlib.Core.List.{List, []}
+use mathlib.Core.List.{List, [], _++_}
 use Prim.Native.Nat.{ℕ, zero, suc, max, _+_, _-_, _*_, _≤_, _<_}
 use native.Mathlib.Nat.{suc-mul}
 use native.Mathlib.Omega.{arith}
@@ -16,14 +16,14 @@ use Rattle.gate_words.specs.Word.{Below}
 use Rattle.gate_words.specs.Counter.{counter, Countable}
 use Rattle.gate_words.proofs.Laws.{masked-good, counter-good}
 use Rattle.basics.proofs.Arithmetic.{row-within}
-use Rattle.ranked_circuit.specs.Blocks.{smaller, larger, largerIf}
+use Rattle.ranked_circuit.specs.Blocks.{orderSize, smaller, larger, largerIf}
 use Rattle.ranked_circuit.specs.Table.{table, entryEnd}
-use Rattle.ranked_circuit.specs.Stages.{votesBlock, laterOf, linksBlock, linkAt, stays, newWord, pathBlock}
+use Rattle.ranked_circuit.specs.Stages.{votesBlock, laterOf, linksBlock, linkAt, stays, cutAt, newWord, pathBlock}
 use Rattle.ranked_circuit.specs.Paths.{votesAt, votesTable, linksFrom, linksTable, linkWire, nextPaths, pathsTo}
 use Rattle.ranked_circuit.proofs.BlockLaws.{length-whole, length-smaller, whole-good, smaller-good, larger-good, larger-if-good}
 use Rattle.ranked_circuit.proofs.TableLaws.{entryStart, entry-end, table-good, end-within}
 use Rattle.ranked_circuit.proofs.LinkLaws.{later-good, later-below}
-use Rattle.ranked_circuit.proofs.StageLaws.{apart-zero, apart-all, stage-moves, stage-stays, stage-length, votes-length, comparing, links-are}
+use Rattle.ranked_circuit.proofs.StageLaws.{apart-zero, apart-all, stage-moves, stage-stays, cut-most, stage-length, votes-length, comparing, links-are}
 use Rattle.ranked_circuit.proofs.PathLaws.{bool-cases}
 use Rattle.gate_words.proofs.PointsBack.{behind}
 
@@ -70,27 +70,33 @@ module _ (k w : ℕ) where
       rw (links-are first words w)
       (later-below (leb first) (comparing words w) n k (λ at i j l. omega (arith, length-whole at (words i j) (words j i) w)) i j hi hj ne (le-leb first (max i j) f))
 
-  new-good : (links words : ℕ → ℕ → ℕ) (m at i j : ℕ) → m ≤ k → i < k → j < k → WordsBelow k w words at → WiresBelow k links at → stays m i j ≡ false → AllGood at (newWord links words w m at i j)
-  unfolding newWord
-  new-good links words zero at i j hm hi hj below under e = masked-good at (links i j) (words i j) (suc w) (under i j hi hj (apart-zero i j e)) (below i j hi hj (apart-zero i j e))
-  new-good links words (suc zero) at i j hm hi hj below under e =
-      let a = apart-all 0 i j e in
-      let h = below i j hi hj (a .2) in
-      let f = under i j hi hj (a .2) in
-      behind at (2 * w + suc w) (smaller at (words i 0) (words 0 j) w) (largerIf (at + (2 * w + suc w)) (links i j) (words i j) (at + 2 * w) w) (length-smaller at (words i 0) (words 0 j) w)
-      (smaller-good at (words i 0) (words 0 j) w (below i 0 hi (omega arith) (a .0)) (below 0 j (omega arith) hj (λ z. a .1 (sym z))))
-      (larger-if-good (at + (2 * w + suc w)) (links i j) (words i j) (at + 2 * w) w (omega arith) (omega arith) (omega arith))
-  new-good links words (suc (suc l)) at i j hm hi hj below under e =
-      let a = apart-all (suc l) i j e in
-      let h = below i j hi hj (a .2) in
-      behind at (2 * w + suc w) (smaller at (words i (suc l)) (words (suc l) j) w) (larger (at + (2 * w + suc w)) (words i j) (at + 2 * w) w) (length-smaller at (words i (suc l)) (words (suc l) j) w)
-      (smaller-good at (words i (suc l)) (words (suc l) j) w (below i (suc l) hi (omega arith) (a .0)) (below (suc l) j (omega arith) hj (λ z. a .1 (sym z))))
-      (larger-good (at + (2 * w + suc w)) (words i j) (at + 2 * w) w (omega arith) (omega arith))
+  -- a list behind the weaker part of a way
+  behind-way : (at x y h : ℕ) → h ≤ w → x + suc w ≤ at → y + suc w ≤ at → (gs : List Gate) → AllGood (at + orderSize w h + suc w) gs → AllGood at (smaller at x y w h ++ gs)
+  behind-way at x y h hw hx hy gs good =
+      let place : at + (orderSize w h + suc w) ≡ at + orderSize w h + suc w = omega arith in
+      behind at (orderSize w h + suc w) (smaller at x y w h) gs (length-smaller at x y w h hw) (smaller-good at x y w h hw hx hy) (subst (λ (l : ℕ). AllGood l gs) (sym place) good)
 
-  stage-good : (links words : ℕ → ℕ → ℕ) (m at i j : ℕ) → m ≤ k → i < k → j < k → WordsBelow k w words at → WiresBelow k links at → AllGood at (pathBlock links words w m at i j)
+  new-good : (links words : ℕ → ℕ → ℕ) (h m at i j : ℕ) → h ≤ w → m ≤ k → i < k → j < k → WordsBelow k w words at → WiresBelow k links at → stays m i j ≡ false → AllGood at (newWord links words w h m at i j)
+  unfolding newWord
+  new-good links words h zero at i j hw hm hi hj below under e = masked-good at (links i j) (words i j) (suc w) (under i j hi hj (apart-zero i j e)) (below i j hi hj (apart-zero i j e))
+  new-good links words h (suc zero) at i j hw hm hi hj below under e =
+      let a = apart-all 0 i j e in
+      let here = below i j hi hj (a .2) in
+      let f = under i j hi hj (a .2) in
+      behind-way at (words i 0) (words 0 j) h hw (below i 0 hi (omega arith) (a .0)) (below 0 j (omega arith) hj (λ z. a .1 (sym z)))
+      (largerIf (at + orderSize w h + suc w) (links i j) (words i j) (at + orderSize w h) w h)
+      (larger-if-good (at + orderSize w h + suc w) (links i j) (words i j) (at + orderSize w h) w h hw (omega arith) (omega arith) (omega arith))
+  new-good links words h (suc (suc l)) at i j hw hm hi hj below under e =
+      let a = apart-all (suc l) i j e in
+      let here = below i j hi hj (a .2) in
+      behind-way at (words i (suc l)) (words (suc l) j) h hw (below i (suc l) hi (omega arith) (a .0)) (below (suc l) j (omega arith) hj (λ z. a .1 (sym z)))
+      (larger (at + orderSize w h + suc w) (words i j) (at + orderSize w h) w h)
+      (larger-good (at + orderSize w h + suc w) (words i j) (at + orderSize w h) w h hw (omega arith) (omega arith))
+
+  stage-good : (links words : ℕ → ℕ → ℕ) (m at i j : ℕ) → m ≤ k → i < k → j < k → WordsBelow k w words at → WiresBelow k links at → AllGood at (pathBlock k links words w m at i j)
   stage-good links words m at i j hm hi hj below under =
-      bool-cases (stays m i j) (λ e. subst (λ (gs : List Gate). AllGood at gs) (sym (stage-stays links words w m at i j e)) tt)
-      (λ e. subst (λ (gs : List Gate). AllGood at gs) (sym (stage-moves links words w m at i j e)) (new-good links words m at i j hm hi hj below under e))
+      bool-cases (stays m i j) (λ e. subst (λ (gs : List Gate). AllGood at gs) (sym (stage-stays k links words w m at i j e)) tt)
+      (λ e. subst (λ (gs : List Gate). AllGood at gs) (sym (stage-moves k links words w m at i j e)) (new-good links words (cutAt k w m i j) m at i j (cut-most k w m i j) hm hi hj below under e))
 
 module _ (k n w : ℕ) where
   pub votes-below : WordsBelow k w (votesAt k n w) (linksFrom k n w)
@@ -111,9 +117,9 @@ module _ (k n w : ℕ) where
   unfolding pathsTo linksFrom
   first-end = omega (arith, length-append (votesTable k n w) (linksTable k n w))
 
-  next-end : (m : ℕ) → endOf (suc m) ≡ endOf m + length (table (endOf m) k (pathBlock (linkWire k n w) (pathsTo k n w m .words) w m))
+  next-end : (m : ℕ) → endOf (suc m) ≡ endOf m + length (table (endOf m) k (pathBlock k (linkWire k n w) (pathsTo k n w m .words) w m))
   unfolding pathsTo nextPaths
-  next-end m = omega (arith, length-append (pathsTo k n w m .gates) (table (endOf m) k (pathBlock (linkWire k n w) (pathsTo k n w m .words) w m)))
+  next-end m = omega (arith, length-append (pathsTo k n w m .gates) (table (endOf m) k (pathBlock k (linkWire k n w) (pathsTo k n w m .words) w m)))
 
   pub link-below : (m : ℕ) → WiresBelow k (linkWire k n w) (endOf m)
   unfolding linkWire linksTable
@@ -126,7 +132,7 @@ module _ (k n w : ℕ) where
   words-below (suc m) i j hi hj ne = bool-cases (stays m i j) (kept (words-below m i j hi hj ne)) moved
     where
       block : ℕ → ℕ → ℕ → List Gate
-      block = pathBlock (linkWire k n w) (pathsTo k n w m .words) w m
+      block = pathBlock k (linkWire k n w) (pathsTo k n w m .words) w m
 
       end : nextPaths k n w m (pathsTo k n w m) .words i j ≡ cond (stays m i j) (pathsTo k n w m .words i j) (entryEnd (endOf m) k block i j - suc w)
       end = unfold nextPaths in refl
@@ -145,8 +151,8 @@ module _ (k n w : ℕ) where
             arith,
             grown,
             entry-end (endOf m) k block i j hj,
-            ap length (stage-moves (linkWire k n w) (pathsTo k n w m .words) w m at i j e),
-            stage-length (linkWire k n w) (pathsTo k n w m .words) w m at i j,
+            ap length (stage-moves k (linkWire k n w) (pathsTo k n w m .words) w m at i j e),
+            stage-length (linkWire k n w) (pathsTo k n w m .words) w (cutAt k w m i j) m at i j (cut-most k w m i j),
             end-within (endOf m) k block i j hj hi,
           )
 
@@ -157,7 +163,7 @@ module _ (k n w : ℕ) where
       (table-good (n * k * k) k (votesBlock k n w) (λ i j hi hj. votes-good k n w (entryStart (n * k * k) k (votesBlock k n w) i j) i j hi hj (omega arith) c))
       (unfold linksFrom in (links-good k w 0 (votesAt k n w) (linksFrom k n w) votes-below))
   paths-good c (suc m) hm =
-      let block = pathBlock (linkWire k n w) (pathsTo k n w m .words) w m in
+      let block = pathBlock k (linkWire k n w) (pathsTo k n w m .words) w m in
       good-append (n * k * k) (pathsTo k n w m .gates) (table (endOf m) k block) (paths-good c m (omega arith))
       (table-good (endOf m) k block
       (λ i j hi hj.

@@ -1,13 +1,13 @@
 -- What the words of the circuit's blocks spell: numbers of ballots, links, and the strengths of paths.
 -- Assumes nothing.
 use mathlib.Core.Path.{_≡_, _∙_, refl, sym, ap, subst}
-use mathlib.Core.Bool.{Bool, true, false, cond, _||_, not}
+use mathlib.Core.Bool.{Bool, true, false, cond, _&&_, _||_, not}
 use mathlib.Core.Logic.{⊎-elim, _≢_}
 use mathlib.Core.List.{List, [], _++_}
-use Prim.Native.Nat.{ℕ, zero, suc, min, max, _+_, _-_, _*_, _≤_, _<_}
+use Prim.Native.Nat.{ℕ, zero, suc, min, max, _+_, _-_, _*_, _/_, _≤_, _<_}
 use native.Mathlib.Nat.{add-zero}
 use native.Mathlib.Omega.{arith}
-use lib.Dec.{eqb, leb}
+use lib.Dec.{eqb, leb, ltb}
 use lib.ListN.{length, length-append}
 use borrow.Author.Tests.{eqb-false, ne-eqb, le-leb}
 use Rattle.basics.proofs.Cases.{below-or-not}
@@ -20,9 +20,9 @@ use Rattle.gate_words.specs.Comparison.{upEnd, downEnd}
 use Rattle.gate_words.proofs.Laws.{Binary, masked-one, masked-zero, counter-law, length-counter, length-masked}
 use Rattle.rule_schulze.specs.Schulze.{link}
 use Rattle.rule_schulze.proofs.Winning.{link-won, link-lost}
-use Rattle.ranked_circuit.specs.Blocks.{compare, smaller, larger, largerIf}
+use Rattle.ranked_circuit.specs.Blocks.{compare, orderSize, smaller, larger, largerIf}
 use Rattle.ranked_circuit.specs.Table.{table}
-use Rattle.ranked_circuit.specs.Stages.{votesBlock, laterOf, linksBlock, linkAt, stays, newWord, pathBlock}
+use Rattle.ranked_circuit.specs.Stages.{votesBlock, laterOf, linksBlock, linkAt, stays, cutAt, newWord, pathBlock}
 use Rattle.ranked_circuit.proofs.BlockLaws.{compare-up, compare-down, smaller-law, larger-law, larger-if, larger-if-not, length-whole, length-smaller, length-larger, length-larger-if}
 use Rattle.ranked_circuit.proofs.LinkLaws.{laterStart, later-holds, up-at, down-at}
 
@@ -43,31 +43,42 @@ pub apart-zero : (i j : ℕ) → stays 0 i j ≡ false → i ≢ j
 unfolding stays
 apart-zero i j e = eqb-false i j (neither (not (eqb i 0 || eqb j 0)) (eqb i j) e .1)
 
-pub stage-moves : (links words : ℕ → ℕ → ℕ) (w m at i j : ℕ) → stays m i j ≡ false → pathBlock links words w m at i j ≡ newWord links words w m at i j
+pub stage-moves : (k : ℕ) (links words : ℕ → ℕ → ℕ) (w m at i j : ℕ) → stays m i j ≡ false → pathBlock k links words w m at i j ≡ newWord links words w (cutAt k w m i j) m at i j
 unfolding pathBlock
-stage-moves links words w m at i j e = ap (λ (c : Bool). cond c [] (newWord links words w m at i j)) e
+stage-moves k links words w m at i j e = ap (λ (c : Bool). cond c [] (newWord links words w (cutAt k w m i j) m at i j)) e
 
-pub stage-stays : (links words : ℕ → ℕ → ℕ) (w m at i j : ℕ) → stays m i j ≡ true → pathBlock links words w m at i j ≡ []
+pub stage-stays : (k : ℕ) (links words : ℕ → ℕ → ℕ) (w m at i j : ℕ) → stays m i j ≡ true → pathBlock k links words w m at i j ≡ []
 unfolding pathBlock
-stage-stays links words w m at i j e = ap (λ (c : Bool). cond c [] (newWord links words w m at i j)) e
+stage-stays k links words w m at i j e = ap (λ (c : Bool). cond c [] (newWord links words w (cutAt k w m i j) m at i j)) e
+
+-- a word is never cut below its lowest digit
+pub cut-most : (k w m i j : ℕ) → cutAt k w m i j ≤ w
+unfolding cutAt
+cut-most k w m i j = either (ltb m (k - 1) && (eqb i m || eqb j m))
+  where
+    either : (t : Bool) → cond t (suc w / 2) 0 ≤ w
+    either true = omega arith
+    either false = omega arith
 
 -- the gates before its word
-unfoldable pub stagePad : ℕ → ℕ → ℕ
-stagePad w zero = 0
-stagePad w (suc zero) = 2 * w + suc w + (2 * w + 1)
-stagePad w (suc (suc l)) = 2 * w + suc w + 2 * w
+unfoldable pub stagePad : ℕ → ℕ → ℕ → ℕ
+stagePad w h zero = 0
+stagePad w h (suc zero) = orderSize w h + suc w + (orderSize w h + 1)
+stagePad w h (suc (suc l)) = orderSize w h + suc w + orderSize w h
 
-pub stage-length : (links words : ℕ → ℕ → ℕ) (w m at i j : ℕ) → length (newWord links words w m at i j) ≡ stagePad w m + suc w
+pub stage-length : (links words : ℕ → ℕ → ℕ) (w h m at i j : ℕ) → h ≤ w → length (newWord links words w h m at i j) ≡ stagePad w h m + suc w
 unfolding stagePad newWord
-stage-length links words w zero at i j = omega (arith, length-masked (links i j) (words i j) (suc w))
-stage-length links words w (suc zero) at i j =
-    let way = smaller at (words i 0) (words 0 j) w in
-    let more = largerIf (at + (2 * w + suc w)) (links i j) (words i j) (at + 2 * w) w in
-    omega (arith, length-append way more, length-smaller at (words i 0) (words 0 j) w, length-larger-if (at + (2 * w + suc w)) (links i j) (words i j) (at + 2 * w) w)
-stage-length links words w (suc (suc l)) at i j =
-    let way = smaller at (words i (suc l)) (words (suc l) j) w in
-    let more = larger (at + (2 * w + suc w)) (words i j) (at + 2 * w) w in
-    omega (arith, length-append way more, length-smaller at (words i (suc l)) (words (suc l) j) w, length-larger (at + (2 * w + suc w)) (words i j) (at + 2 * w) w)
+stage-length links words w h zero at i j q = omega (arith, length-masked (links i j) (words i j) (suc w))
+stage-length links words w h (suc zero) at i j q =
+    let to = at + orderSize w h in
+    let way = smaller at (words i 0) (words 0 j) w h in
+    let more = largerIf (to + suc w) (links i j) (words i j) to w h in
+    omega (arith, length-append way more, length-smaller at (words i 0) (words 0 j) w h q, length-larger-if (to + suc w) (links i j) (words i j) to w h q)
+stage-length links words w h (suc (suc l)) at i j q =
+    let to = at + orderSize w h in
+    let way = smaller at (words i (suc l)) (words (suc l) j) w h in
+    let more = larger (to + suc w) (words i j) to w h in
+    omega (arith, length-append way more, length-smaller at (words i (suc l)) (words (suc l) j) w h q, length-larger (to + suc w) (words i j) to w h q)
 
 -- a counter's block
 pub votes-moves : (k n w at i j : ℕ) → i ≢ j → votesBlock k n w at i j ≡ counter at (i * k + j) (k * k) n 0 w
@@ -97,11 +108,12 @@ down-last at zero = omega arith
 down-last at (suc w) = omega arith
 
 module _ (W : ℕ → ℕ) (b : Binary W) where
-  -- a smaller word, and what comes after it
-  behind-smaller : (at x y w : ℕ) (gs : List Gate) → Holds W at (smaller at x y w ++ gs) → Holds W at (smaller at x y w) × Holds W (at + (2 * w + suc w)) gs
-  behind-smaller at x y w gs h =
-      let p = holds-append W at (smaller at x y w) gs h in
-      (p .0, subst (λ (l : ℕ). Holds W (at + l) gs) (length-smaller at x y w) (p .1))
+  -- a smaller word, and what stands behind it
+  behind-smaller : (at x y w h : ℕ) (gs : List Gate) → h ≤ w → Holds W at (smaller at x y w h ++ gs) → Holds W at (smaller at x y w h) × Holds W (at + orderSize w h + suc w) gs
+  behind-smaller at x y w h gs q g =
+      let p = holds-append W at (smaller at x y w h) gs g in
+      let place : at + length (smaller at x y w h) ≡ at + orderSize w h + suc w = omega (arith, length-smaller at x y w h q) in
+      (p .0, subst (λ (l : ℕ). Holds W l gs) place (p .1))
 
   -- the number of the ballots whose byte is 1
   pub votes-law : (k n w at i j : ℕ) → i ≢ j → Countable n 0 w → Holds W at (votesBlock k n w at i j) → number W (at + countSize n 0 w) 1 (suc w) ≡ ones W (i * k + j) (k * k) n
@@ -150,29 +162,32 @@ module _ (W : ℕ → ℕ) (b : Binary W) where
       rw (add-zero at) ((λ l. masked-one W b at f x (suc w) (told .0 l) h ∙ e), (λ l. masked-zero W b at f x (suc w) (told .1 l) h))
 
   -- the stronger of the path so far and a way
-  pub way-law : (words : ℕ → ℕ → ℕ) (w l at i j a c d : ℕ) → number W (words i j) 1 (suc w) ≡ a → number W (words i (suc l)) 1 (suc w) ≡ c → number W (words (suc l) j) 1 (suc w) ≡ d →
-      Holds W at (smaller at (words i (suc l)) (words (suc l) j) w ++ larger (at + (2 * w + suc w)) (words i j) (at + 2 * w) w) → number W (at + (2 * w + suc w + 2 * w)) 1 (suc w) ≡ max a (min c d)
-  way-law words w l at i j a c d ea ec ed h =
-      let p = behind-smaller at (words i (suc l)) (words (suc l) j) w (larger (at + (2 * w + suc w)) (words i j) (at + 2 * w) w) h in
-      let s = smaller-law W b at (words i (suc l)) (words (suc l) j) w (p .0) in
-      let r = larger-law W b (at + (2 * w + suc w)) (words i j) (at + 2 * w) w (p .1) in
-      let e : at + (2 * w + suc w) + 2 * w ≡ at + (2 * w + suc w + 2 * w) = omega arith in
+  pub way-law : (words : ℕ → ℕ → ℕ) (w h l at i j a c d : ℕ) → h ≤ w → number W (words i j) 1 (suc w) ≡ a → number W (words i (suc l)) 1 (suc w) ≡ c → number W (words (suc l) j) 1 (suc w) ≡ d →
+      Holds W at (smaller at (words i (suc l)) (words (suc l) j) w h ++ larger (at + orderSize w h + suc w) (words i j) (at + orderSize w h) w h) → number W (at + (orderSize w h + suc w + orderSize w h)) 1 (suc w) ≡ max a (min c d)
+  way-law words w h l at i j a c d q ea ec ed g =
+      let to = at + orderSize w h in
+      let p = behind-smaller at (words i (suc l)) (words (suc l) j) w h (larger (to + suc w) (words i j) to w h) q g in
+      let s = smaller-law W b at (words i (suc l)) (words (suc l) j) w h q (p .0) in
+      let r = larger-law W b (to + suc w) (words i j) to w h q (p .1) in
+      let e : to + suc w + orderSize w h ≡ at + (orderSize w h + suc w + orderSize w h) = omega arith in
       sym (ap (λ (m : ℕ). number W m 1 (suc w)) e) ∙ omega (arith, r, s)
 
-  -- the same if the path so far counts only if there is a link
-  pub first-way-law : (links words v : ℕ → ℕ → ℕ) (w at i j c d : ℕ) → number W (words i j) 1 (suc w) ≡ v i j → (v j i < v i j → W (links i j) ≡ 1) × (v i j ≤ v j i → W (links i j) ≡ 0) →
+  -- the same where the path so far counts only if a link is there
+  pub first-way-law : (links words v : ℕ → ℕ → ℕ) (w h at i j c d : ℕ) → h ≤ w → number W (words i j) 1 (suc w) ≡ v i j → (v j i < v i j → W (links i j) ≡ 1) × (v i j ≤ v j i → W (links i j) ≡ 0) →
       number W (words i 0) 1 (suc w) ≡ c → number W (words 0 j) 1 (suc w) ≡ d →
-      Holds W at (smaller at (words i 0) (words 0 j) w ++ largerIf (at + (2 * w + suc w)) (links i j) (words i j) (at + 2 * w) w) → number W (at + (2 * w + suc w + (2 * w + 1))) 1 (suc w) ≡ max (link v i j) (min c d)
-  first-way-law links words v w at i j c d ea told ec ed h =
-      let p = behind-smaller at (words i 0) (words 0 j) w (largerIf (at + (2 * w + suc w)) (links i j) (words i j) (at + 2 * w) w) h in
-      let s = smaller-law W b at (words i 0) (words 0 j) w (p .0) in
-      let e : at + (2 * w + suc w) + 2 * w + 1 ≡ at + (2 * w + suc w + (2 * w + 1)) = omega arith in
+      Holds W at (smaller at (words i 0) (words 0 j) w h ++ largerIf (at + orderSize w h + suc w) (links i j) (words i j) (at + orderSize w h) w h)
+      → number W (at + (orderSize w h + suc w + (orderSize w h + 1))) 1 (suc w) ≡ max (link v i j) (min c d)
+  first-way-law links words v w h at i j c d q ea told ec ed g =
+      let to = at + orderSize w h in
+      let p = behind-smaller at (words i 0) (words 0 j) w h (largerIf (to + suc w) (links i j) (words i j) to w h) q g in
+      let s = smaller-law W b at (words i 0) (words 0 j) w h q (p .0) in
+      let e : to + suc w + orderSize w h + 1 ≡ at + (orderSize w h + suc w + (orderSize w h + 1)) = omega arith in
       sym (ap (λ (m : ℕ). number W m 1 (suc w)) e)
       ∙ ⊎-elim
       (λ (l : v j i < v i j).
-      let r = larger-if W b (at + (2 * w + suc w)) (links i j) (words i j) (at + 2 * w) w (p .1) (told .0 l) in
+      let r = larger-if W b (to + suc w) (links i j) (words i j) to w h q (p .1) (told .0 l) in
       omega (arith, r, s, link-won v i j l))
       (λ (l : v i j ≤ v j i).
-      let r = larger-if-not W b (at + (2 * w + suc w)) (links i j) (words i j) (at + 2 * w) w (p .1) (told .1 l) in
+      let r = larger-if-not W b (to + suc w) (links i j) (words i j) to w h q (p .1) (told .1 l) in
       omega (arith, r, s, link-lost v i j l))
       (below-or-not (v j i) (v i j))

@@ -1,11 +1,12 @@
 -- The blocks of a ranked tasting's circuit that `gate_words` lacks: two whole words compared, and the smaller or
--- larger of them. A word has one digit and w more.
-use mathlib.Core.List.{List, _∷_, _++_}
-use Prim.Native.Nat.{ℕ, suc, _+_, _*_}
+-- larger of them. A word has a digit and w more.
+use mathlib.Core.List.{List, [], _∷_, _++_}
+use Prim.Native.Nat.{ℕ, zero, suc, _+_, _-_, _*_}
 use Rattle.gates.specs.Gate.{Gate}
-use Rattle.gate_words.specs.Gates.{andOf, xorOf}
+use Rattle.gate_words.specs.Gates.{andOf, xorOf, muxOf}
 use Rattle.gate_words.specs.Choice.{choose, chainEnd}
 use Rattle.gate_words.specs.Comparison.{firstDigit, compareWords, differences, above}
+use Rattle.gate_words.specs.Halves.{compareHalves, unequalAt, aboveAt}
 
 -- Two words compared both ways.
 unfoldable pub compare : ℕ → ℕ → ℕ → ℕ → List Gate
@@ -25,12 +26,30 @@ order n x y w = differences (x + 1) (y + 1) w ++ above (n + w) n (x + 1) x w
 unfoldable pub orderEnd : ℕ → ℕ → ℕ → ℕ
 orderEnd n x w = chainEnd (n + w) x w
 
--- The smaller of two words, the larger of them, and the larger if wire f is 1 but the word at y if it is 0.
-unfoldable pub smaller : ℕ → ℕ → ℕ → ℕ → List Gate
-smaller n x y w = order n x y w ++ choose (orderEnd n x w) y x (suc w)
+-- The same in fewer rounds: the h highest digits are compared beside the others, and decide where they differ. The
+-- last of these gates answers, or x itself where there is none.
+unfoldable pub orderCut : ℕ → ℕ → ℕ → ℕ → ℕ → List Gate
+orderCut n x y w zero = order n x y w
+orderCut n x y w (suc h) =
+    let l = w - suc h in
+    let high = n + 2 * l in
+    order n x y l
+    ++ compareHalves high (x + suc l) (y + suc l) h 0
+    ++ (muxOf (unequalAt high h) (aboveAt high (x + suc l) h) (orderEnd n x l) ∷ [])
 
-unfoldable pub larger : ℕ → ℕ → ℕ → ℕ → List Gate
-larger n x y w = order n x y w ++ choose (orderEnd n x w) x y (suc w)
+abbrev pub orderSize : ℕ → ℕ → ℕ
+orderSize w h = 2 * w + (h - 1)
 
-unfoldable pub largerIf : ℕ → ℕ → ℕ → ℕ → ℕ → List Gate
-largerIf n f x y w = order n x y w ++ (andOf f (orderEnd n x w) ∷ choose (n + 2 * w) x y (suc w))
+unfoldable pub cutEnd : ℕ → ℕ → ℕ → ℕ → ℕ
+cutEnd n x w h = chainEnd n x (orderSize w h)
+
+-- The smaller of two words, the larger of them, and the larger where wire f is 1 but the word at y where it is 0.
+unfoldable pub smaller : ℕ → ℕ → ℕ → ℕ → ℕ → List Gate
+smaller n x y w h = orderCut n x y w h ++ choose (cutEnd n x w h) y x (suc w)
+
+unfoldable pub larger : ℕ → ℕ → ℕ → ℕ → ℕ → List Gate
+larger n x y w h = orderCut n x y w h ++ choose (cutEnd n x w h) x y (suc w)
+
+unfoldable pub largerIf : ℕ → ℕ → ℕ → ℕ → ℕ → ℕ → List Gate
+largerIf n f x y w h =
+    orderCut n x y w h ++ (andOf f (cutEnd n x w h) ∷ choose (n + orderSize w h) x y (suc w))

@@ -33,7 +33,7 @@ pub record Paths : Type 0 where
 unfoldable pub nextPaths : ℕ → ℕ → ℕ → ℕ → Paths → Paths
 nextPaths k n w m p =
     let start = n * k * k + length (p .gates) in
-    let block = pathBlock (linkWire k n w) (p .words) w m in
+    let block = pathBlock k (linkWire k n w) (p .words) w m in
     record {
       gates = p .gates ++ table start k block;
       words = λ i j. cond (stays m i j) (p .words i j) (entryEnd start k block i j - suc w);

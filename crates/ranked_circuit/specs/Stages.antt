@@ -2,12 +2,12 @@
 -- of the circuit has one digit and w more; a block's word is the last of it. `words` says where words are.
 use mathlib.Core.Bool.{Bool, cond, _&&_, _||_, not}
 use mathlib.Core.List.{List, [], _++_}
-use Prim.Native.Nat.{ℕ, zero, suc, _+_, _-_, _*_}
+use Prim.Native.Nat.{ℕ, zero, suc, _+_, _-_, _*_, _/_}
 use lib.Dec.{eqb, leb, ltb}
 use Rattle.gates.specs.Gate.{Gate}
 use Rattle.gate_words.specs.Choice.{masked}
 use Rattle.gate_words.specs.Counter.{counter}
-use Rattle.ranked_circuit.specs.Blocks.{compare, smaller, larger, largerIf}
+use Rattle.ranked_circuit.specs.Blocks.{compare, orderSize, smaller, larger, largerIf}
 use Rattle.ranked_circuit.specs.Table.{entryEnd}
 
 -- How many of n ballots put i before j: the bytes of row i and column j, a ballot of k rows and columns apart.
@@ -33,14 +33,21 @@ unfoldable pub stays : ℕ → ℕ → ℕ → Bool
 stays zero i j = not (eqb i 0 || eqb j 0) || eqb i j
 stays (suc l) i j = eqb i l || eqb j l || eqb i j
 
--- The word of i and j after stage m. First the number of ballots if there is a link, else 0; then the stronger of the
--- path so far and the way over l. The first detour finds numbers of ballots, which count only if there is a link.
-unfoldable pub newWord : (ℕ → ℕ → ℕ) → (ℕ → ℕ → ℕ) → ℕ → ℕ → ℕ → ℕ → ℕ → List Gate
-newWord links words w zero at i j = masked (links i j) (words i j) (suc w)
-newWord links words w (suc zero) at i j =
-    smaller at (words i 0) (words 0 j) w ++ largerIf (at + (2 * w + suc w)) (links i j) (words i j) (at + 2 * w) w
-newWord links words w (suc (suc l)) at i j =
-    smaller at (words i (suc l)) (words (suc l) j) w ++ larger (at + (2 * w + suc w)) (words i j) (at + 2 * w) w
+-- Of k candidates' words with a digit and w more, how many of the highest digits stage m compares by themselves: half
+-- of them where the next stage waits for the word, being a detour over i or j.
+unfoldable pub cutAt : ℕ → ℕ → ℕ → ℕ → ℕ → ℕ
+cutAt k w m i j = cond (ltb m (k - 1) && (eqb i m || eqb j m)) (suc w / 2) 0
 
-unfoldable pub pathBlock : (ℕ → ℕ → ℕ) → (ℕ → ℕ → ℕ) → ℕ → ℕ → ℕ → ℕ → ℕ → List Gate
-pathBlock links words w m at i j = cond (stays m i j) [] (newWord links words w m at i j)
+-- The word of i and j after stage m. First the number of ballots where there is a link, else 0; then the stronger of
+-- the path so far and the way over l. The first detour finds numbers of ballots, which count where there is a link.
+unfoldable pub newWord : (ℕ → ℕ → ℕ) → (ℕ → ℕ → ℕ) → ℕ → ℕ → ℕ → ℕ → ℕ → ℕ → List Gate
+newWord links words w h zero at i j = masked (links i j) (words i j) (suc w)
+newWord links words w h (suc zero) at i j =
+    let way = at + orderSize w h in
+    smaller at (words i 0) (words 0 j) w h ++ largerIf (way + suc w) (links i j) (words i j) way w h
+newWord links words w h (suc (suc l)) at i j =
+    let way = at + orderSize w h in
+    smaller at (words i (suc l)) (words (suc l) j) w h ++ larger (way + suc w) (words i j) way w h
+
+unfoldable pub pathBlock : ℕ → (ℕ → ℕ → ℕ) → (ℕ → ℕ → ℕ) → ℕ → ℕ → ℕ → ℕ → ℕ → List Gate
+pathBlock k links words w m at i j = cond (stays m i j) [] (newWord links words w (cutAt k w m i j) m at i j)

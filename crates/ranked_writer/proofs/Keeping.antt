@@ -13,11 +13,11 @@ use borrow.Author.Tests.{eq-eqb, ltb-true, lt-ltb, le-ltb}
 use Rattle.gates.specs.Gate.{Gate}
 use Rattle.basics.proofs.Cases.{below-or-not, same-or-not}
 use Rattle.ranked_circuit.specs.Table.{blocks, entries, table, entryEnd}
-use Rattle.ranked_circuit.specs.Stages.{laterOf, linksBlock, linkAt, stays, newWord, pathBlock}
+use Rattle.ranked_circuit.specs.Stages.{laterOf, linksBlock, linkAt, stays, cutAt, newWord, pathBlock}
 use Rattle.ranked_circuit.specs.Contests.{meetingOf, meetingsBlock}
 use Rattle.ranked_circuit.proofs.LinkLaws.{later-is, later-is′}
 use Rattle.ranked_circuit.proofs.TableLaws.{entryStart, entry-end, row-of, column-of, row-low, column-low, number-of, number-low}
-use Rattle.ranked_circuit.proofs.StageLaws.{apart-all, stage-moves, stage-stays, stage-length}
+use Rattle.ranked_circuit.proofs.StageLaws.{apart-all, stage-moves, stage-stays, cut-most, stage-length}
 use Rattle.ranked_circuit.proofs.PathLaws.{bool-cases}
 use Rattle.basics.proofs.Flags.{and-first, and-second, and-both, or-first, or-second}
 use Rattle.gate_words.specs.declared.writer.Writer.{Writer}
@@ -216,22 +216,24 @@ module _ (k : ℕ) (rows : ℕ → Bool) (ends : ℕ → ℕ → ℕ) (ls₀ : L
           ∙ sym (ap (λ (c : Bool). cond c (cond (ltb j i) (ends i j - 2) (ends j i - 1)) (keptOf ls₀ k i j)) y)
 
 -- a block reads a link and three words, which may be kept elsewhere under the same values
-new-agree : (links links′ words words′ : ℕ → ℕ → ℕ) (w m at i j : ℕ) → stays m i j ≡ false → links i j ≡ links′ i j → words i j ≡ words′ i j →
-    ((l : ℕ) → m ≡ suc l → i ≢ l → words i l ≡ words′ i l) → ((l : ℕ) → m ≡ suc l → j ≢ l → words l j ≡ words′ l j) → newWord links words w m at i j ≡ newWord links′ words′ w m at i j
+new-agree : (links links′ words words′ : ℕ → ℕ → ℕ) (w h m at i j : ℕ) → stays m i j ≡ false → links i j ≡ links′ i j → words i j ≡ words′ i j →
+    ((l : ℕ) → m ≡ suc l → i ≢ l → words i l ≡ words′ i l) → ((l : ℕ) → m ≡ suc l → j ≢ l → words l j ≡ words′ l j) → newWord links words w h m at i j ≡ newWord links′ words′ w h m at i j
 unfolding newWord
-new-agree links links′ words words′ w zero at i j e el here to from = rw (el, here)
-new-agree links links′ words words′ w (suc zero) at i j e el here to from =
+new-agree links links′ words words′ w h zero at i j e el here to from = rw (el, here)
+new-agree links links′ words words′ w h (suc zero) at i j e el here to from =
     let a = apart-all 0 i j e in
     rw (el, here, to 0 refl (a .0), from 0 refl (a .1))
-new-agree links links′ words words′ w (suc (suc l)) at i j e el here to from =
+new-agree links links′ words words′ w h (suc (suc l)) at i j e el here to from =
     let a = apart-all (suc l) i j e in
     rw (here, to (suc l) refl (a .0), from (suc l) refl (a .1))
 
-pub path-agree : (links links′ words words′ : ℕ → ℕ → ℕ) (w m at i j : ℕ) → (stays m i j ≡ false → (links i j ≡ links′ i j) × (words i j ≡ words′ i j)) →
-    ((l : ℕ) → m ≡ suc l → i ≢ l → words i l ≡ words′ i l) → ((l : ℕ) → m ≡ suc l → j ≢ l → words l j ≡ words′ l j) → pathBlock links words w m at i j ≡ pathBlock links′ words′ w m at i j
-path-agree links links′ words words′ w m at i j here to from =
-    bool-cases (stays m i j) (λ e. stage-stays links words w m at i j e ∙ sym (stage-stays links′ words′ w m at i j e))
-    (λ e. stage-moves links words w m at i j e ∙ new-agree links links′ words words′ w m at i j e (here e .0) (here e .1) to from ∙ sym (stage-moves links′ words′ w m at i j e))
+pub path-agree : (k : ℕ) (links links′ words words′ : ℕ → ℕ → ℕ) (w m at i j : ℕ) → (stays m i j ≡ false → (links i j ≡ links′ i j) × (words i j ≡ words′ i j)) →
+    ((l : ℕ) → m ≡ suc l → i ≢ l → words i l ≡ words′ i l) → ((l : ℕ) → m ≡ suc l → j ≢ l → words l j ≡ words′ l j) → pathBlock k links words w m at i j ≡ pathBlock k links′ words′ w m at i j
+path-agree k links links′ words words′ w m at i j here to from =
+    bool-cases (stays m i j) (λ e. stage-stays k links words w m at i j e ∙ sym (stage-stays k links′ words′ w m at i j e))
+    (λ e.
+    stage-moves k links words w m at i j e ∙ new-agree links links′ words words′ w (cutAt k w m i j) m at i j e (here e .0) (here e .1) to from
+    ∙ sym (stage-moves k links′ words′ w m at i j e))
 
 pub links-agree : (first : ℕ) (words words′ : ℕ → ℕ → ℕ) (w at i j : ℕ) → (j < i → (words i j ≡ words′ i j) × (words j i ≡ words′ j i)) → linksBlock first words w at i j ≡ linksBlock first words′ w at i j
 unfolding linksBlock laterOf
@@ -289,17 +291,17 @@ column-true l j = or-first (eqb l l || eqb j l) (eqb l j) (or-first (eqb l l) (e
 -- A stage that is being written: its block reads what it found at the start.
 module _ (w₀ : Writer) (t₀ : List ℕ) (k w m : ℕ) (links ws₀ : List ℕ) where
   abbrev pub stageBlock : ℕ → ℕ → ℕ → List Gate
-  stageBlock = pathBlock (keptOf links k) (keptOf ws₀ k) w m
+  stageBlock = pathBlock k (keptOf links k) (keptOf ws₀ k) w m
 
   abbrev pub stageEnd : ℕ → ℕ → ℕ
   stageEnd i j = entryEnd (w₀ .wire) k stageBlock i j - suc w
 
   module _ (e : ℕ) (ws : List ℕ) (t : KeptTo k (stays m) stageEnd ws₀ e ws) where
-    pub now-agree : m ≤ k → e < k * k → (at : ℕ) → pathBlock (keptOf links k) (keptOf ws k) w m at (e / k) (e % k) ≡ stageBlock at (e / k) (e % k)
+    pub now-agree : m ≤ k → e < k * k → (at : ℕ) → pathBlock k (keptOf links k) (keptOf ws k) w m at (e / k) (e % k) ≡ stageBlock at (e / k) (e % k)
     now-agree hm low at =
         let hi = row-low k e low in
         let hj = column-low k e low in
-        path-agree (keptOf links k) (keptOf links k) (keptOf ws k) (keptOf ws₀ k) w m at (e / k) (e % k)
+        path-agree k (keptOf links k) (keptOf links k) (keptOf ws k) (keptOf ws₀ k) w m at (e / k) (e % k)
         (λ s. (refl, t .later (e / k) (e % k) hi hj (omega (arith, number-of k e))))
         (λ l q ne. t .same (e / k) l hi (omega arith) (ap (λ (x : ℕ). stays x (e / k) l) q ∙ row-true l (e / k)))
         (λ l q ne. t .same l (e % k) (omega arith) hj (ap (λ (x : ℕ). stays x l (e % k)) q ∙ column-true l (e % k)))
@@ -317,8 +319,8 @@ module _ (w₀ : Writer) (t₀ : List ℕ) (k w m : ℕ) (links ws₀ : List ℕ
           t .moved i j hi hj l s,
           end-before w₀ t₀ k stageBlock e i j t₁ w₁ l a,
           entry-end (w₀ .wire) k stageBlock i j hj,
-          ap length (stage-moves (keptOf links k) (keptOf ws₀ k) w m at i j s),
-          stage-length (keptOf links k) (keptOf ws₀ k) w m at i j,
+          ap length (stage-moves k (keptOf links k) (keptOf ws₀ k) w m at i j s),
+          stage-length (keptOf links k) (keptOf ws₀ k) w (cutAt k w m i j) m at i j (cut-most k w m i j),
         ))
         (λ (l : e ≤ i * k + j). omega (arith, t .later i j hi hj l, below i j hi hj ne)) (below-or-not (i * k + j) e))
 

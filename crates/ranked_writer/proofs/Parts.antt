@@ -86,24 +86,24 @@ module _ (k n w : ℕ) where
   -- stages 0 to m - 1
   unfoldable pub stagesTo : ℕ → List Gate
   stagesTo zero = []
-  stagesTo (suc m) = stagesTo m ++ table (endOf k n w m) k (pathBlock (linkWire k n w) (pathsTo k n w m .words) w m)
+  stagesTo (suc m) = stagesTo m ++ table (endOf k n w m) k (pathBlock k (linkWire k n w) (pathsTo k n w m .words) w m)
 
   pub stages-split : (m : ℕ) → pathsTo k n w m .gates ≡ pathsTo k n w 0 .gates ++ stagesTo m
   unfolding stagesTo
   stages-split zero = sym (append-nil (pathsTo k n w 0 .gates))
   stages-split (suc m) =
-      let last = table (endOf k n w m) k (pathBlock (linkWire k n w) (pathsTo k n w m .words) w m) in
+      let last = table (endOf k n w m) k (pathBlock k (linkWire k n w) (pathsTo k n w m .words) w m) in
       more m ∙ ap (λ (gs : List Gate). gs ++ last) (stages-split m) ∙ append-assoc (pathsTo k n w 0 .gates) (stagesTo m) last
     where
-      more : (m : ℕ) → pathsTo k n w (suc m) .gates ≡ pathsTo k n w m .gates ++ table (endOf k n w m) k (pathBlock (linkWire k n w) (pathsTo k n w m .words) w m)
+      more : (m : ℕ) → pathsTo k n w (suc m) .gates ≡ pathsTo k n w m .gates ++ table (endOf k n w m) k (pathBlock k (linkWire k n w) (pathsTo k n w m .words) w m)
       more m = unfold pathsTo nextPaths in refl
 
   pub stages-long : (m : ℕ) → length (pathsTo k n w m .gates) ≡ length (pathsTo k n w 0 .gates) + length (stagesTo m)
   stages-long m = ap length (stages-split m) ∙ length-append (pathsTo k n w 0 .gates) (stagesTo m)
 
-  pub stages-next : (m : ℕ) → length (stagesTo (suc m)) ≡ length (stagesTo m) + length (table (endOf k n w m) k (pathBlock (linkWire k n w) (pathsTo k n w m .words) w m))
+  pub stages-next : (m : ℕ) → length (stagesTo (suc m)) ≡ length (stagesTo m) + length (table (endOf k n w m) k (pathBlock k (linkWire k n w) (pathsTo k n w m .words) w m))
   unfolding stagesTo
-  stages-next m = length-append (stagesTo m) (table (endOf k n w m) k (pathBlock (linkWire k n w) (pathsTo k n w m .words) w m))
+  stages-next m = length-append (stagesTo m) (table (endOf k n w m) k (pathBlock k (linkWire k n w) (pathsTo k n w m .words) w m))
 
   pub stages-grow : (most m : ℕ) → m ≤ most → length (stagesTo m) ≤ length (stagesTo most)
   stages-grow zero m h = let z : m ≡ 0 = omega arith in rw z (omega arith)
@@ -112,19 +112,19 @@ module _ (k n w : ℕ) where
       (λ (l : suc most ≤ m). let z : m ≡ suc most = omega arith in rw z (omega arith)) (below-or-not m (suc most))
 
   module _ (m : ℕ) (hm : m ≤ k) (ls ws : List ℕ) (l : Keeps k ls (linkWire k n w)) (t : Keeps k ws (pathsTo k n w m .words)) where
-    stage-same : (at i j : ℕ) → i < k → j < k → pathBlock (keptOf ls k) (keptOf ws k) w m at i j ≡ pathBlock (linkWire k n w) (pathsTo k n w m .words) w m at i j
+    stage-same : (at i j : ℕ) → i < k → j < k → pathBlock k (keptOf ls k) (keptOf ws k) w m at i j ≡ pathBlock k (linkWire k n w) (pathsTo k n w m .words) w m at i j
     stage-same at i j hi hj =
-        path-agree (keptOf ls k) (linkWire k n w) (keptOf ws k) (pathsTo k n w m .words) w m at i j
+        path-agree k (keptOf ls k) (linkWire k n w) (keptOf ws k) (pathsTo k n w m .words) w m at i j
         (λ s. (l .each i j hi hj (apart m i j s), t .each i j hi hj (apart m i j s)))
         (λ x q ne. t .each i x hi (omega arith) ne) (λ x q ne. t .each x j (omega arith) hj (λ z. ne (sym z)))
 
-    pub stage-table : (wire : ℕ) → wire ≡ endOf k n w m → table wire k (pathBlock (keptOf ls k) (keptOf ws k) w m) ≡ table (endOf k n w m) k (pathBlock (linkWire k n w) (pathsTo k n w m .words) w m)
+    pub stage-table : (wire : ℕ) → wire ≡ endOf k n w m → table wire k (pathBlock k (keptOf ls k) (keptOf ws k) w m) ≡ table (endOf k n w m) k (pathBlock k (linkWire k n w) (pathsTo k n w m .words) w m)
     stage-table wire q =
-        ap (λ (x : ℕ). table x k (pathBlock (keptOf ls k) (keptOf ws k) w m)) q
-        ∙ table-agree (endOf k n w m) k (pathBlock (keptOf ls k) (keptOf ws k) w m) (pathBlock (linkWire k n w) (pathsTo k n w m .words) w m) stage-same
+        ap (λ (x : ℕ). table x k (pathBlock k (keptOf ls k) (keptOf ws k) w m)) q
+        ∙ table-agree (endOf k n w m) k (pathBlock k (keptOf ls k) (keptOf ws k) w m) (pathBlock k (linkWire k n w) (pathsTo k n w m .words) w m) stage-same
 
     pub stage-words : (wire : ℕ) (ws′ : List ℕ) → wire ≡ endOf k n w m →
-        Keeps k ws′ (λ i j. cond (stays m i j) (keptOf ws k i j) (entryEnd wire k (pathBlock (keptOf ls k) (keptOf ws k) w m) i j - suc w)) → Keeps k ws′ (pathsTo k n w (suc m) .words)
+        Keeps k ws′ (λ i j. cond (stays m i j) (keptOf ws k i j) (entryEnd wire k (pathBlock k (keptOf ls k) (keptOf ws k) w m) i j - suc w)) → Keeps k ws′ (pathsTo k n w (suc m) .words)
     unfolding pathsTo nextPaths
     stage-words wire ws′ q u =
         record {
@@ -132,12 +132,12 @@ module _ (k n w : ℕ) where
           each =
               λ i j hi hj ne.
               u .each i j hi hj ne
-              ∙ ap (λ (x : ℕ). cond (stays m i j) x (entryEnd wire k (pathBlock (keptOf ls k) (keptOf ws k) w m) i j - suc w)) (t .each i j hi hj ne)
-              ∙ ap (λ (x : ℕ). cond (stays m i j) (pathsTo k n w m .words i j) (entryEnd x k (pathBlock (keptOf ls k) (keptOf ws k) w m) i j - suc w)) q
-              ∙ ap (λ (x : ℕ). cond (stays m i j) (pathsTo k n w m .words i j) (x - suc w)) (end-agree (endOf k n w m) k (pathBlock (keptOf ls k) (keptOf ws k) w m) (pathBlock (linkWire k n w) (pathsTo k n w m .words) w m) stage-same i j hi hj);
+              ∙ ap (λ (x : ℕ). cond (stays m i j) x (entryEnd wire k (pathBlock k (keptOf ls k) (keptOf ws k) w m) i j - suc w)) (t .each i j hi hj ne)
+              ∙ ap (λ (x : ℕ). cond (stays m i j) (pathsTo k n w m .words i j) (entryEnd x k (pathBlock k (keptOf ls k) (keptOf ws k) w m) i j - suc w)) q
+              ∙ ap (λ (x : ℕ). cond (stays m i j) (pathsTo k n w m .words i j) (x - suc w)) (end-agree (endOf k n w m) k (pathBlock k (keptOf ls k) (keptOf ws k) w m) (pathBlock k (linkWire k n w) (pathsTo k n w m .words) w m) stage-same i j hi hj);
         }
 
-  pub stage-end : (m : ℕ) → endOf k n w (suc m) ≡ endOf k n w m + length (table (endOf k n w m) k (pathBlock (linkWire k n w) (pathsTo k n w m .words) w m))
+  pub stage-end : (m : ℕ) → endOf k n w (suc m) ≡ endOf k n w m + length (table (endOf k n w m) k (pathBlock k (linkWire k n w) (pathsTo k n w m .words) w m))
   stage-end m = omega (arith, stages-long m, stages-long (suc m), stages-next m)
 
   -- the whole list for three or more candidates, and for two

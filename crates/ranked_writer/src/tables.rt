@@ -115,19 +115,20 @@ pub(crate) fn path_table(
     requires { ⌜ Ranked p ⌝ }
     requires { ⌜
         Room w (length (spec.table (w .wire) (p .candidates)
-        (pathBlock (keptOf (now links) (p .candidates)) (keptOf (now words) (p .candidates)) (p .digits) m)))
+        (pathBlock (p .candidates) (keptOf (now links) (p .candidates)) (keptOf (now words) (p .candidates))
+        (p .digits) m)))
         ⌝ }
     requires { ⌜ (m ≤ p .candidates) × (length (now links) ≡ 64) × (length (now words) ≡ 64) ⌝ }
     requires { ⌜ WordsBelow (now words) (p .candidates) (p .digits) (w .wire) ⌝ }
     ensures { λ r. ⌜
         Wrote w (now (table .entry)) (spec.table (w .wire) (p .candidates)
-        (pathBlock (keptOf (now (links .entry)) (p .candidates)) (keptOf (now (words .entry)) (p .candidates))
-        (p .digits) m)) (now (table .exit)) r
+        (pathBlock (p .candidates) (keptOf (now (links .entry)) (p .candidates))
+        (keptOf (now (words .entry)) (p .candidates)) (p .digits) m)) (now (table .exit)) r
         ⌝ }
     ensures { λ r. ⌜
         Keeps (p .candidates) (now (words .exit))
         (λ i j. cond (stays m i j) (keptOf (now (words .entry)) (p .candidates) i j)
-        (entryEnd (w .wire) (p .candidates) (pathBlock (keptOf (now (links .entry)) (p .candidates))
+        (entryEnd (w .wire) (p .candidates) (pathBlock (p .candidates) (keptOf (now (links .entry)) (p .candidates))
         (keptOf (now (words .entry)) (p .candidates)) (p .digits) m) i j - suc (p .digits)))
         ⌝ }
 {

@@ -1,13 +1,14 @@
 -- What the writers of tables with one block for each two candidates ask for.
 use mathlib.Core.Path.{_≡_}
-use mathlib.Core.Bool.{Bool}
+use mathlib.Core.Bool.{Bool, false}
 use mathlib.Core.List.{List}
-use Prim.Native.Nat.{ℕ, suc, _*_, _+_, _/_, _%_, _<_}
+use Prim.Native.Nat.{ℕ, suc, _*_, _+_, _/_, _%_, _≤_, _<_}
 use lib.ListN.{length}
 use Rattle.gates.specs.Gate.{Gate}
 use Rattle.gate_words.specs.Writing.{Room, Wrote}
 use Rattle.gate_words.specs.declared.writer.Writer.{Writer}
-use Rattle.ranked_blocks.specs.Ranked.{Ranked, keepLinks, WordsBelow}
+use Rattle.ranked_circuit.specs.Stages.{stays, cutAt, newWord}
+use Rattle.ranked_blocks.specs.Ranked.{Ranked, keptOf, keepLinks, WordsBelow}
 use Rattle.ranked_blocks.specs.declared.entries.Ranks.{Ranks}
 
 -- The words of each two candidates come before the writer's wire; there are 64 of them, and 64 wires about two
@@ -37,3 +38,13 @@ pub record Entered (w : Writer) (table : List ℕ) (block : List Gate) (table′
     (rows : ℕ → Bool) (wires : List ℕ) (k i j : ℕ) (wires′ : List ℕ) : Type 0 where
   pub wrote : Wrote w table block table′ next
   pub kept : wires′ ≡ keepLinks rows wires k i j (next .wire)
+
+-- Room for the word of i and j after stage m, which does not leave it as it is.
+pub record WordReady (w : Writer) (words links : List ℕ) (p : Ranks) (m i j : ℕ) : Type 0 where
+  pub kept : Kept w words links p
+  pub room : Room w (length (newWord (keptOf links (p .candidates)) (keptOf words (p .candidates)) (p .digits)
+      (cutAt (p .candidates) (p .digits) m i j) m (w .wire) i j))
+  pub stage : m ≤ p .candidates
+  pub row : i < p .candidates
+  pub column : j < p .candidates
+  pub moves : stays m i j ≡ false

@@ -91,13 +91,12 @@ compare-requires c κs =
     let f = facts p in
     let t = f .here in
     let l = f .later in
-    let b = s .pre .kept .below in (
-      room-less (a .w) _ _ (omega (arith, links-long (a .first) (keptOf (a .words .now) k) (a .p .digits) (a .w .wire) (a .e / k) (a .e % k) (f .row))) (s .pre .room),
-      (
-        omega (arith, b (a .e / k) (a .e % k) (t .row) (t .column) (λ z. omega arith), c .before .kept .ensures),
-        omega (arith, b (a .e % k) (a .e / k) (t .column) (t .row) (λ z. omega arith), c .kept2 .ensures),
-      ),
-    )
+    let b = s .pre .kept .below in
+    record {
+      room = room-less (a .w) _ _ (omega (arith, links-long (a .first) (keptOf (a .words .now) k) (a .p .digits) (a .w .wire) (a .e / k) (a .e % k) (f .row))) (s .pre .room);
+      firstBelow = omega (arith, b (a .e / k) (a .e % k) (t .row) (t .column) (λ z. omega arith), c .before .kept .ensures);
+      secondBelow = omega (arith, b (a .e % k) (a .e / k) (t .column) (t .row) (λ z. omega arith), c .kept2 .ensures);
+    }
 
 ended : (c : tie.After-compare) → 2 ≤ c .compare .result .wire
 ended c = let a = start (tested c) .args in omega (arith, c .compare .ensures .wires, length-whole (a .w .wire) (c .before .before .kept .result) (c .before .kept2 .result) (a .p .digits))

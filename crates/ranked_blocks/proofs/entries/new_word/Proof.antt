@@ -3,117 +3,183 @@
 use mathlib.Core.Path.{_≡_, _∙_, sym, ap}
 use mathlib.Core.Logic.{_≢_}
 use mathlib.Core.List.{_++_}
-use Prim.Native.Nat.{ℕ, suc, _+_, _-_, _*_, _≤_, _<_}
+use Prim.Native.Nat.{ℕ, suc, _+_, _-_, _≤_, _<_}
 use native.Mathlib.Omega.{arith}
 use borrow.Author.Needs.{needs}
 use Rattle.gate_words.specs.Choice.{masked}
 use Rattle.gate_words.proofs.Writing.{room-less, wrote-as}
-use Rattle.ranked_circuit.specs.Blocks.{smaller, larger, largerIf}
-use Rattle.ranked_circuit.specs.Stages.{stays}
-use Rattle.ranked_circuit.proofs.StageLaws.{apart-zero}
+use Rattle.ranked_circuit.specs.Blocks.{orderSize, smaller, larger, largerIf}
+use Rattle.ranked_circuit.specs.Stages.{stays, cutAt}
+use Rattle.ranked_circuit.proofs.StageLaws.{apart-zero, cut-most}
 use Rattle.ranked_blocks.specs.Ranked.{keptOf}
 use Rattle.ranked_blocks.proofs.Entering.{apart-later, new-zero, new-first, new-later, long-zero, long-first, long-later}
 use Rattle.ranked_blocks.proofs.entries.new_word.Statement.{statement}
 use Rattle.ranked_blocks.proofs.entries.new_word.Tie as tie
 
+-- the start, after the link and the word were read, and after the way's parts and the cut
+abbrev start : tie.After-kept2 → tie.Start
+start c = c .before .before .before .before .before
+
+abbrev read : tie.After-cut-at → tie.After-kept2
+read c = c .before .before .before .before
+
+abbrev cutOf : tie.Start → ℕ
+cutOf s = cutAt (s .args .p .candidates) (s .args .p .digits) (s .args .m) (s .args .i) (s .args .j)
+
+within : (s : tie.Start) → cutOf s ≤ s .args .p .digits
+within s = cut-most (s .args .p .candidates) (s .args .p .digits) (s .args .m) (s .args .i) (s .args .j)
+
 kept-requires : tie.Need-kept-requires
-kept-requires c κs = let q = (c .before .before .before .pre) .1 .1 .0 in ((c .before .before .before .pre) .0 .k-most, q .1, q .2, q .4)
+kept-requires c κs = let s = c .before .before .before in (s .pre .kept .ranked .k-most, s .pre .row, s .pre .column, s .pre .kept .wires-long)
 
 kept-requires-2 : tie.Need-kept-requires-2
-kept-requires-2 c κs = let q = (c .before .before .before .before .pre) .1 .1 .0 in ((c .before .before .before .before .pre) .0 .k-most, q .1, q .2, q .5)
+kept-requires-2 c κs = let s = c .before .before .before .before in (s .pre .kept .ranked .k-most, s .pre .row, s .pre .column, s .pre .kept .words-long)
 
 -- the same blocks under the names of what was read
 zero-same : (f v w f′ v′ : ℕ) → f ≡ f′ → v ≡ v′ → masked f v (w + 1) ≡ masked f′ v′ (w + 1)
 zero-same f v w f′ v′ ef ev = rw (ef, ev)
 
-first-same : (at f v x y w f′ v′ x′ y′ : ℕ) → f ≡ f′ → v ≡ v′ → x ≡ x′ → y ≡ y′ →
-    smaller at x y w ++ largerIf (at + (2 * w + suc w)) f v (at + 2 * w) w ≡ smaller at x′ y′ w ++ largerIf (at + (2 * w + suc w)) f′ v′ (at + 2 * w) w
-first-same at f v x y w f′ v′ x′ y′ ef ev ex ey = rw (ef, ev, ex, ey)
+first-same : (at f v x y w h f′ v′ x′ y′ h′ : ℕ) → f ≡ f′ → v ≡ v′ → x ≡ x′ → y ≡ y′ → h ≡ h′ →
+    smaller at x y w h ++ largerIf (at + orderSize w h + suc w) f v (at + orderSize w h) w h ≡ smaller at x′ y′ w h′ ++ largerIf (at + orderSize w h′ + suc w) f′ v′ (at + orderSize w h′) w h′
+first-same at f v x y w h f′ v′ x′ y′ h′ ef ev ex ey eh = rw (ef, ev, ex, ey, eh)
 
-later-same : (at v x y w v′ x′ y′ : ℕ) → v ≡ v′ → x ≡ x′ → y ≡ y′ →
-    smaller at x y w ++ larger (at + (2 * w + suc w)) v (at + 2 * w) w ≡ smaller at x′ y′ w ++ larger (at + (2 * w + suc w)) v′ (at + 2 * w) w
-later-same at v x y w v′ x′ y′ ev ex ey = rw (ev, ex, ey)
+later-same : (at v x y w h v′ x′ y′ h′ : ℕ) → v ≡ v′ → x ≡ x′ → y ≡ y′ → h ≡ h′ →
+    smaller at x y w h ++ larger (at + orderSize w h + suc w) v (at + orderSize w h) w h ≡ smaller at x′ y′ w h′ ++ larger (at + orderSize w h′ + suc w) v′ (at + orderSize w h′) w h′
+later-same at v x y w h v′ x′ y′ h′ ev ex ey eh = rw (ev, ex, ey, eh)
 
+-- a link's strength
 masked-requires : tie.Need-masked-requires
 masked-requires c κs =
-    let a = (c .before .before .before .before .before .before .before .before .args) in
+    let t = c .before .before in
+    let r = t .before in
+    let s = start r in
+    let a = s .args in
     let k = a .p .candidates in
-    let q = (c .before .before .before .before .before .before .before .before .pre) .1 .1 .0 in
-    let ne : a .i ≢ a .j = apart-zero (a .i) (a .j) (ap (λ (x : ℕ). stays x (a .i) (a .j)) (sym ((c .before .before .if1) .taken)) ∙ q .3) in
+    let ne : a .i ≢ a .j = apart-zero (a .i) (a .j) (ap (λ (x : ℕ). stays x (a .i) (a .j)) (sym (t .if1 .taken)) ∙ s .pre .moves) in
     record {
-      room = room-less (a .w) _ _ (omega (arith, long-zero (keptOf (a .links .now) k) (keptOf (a .words .now) k) (a .p .digits) (a .w .wire) (a .i) (a .j) (a .m) ((c .before .before .if1) .taken))) ((c .before .before .before .before .before .before .before .before .pre) .1 .0);
-      below = omega (arith, (c .before .before .before .before .before .before .before .before .pre) .1 .1 .1 (a .i) (a .j) (q .1) (q .2) ne, (c .before .before .before .kept2) .ensures);
+      room = room-less (a .w) _ _ (omega (arith, long-zero (keptOf (a .links .now) k) (keptOf (a .words .now) k) (a .p .digits) (cutOf s) (a .w .wire) (a .i) (a .j) (within s) (a .m) (t .if1 .taken))) (s .pre .room);
+      below = omega (arith, s .pre .kept .below (a .i) (a .j) (s .pre .row) (s .pre .column) ne, r .kept2 .ensures);
     }
 
 returns : tie.Need-returns
 returns c =
-    let a = (c .before .before .before .before .before .before .before .before .before .before .before .args) in
+    let d = c .before .before in
+    let t = d .before .before .before in
+    let r = t .before in
+    let s = start r in
+    let a = s .args in
     let k = a .p .candidates in
-    wrote-as (a .w) (a .table .now) _ _ ((c .before .before .masked) .last .1 .0) ((c .before .before .masked) .result)
-    (zero-same ((c .before .before .before .before .before .before .before .kept) .result) ((c .before .before .before .before .before .before .kept2) .result) (a .p .digits) (keptOf (a .links .now) k (a .i) (a .j)) (keptOf (a .words .now) k (a .i) (a .j)) ((c .before .before .before .before .before .before .before .kept) .ensures) ((c .before .before .before .before .before .before .kept2) .ensures)
-    ∙ new-zero (keptOf (a .links .now) k) (keptOf (a .words .now) k) (a .p .digits) (a .w .wire) (a .i) (a .j) (a .m) ((c .before .before .before .before .before .if1) .taken)) ((c .before .before .masked) .ensures)
+    wrote-as (a .w) (a .table .now) _ _ (d .masked .last .1 .0) (d .masked .result)
+    (zero-same (r .before .kept .result) (r .kept2 .result) (a .p .digits) (keptOf (a .links .now) k (a .i) (a .j)) (keptOf (a .words .now) k (a .i) (a .j)) (r .before .kept .ensures) (r .kept2 .ensures)
+    ∙ new-zero (keptOf (a .links .now) k) (keptOf (a .words .now) k) (a .p .digits) (cutOf s) (a .w .wire) (a .i) (a .j) (a .m) (t .if1 .taken)) (d .masked .ensures)
+
+-- the candidate of the detour
+over : (s : tie.Start) → s .args .m - 1 < s .args .p .candidates
+over s = let m = s .pre .stage in omega (arith, s .pre .kept .ranked .k-least)
 
 kept-requires-3 : tie.Need-kept-requires-3
-kept-requires-3 c κs = let q = (c .before .before .before .before .before .before .pre) .1 .1 .0 in ((c .before .before .before .before .before .before .pre) .0 .k-most, q .1, omega (arith, q .0, (c .before .before .before .before .before .before .pre) .0 .k-least), q .5)
+kept-requires-3 c κs = let s = start (c .before) in (s .pre .kept .ranked .k-most, s .pre .row, over s, s .pre .kept .words-long)
 
 kept-requires-4 : tie.Need-kept-requires-4
-kept-requires-4 c κs = let q = (c .before .before .before .before .before .before .before .pre) .1 .1 .0 in ((c .before .before .before .before .before .before .before .pre) .0 .k-most, omega (arith, q .0, (c .before .before .before .before .before .before .before .pre) .0 .k-least), q .2, q .5)
+kept-requires-4 c κs = let s = start (c .before .before) in (s .pre .kept .ranked .k-most, over s, s .pre .column, s .pre .kept .words-long)
+
+cut-at-requires : tie.Need-cut-at-requires
+cut-at-requires c κs = let s = start (c .before .before .before) in (omega (arith, s .pre .kept .ranked .k-least), s .pre .kept .ranked .w-most)
 
 -- the words that are read end before the writer's wire
-below : (c : tie.After-kept4) → ((c .before .before .before .kept2) .result + suc ((c .before .before .before .before .before .before .before .before .args) .p .digits) ≤ (c .before .before .before .before .before .before .before .before .args) .w .wire) × ((c .before .kept3) .result + suc ((c .before .before .before .before .before .before .before .before .args) .p .digits) ≤ (c .before .before .before .before .before .before .before .before .args) .w .wire) × ((c .kept4) .result + suc ((c .before .before .before .before .before .before .before .before .args) .p .digits) ≤ (c .before .before .before .before .before .before .before .before .args) .w .wire) × ((c .before .before .before .before .before .before .before .before .args) .p .digits ≤ 7)
+pub record Read (w : ℕ) (digits v x y cut : ℕ) : Type 0 where
+  pub word : v + suc digits ≤ w
+  pub to : x + suc digits ≤ w
+  pub from : y + suc digits ≤ w
+  pub most : cut ≤ digits
+
+below : (c : tie.After-cut-at) → Read (start (read c) .args .w .wire) (start (read c) .args .p .digits) (read c .kept2 .result) (c .before .before .kept3 .result) (c .before .kept4 .result) (c .cut-at .result)
 below c =
-    let a = (c .before .before .before .before .before .before .before .before .args) in
-    let q = (c .before .before .before .before .before .before .before .before .pre) .1 .1 .0 in
-    let s = apart-later (a .m) (a .i) (a .j) ((c .before .before .if1) .left) (q .3) in
-    let low : a .m - 1 < a .p .candidates = omega (arith, q .0, (c .before .before .before .before .before .before .before .before .pre) .0 .k-least) in
-    let b = (c .before .before .before .before .before .before .before .before .pre) .1 .1 .1 in (
-      omega (arith, b (a .i) (a .j) (q .1) (q .2) (s .2), (c .before .before .before .kept2) .ensures),
-      omega (arith, b (a .i) (a .m - 1) (q .1) low (s .0), (c .before .kept3) .ensures),
-      omega (arith, b (a .m - 1) (a .j) low (q .2) (λ z. s .1 (sym z)), (c .kept4) .ensures),
-      (c .before .before .before .before .before .before .before .before .pre) .0 .w-most,
-    )
+    let r = read c in
+    let s = start r in
+    let a = s .args in
+    let p = apart-later (a .m) (a .i) (a .j) (c .before .before .before .if1 .left) (s .pre .moves) in
+    let b = s .pre .kept .below in
+    record {
+      word = omega (arith, b (a .i) (a .j) (s .pre .row) (s .pre .column) (p .2), r .kept2 .ensures);
+      to = omega (arith, b (a .i) (a .m - 1) (s .pre .row) (over s) (p .0), c .before .before .kept3 .ensures);
+      from = omega (arith, b (a .m - 1) (a .j) (over s) (s .pre .column) (λ z. p .1 (sym z)), c .before .kept4 .ensures);
+      most = omega (arith, c .cut-at .ensures, within s);
+    }
 
 link-or-way-requires : tie.Need-link-or-way-requires
 link-or-way-requires c κs =
-    let a = (c .before .before .before .before .before .before .before .before .before .before .args) in
+    let t = c .before in
+    let q = t .before in
+    let s = start (read q) in
+    let a = s .args in
     let k = a .p .candidates in
-    (room-less (a .w) _ _ (omega (arith, long-first (keptOf (a .links .now) k) (keptOf (a .words .now) k) (a .p .digits) (a .w .wire) (a .i) (a .j) (a .m) ((c .before .if2) .taken))) ((c .before .before .before .before .before .before .before .before .before .before .pre) .1 .0), below (c .before .before))
+    let b = below q in
+    record {
+      room = room-less (a .w) _ _ (omega (arith, long-first (keptOf (a .links .now) k) (keptOf (a .words .now) k) (a .p .digits) (cutOf s) (a .w .wire) (a .i) (a .j) (within s) (a .m) (t .if2 .taken), q .cut-at .ensures)) (s .pre .room);
+      wordBelow = b .word;
+      toBelow = b .to;
+      fromBelow = b .from;
+      within = b .most;
+    }
 
 returns-2 : tie.Need-returns-2
 returns-2 c =
-    let a = (c .before .before .before .before .before .before .before .before .before .before .before .before .before .args) in
+    let d = c .before .before in
+    let t = d .before .before in
+    let q = t .before in
+    let r = read q in
+    let s = start r in
+    let a = s .args in
     let k = a .p .candidates in
     let words = keptOf (a .words .now) k in
-    wrote-as (a .w) (a .table .now) _ _ ((c .before .before .link-or-way) .last .1 .0) ((c .before .before .link-or-way) .result)
-    (first-same (a .w .wire) ((c .before .before .before .before .before .before .before .before .before .kept) .result) ((c .before .before .before .before .before .before .before .before .kept2) .result) ((c .before .before .before .before .before .before .kept3) .result) ((c .before .before .before .before .before .kept4) .result) (a .p .digits) (keptOf (a .links .now) k (a .i) (a .j)) (words (a .i) (a .j)) (words (a .i) (a .m - 1)) (words (a .m - 1) (a .j)) ((c .before .before .before .before .before .before .before .before .before .kept) .ensures) ((c .before .before .before .before .before .before .before .before .kept2) .ensures) ((c .before .before .before .before .before .before .kept3) .ensures) ((c .before .before .before .before .before .kept4) .ensures)
-    ∙ new-first (keptOf (a .links .now) k) (keptOf (a .words .now) k) (a .p .digits) (a .w .wire) (a .i) (a .j) (a .m) ((c .before .before .before .before .if2) .taken)) ((c .before .before .link-or-way) .ensures)
+    wrote-as (a .w) (a .table .now) _ _ (d .link-or-way .last .1 .0) (d .link-or-way .result)
+    (first-same (a .w .wire) (r .before .kept .result) (r .kept2 .result) (q .before .before .kept3 .result) (q .before .kept4 .result) (a .p .digits) (q .cut-at .result) (keptOf (a .links .now) k (a .i) (a .j)) (words (a .i) (a .j)) (words (a .i) (a .m - 1)) (words (a .m - 1) (a .j)) (cutOf s)
+    (r .before .kept .ensures) (r .kept2 .ensures) (q .before .before .kept3 .ensures) (q .before .kept4 .ensures) (q .cut-at .ensures)
+    ∙ new-first (keptOf (a .links .now) k) words (a .p .digits) (cutOf s) (a .w .wire) (a .i) (a .j) (a .m) (t .if2 .taken)) (d .link-or-way .ensures)
 
 path-or-way-requires : tie.Need-path-or-way-requires
 path-or-way-requires c κs =
-    let a = (c .before .before .before .before .before .before .before .before .before .before .args) in
+    let t = c .before in
+    let q = t .before in
+    let s = start (read q) in
+    let a = s .args in
     let k = a .p .candidates in
-    (room-less (a .w) _ _ (omega (arith, long-later (keptOf (a .links .now) k) (keptOf (a .words .now) k) (a .p .digits) (a .w .wire) (a .i) (a .j) (a .m) ((c .before .before .before .before .if1) .left) ((c .before .if2) .left))) ((c .before .before .before .before .before .before .before .before .before .before .pre) .1 .0), below (c .before .before))
+    let b = below q in
+    record {
+      room = room-less (a .w) _ _ (omega (arith, long-later (keptOf (a .links .now) k) (keptOf (a .words .now) k) (a .p .digits) (cutOf s) (a .w .wire) (a .i) (a .j) (within s) (a .m) (q .before .before .before .if1 .left) (t .if2 .left), q .cut-at .ensures)) (s .pre .room);
+      wordBelow = b .word;
+      toBelow = b .to;
+      fromBelow = b .from;
+      within = b .most;
+    }
 
 returns-3 : tie.Need-returns-3
 returns-3 c =
-    let a = (c .before .before .before .before .before .before .before .before .before .before .before .before .before .args) in
+    let d = c .before .before in
+    let t = d .before .before in
+    let q = t .before in
+    let r = read q in
+    let s = start r in
+    let a = s .args in
     let k = a .p .candidates in
     let words = keptOf (a .words .now) k in
-    wrote-as (a .w) (a .table .now) _ _ ((c .before .before .path-or-way) .last .1 .0) ((c .before .before .path-or-way) .result)
-    (later-same (a .w .wire) ((c .before .before .before .before .before .before .before .before .kept2) .result) ((c .before .before .before .before .before .before .kept3) .result) ((c .before .before .before .before .before .kept4) .result) (a .p .digits) (words (a .i) (a .j)) (words (a .i) (a .m - 1)) (words (a .m - 1) (a .j)) ((c .before .before .before .before .before .before .before .before .kept2) .ensures) ((c .before .before .before .before .before .before .kept3) .ensures) ((c .before .before .before .before .before .kept4) .ensures)
-    ∙ new-later (keptOf (a .links .now) k) (keptOf (a .words .now) k) (a .p .digits) (a .w .wire) (a .i) (a .j) (a .m) ((c .before .before .before .before .before .before .before .if1) .left) ((c .before .before .before .before .if2) .left)) ((c .before .before .path-or-way) .ensures)
+    wrote-as (a .w) (a .table .now) _ _ (d .path-or-way .last .1 .0) (d .path-or-way .result)
+    (later-same (a .w .wire) (r .kept2 .result) (q .before .before .kept3 .result) (q .before .kept4 .result) (a .p .digits) (q .cut-at .result) (words (a .i) (a .j)) (words (a .i) (a .m - 1)) (words (a .m - 1) (a .j)) (cutOf s)
+    (r .kept2 .ensures) (q .before .before .kept3 .ensures) (q .before .kept4 .ensures) (q .cut-at .ensures)
+    ∙ new-later (keptOf (a .links .now) k) words (a .p .digits) (cutOf s) (a .w .wire) (a .i) (a .j) (a .m) (q .before .before .before .if1 .left) (t .if2 .left)) (d .path-or-way .ensures)
 
 add-masked : tie.Need-add-masked
-add-masked c = search needs
+add-masked c = omega (arith, start (c .before .before .before) .pre .kept .ranked .w-most)
+
+sub-kept : tie.Need-sub-kept
+sub-kept c = let n = c .if1 .left in omega arith
+
+sub-kept-2 : tie.Need-sub-kept-2
+sub-kept-2 c = let n = c .before .if1 .left in omega arith
 
 same-length : tie.Need-same-length
 same-length c = search needs
-
-sub-kept : tie.Need-sub-kept
-sub-kept c = search needs
-
-sub-kept-2 : tie.Need-sub-kept-2
-sub-kept-2 c = search needs
 
 same-length-2 : tie.Need-same-length-2
 same-length-2 c = search needs
@@ -135,6 +201,7 @@ new-word-spec =
     kept-requires-3
     sub-kept-2
     kept-requires-4
+    cut-at-requires
     link-or-way-requires
     same-length-2
     returns-2

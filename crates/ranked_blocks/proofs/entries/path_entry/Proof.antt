@@ -9,7 +9,8 @@ use native.Mathlib.Omega.{arith}
 use borrow.Author.Needs.{needs}
 use lib.ListN.{length, set}
 use Rattle.gate_words.proofs.Writing.{room-less, wrote-nothing, wrote-as}
-use Rattle.ranked_circuit.specs.Stages.{stays}
+use Rattle.ranked_circuit.specs.Stages.{stays, cutAt}
+use Rattle.ranked_circuit.proofs.StageLaws.{cut-most}
 use Rattle.ranked_blocks.specs.Ranked.{keptOf}
 use Rattle.ranked_blocks.proofs.Entering.{place, long-word, path-kept, path-moved, keeps, stores}
 use Rattle.ranked_blocks.proofs.entries.path_entry.Statement.{statement}
@@ -26,7 +27,7 @@ returns c =
     let a = (c .before .before .before .before .before .before .before .args) in
     let k = a .p .candidates in
     let q : stays (a .m) (a .e / k) (a .e % k) ≡ true = sym ((c .before .stays) .ensures) ∙ (c .if1) .taken in (
-      wrote-as (a .w) (a .table .now) [] _ (a .table .now) (a .w) (path-kept (keptOf (a .links .now) k) (keptOf (a .words .now) k) (a .p .digits) (a .w .wire) (a .e / k) (a .e % k) (a .m) q) (wrote-nothing (a .w) (a .table .now)),
+      wrote-as (a .w) (a .table .now) [] _ (a .table .now) (a .w) (path-kept k (keptOf (a .links .now) k) (keptOf (a .words .now) k) (a .p .digits) (a .w .wire) (a .e / k) (a .e % k) (a .m) q) (wrote-nothing (a .w) (a .table .now)),
       keeps (stays (a .m) (a .e / k) (a .e % k)) (a .words .now) _ q,
     )
 
@@ -38,19 +39,22 @@ new-word-requires c κs =
     let a = (c .before .before .before .before .before .before .before .before .before .args) in
     let k = a .p .candidates in
     let t = place k (a .e) ((c .before .before .before .before .before .before .before .before .before .pre) .0 .k-most) ((c .before .before .before .before .before .before .before .before .before .pre) .1 .1 .0 .1) in
-    let q = moves (c .before .before) in (
-      (c .before .before .before .before .before .before .before .before .before .pre) .0,
-      (
-        room-less (a .w) _ _ (omega (arith, ap length (path-moved (keptOf (a .links .now) k) (keptOf (a .words .now) k) (a .p .digits) (a .w .wire) (a .e / k) (a .e % k) (a .m) q))) ((c .before .before .before .before .before .before .before .before .before .pre) .1 .0),
-        (((c .before .before .before .before .before .before .before .before .before .pre) .1 .1 .0 .0, t .row, t .column, q, (c .before .before .before .before .before .before .before .before .before .pre) .1 .1 .0 .2, (c .before .before .before .before .before .before .before .before .before .pre) .1 .1 .0 .3), (c .before .before .before .before .before .before .before .before .before .pre) .1 .1 .1),
-      ),
-    )
+    let q = moves (c .before .before) in
+    let g = (c .before .before .before .before .before .before .before .before .before .pre) in
+    record {
+      kept = record { ranked = g .0; words-long = g .1 .1 .0 .3; wires-long = g .1 .1 .0 .2; below = g .1 .1 .1 };
+      room = room-less (a .w) _ _ (omega (arith, ap length (path-moved k (keptOf (a .links .now) k) (keptOf (a .words .now) k) (a .p .digits) (a .w .wire) (a .e / k) (a .e % k) (a .m) q))) (g .1 .0);
+      stage = g .1 .1 .0 .0;
+      row = t .row;
+      column = t .column;
+      moves = q;
+    }
 
 ended : (c : tie.After-new-word) → suc ((c .before .before .before .before .before .before .before .before .before .before .args) .p .digits) ≤ (c .new-word) .result .wire
 ended c =
     let a = (c .before .before .before .before .before .before .before .before .before .before .args) in
     let k = a .p .candidates in
-    omega (arith, (c .new-word) .ensures .wires, long-word (keptOf (a .links .now) k) (keptOf (a .words .now) k) (a .p .digits) (a .w .wire) (a .e / k) (a .e % k) (a .m))
+    omega (arith, (c .new-word) .ensures .wires, long-word (keptOf (a .links .now) k) (keptOf (a .words .now) k) (a .p .digits) (cutAt k (a .p .digits) (a .m) (a .e / k) (a .e % k)) (a .w .wire) (a .e / k) (a .e % k) (cut-most k (a .p .digits) (a .m) (a .e / k) (a .e % k)) (a .m))
 
 sub-words : tie.Need-sub-words
 sub-words c = omega (arith, ended (c .before .before .before .before))
@@ -68,7 +72,7 @@ returns-2 c =
     let next = (c .before .before .before .before .new-word) .result in
     let q = moves (c .before .before .before .before .before .before .before) in
     let back : next .wire - a .p .digits - 1 ≡ next .wire - suc (a .p .digits) = omega arith in (
-      wrote-as (a .w) (a .table .now) _ _ ((c .before .before .before .before .new-word) .last .1 .0) next (path-moved (keptOf (a .links .now) k) (keptOf (a .words .now) k) (a .p .digits) (a .w .wire) (a .e / k) (a .e % k) (a .m) q) ((c .before .before .before .before .new-word) .ensures),
+      wrote-as (a .w) (a .table .now) _ _ ((c .before .before .before .before .new-word) .last .1 .0) next (path-moved k (keptOf (a .links .now) k) (keptOf (a .words .now) k) (a .p .digits) (a .w .wire) (a .e / k) (a .e % k) (a .m) q) ((c .before .before .before .before .new-word) .ensures),
       stores (stays (a .m) (a .e / k) (a .e % k)) (a .words .now) _ _ q (ap (set (a .words .now) (a .e)) back),
     )
 

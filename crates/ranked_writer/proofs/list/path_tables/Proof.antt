@@ -57,7 +57,7 @@ loop-holds c =
     )
 
 -- the stage under the wires that are kept
-same : (c : tie.Then1 Inv-loop μ-loop) → table ((c .before .before .loop) .next .wire) ((c .before .before .before .before .before .before .before .before .before .before .before .before .before .before .args) .p .candidates) (pathBlock (keptOf ((c .before .before .before .before .before .before .before .before .first-tables) .last .1 .1 .0) ((c .before .before .before .before .before .before .before .before .before .before .before .before .before .before .args) .p .candidates)) (keptOf ((c .before .before .loop) .words) ((c .before .before .before .before .before .before .before .before .before .before .before .before .before .before .args) .p .candidates)) ((c .before .before .before .before .before .before .before .before .before .before .before .before .before .before .args) .p .digits) ((c .before .before .loop) .m)) ≡ table (endOf ((c .before .before .before .before .before .before .before .before .before .before .before .before .before .before .args) .p .candidates) ((c .before .before .before .before .before .before .before .before .before .before .before .before .before .before .args) .p .ballots) ((c .before .before .before .before .before .before .before .before .before .before .before .before .before .before .args) .p .digits) ((c .before .before .loop) .m)) ((c .before .before .before .before .before .before .before .before .before .before .before .before .before .before .args) .p .candidates) (pathBlock (linkWire ((c .before .before .before .before .before .before .before .before .before .before .before .before .before .before .args) .p .candidates) ((c .before .before .before .before .before .before .before .before .before .before .before .before .before .before .args) .p .ballots) ((c .before .before .before .before .before .before .before .before .before .before .before .before .before .before .args) .p .digits)) (wordsAt ((c .before .before .before .before .before .before .before .before .before .before .before .before .before .before .args) .p) ((c .before .before .loop) .m)) ((c .before .before .before .before .before .before .before .before .before .before .before .before .before .before .args) .p .digits) ((c .before .before .loop) .m))
+same : (c : tie.Then1 Inv-loop μ-loop) → table ((c .before .before .loop) .next .wire) ((c .before .before .before .before .before .before .before .before .before .before .before .before .before .before .args) .p .candidates) (pathBlock ((c .before .before .before .before .before .before .before .before .before .before .before .before .before .before .args) .p .candidates) (keptOf ((c .before .before .before .before .before .before .before .before .first-tables) .last .1 .1 .0) ((c .before .before .before .before .before .before .before .before .before .before .before .before .before .before .args) .p .candidates)) (keptOf ((c .before .before .loop) .words) ((c .before .before .before .before .before .before .before .before .before .before .before .before .before .before .args) .p .candidates)) ((c .before .before .before .before .before .before .before .before .before .before .before .before .before .before .args) .p .digits) ((c .before .before .loop) .m)) ≡ table (endOf ((c .before .before .before .before .before .before .before .before .before .before .before .before .before .before .args) .p .candidates) ((c .before .before .before .before .before .before .before .before .before .before .before .before .before .before .args) .p .ballots) ((c .before .before .before .before .before .before .before .before .before .before .before .before .before .before .args) .p .digits) ((c .before .before .loop) .m)) ((c .before .before .before .before .before .before .before .before .before .before .before .before .before .before .args) .p .candidates) (pathBlock ((c .before .before .before .before .before .before .before .before .before .before .before .before .before .before .args) .p .candidates) (linkWire ((c .before .before .before .before .before .before .before .before .before .before .before .before .before .before .args) .p .candidates) ((c .before .before .before .before .before .before .before .before .before .before .before .before .before .before .args) .p .ballots) ((c .before .before .before .before .before .before .before .before .before .before .before .before .before .before .args) .p .digits)) (wordsAt ((c .before .before .before .before .before .before .before .before .before .before .before .before .before .before .args) .p) ((c .before .before .loop) .m)) ((c .before .before .before .before .before .before .before .before .before .before .before .before .before .before .args) .p .digits) ((c .before .before .loop) .m))
 same c =
     let p = (c .before .before .before .before .before .before .before .before .before .before .before .before .before .before .args) .p in
     let l = (c .before .before .loop) in
@@ -85,7 +85,7 @@ add-m c = omega (arith, (c .before .before .before .before .before .before .befo
 loop-less : tie.Need-loop-less Inv-loop μ-loop
 loop-less c = omega (arith, (c .before .before .before .before .before .before .before .before .if1) .taken)
 
-stages-are : (p : Ranks) (m : ℕ) → stages p m ++ table (endOf (p .candidates) (p .ballots) (p .digits) m) (p .candidates) (pathBlock (linkWire (p .candidates) (p .ballots) (p .digits)) (wordsAt p m) (p .digits) m) ≡ stages p (suc m)
+stages-are : (p : Ranks) (m : ℕ) → stages p m ++ table (endOf (p .candidates) (p .ballots) (p .digits) m) (p .candidates) (pathBlock (p .candidates) (linkWire (p .candidates) (p .ballots) (p .digits)) (wordsAt p m) (p .digits) m) ≡ stages p (suc m)
 stages-are p m = unfold stagesTo in refl
 
 loop-again : tie.Need-loop-again Inv-loop μ-loop

@@ -1,4 +1,4 @@
--- `ranked_blocks::meeting::meeting` meets its contract: four comparisons, and the gates that decide.
+-- `ranked_words::meeting::meeting` meets its contract: four comparisons, and the gates that decide.
 -- Assumes nothing.
 use mathlib.Core.Path.{_≡_, refl, ap}
 use mathlib.Core.List.{List, [], _∷_, _++_}
@@ -12,8 +12,8 @@ use Rattle.gate_words.proofs.Standing.{Stands, stands, stands-after, room-of, w
 use Rattle.ranked_circuit.specs.Blocks.{compare, strictly}
 use Rattle.ranked_circuit.specs.Contests.{meeting}
 use Rattle.ranked_circuit.proofs.BlockLaws.{length-whole, length-strictly}
-use Rattle.ranked_blocks.proofs.meeting.meeting.Statement.{statement}
-use Rattle.ranked_blocks.proofs.meeting.meeting.Tie as tie
+use Rattle.ranked_words.proofs.meeting.meeting.Statement.{statement}
+use Rattle.ranked_words.proofs.meeting.meeting.Tie as tie
 
 -- the start, and after each comparison
 abbrev start : tie.After-compare → tie.Start
@@ -41,7 +41,7 @@ single w = 2 + 2 * w
 compare-requires : tie.Need-compare-requires
 compare-requires c κs =
     let s = c .before .before in
-    (room-less (s .args .w) _ _ (omega arith) (s .pre .room), (s .pre .li-below, s .pre .lj-below))
+    record { room = room-less (s .args .w) _ _ (omega arith) (s .pre .room); firstBelow = s .pre .li-below; secondBelow = s .pre .lj-below }
 
 one : (c : tie.After-compare) → Stands (c .compare .result) (start c .args .w .wire + both (start c .args .digits)) (7 * start c .args .digits + 11)
 one c =
@@ -53,7 +53,11 @@ compare-requires-2 : tie.Need-compare-requires-2
 compare-requires-2 c κs =
     let p = c .before .before .before in
     let s = start p in
-    (room-of (p .compare .result) _ _ _ (one p) (omega arith), (omega (arith, s .pre .ij-below, one p .place), omega (arith, s .pre .ji-below, one p .place)))
+    record {
+      room = room-of (p .compare .result) _ _ _ (one p) (omega arith);
+      firstBelow = omega (arith, s .pre .ij-below, one p .place);
+      secondBelow = omega (arith, s .pre .ji-below, one p .place);
+    }
 
 two : (c : tie.After-compare2) → Stands (c .compare2 .result) (start (first c) .args .w .wire + both (start (first c) .args .digits) + both (start (first c) .args .digits)) (4 * start (first c) .args .digits + 8)
 two c =

@@ -1,4 +1,4 @@
--- `ranked_blocks::blocks::compare` meets its contract: the lowest digits, then the others.
+-- `ranked_words::blocks::compare` meets its contract: the lowest digits, then the others.
 -- Assumes nothing.
 use mathlib.Core.Path.{_≡_, ap}
 use Prim.Native.Nat.{ℕ, _+_}
@@ -7,9 +7,9 @@ use borrow.Author.Needs.{needs}
 use Rattle.gate_words.specs.Comparison.{compareWords}
 use Rattle.gate_words.proofs.Laws.{length-first-digit, length-compare}
 use Rattle.ranked_circuit.specs.Blocks.{compare}
-use Rattle.ranked_blocks.proofs.Behind.{behind, room-behind}
-use Rattle.ranked_blocks.proofs.blocks.compare.Statement.{statement}
-use Rattle.ranked_blocks.proofs.blocks.compare.Tie as tie
+use Rattle.ranked_words.proofs.Behind.{behind, room-behind}
+use Rattle.ranked_words.proofs.blocks.compare.Statement.{statement}
+use Rattle.ranked_words.proofs.blocks.compare.Tie as tie
 use Rattle.gate_words.proofs.Standing.{wrote-then}
 
 first-digit-requires : tie.Need-first-digit-requires
@@ -38,9 +38,9 @@ compare-words-requires c κs =
     let n = (c .before .before .before .first-digit) .result .wire in
     record {
       room = room-behind (a .w) (a .table .now) _ ((c .before .before .before .first-digit) .last .1 .0) ((c .before .before .before .first-digit) .result) 3 _ _ ((c .before .before .before .first-digit) .ensures) (length-first-digit (a .w .wire) (a .x) (a .y))
-          (omega (arith, length-compare n (a .x + 1) (a .y + 1) (a .w .wire + 1) (a .w .wire + 2) (a .digits))) ((c .before .before .before .before .before .before .pre) .0);
-      firstBelow = omega (arith, (c .before .before .before .before .before .before .pre) .1);
-      secondBelow = omega (arith, (c .before .before .before .before .before .before .pre) .1);
+          (omega (arith, length-compare n (a .x + 1) (a .y + 1) (a .w .wire + 1) (a .w .wire + 2) (a .digits))) (c .before .before .before .before .before .before .pre .room);
+      firstBelow = omega (arith, c .before .before .before .before .before .before .pre .firstBelow);
+      secondBelow = omega (arith, c .before .before .before .before .before .before .pre .secondBelow);
     }
 
 returns : tie.Need-returns

@@ -8,7 +8,7 @@ ghost use Prim.Native.Nat.{_+_, _-_};
 ghost use Rattle.gate_words.specs.Gates.{andOf, muxOf};
 ghost use Rattle.gate_words.specs.Writing.{Wrote};
 ghost use Rattle.ranked_circuit.specs.Contests as spec;
-ghost use Rattle.ranked_blocks.specs.inner.Meeting.{Deciding, Meeting};
+ghost use Rattle.ranked_words.specs.inner.Meeting.{Deciding, Meeting};
 
 // Who beats whom, after the comparisons: the first ends before wire a, the next before b, the next before s.
 fn decide(w: Writer, table: &mut [u32], a: u32, b: u32, s: u32, mi: u32, mj: u32) -> Writer
@@ -26,8 +26,8 @@ fn decide(w: Writer, table: &mut [u32], a: u32, b: u32, s: u32, mi: u32, mj: u32
 }
 
 // The meeting of i and j: by the words of the last candidate l to i and to j, those of i and j to each other, and the
-// wires that say whether i and j beat l.
-pub(crate) fn meeting(
+// wires that tell whether i and j beat l.
+pub fn meeting(
     w: Writer,
     table: &mut [u32],
     li: u32,

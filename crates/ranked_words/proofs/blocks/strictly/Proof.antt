@@ -1,5 +1,4 @@
--- `ranked_blocks::blocks::strictly` meets its contract: the lowest digits, in which others the words differ, then the
--- comparison.
+-- `ranked_words::blocks::strictly` meets its contract: the lowest digits, where the others differ, then the comparison.
 -- Assumes nothing.
 use mathlib.Core.Path.{_≡_, refl, ap}
 use mathlib.Core.List.{[], _∷_}
@@ -13,8 +12,8 @@ use Rattle.gate_words.proofs.Emitting.{and-wrote, xor-wrote}
 use Rattle.gate_words.proofs.Writing.{wrote-both, room-less}
 use Rattle.gate_words.proofs.Standing.{Stands, stands, stands-after, room-of, wrote-then}
 use Rattle.ranked_circuit.specs.Blocks.{strictly}
-use Rattle.ranked_blocks.proofs.blocks.strictly.Statement.{statement}
-use Rattle.ranked_blocks.proofs.blocks.strictly.Tie as tie
+use Rattle.ranked_words.proofs.blocks.strictly.Statement.{statement}
+use Rattle.ranked_words.proofs.blocks.strictly.Tie as tie
 
 -- the start, after the lowest digits, and after the differences
 abbrev start : tie.After-emit → tie.Start

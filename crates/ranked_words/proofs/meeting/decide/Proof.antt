@@ -1,4 +1,4 @@
--- `ranked_blocks::meeting::decide` meets its contract: four gates.
+-- `ranked_words::meeting::decide` meets its contract: four gates.
 -- Assumes nothing.
 use mathlib.Core.Path.{refl}
 use Prim.Native.Nat.{_+_, _-_}
@@ -7,8 +7,8 @@ use borrow.Author.Needs.{needs}
 use Rattle.gate_words.proofs.Writing.{room-less}
 use Rattle.gate_words.proofs.Emitting.{and-wrote, mux-wrote, wrote-four}
 use Rattle.gate_words.proofs.Standing.{Stands, stands, stands-after, room-of}
-use Rattle.ranked_blocks.proofs.meeting.decide.Statement.{statement}
-use Rattle.ranked_blocks.proofs.meeting.decide.Tie as tie
+use Rattle.ranked_words.proofs.meeting.decide.Statement.{statement}
+use Rattle.ranked_words.proofs.meeting.decide.Tie as tie
 
 -- the start, and after each gate
 abbrev start : tie.After-emit → tie.Start

@@ -1,4 +1,4 @@
--- `ranked_blocks::blocks::order` meets its contract: in which digits the words differ, then the comparison.
+-- `ranked_words::blocks::order` meets its contract: where the words differ, then the comparison.
 -- Assumes nothing.
 use mathlib.Core.Path.{_≡_, ap}
 use Prim.Native.Nat.{ℕ, _+_}
@@ -7,9 +7,9 @@ use borrow.Author.Needs.{needs}
 use Rattle.gate_words.specs.Comparison.{above}
 use Rattle.gate_words.proofs.Laws.{length-differences}
 use Rattle.ranked_circuit.specs.Blocks.{order}
-use Rattle.ranked_blocks.proofs.Behind.{behind, room-behind}
-use Rattle.ranked_blocks.proofs.blocks.order.Statement.{statement}
-use Rattle.ranked_blocks.proofs.blocks.order.Tie as tie
+use Rattle.ranked_words.proofs.Behind.{behind, room-behind}
+use Rattle.ranked_words.proofs.blocks.order.Statement.{statement}
+use Rattle.ranked_words.proofs.blocks.order.Tie as tie
 use Rattle.gate_words.proofs.Standing.{wrote-then}
 
 add-differences : tie.Need-add-differences
@@ -33,9 +33,9 @@ above-requires c κs =
     let a = (c .before .before .before .before .before .before .args) in
     let e = differ (c .before .before .before) in
     record {
-      room = room-behind (a .w) (a .table .now) _ ((c .before .before .before .differences) .last .1 .0) ((c .before .before .before .differences) .result) (a .digits) (a .digits) _ ((c .before .before .before .differences) .ensures) (length-differences (a .x + 1) (a .y + 1) (a .digits)) (omega arith) ((c .before .before .before .before .before .before .pre) .0);
-      firstBelow = omega (arith, (c .before .before .before .before .before .before .pre) .1);
-      secondBelow = omega (arith, (c .before .before .before .before .before .before .pre) .1);
+      room = room-behind (a .w) (a .table .now) _ ((c .before .before .before .differences) .last .1 .0) ((c .before .before .before .differences) .result) (a .digits) (a .digits) _ ((c .before .before .before .differences) .ensures) (length-differences (a .x + 1) (a .y + 1) (a .digits)) (omega arith) (c .before .before .before .before .before .before .pre .room);
+      firstBelow = omega arith;
+      secondBelow = omega (arith, c .before .before .before .before .before .before .pre .firstBelow);
     }
 
 returns : tie.Need-returns
