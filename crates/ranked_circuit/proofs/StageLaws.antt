@@ -108,7 +108,7 @@ down-last at zero = omega arith
 down-last at (suc w) = omega arith
 
 module _ (W : ℕ → ℕ) (b : Binary W) where
-  -- a smaller word, and what stands behind it
+  -- a smaller word, and what comes after it
   behind-smaller : (at x y w h : ℕ) (gs : List Gate) → h ≤ w → Holds W at (smaller at x y w h ++ gs) → Holds W at (smaller at x y w h) × Holds W (at + orderSize w h + suc w) gs
   behind-smaller at x y w h gs q g =
       let p = holds-append W at (smaller at x y w h) gs g in
@@ -172,7 +172,7 @@ module _ (W : ℕ → ℕ) (b : Binary W) where
       let e : to + suc w + orderSize w h ≡ at + (orderSize w h + suc w + orderSize w h) = omega arith in
       sym (ap (λ (m : ℕ). number W m 1 (suc w)) e) ∙ omega (arith, r, s)
 
-  -- the same where the path so far counts only if a link is there
+  -- the same if the path so far counts only if there is a link
   pub first-way-law : (links words v : ℕ → ℕ → ℕ) (w h at i j c d : ℕ) → h ≤ w → number W (words i j) 1 (suc w) ≡ v i j → (v j i < v i j → W (links i j) ≡ 1) × (v i j ≤ v j i → W (links i j) ≡ 0) →
       number W (words i 0) 1 (suc w) ≡ c → number W (words 0 j) 1 (suc w) ≡ d →
       Holds W at (smaller at (words i 0) (words 0 j) w h ++ largerIf (at + orderSize w h + suc w) (links i j) (words i j) (at + orderSize w h) w h)

@@ -1,5 +1,5 @@
 -- The blocks of a ranked tasting's circuit that `gate_words` lacks: two whole words compared, and the smaller or
--- larger of them. A word has a digit and w more.
+-- larger of them. A word has one digit and w more.
 use mathlib.Core.List.{List, [], _∷_, _++_}
 use Prim.Native.Nat.{ℕ, zero, suc, _+_, _-_, _*_}
 use Rattle.gates.specs.Gate.{Gate}
@@ -43,7 +43,7 @@ orderSize w h = 2 * w + (h - 1)
 unfoldable pub cutEnd : ℕ → ℕ → ℕ → ℕ → ℕ
 cutEnd n x w h = chainEnd n x (orderSize w h)
 
--- The smaller of two words, the larger of them, and the larger where wire f is 1 but the word at y where it is 0.
+-- The smaller of two words, the larger of them, and the larger if wire f is 1 but the word at y if it is 0.
 unfoldable pub smaller : ℕ → ℕ → ℕ → ℕ → ℕ → List Gate
 smaller n x y w h = orderCut n x y w h ++ choose (cutEnd n x w h) y x (suc w)
 

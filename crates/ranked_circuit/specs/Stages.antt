@@ -38,8 +38,8 @@ stays (suc l) i j = eqb i l || eqb j l || eqb i j
 unfoldable pub cutAt : ℕ → ℕ → ℕ → ℕ → ℕ → ℕ
 cutAt k w m i j = cond (ltb m (k - 1) && (eqb i m || eqb j m)) (suc w / 2) 0
 
--- The word of i and j after stage m. First the number of ballots where there is a link, else 0; then the stronger of
--- the path so far and the way over l. The first detour finds numbers of ballots, which count where there is a link.
+-- The word of i and j after stage m. First the number of ballots if there is a link, else 0; then the stronger of the
+-- path so far and the way over l. The first detour finds numbers of ballots, which count only if there is a link.
 unfoldable pub newWord : (ℕ → ℕ → ℕ) → (ℕ → ℕ → ℕ) → ℕ → ℕ → ℕ → ℕ → ℕ → ℕ → List Gate
 newWord links words w h zero at i j = masked (links i j) (words i j) (suc w)
 newWord links words w h (suc zero) at i j =

@@ -1,3 +1,3 @@
--- What the functions of this crate ask; no entry point's contract needs it.
+-- What the functions of this crate ask for; no entry point's contract needs it.
 pub mod Orders
 pub mod Meeting

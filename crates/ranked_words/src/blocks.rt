@@ -87,7 +87,7 @@ fn one_of(
     told.choose(table, end, more, less, digits + 1)
 }
 
-// The larger of two words where wire f is 1, else the word at y.
+// The larger of two words if wire f is 1, else the word at y.
 fn larger_if(w: Writer, table: &mut [u32], f: u32, x: u32, y: u32, digits: u32, cut: u32) -> Writer
     requires { ⌜ CutReady w (orderSize digits cut + 1 + suc digits) x y digits cut ⌝ }
     ensures { λ r. ⌜ Wrote w (now (table .entry)) (largerIf (w .wire) f x y digits cut) (now (table .exit)) r ⌝ }
@@ -99,7 +99,7 @@ fn larger_if(w: Writer, table: &mut [u32], f: u32, x: u32, y: u32, digits: u32, 
     both.choose(table, told.wire, x, y, digits + 1)
 }
 
-// The stronger of the link, if wire f says that there is one, and of the way whose links are x and y.
+// The stronger of the link, if wire f says that there is one, and the way whose links are x and y.
 pub fn link_or_way(
     w: Writer,
     table: &mut [u32],
@@ -121,7 +121,7 @@ pub fn link_or_way(
     larger_if(weaker, table, f, v, weaker.wire - digits - 1, digits, cut)
 }
 
-// The stronger of the path so far and of the way whose parts are x and y.
+// The stronger of the path so far and the way whose parts are x and y.
 pub fn path_or_way(
     w: Writer,
     table: &mut [u32],

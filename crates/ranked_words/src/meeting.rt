@@ -26,7 +26,7 @@ fn decide(w: Writer, table: &mut [u32], a: u32, b: u32, s: u32, mi: u32, mj: u32
 }
 
 // The meeting of i and j: by the words of the last candidate l to i and to j, those of i and j to each other, and the
-// wires that tell whether i and j beat l.
+// wires that say whether i and j beat l.
 pub fn meeting(
     w: Writer,
     table: &mut [u32],
