@@ -2,7 +2,10 @@
 use c_answers::array::SHORT_ANSWER;
 use c_answers::size::SIZE_ANSWER;
 use c_answers::size::put_size;
+use jury::reason::Refusal;
 use jury::shape::Shape;
+use jury::shape::ShapeResult;
+use tally::answer::Answer;
 ghost use mathlib.Core.Path.{_≡_};
 ghost use mathlib.Core.List.{[], _∷_};
 ghost use Rattle.c_answers.specs.Numbers.{shapeOf};
@@ -38,10 +41,8 @@ pub extern "C" fn jugy_run_batch(
     if answer.len() < SIZE_ANSWER {
         return SHORT_ANSWER;
     }
-    let shape = Shape {
-        candidates,
-        grades,
-        ballots,
+    let ShapeResult::Within(shape) = Shape::new(candidates, grades, ballots) else {
+        return put_size(Answer::Refused(Refusal::Shape), answer);
     };
     let outcome = batch::run::run(shape, table, words, tape, wires, board);
     put_size(outcome, answer)

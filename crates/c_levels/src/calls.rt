@@ -1,8 +1,11 @@
 // Levels, for C.
 use c_answers::array::SHORT_ANSWER;
 use c_answers::array::put;
+use jury::reason::Refusal;
 use jury::shape::Shape;
+use jury::shape::ShapeResult;
 use levels::answer::Answer;
+use levels::answer::LevelRefusal;
 ghost use mathlib.Core.Path.{_≡_};
 ghost use mathlib.Core.List.{[], _∷_};
 ghost use Prim.Native.Nat.{_≤_};
@@ -58,10 +61,11 @@ pub extern "C" fn jugy_levels(
     if answer.len() < DEPTH_ANSWER {
         return SHORT_ANSWER;
     }
-    let shape = Shape {
-        candidates,
-        grades,
-        ballots,
+    let ShapeResult::Within(shape) = Shape::new(candidates, grades, ballots) else {
+        return put_depths(
+            Answer::Refused(LevelRefusal::OfCore(Refusal::Shape)),
+            answer,
+        );
     };
     let outcome = levels::write::write(shape, table, levels);
     put_depths(outcome, answer)

@@ -4,7 +4,11 @@ use c_answers::size::SIZE_ANSWER;
 use c_answers::size::put_size;
 use c_levels::calls::DEPTH_ANSWER;
 use c_levels::calls::put_depths;
+use jury::reason::Refusal;
 use jury::shape::Shape;
+use jury::shape::ShapeResult;
+use levels::answer::LevelRefusal;
+use tally::answer::Answer;
 ghost use mathlib.Core.Path.{_≡_};
 ghost use mathlib.Core.List.{[], _∷_};
 ghost use Rattle.c_answers.specs.Numbers.{shapeOf};
@@ -36,10 +40,8 @@ pub extern "C" fn jugy_trustee_start(
     if answer.len() < SIZE_ANSWER {
         return SHORT_ANSWER;
     }
-    let shape = Shape {
-        candidates,
-        grades,
-        ballots,
+    let ShapeResult::Within(shape) = Shape::new(candidates, grades, ballots) else {
+        return put_size(Answer::Refused(Refusal::Shape), answer);
     };
     let outcome = trustee_alone::start::start(
         shape,
@@ -83,10 +85,11 @@ pub extern "C" fn jugy_trustee_round(
     if answer.len() < DEPTH_ANSWER {
         return SHORT_ANSWER;
     }
-    let shape = Shape {
-        candidates,
-        grades,
-        ballots,
+    let ShapeResult::Within(shape) = Shape::new(candidates, grades, ballots) else {
+        return put_depths(
+            levels::answer::Answer::Refused(LevelRefusal::OfCore(Refusal::Shape)),
+            answer,
+        );
     };
     let outcome = trustee_alone::round::round(
         shape,
@@ -121,10 +124,8 @@ pub extern "C" fn jugy_trustee_finish(
     if answer.len() < SIZE_ANSWER {
         return SHORT_ANSWER;
     }
-    let shape = Shape {
-        candidates,
-        grades,
-        ballots,
+    let ShapeResult::Within(shape) = Shape::new(candidates, grades, ballots) else {
+        return put_size(Answer::Refused(Refusal::Shape), answer);
     };
     let outcome = trustee_alone::finish::finish(shape, table, wires);
     put_size(outcome, answer)

@@ -3,7 +3,10 @@ use basics::byte::wide;
 use c_answers::array::SHORT_ANSWER;
 use c_answers::size::SIZE_ANSWER;
 use c_answers::size::put_size;
+use jury::reason::Refusal;
 use jury::shape::Shape;
+use jury::shape::ShapeResult;
+use tally::answer::Answer;
 use trustees::run::Tallied;
 use trustees::run::run;
 ghost use mathlib.Core.Path.{_≡_};
@@ -83,10 +86,14 @@ pub extern "C" fn jugy_trustees(
     if answer.len() < TALLY_ANSWER {
         return SHORT_ANSWER;
     }
-    let shape = Shape {
-        candidates,
-        grades,
-        ballots,
+    let ShapeResult::Within(shape) = Shape::new(candidates, grades, ballots) else {
+        return put_tally(
+            Tallied {
+                answer: Answer::Refused(Refusal::Shape),
+                closing: [0u8; 8],
+            },
+            answer,
+        );
     };
     let outcome = run(
         shape,

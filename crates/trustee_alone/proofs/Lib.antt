@@ -1,4 +1,5 @@
 pub mod Tests
+pub mod Outside
 pub mod Sizes
 pub mod Passed
 pub mod Memory
