@@ -102,7 +102,8 @@ module _ {A : Type 0} where
 
   -- a turn whose entry is there already
   pub fill-skip : (n i : ℕ) (new old : ℕ → A) → i < n → new i ≡ old i → tabulate n (upTo i new old) ≡ tabulate n (upTo (suc i) new old)
-  fill-skip n i new old h e = tabulate-cong n (upTo i new old) (upTo (suc i) new old) (λ j l. ⊎-elim (λ s. same j s) (upTo-kept i j new old) (same-or-not j i))
+  fill-skip n i new old h e = tabulate-cong n (upTo i new old) (upTo (suc i) new old)
+      (λ j l. ⊎-elim (λ s. same j s) (upTo-kept i j new old) (same-or-not j i))
     where
       here : upTo i new old i ≡ upTo (suc i) new old i
       here = upTo-old i i new old (omega arith) ∙ sym e ∙ sym (upTo-new (suc i) i new old (omega arith))

@@ -22,7 +22,8 @@ unfolding trailingZeros
 zeros-below zero w j h = absurd (omega arith)
 zeros-below (suc m) w j h = go (w % 2) refl (λ i. zeros-below m (w / 2) i) j h
   where
-    go : (r : ℕ) → w % 2 ≡ r → ((i : ℕ) → i < trailingZeros m (w / 2) → lane i (w / 2) ≡ 0) → (j : ℕ) → j < under r (trailingZeros m (w / 2)) → lane j w ≡ 0
+    go : (r : ℕ) → w % 2 ≡ r → ((i : ℕ) → i < trailingZeros m (w / 2) → lane i (w / 2) ≡ 0) → (j : ℕ) → j
+        < under r (trailingZeros m (w / 2)) → lane j w ≡ 0
     go zero e rest zero h = lane-first w ∙ e
     go zero e rest (suc j) h = lane-next j w ∙ rest j (omega arith)
     go (suc r) e rest j h = absurd (omega arith)
@@ -32,7 +33,8 @@ unfolding trailingZeros
 one-there zero w h = absurd (omega arith)
 one-there (suc m) w h = go (w % 2) refl (one-there m (w / 2)) h
   where
-    go : (r : ℕ) → w % 2 ≡ r → (trailingZeros m (w / 2) < m → lane (trailingZeros m (w / 2)) (w / 2) ≡ 1) → under r (trailingZeros m (w / 2)) < suc m
+    go : (r : ℕ) → w % 2 ≡ r → (trailingZeros m (w / 2) < m → lane (trailingZeros m (w / 2)) (w / 2) ≡ 1)
+        → under r (trailingZeros m (w / 2)) < suc m
         → lane (under r (trailingZeros m (w / 2))) w ≡ 1
     go zero e rest h = lane-next (trailingZeros m (w / 2)) w ∙ rest (omega arith)
     go (suc r) e rest h = lane-first w ∙ omega arith
@@ -68,9 +70,11 @@ first-same (suc m) f g e =
     ap (λ (p : Place). orElse p (f m)) (first-same m f g (λ j h. e j (omega arith))) ∙ ap (orElse (firstOver m g)) (e m (omega arith))
 
 -- if a word marks the juries in which a search finds something, its lowest set bit is the first of them
-pub first-by-bits : (w : ℕ) (found : ℕ → Place) → ((j : ℕ) → j < laneCount → lane j w ≡ foundBit (found j)) → firstSet w ≡ firstOver laneCount (λ j. inJury j (found j))
+pub first-by-bits : (w : ℕ) (found : ℕ → Place) → ((j : ℕ) → j < laneCount → lane j w ≡ foundBit (found j))
+    → firstSet w ≡ firstOver laneCount (λ j. inJury j (found j))
 unfolding firstSet
-first-by-bits w found e = first-same 64 (λ j. cond (eqb (lane j w) 1) (At j) Nowhere) (λ j. inJury j (found j)) (λ j h. by j (found j) (e j h))
+first-by-bits w found e = first-same 64 (λ j. cond (eqb (lane j w) 1) (At j) Nowhere) (λ j. inJury j (found j))
+    (λ j h. by j (found j) (e j h))
   where
     by : (j : ℕ) (p : Place) → lane j w ≡ foundBit p → cond (eqb (lane j w) 1) (At j) Nowhere ≡ inJury j p
     by j p e = ap (λ (x : ℕ). cond (eqb x 1) (At j) Nowhere) e ∙ at p

@@ -30,7 +30,8 @@ bit-test (suc zero) h = refl
 bit-test (suc (suc x)) h = absurd (omega arith)
 
 pub byte-lane : (u : ℕ) (words : List ℕ) (p : ℕ) → lane u (getD words p 0) ≡ bit (eqb (getD (laneOf u words) p 0) 1)
-byte-lane u words p = bit-test (lane u (getD words p 0)) (lane-bit u (getD words p 0)) ∙ ap (λ (x : ℕ). bit (eqb x 1)) (sym (lanes-at u words p))
+byte-lane u words p = bit-test (lane u (getD words p 0)) (lane-bit u (getD words p 0))
+    ∙ ap (λ (x : ℕ). bit (eqb x 1)) (sym (lanes-at u words p))
 
 -- both of two tests
 min-and : (s t : Bool) → min (bit s) (bit t) ≡ bit (s && t)
@@ -42,7 +43,8 @@ min-and false false = refl
 pub both-lane : (u v w : ℕ) (s t : Bool) → lane u v ≡ bit s → lane u w ≡ bit t → lane u (bitAnd v w) ≡ bit (s && t)
 both-lane u v w s t e f = lane-and u v w ∙ ap₂ min e f ∙ min-and s t
 
-pub clash-lane : (u v w place : ℕ) (s t : Bool) → lane u v ≡ bit s → lane u w ≡ bit t → lane u (bitAnd v w) ≡ foundBit (cond (s && t) (At place) Nowhere)
+pub clash-lane : (u v w place : ℕ) (s t : Bool) → lane u v ≡ bit s → lane u w ≡ bit t → lane u (bitAnd v w)
+    ≡ foundBit (cond (s && t) (At place) Nowhere)
 unfolding foundBit
 clash-lane u v w place s t e f = both-lane u v w s t e f ∙ found (s && t)
   where
@@ -76,9 +78,11 @@ pub found-none : (u : ℕ) (f : ℕ → Place) → lane u 0 ≡ foundBit (firstO
 unfolding foundBit firstOver
 found-none u f = lane-none u
 
-pub found-more : (u i : ℕ) (f : ℕ → Place) (acc w : ℕ) → lane u acc ≡ foundBit (firstOver i f) → lane u w ≡ foundBit (f i) → lane u (bitOr acc w) ≡ foundBit (firstOver (i + 1) f)
+pub found-more : (u i : ℕ) (f : ℕ → Place) (acc w : ℕ) → lane u acc ≡ foundBit (firstOver i f) → lane u w
+    ≡ foundBit (f i) → lane u (bitOr acc w) ≡ foundBit (firstOver (i + 1) f)
 unfolding firstOver
-found-more u i f acc w e g = lane-or u acc w ∙ ap₂ max e g ∙ or-found (firstOver i f) (f i) ∙ sym (ap (λ (m : ℕ). foundBit (firstOver m f)) (add-one i))
+found-more u i f acc w e g = lane-or u acc w ∙ ap₂ max e g ∙ or-found (firstOver i f) (f i)
+    ∙ sym (ap (λ (m : ℕ). foundBit (firstOver m f)) (add-one i))
 
 -- a test of some number below m
 or-some : (s t : Bool) → max (bit s) (bit t) ≡ bit (s || t)
@@ -91,6 +95,8 @@ pub some-none : (u : ℕ) (t : ℕ → Bool) → lane u 0 ≡ bit (someBelow 0 t
 unfolding someBelow
 some-none u t = lane-none u
 
-pub some-more : (u i : ℕ) (t : ℕ → Bool) (acc w : ℕ) → lane u acc ≡ bit (someBelow i t) → lane u w ≡ bit (t i) → lane u (bitOr acc w) ≡ bit (someBelow (i + 1) t)
+pub some-more : (u i : ℕ) (t : ℕ → Bool) (acc w : ℕ) → lane u acc ≡ bit (someBelow i t) → lane u w ≡ bit (t i)
+    → lane u (bitOr acc w) ≡ bit (someBelow (i + 1) t)
 unfolding someBelow
-some-more u i t acc w e g = lane-or u acc w ∙ ap₂ max e g ∙ or-some (someBelow i t) (t i) ∙ sym (ap (λ (m : ℕ). bit (someBelow m t)) (add-one i))
+some-more u i t acc w e g = lane-or u acc w ∙ ap₂ max e g ∙ or-some (someBelow i t) (t i)
+    ∙ sym (ap (λ (m : ℕ). bit (someBelow m t)) (add-one i))

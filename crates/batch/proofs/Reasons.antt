@@ -46,7 +46,8 @@ lent-outcome true true false e = let z : _≡_ {A = ℕ} 0 1 = cc in absurd (ome
 lent-outcome true true true e = (refl, refl, refl)
 
 module _ (i k : ℕ) (size : Size) (tape wires board : List ℕ) where
-  pub lent-by : (t u v : Bool) → eqb (length tape) (size .conditional) ≡ t → eqb (length wires) (i + size .gates) ≡ u → eqb (length board) (size .conditional + k) ≡ v
+  pub lent-by : (t u v : Bool) → eqb (length tape) (size .conditional) ≡ t → eqb (length wires) (i + size .gates)
+      ≡ u → eqb (length board) (size .conditional + k) ≡ v
       → firstOf (wordBufferReasons i k size tape wires board) ≡ lentFound t u v
   unfolding wordBufferReasons lentFound
   lent-by t u v e f g = rw (e, f, g)
@@ -71,7 +72,8 @@ module _ (i k : ℕ) (size : Size) (tape wires board : List ℕ) where
   lent-passed-back : LentPassed → firstOf (wordBufferReasons i k size tape wires board) ≡ none
   unfolding lentFound unless firstOf
   lent-passed-back l =
-      lent-by true true true (eq-eqb (length tape) (size .conditional) (l .tapeLength)) (eq-eqb (length wires) (i + size .gates) (l .wiresLength))
+      lent-by true true true (eq-eqb (length tape) (size .conditional) (l .tapeLength))
+      (eq-eqb (length wires) (i + size .gates) (l .wiresLength))
       (eq-eqb (length board) (size .conditional + k) (l .boardLength))
 
 -- the tests of one jury
@@ -126,7 +128,8 @@ over-none : (f : ℕ → Place) → ((j : ℕ) → j < laneCount → f j ≡ Now
 over-none f e = first-none (λ j. inJury j (f j)) laneCount (λ j h. not-in-jury j (f j) (e j h))
 
 -- the tests over all juries find nothing if those of each jury find nothing
-pub none-in-juries : (t : Bool) (p c g : ℕ → Place) → kindFound t (over p) (over c) (over g) ≡ none → (j : ℕ) → j < laneCount → kindFound t (p j) (c j) (g j) ≡ none
+pub none-in-juries : (t : Bool) (p c g : ℕ → Place) → kindFound t (over p) (over c) (over g) ≡ none → (j : ℕ) → j
+    < laneCount → kindFound t (p j) (c j) (g j) ≡ none
 unfolding Clear
 none-in-juries t p c g e j h = clear-kind t (p j) (c j) (g j) (each t (kind-clear t (over p) (over c) (over g) e))
   where
@@ -134,7 +137,8 @@ none-in-juries t p c g e j h = clear-kind t (p j) (c j) (g j) (each t (kind-clea
     each true q = (none-over c (q .0) j h, none-over g (q .1) j h)
     each false q = none-over p q j h
 
-juries-none : (t : Bool) (p c g : ℕ → Place) → ((j : ℕ) → j < laneCount → kindFound t (p j) (c j) (g j) ≡ none) → kindFound t (over p) (over c) (over g) ≡ none
+juries-none : (t : Bool) (p c g : ℕ → Place) → ((j : ℕ) → j < laneCount → kindFound t (p j) (c j) (g j) ≡ none)
+    → kindFound t (over p) (over c) (over g) ≡ none
 unfolding Clear
 juries-none t p c g e = clear-kind t (over p) (over c) (over g) (all t (λ j h. kind-clear t (p j) (c j) (g j) (e j h)))
   where
@@ -174,7 +178,8 @@ module _ (s : Shape) (words : List ℕ) where
   pub wordKind : Option Reason
   wordKind = firstOf (cond (isRanking s) (wordRankedReasons s words) (wordGradedReasons s words))
 
-  pub word-kind : wordKind ≡ kindFound (isRanking s) (over (λ j. badRow s (laneOf j words))) (over (λ j. clash s (laneOf j words))) (over (λ j. notWeakOrder s (laneOf j words)))
+  pub word-kind : wordKind ≡ kindFound (isRanking s) (over (λ j. badRow s (laneOf j words)))
+      (over (λ j. clash s (laneOf j words))) (over (λ j. notWeakOrder s (laneOf j words)))
   unfolding wordKind kindFound wordGradedReasons wordRankedReasons firstJury
   word-kind = refl
 
@@ -204,7 +209,8 @@ module _ (s : Shape) (words : List ℕ) where
         size = eqb-true (length words) (ballotBytes s) (q .0);
         kinds = λ j h.
             alone-kind s (laneOf j words)
-            ∙ none-in-juries (isRanking s) (λ j. badRow s (laneOf j words)) (λ j. clash s (laneOf j words)) (λ j. notWeakOrder s (laneOf j words)) (sym word-kind ∙ q .1) j h;
+            ∙ none-in-juries (isRanking s) (λ j. badRow s (laneOf j words)) (λ j. clash s (laneOf j words))
+            (λ j. notWeakOrder s (laneOf j words)) (sym word-kind ∙ q .1) j h;
       }
 
   ballots-passed-back : BallotsPassed → firstOf (wordBallotReasons s words) ≡ none
@@ -213,23 +219,31 @@ module _ (s : Shape) (words : List ℕ) where
       ballots-by true (eq-eqb (length words) (ballotBytes s) (b .size))
       ∙ ap (ballotsFound true)
       (word-kind
-      ∙ juries-none (isRanking s) (λ j. badRow s (laneOf j words)) (λ j. clash s (laneOf j words)) (λ j. notWeakOrder s (laneOf j words)) (λ j h. sym (alone-kind s (laneOf j words)) ∙ b .kinds j h))
+      ∙ juries-none (isRanking s) (λ j. badRow s (laneOf j words)) (λ j. clash s (laneOf j words))
+      (λ j. notWeakOrder s (laneOf j words)) (λ j h. sym (alone-kind s (laneOf j words)) ∙ b .kinds j h))
 
 module _ (c : Call) where
   pub batch-first : firstOf (batchReasons c)
-      ≡ firstOfThree (firstOf (testReasons (c .shape) (c .table))) (firstOf (wordBallotReasons (c .shape) (c .ballots))) (firstOf (wordBufferReasons (ballotBytes (c .shape)) (c .shape .candidates) (sizeOf (gatesOf (c .table))) (c .tape) (c .wires) (c .board)))
+      ≡ firstOfThree (firstOf (testReasons (c .shape) (c .table)))
+      (firstOf (wordBallotReasons (c .shape) (c .ballots)))
+      (firstOf (wordBufferReasons (ballotBytes (c .shape)) (c .shape .candidates) (sizeOf (gatesOf (c .table)))
+      (c .tape) (c .wires) (c .board)))
   unfolding batchReasons firstOfThree
   batch-first =
-      let lent = wordBufferReasons (ballotBytes (c .shape)) (c .shape .candidates) (sizeOf (gatesOf (c .table))) (c .tape) (c .wires) (c .board) in
+      let lent = wordBufferReasons (ballotBytes (c .shape)) (c .shape .candidates) (sizeOf (gatesOf (c .table)))
+      (c .tape) (c .wires) (c .board) in
       first-append (testReasons (c .shape) (c .table) ++ wordBallotReasons (c .shape) (c .ballots)) lent
-      ∙ ap (λ (r : Option Reason). orElse r (firstOf lent)) (first-append (testReasons (c .shape) (c .table)) (wordBallotReasons (c .shape) (c .ballots)))
+      ∙ ap (λ (r : Option Reason). orElse r (firstOf lent))
+      (first-append (testReasons (c .shape) (c .table)) (wordBallotReasons (c .shape) (c .ballots)))
 
   -- the answer by the first group in which a test applies
   pub by-test : (r : Reason) → testOutcome (c .shape) (c .table) ≡ refused r → firstOf (batchReasons c) ≡ some r
   unfolding testOutcome firstOfThree orElse
   by-test r e =
       batch-first
-      ∙ ap (λ (o : Option Reason). firstOfThree o (firstOf (wordBallotReasons (c .shape) (c .ballots))) (firstOf (wordBufferReasons (ballotBytes (c .shape)) (c .shape .candidates) (sizeOf (gatesOf (c .table))) (c .tape) (c .wires) (c .board))))
+      ∙ ap (λ (o : Option Reason). firstOfThree o (firstOf (wordBallotReasons (c .shape) (c .ballots)))
+      (firstOf (wordBufferReasons (ballotBytes (c .shape)) (c .shape .candidates) (sizeOf (gatesOf (c .table)))
+      (c .tape) (c .wires) (c .board))))
       (outcome-refused (firstOf (testReasons (c .shape) (c .table))) (sizeOf (gatesOf (c .table))) r e)
 
   module _ (t : firstOf (testReasons (c .shape) (c .table)) ≡ none) where
@@ -237,11 +251,16 @@ module _ (c : Call) where
     unfolding firstOfThree orElse
     by-ballots r e = batch-first ∙ rw (t, e)
 
-    pub by-lent : (size : Size) (o : Option Reason) → size ≡ sizeOf (gatesOf (c .table)) → firstOf (wordBallotReasons (c .shape) (c .ballots)) ≡ none
-        → firstOf (wordBufferReasons (ballotBytes (c .shape)) (c .shape .candidates) size (c .tape) (c .wires) (c .board)) ≡ o → firstOf (batchReasons c) ≡ o
+    pub by-lent : (size : Size) (o : Option Reason) → size ≡ sizeOf (gatesOf (c .table))
+        → firstOf (wordBallotReasons (c .shape) (c .ballots)) ≡ none
+        → firstOf (wordBufferReasons (ballotBytes (c .shape)) (c .shape .candidates) size (c .tape) (c .wires)
+        (c .board)) ≡ o → firstOf (batchReasons c) ≡ o
     unfolding firstOfThree orElse
     by-lent size o f b e =
-        batch-first ∙ rw (t, b) (ap (λ (z : Size). firstOf (wordBufferReasons (ballotBytes (c .shape)) (c .shape .candidates) z (c .tape) (c .wires) (c .board))) (sym f) ∙ e)
+        batch-first
+        ∙ rw (t, b)
+        (ap (λ (z : Size). firstOf (wordBufferReasons (ballotBytes (c .shape)) (c .shape .candidates) z
+        (c .tape) (c .wires) (c .board))) (sym f) ∙ e)
 
   -- an accepted call, as facts
   pub record BatchPassed : Type 0 where
@@ -255,7 +274,10 @@ module _ (c : Call) where
   unfolding testOutcome outcome sizeOf
   batch-passed e =
       let size = sizeOf (gatesOf (c .table)) in
-      let q = three-passed (firstOf (testReasons (c .shape) (c .table))) (firstOf (wordBallotReasons (c .shape) (c .ballots))) (firstOf (wordBufferReasons (ballotBytes (c .shape)) (c .shape .candidates) size (c .tape) (c .wires) (c .board))) (sym batch-first ∙ e) in
+      let q = three-passed (firstOf (testReasons (c .shape) (c .table)))
+      (firstOf (wordBallotReasons (c .shape) (c .ballots)))
+      (firstOf (wordBufferReasons (ballotBytes (c .shape)) (c .shape .candidates) size (c .tape) (c .wires)
+      (c .board))) (sym batch-first ∙ e) in
       let l = lent-passed (ballotBytes (c .shape)) (c .shape .candidates) size (c .tape) (c .wires) (c .board) (q .2) in
       record {
         test = test-passed (c .shape) (c .table) size (ap (λ (r : Option Reason). outcome r size) (q .0));

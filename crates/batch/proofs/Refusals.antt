@@ -87,7 +87,8 @@ found-here m p f (At row) q e before =
     (omega arith, (row, ap f (sym same) ∙ q), λ j h. before j (omega arith))
 found-here m p f Nowhere q e before = let z : _≡_ {A = ℕ} 0 1 = cc in absurd (omega arith)
 
-found-by : (m p : ℕ) (f : ℕ → Place) (q : Place) → firstOver m (λ j. inJury j (f j)) ≡ q → (q ≡ At p → Found m p f) → orElse q (inJury m (f m)) ≡ At p → Found (suc m) p f
+found-by : (m p : ℕ) (f : ℕ → Place) (q : Place) → firstOver m (λ j. inJury j (f j)) ≡ q → (q ≡ At p → Found m p f)
+    → orElse q (inJury m (f m)) ≡ At p → Found (suc m) p f
 unfolding orElse
 found-by m p f (At x) q rest e = let r = rest e in (omega (arith, r .0), r .1, r .2)
 found-by m p f Nowhere q rest e = found-here m p f (f m) refl e (λ j h. in-no-jury j (f j) (none-first (λ j. inJury j (f j)) m q j h))
@@ -166,7 +167,8 @@ gap-not p c g r e f h =
     let k = sym (ap (λ (x : Place). kindFound true p x g) e ∙ ap (kindFound true p Nowhere) f) ∙ h in
     let z : _≡_ {A = ℕ} 0 1 = cc in omega arith
 
-faulty : (t : Bool) (p c g : ℕ → Place) (x y z : Place) (r : Reason) → over p ≡ x → over c ≡ y → over g ≡ z → kindFound t x y z ≡ some r → Faulty t p c g (r .number) (r .place)
+faulty : (t : Bool) (p c g : ℕ → Place) (x y z : Place) (r : Reason) → over p ≡ x → over c ≡ y → over g ≡ z
+    → kindFound t x y z ≡ some r → Faulty t p c g (r .number) (r .place)
 unfolding kindFound foundAt firstOf
 faulty false p c g (At i) y z r ep ec eg e =
     let f = first-found laneCount (r .place) p (ep ∙ place-is 6 i r e) in
@@ -215,24 +217,40 @@ module _ (c : Call) where
   boardRight = eqb (length (c .board)) (sizeOf (gatesOf (c .table)) .conditional + c .shape .candidates)
 
   batch-reason : firstOf (batchReasons c)
-      ≡ single.firstOfThree (firstOf (testReasons (c .shape) (c .table))) (ballotsFound sizeRight (wordKind (c .shape) (c .ballots))) (lentFound tapeRight wiresRight boardRight)
+      ≡ single.firstOfThree (firstOf (testReasons (c .shape) (c .table)))
+      (ballotsFound sizeRight (wordKind (c .shape) (c .ballots))) (lentFound tapeRight wiresRight boardRight)
   batch-reason =
       batch-first c
-      ∙ ap (λ (o : Option Reason). single.firstOfThree (firstOf (testReasons (c .shape) (c .table))) o (firstOf (wordBufferReasons (ballotBytes (c .shape)) (c .shape .candidates) (sizeOf (gatesOf (c .table))) (c .tape) (c .wires) (c .board))))
+      ∙ ap (λ (o : Option Reason). single.firstOfThree (firstOf (testReasons (c .shape) (c .table))) o
+      (firstOf (wordBufferReasons (ballotBytes (c .shape)) (c .shape .candidates) (sizeOf (gatesOf (c .table)))
+      (c .tape) (c .wires) (c .board))))
       (ballots-by (c .shape) (c .ballots) sizeRight refl)
       ∙ ap (single.firstOfThree (firstOf (testReasons (c .shape) (c .table))) (ballotsFound sizeRight (wordKind (c .shape) (c .ballots))))
-      (lent-by (ballotBytes (c .shape)) (c .shape .candidates) (sizeOf (gatesOf (c .table))) (c .tape) (c .wires) (c .board) tapeRight wiresRight boardRight refl refl refl)
+      (lent-by (ballotBytes (c .shape)) (c .shape .candidates) (sizeOf (gatesOf (c .table))) (c .tape) (c .wires)
+      (c .board) tapeRight wiresRight boardRight refl refl refl)
 
-  alone-reason : (j : ℕ) → firstOf (runReasons (c .shape) (c .table) (laneOf j (c .ballots)) (laneOf j (c .tape)) (laneOf j (c .wires)) (laneOf j (c .board)))
-      ≡ single.firstOfThree (firstOf (testReasons (c .shape) (c .table))) (ballotsFound sizeRight (kindReason (c .shape) (laneOf j (c .ballots)))) (lentFound tapeRight wiresRight boardRight)
+  alone-reason : (j : ℕ) → firstOf
+      (runReasons (c .shape) (c .table) (laneOf j (c .ballots)) (laneOf j (c .tape)) (laneOf j (c .wires))
+      (laneOf j (c .board)))
+      ≡ single.firstOfThree (firstOf (testReasons (c .shape) (c .table)))
+      (ballotsFound sizeRight (kindReason (c .shape) (laneOf j (c .ballots))))
+      (lentFound tapeRight wiresRight boardRight)
   alone-reason j =
       single.run-first (c .shape) (c .table) (laneOf j (c .ballots)) (laneOf j (c .tape)) (laneOf j (c .wires)) (laneOf j (c .board))
-      ∙ ap (λ (o : Option Reason). single.firstOfThree (firstOf (testReasons (c .shape) (c .table))) o (firstOf (bufferReasons (ballotBytes (c .shape)) (c .shape .candidates) (sizeOf (gatesOf (c .table))) (laneOf j (c .tape)) (laneOf j (c .wires)) (laneOf j (c .board)))))
-      (judged-by (c .shape) (laneOf j (c .ballots)) sizeRight Nowhere (kindReason (c .shape) (laneOf j (c .ballots))) (ap (λ (n : ℕ). eqb n (ballotBytes (c .shape))) (lanes-length j (c .ballots))) (none-above 0 (laneOf j (c .ballots)) (lanes-bits j (c .ballots))) refl
+      ∙ ap (λ (o : Option Reason). single.firstOfThree (firstOf (testReasons (c .shape) (c .table))) o
+      (firstOf (bufferReasons (ballotBytes (c .shape)) (c .shape .candidates) (sizeOf (gatesOf (c .table)))
+      (laneOf j (c .tape)) (laneOf j (c .wires)) (laneOf j (c .board)))))
+      (judged-by (c .shape) (laneOf j (c .ballots)) sizeRight Nowhere
+      (kindReason (c .shape) (laneOf j (c .ballots)))
+      (ap (λ (n : ℕ). eqb n (ballotBytes (c .shape))) (lanes-length j (c .ballots)))
+      (none-above 0 (laneOf j (c .ballots)) (lanes-bits j (c .ballots))) refl
       ∙ judged-bits sizeRight (kindReason (c .shape) (laneOf j (c .ballots))))
-      ∙ ap (single.firstOfThree (firstOf (testReasons (c .shape) (c .table))) (ballotsFound sizeRight (kindReason (c .shape) (laneOf j (c .ballots)))))
-      (single.lent-by (ballotBytes (c .shape)) (c .shape .candidates) (sizeOf (gatesOf (c .table))) (laneOf j (c .tape)) (laneOf j (c .wires)) (laneOf j (c .board)) tapeRight Nowhere wiresRight boardRight
-      (ap (λ (n : ℕ). eqb n (sizeOf (gatesOf (c .table)) .conditional)) (lanes-length j (c .tape))) (none-above 0 (laneOf j (c .tape)) (lanes-bits j (c .tape)))
+      ∙ ap (single.firstOfThree (firstOf (testReasons (c .shape) (c .table)))
+      (ballotsFound sizeRight (kindReason (c .shape) (laneOf j (c .ballots)))))
+      (single.lent-by (ballotBytes (c .shape)) (c .shape .candidates) (sizeOf (gatesOf (c .table)))
+      (laneOf j (c .tape)) (laneOf j (c .wires)) (laneOf j (c .board)) tapeRight Nowhere wiresRight boardRight
+      (ap (λ (n : ℕ). eqb n (sizeOf (gatesOf (c .table)) .conditional)) (lanes-length j (c .tape)))
+      (none-above 0 (laneOf j (c .tape)) (lanes-bits j (c .tape)))
       (ap (λ (n : ℕ). eqb n (ballotBytes (c .shape) + sizeOf (gatesOf (c .table)) .gates)) (lanes-length j (c .wires)))
       (ap (λ (n : ℕ). eqb n (sizeOf (gatesOf (c .table)) .conditional + c .shape .candidates)) (lanes-length j (c .board)))
       ∙ lent-bits tapeRight wiresRight boardRight)
@@ -249,21 +267,32 @@ module _ (c : Call) where
       batch-after o r (sym (ap (λ (z : RunResult). z .answer) (result-by c o refl)) ∙ e)
 
   module _ (j : ℕ) where
-    alone-after : (o : Option Reason) (r : Reason) → runResultAfter o (c .shape) (gatesOf (c .table)) (laneOf j (c .ballots)) (laneOf j (c .tape)) (laneOf j (c .wires)) (laneOf j (c .board)) .answer ≡ refused r → o ≡ some r
+    alone-after : (o : Option Reason) (r : Reason)
+        → runResultAfter o (c .shape) (gatesOf (c .table)) (laneOf j (c .ballots)) (laneOf j (c .tape))
+        (laneOf j (c .wires)) (laneOf j (c .board)) .answer ≡ refused r → o ≡ some r
     unfolding runResultAfter
     alone-after none r e = test.never (sizeOf (gatesOf (c .table))) r (sym e)
     alone-after (some q) r e = let same : q ≡ r = cc in ap some same
 
     alone-refused : (r : Reason) → runAlone j c .answer ≡ refused r
-        → firstOf (runReasons (c .shape) (c .table) (laneOf j (c .ballots)) (laneOf j (c .tape)) (laneOf j (c .wires)) (laneOf j (c .board))) ≡ some r
+        → firstOf (runReasons (c .shape) (c .table) (laneOf j (c .ballots)) (laneOf j (c .tape))
+        (laneOf j (c .wires)) (laneOf j (c .board))) ≡ some r
     alone-refused r e =
-        let o = firstOf (runReasons (c .shape) (c .table) (laneOf j (c .ballots)) (laneOf j (c .tape)) (laneOf j (c .wires)) (laneOf j (c .board))) in
-        alone-after o r (sym (ap (λ (z : RunResult). z .answer) (single.ran-by (c .shape) (c .table) (laneOf j (c .ballots)) (laneOf j (c .tape)) (laneOf j (c .wires)) (laneOf j (c .board)) o refl)) ∙ e)
+        let o = firstOf (runReasons (c .shape) (c .table) (laneOf j (c .ballots)) (laneOf j (c .tape))
+        (laneOf j (c .wires)) (laneOf j (c .board))) in
+        alone-after o r
+        (sym (ap (λ (z : RunResult). z .answer)
+        (single.ran-by (c .shape) (c .table) (laneOf j (c .ballots)) (laneOf j (c .tape)) (laneOf j (c .wires))
+        (laneOf j (c .board)) o refl)) ∙ e)
 
-    refused-alone : (r : Reason) → firstOf (runReasons (c .shape) (c .table) (laneOf j (c .ballots)) (laneOf j (c .tape)) (laneOf j (c .wires)) (laneOf j (c .board))) ≡ some r
+    refused-alone : (r : Reason) → firstOf
+        (runReasons (c .shape) (c .table) (laneOf j (c .ballots)) (laneOf j (c .tape)) (laneOf j (c .wires))
+        (laneOf j (c .board))) ≡ some r
         → runAlone j c .answer ≡ refused r
     unfolding runResultAfter
-    refused-alone r e = ap (λ (z : RunResult). z .answer) (single.ran-by (c .shape) (c .table) (laneOf j (c .ballots)) (laneOf j (c .tape)) (laneOf j (c .wires)) (laneOf j (c .board)) (some r) e)
+    refused-alone r e = ap (λ (z : RunResult). z .answer)
+        (single.ran-by (c .shape) (c .table) (laneOf j (c .ballots)) (laneOf j (c .tape)) (laneOf j (c .wires))
+        (laneOf j (c .board)) (some r) e)
 
 -- the three searches of a shape, by juries
 abbrev rows : Shape → List ℕ → ℕ → Place
@@ -279,9 +308,15 @@ pub refused-as-alone : RefusedAsAlone
 refused-as-alone c r e n j h =
     refused-alone c j r
     (alone-reason c j
-    ∙ same-otherwise (firstOf (testReasons (c .shape) (c .table))) _ (wordKind (c .shape) (c .ballots)) (kindReason (c .shape) (laneOf j (c .ballots))) _ r
-    (λ none. alone-kind (c .shape) (laneOf j (c .ballots)) ∙ none-in-juries (isRanking (c .shape)) (rows (c .shape) (c .ballots)) (not_asymmetric (c .shape) (c .ballots)) (not_weak_order (c .shape) (c .ballots)) (sym (word-kind (c .shape) (c .ballots)) ∙ none) j h)
-    (λ k. true≢false (sym (kind-number (isRanking (c .shape)) (over (rows (c .shape) (c .ballots))) (over (not_asymmetric (c .shape) (c .ballots))) (over (not_weak_order (c .shape) (c .ballots))) r (sym (word-kind (c .shape) (c .ballots)) ∙ k)) ∙ n))
+    ∙ same-otherwise (firstOf (testReasons (c .shape) (c .table))) _ (wordKind (c .shape) (c .ballots))
+    (kindReason (c .shape) (laneOf j (c .ballots))) _ r
+    (λ none. alone-kind (c .shape) (laneOf j (c .ballots))
+    ∙ none-in-juries (isRanking (c .shape)) (rows (c .shape) (c .ballots)) (not_asymmetric (c .shape) (c .ballots))
+    (not_weak_order (c .shape) (c .ballots)) (sym (word-kind (c .shape) (c .ballots)) ∙ none) j h)
+    (λ k. true≢false
+    (sym (kind-number (isRanking (c .shape)) (over (rows (c .shape) (c .ballots)))
+    (over (not_asymmetric (c .shape) (c .ballots))) (over (not_weak_order (c .shape) (c .ballots))) r
+    (sym (word-kind (c .shape) (c .ballots)) ∙ k)) ∙ n))
     (sym (batch-reason c) ∙ batch-refused c r e))
 
 no-reason : (q : Reason) → none ≡ some q → ⊥
@@ -302,27 +337,37 @@ clash-of-ballots place = refl
 pub fault-as-alone : FaultAsAlone
 fault-as-alone c r e n =
     let l = lentFound (tapeRight c) (wiresRight c) (boardRight c) in
-    let o = is-of-kind (firstOf (testReasons (c .shape) (c .table))) (sizeRight c) (wordKind (c .shape) (c .ballots)) l r (λ t. true≢false (sym n ∙ test-other (c .shape) (c .table) r t))
+    let o = is-of-kind (firstOf (testReasons (c .shape) (c .table))) (sizeRight c)
+    (wordKind (c .shape) (c .ballots)) l r (λ t. true≢false (sym n ∙ test-other (c .shape) (c .table) r t))
     (λ t. true≢false (sym n ∙ lent-other _ _ _ r t)) (not-4 r n) (sym (batch-reason c) ∙ batch-refused c r e) in
-    let f = faulty (isRanking (c .shape)) (rows (c .shape) (c .ballots)) (not_asymmetric (c .shape) (c .ballots)) (not_weak_order (c .shape) (c .ballots)) (over (rows (c .shape) (c .ballots))) (over (not_asymmetric (c .shape) (c .ballots))) (over (not_weak_order (c .shape) (c .ballots))) r refl refl refl (sym (word-kind (c .shape) (c .ballots)) ∙ o .2) in (
+    let f = faulty (isRanking (c .shape)) (rows (c .shape) (c .ballots)) (not_asymmetric (c .shape) (c .ballots))
+    (not_weak_order (c .shape) (c .ballots)) (over (rows (c .shape) (c .ballots)))
+    (over (not_asymmetric (c .shape) (c .ballots))) (over (not_weak_order (c .shape) (c .ballots))) r refl refl
+    refl (sym (word-kind (c .shape) (c .ballots)) ∙ o .2) in (
       f .0,
       (
         f .1 .0,
         refused-alone c (r .place) (reasonAt (r .number) (f .1 .0))
-            (passed (o .0) (o .1) (r .place) ∙ kind-alone (kindReason (c .shape) (laneOf (r .place) (c .ballots))) l (reasonAt (r .number) (f .1 .0)) (alone-kind (c .shape) (laneOf (r .place) (c .ballots)) ∙ f .1 .1)),
+            (passed (o .0) (o .1) (r .place)
+            ∙ kind-alone (kindReason (c .shape) (laneOf (r .place) (c .ballots))) l (reasonAt (r .number) (f .1 .0))
+            (alone-kind (c .shape) (laneOf (r .place) (c .ballots)) ∙ f .1 .1)),
       ),
       λ j place h x. f .2 j place h (its-kind (o .0) (o .1) j (reasonAt (r .number) place) (same-number r place n) x),
       λ m j place h x. f .3 m j place h (its-kind (o .0) (o .1) j (reasonAt 11 place) (clash-of-ballots place) x),
     )
   where
     passed : firstOf (testReasons (c .shape) (c .table)) ≡ none → sizeRight c ≡ true → (j : ℕ)
-        → firstOf (runReasons (c .shape) (c .table) (laneOf j (c .ballots)) (laneOf j (c .tape)) (laneOf j (c .wires)) (laneOf j (c .board)))
-        ≡ single.firstOfThree none (ballotsFound true (kindReason (c .shape) (laneOf j (c .ballots)))) (lentFound (tapeRight c) (wiresRight c) (boardRight c))
+        → firstOf (runReasons (c .shape) (c .table) (laneOf j (c .ballots)) (laneOf j (c .tape))
+        (laneOf j (c .wires)) (laneOf j (c .board)))
+        ≡ single.firstOfThree none (ballotsFound true (kindReason (c .shape) (laneOf j (c .ballots))))
+        (lentFound (tapeRight c) (wiresRight c) (boardRight c))
     passed a b j = alone-reason c j ∙ rw (a, b)
 
     -- a single run that is refused for the contents of its ballots
     its-kind : firstOf (testReasons (c .shape) (c .table)) ≡ none → sizeRight c ≡ true → (j : ℕ) (q : Reason) → isOfBallots q ≡ true
-        → runAlone j c .answer ≡ refused q → kindFound (isRanking (c .shape)) (rows (c .shape) (c .ballots) j) (not_asymmetric (c .shape) (c .ballots) j) (not_weak_order (c .shape) (c .ballots) j) ≡ some q
+        → runAlone j c .answer ≡ refused q
+        → kindFound (isRanking (c .shape)) (rows (c .shape) (c .ballots) j)
+        (not_asymmetric (c .shape) (c .ballots) j) (not_weak_order (c .shape) (c .ballots) j) ≡ some q
     its-kind a b j q m x =
         sym (alone-kind (c .shape) (laneOf j (c .ballots)))
         ∙ is-of-kind none true (kindReason (c .shape) (laneOf j (c .ballots))) (lentFound (tapeRight c) (wiresRight c) (boardRight c)) q

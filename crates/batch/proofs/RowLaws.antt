@@ -51,7 +51,8 @@ first-of (suc m) = omega arith
 second-of : (m : ℕ) → max (min (m - 1) 1) (min (min m 1) 1) ≡ min (suc m - 1) 1
 second-of zero = refl
 second-of (suc zero) = refl
-second-of (suc (suc m)) = ap₂ max (above (suc (suc m) - 1) (omega arith)) (ap₂ min (above (suc (suc m)) (omega arith)) refl) ∙ sym (above (suc (suc (suc m)) - 1) (omega arith))
+second-of (suc (suc m)) = ap₂ max (above (suc (suc m) - 1) (omega arith))
+    (ap₂ min (above (suc (suc m)) (omega arith)) refl) ∙ sym (above (suc (suc (suc m)) - 1) (omega arith))
   where
     above : (n : ℕ) → 1 ≤ n → min n 1 ≡ 1
     above n h = omega arith
@@ -95,7 +96,8 @@ bad-by (suc (suc m)) =
     let e : max (min (suc (suc m) - 1) 1) ((min (suc (suc m)) 1 + 1) % 2) ≡ 1 = omega arith in
     e ∙ sym (ap (λ (t : Bool). cond {A = ℕ} t 0 1) (ne-eqb (suc (suc m)) 1 (λ h. omega arith)))
 
-pub row-end : (j : ℕ) → j < laneCount → (words : List ℕ) (once twice i : ℕ) → RowLane j words once twice i → ones (drop i (laneOf j words)) ≡ 0
+pub row-end : (j : ℕ) → j < laneCount → (words : List ℕ) (once twice i : ℕ) → RowLane j words once twice i
+    → ones (drop i (laneOf j words)) ≡ 0
     → lane j (bitOr twice (bitXor once 18446744073709551615)) ≡ cond (eqb (ones (laneOf j words)) 1) 0 1
 row-end j h words once twice i r e =
     let m : r .count ≡ ones (laneOf j words) = omega (arith, r .all) in
@@ -112,12 +114,15 @@ found-bit (At i) = omega arith
 found-bit Nowhere = omega arith
 
 pub rows-turn : (j d row rows faults fault : ℕ) (xs : List ℕ) → row < rows → lane j fault ≡ cond (eqb (ones (take d xs)) 1) 0 1
-    → max (lane j (bitOr faults fault)) (foundBit (firstBadRow (suc row) (rowsOf d (rows - suc row) (drop d xs)))) ≡ max (lane j faults) (foundBit (firstBadRow row (rowsOf d (rows - row) xs)))
+    → max (lane j (bitOr faults fault)) (foundBit (firstBadRow (suc row) (rowsOf d (rows - suc row) (drop d xs))))
+    ≡ max (lane j faults) (foundBit (firstBadRow row (rowsOf d (rows - row) xs)))
 unfolding foundBit
 rows-turn j d row rows faults fault xs h e = go (eqb (ones (take d xs)) 1) refl
   where
     go : (t : Bool) → eqb (ones (take d xs)) 1 ≡ t
-        → max (lane j (bitOr faults fault)) (foundBit (firstBadRow (suc row) (rowsOf d (rows - suc row) (drop d xs)))) ≡ max (lane j faults) (foundBit (firstBadRow row (rowsOf d (rows - row) xs)))
+        → max (lane j (bitOr faults fault))
+        (foundBit (firstBadRow (suc row) (rowsOf d (rows - suc row) (drop d xs))))
+        ≡ max (lane j faults) (foundBit (firstBadRow row (rowsOf d (rows - row) xs)))
     go true p =
         let f : lane j fault ≡ 0 = e ∙ ap (λ (t : Bool). cond {A = ℕ} t 0 1) p in
         let o : lane j (bitOr faults fault) ≡ lane j faults = lane-or j faults fault ∙ omega arith in
@@ -127,6 +132,7 @@ rows-turn j d row rows faults fault xs h e = go (eqb (ones (take d xs)) 1) refl
         let o : lane j (bitOr faults fault) ≡ 1 = lane-or j faults fault ∙ omega (arith, lane-bit j faults) in
         let here : firstBadRow row (rowsOf d (rows - row) xs) ≡ At row = bad-here d row rows xs h (eqb-false (ones (take d xs)) 1 p) in
         let rest = found-bit (firstBadRow (suc row) (rowsOf d (rows - suc row) (drop d xs))) in
-        let left : max (lane j (bitOr faults fault)) (foundBit (firstBadRow (suc row) (rowsOf d (rows - suc row) (drop d xs)))) ≡ 1 = omega arith in
+        let left : max (lane j (bitOr faults fault))
+        (foundBit (firstBadRow (suc row) (rowsOf d (rows - suc row) (drop d xs)))) ≡ 1 = omega arith in
         let right : max (lane j faults) 1 ≡ 1 = omega (arith, lane-bit j faults) in
         left ∙ sym (ap (λ (q : Place). max (lane j faults) (foundBit q)) here ∙ right)

@@ -49,7 +49,8 @@ use Rattle.batch.specs.Theorems.{runAlone, EachAsAlone, AcceptedAsAll, B
 use Rattle.batch.proofs.Reasons.{BatchPassed, batch-passed, batch-passed-back, result-by}
 
 -- every byte of a finished board of good gates on bits is a bit
-board-bits : (ws : List ℕ) (gs : List Gate) (k : ℕ) (tape : List ℕ) → AllGood (length ws) gs → Bits ws → k ≤ length gs → length tape ≡ conditionalCount gs
+board-bits : (ws : List ℕ) (gs : List Gate) (k : ℕ) (tape : List ℕ) → AllGood (length ws) gs → Bits ws → k
+    ≤ length gs → length tape ≡ conditionalCount gs
     → (x : ℕ) → getD (boardOf (wiresOf ws gs) gs k tape) x 0 ≤ 1
 board-bits ws gs k tape good bits enough l x = ⊎-elim shown closing (below-or-not x (conditionalCount gs))
   where
@@ -77,9 +78,11 @@ board-bits ws gs k tape good bits enough l x = ⊎-elim shown closing (below-or-
         omega (arith, e, wire-bit (wiresOf ws gs) (wires-bits ws gs good bits) (length (wiresOf ws gs) - k + (x - c)))
 
 -- for bits of the right length, only the tests of the shape's kind decide
-by-kind : (s : Shape) (xs : List ℕ) → length xs ≡ ballotBytes s → ((i : ℕ) → getD xs i 0 ≤ 1) → firstOf (ballotReasons s xs) ≡ kindReason s xs
+by-kind : (s : Shape) (xs : List ℕ) → length xs ≡ ballotBytes s → ((i : ℕ) → getD xs i 0 ≤ 1)
+    → firstOf (ballotReasons s xs) ≡ kindReason s xs
 by-kind s xs size bits =
-    judged-by s xs true Nowhere (kindReason s xs) (eq-eqb (length xs) (ballotBytes s) size) (none-above 0 xs bits) refl ∙ judged-kind (kindReason s xs)
+    judged-by s xs true Nowhere (kindReason s xs) (eq-eqb (length xs) (ballotBytes s) size) (none-above 0 xs bits)
+    refl ∙ judged-kind (kindReason s xs)
 
 module _ (c : Call) where
   -- no reason applies to a call that answers G and C, and both numbers are the list's
@@ -98,12 +101,15 @@ module _ (c : Call) where
 
   -- the facts of an accepted call are those of every single run
   module _ (p : BatchPassed c) where
-    alone-passed : (j : ℕ) → j < laneCount → RunPassed (c .shape) (c .table) (laneOf j (c .ballots)) (laneOf j (c .tape)) (laneOf j (c .wires)) (laneOf j (c .board))
+    alone-passed : (j : ℕ) → j < laneCount
+        → RunPassed (c .shape) (c .table) (laneOf j (c .ballots)) (laneOf j (c .tape)) (laneOf j (c .wires))
+        (laneOf j (c .board))
     alone-passed j h =
         record {
           test = p .test;
           ballotsPassed = ballots-laws.accepted (c .shape) (laneOf j (c .ballots)) (p .test .within)
-              (by-kind (c .shape) (laneOf j (c .ballots)) (lanes-length j (c .ballots) ∙ p .ballotsPassed .size) (lanes-bits j (c .ballots)) ∙ p .ballotsPassed .kinds j h);
+              (by-kind (c .shape) (laneOf j (c .ballots)) (lanes-length j (c .ballots) ∙ p .ballotsPassed .size)
+              (lanes-bits j (c .ballots)) ∙ p .ballotsPassed .kinds j h);
           mask = record { size = lanes-length j (c .tape) ∙ p .tapeLength; bits = lanes-bits j (c .tape) };
           wiresLength = lanes-length j (c .wires) ∙ p .wiresLength;
           boardLength = lanes-length j (c .board) ∙ p .boardLength;
@@ -113,20 +119,29 @@ module _ (c : Call) where
     lists j = boardAlone c j
 
     enough : c .shape .candidates ≤ length (gatesOf (c .table))
-    enough = let size = sizeOf (gatesOf (c .table)) in accepted-list (ballotBytes (c .shape)) (c .shape .candidates) (c .table) (size .gates) (size .conditional) (p .test .tests) .enough
+    enough = let size = sizeOf (gatesOf (c .table)) in
+        accepted-list (ballotBytes (c .shape)) (c .shape .candidates) (c .table) (size .gates) (size .conditional)
+        (p .test .tests) .enough
 
     good : (j : ℕ) → AllGood (length (laneOf j (c .ballots))) (gatesOf (c .table))
     good j =
         let size = sizeOf (gatesOf (c .table)) in
-        let f = accepted-list (ballotBytes (c .shape)) (c .shape .candidates) (c .table) (size .gates) (size .conditional) (p .test .tests) in
-        subst (λ (n : ℕ). AllGood n (gatesOf (c .table))) (add-zero (ballotBytes (c .shape)) ∙ sym (lanes-length j (c .ballots) ∙ p .ballotsPassed .size)) (all-good (ballotBytes (c .shape)) 0 (gatesOf (c .table)) (f .good))
+        let f = accepted-list (ballotBytes (c .shape)) (c .shape .candidates) (c .table) (size .gates)
+        (size .conditional) (p .test .tests) in
+        subst (λ (n : ℕ). AllGood n (gatesOf (c .table)))
+        (add-zero (ballotBytes (c .shape)) ∙ sym (lanes-length j (c .ballots) ∙ p .ballotsPassed .size))
+        (all-good (ballotBytes (c .shape)) 0 (gatesOf (c .table)) (f .good))
 
     lane-board : (j : ℕ) → j < laneCount → laneOf j (wordsOf (conditionalCount (gatesOf (c .table)) + c .shape .candidates) lists) ≡ lists j
     unfolding lists
     lane-board j h =
         lanes-of-words (conditionalCount (gatesOf (c .table)) + c .shape .candidates) lists j h
-        (λ i. board-finished (wiresOf (laneOf i (c .ballots)) (gatesOf (c .table))) (gatesOf (c .table)) (c .shape .candidates) (laneOf i (c .tape)) (omega (arith, enough, length-wires (laneOf i (c .ballots)) (gatesOf (c .table)))) (lanes-length i (c .tape) ∙ p .tapeLength) .size)
-        (λ i x. board-bits (laneOf i (c .ballots)) (gatesOf (c .table)) (c .shape .candidates) (laneOf i (c .tape)) (good i) (lanes-bits i (c .ballots)) enough (lanes-length i (c .tape) ∙ p .tapeLength) x)
+        (λ i. board-finished (wiresOf (laneOf i (c .ballots)) (gatesOf (c .table))) (gatesOf (c .table))
+        (c .shape .candidates) (laneOf i (c .tape))
+        (omega (arith, enough, length-wires (laneOf i (c .ballots)) (gatesOf (c .table))))
+        (lanes-length i (c .tape) ∙ p .tapeLength) .size)
+        (λ i x. board-bits (laneOf i (c .ballots)) (gatesOf (c .table)) (c .shape .candidates) (laneOf i (c .tape))
+        (good i) (lanes-bits i (c .ballots)) enough (lanes-length i (c .tape) ∙ p .tapeLength) x)
 
     outcome : batchResult c ≡ batchResultAfter none c
     outcome = result-by c none (batch-passed-back c p)
@@ -134,21 +149,25 @@ module _ (c : Call) where
     alone-answer : (j : ℕ) → j < laneCount → runAlone j c .answer ≡ accepted (sizeOf (gatesOf (c .table)))
     alone-answer j h =
         let q = alone-passed j h in
-        run-answer (c .shape) (c .table) (laneOf j (c .ballots)) (laneOf j (c .wires)) (laneOf j (c .board)) (laneOf j (c .tape)) q (laneOf j (c .tape)) (q .mask)
+        run-answer (c .shape) (c .table) (laneOf j (c .ballots)) (laneOf j (c .wires)) (laneOf j (c .board))
+        (laneOf j (c .tape)) q (laneOf j (c .tape)) (q .mask)
 
     alone-wires : (j : ℕ) → j < laneCount → laneOf j (batchResult c .wires) ≡ runAlone j c .wires
     unfolding batchResultAfter
     alone-wires j h =
         let q = alone-passed j h in
-        ap (λ (r : RunResult). laneOf j (r .wires)) outcome ∙ lanes-zeros j (length (c .wires)) ∙ ap (λ (n : ℕ). replicate n 0) (sym (lanes-length j (c .wires)))
-        ∙ sym (run-wires (c .shape) (c .table) (laneOf j (c .ballots)) (laneOf j (c .wires)) (laneOf j (c .board)) (laneOf j (c .tape)) q (laneOf j (c .tape)) (q .mask))
+        ap (λ (r : RunResult). laneOf j (r .wires)) outcome ∙ lanes-zeros j (length (c .wires))
+        ∙ ap (λ (n : ℕ). replicate n 0) (sym (lanes-length j (c .wires)))
+        ∙ sym (run-wires (c .shape) (c .table) (laneOf j (c .ballots)) (laneOf j (c .wires)) (laneOf j (c .board))
+        (laneOf j (c .tape)) q (laneOf j (c .tape)) (q .mask))
 
     alone-board : (j : ℕ) → j < laneCount → laneOf j (batchResult c .board) ≡ runAlone j c .board
     unfolding batchResultAfter lists
     alone-board j h =
         let q = alone-passed j h in
         ap (λ (r : RunResult). laneOf j (r .board)) outcome ∙ lane-board j h
-        ∙ sym (run-board (c .shape) (c .table) (laneOf j (c .ballots)) (laneOf j (c .wires)) (laneOf j (c .board)) (laneOf j (c .tape)) q (laneOf j (c .tape)) (q .mask))
+        ∙ sym (run-board (c .shape) (c .table) (laneOf j (c .ballots)) (laneOf j (c .wires)) (laneOf j (c .board))
+        (laneOf j (c .tape)) q (laneOf j (c .tape)) (q .mask))
 
 -- Each jury has its single run.
 pub each-as-alone : EachAsAlone
@@ -165,12 +184,17 @@ pub accepted-as-all : AcceptedAsAll
 unfolding batchResultAfter
 accepted-as-all c size e =
     ap (λ (r : RunResult). r .answer) (result-by c none (batch-passed-back c passed))
-    ∙ ap accepted (sym (ran-accepted (c .shape) (c .table) (laneOf 0 (c .ballots)) (laneOf 0 (c .wires)) (laneOf 0 (c .board)) (laneOf 0 (c .tape)) size (e 0 (omega arith)) .1))
+    ∙ ap accepted
+    (sym (ran-accepted (c .shape) (c .table) (laneOf 0 (c .ballots)) (laneOf 0 (c .wires)) (laneOf 0 (c .board))
+    (laneOf 0 (c .tape)) size (e 0 (omega arith)) .1))
   where
-    alone : (j : ℕ) → j < laneCount → RunPassed (c .shape) (c .table) (laneOf j (c .ballots)) (laneOf j (c .tape)) (laneOf j (c .wires)) (laneOf j (c .board))
+    alone : (j : ℕ) → j < laneCount
+        → RunPassed (c .shape) (c .table) (laneOf j (c .ballots)) (laneOf j (c .tape)) (laneOf j (c .wires))
+        (laneOf j (c .board))
     alone j h =
         run-passed (c .shape) (c .table) (laneOf j (c .ballots)) (laneOf j (c .tape)) (laneOf j (c .wires)) (laneOf j (c .board))
-        (ran-accepted (c .shape) (c .table) (laneOf j (c .ballots)) (laneOf j (c .wires)) (laneOf j (c .board)) (laneOf j (c .tape)) size (e j h) .0)
+        (ran-accepted (c .shape) (c .table) (laneOf j (c .ballots)) (laneOf j (c .wires)) (laneOf j (c .board))
+        (laneOf j (c .tape)) size (e j h) .0)
 
     passed : BatchPassed c
     passed =
@@ -192,7 +216,8 @@ accepted-as-all c size e =
 concerned : List ℕ
 concerned = 1 ∷ 2 ∷ 3 ∷ 4 ∷ 6 ∷ 11 ∷ 12 ∷ 7 ∷ 9 ∷ 10 ∷ []
 
-kinds-concern : (s : Shape) (words : List ℕ) (ranking : Bool) → All concerned (cond ranking (wordRankedReasons s words) (wordGradedReasons s words))
+kinds-concern : (s : Shape) (words : List ℕ) (ranking : Bool)
+    → All concerned (cond ranking (wordRankedReasons s words) (wordGradedReasons s words))
 unfolding All wordRankedReasons wordGradedReasons hasNumberIn reasonAt concerned
 kinds-concern s words true = (found-fine concerned 11 _ (λ i. tt), (found-fine concerned 12 _ (λ i. tt), tt))
 kinds-concern s words false = (found-fine concerned 6 _ (λ i. tt), tt)
@@ -200,7 +225,9 @@ kinds-concern s words false = (found-fine concerned 6 _ (λ i. tt), tt)
 all-concern : (c : Call) → All concerned (batchReasons c)
 unfolding batchReasons All testReasons wordBallotReasons wordBufferReasons hasNumberIn reasonAt concerned
 all-concern c =
-    both concerned (testReasons (c .shape) (c .table) ++ wordBallotReasons (c .shape) (c .ballots)) (wordBufferReasons (ballotBytes (c .shape)) (c .shape .candidates) (sizeOf (gatesOf (c .table))) (c .tape) (c .wires) (c .board))
+    both concerned (testReasons (c .shape) (c .table) ++ wordBallotReasons (c .shape) (c .ballots))
+    (wordBufferReasons (ballotBytes (c .shape)) (c .shape .candidates) (sizeOf (gatesOf (c .table))) (c .tape)
+    (c .wires) (c .board))
     (both concerned (testReasons (c .shape) (c .table)) (wordBallotReasons (c .shape) (c .ballots))
     (unless-fine concerned _ 1 tt, (list-fine concerned _ tt (λ g. tt), tt))
     (unless-fine concerned _ 4 tt, kinds-concern (c .shape) (c .ballots) (isRanking (c .shape))))
@@ -222,8 +249,10 @@ module _ (c : Call) where
       → (length (batchResultAfter o c .wires) ≡ length (c .wires)) × (length (batchResultAfter o c .board) ≡ length (c .board))
   unfolding batchResultAfter
   after-lengths none e =
-      let p = batch-passed c e in
-      (length-replicate (length (c .wires)) 0, length-words (conditionalCount (gatesOf (c .table)) + c .shape .candidates) _ ∙ sym (p .boardLength))
+      let p = batch-passed c e in (
+        length-replicate (length (c .wires)) 0,
+        length-words (conditionalCount (gatesOf (c .table)) + c .shape .candidates) _ ∙ sym (p .boardLength),
+      )
   after-lengths (some r) e = (refl, refl)
 
 pub batch-memory : BatchMemory
@@ -243,7 +272,9 @@ pub batch-accuracy : BatchAccuracy
 batch-accuracy c table size answer w own e j h =
     let a = each-as-alone c answer e j h in
     let s = c .shape in
-    let run : List ℕ → RunResult = λ (l : List ℕ). runResult s l (laneOf j (c .ballots)) (laneOf j (c .tape)) (laneOf j (c .wires)) (laneOf j (c .board)) in
+    let run : List ℕ → RunResult =
+    λ (l : List ℕ). runResult s l (laneOf j (c .ballots)) (laneOf j (c .tape)) (laneOf j (c .wires))
+    (laneOf j (c .board)) in
     let f : run (listIn s size table) .answer ≡ accepted answer = subst (λ (l : List ℕ). run l .answer ≡ accepted answer) own (a .0) in
     let b : laneOf j (batchResult c .board) ≡ run (listIn s size table) .board = a .2 ∙ ap (λ (l : List ℕ). run l .board) own in
     let q = three-demands .accuracy s table size w in (

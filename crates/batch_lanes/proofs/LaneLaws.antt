@@ -47,7 +47,8 @@ module _ (op f : ℕ → ℕ → ℕ) (small : (x y : ℕ) → x < 2 → y < 2 �
   lane-op j a b =
       let x = a / 2 ^ j in
       let y = b / 2 ^ j in
-      ap (λ (n : ℕ). n % 2) (shr a b j ∙ step x y) ∙ digits-mod (op (x / 2) (y / 2)) (small (x % 2) (y % 2) (mod-lt x two-pos) (mod-lt y two-pos))
+      ap (λ (n : ℕ). n % 2) (shr a b j ∙ step x y)
+      ∙ digits-mod (op (x / 2) (y / 2)) (small (x % 2) (y % 2) (mod-lt x two-pos) (mod-lt y two-pos))
 
 differ-small : (x y : ℕ) → x < 2 → y < 2 → differ x y < 2
 differ-small zero y hx hy = hy
@@ -77,14 +78,17 @@ lane-xor j a b = lane-op bitXor differ differ-small xor-step xor-shr j a b ∙ d
 pub packed-same : (m : ℕ) (f g : ℕ → ℕ) → ((j : ℕ) → j < m → f j ≡ g j) → packed m f ≡ packed m g
 unfolding packed
 packed-same zero f g e = refl
-packed-same (suc m) f g e = ap₂ (λ (x y : ℕ). x + 2 * y) (e 0 (omega arith)) (packed-same m (λ j. f (suc j)) (λ j. g (suc j)) (λ j h. e (suc j) (omega arith)))
+packed-same (suc m) f g e = ap₂ (λ (x y : ℕ). x + 2 * y) (e 0 (omega arith))
+    (packed-same m (λ j. f (suc j)) (λ j. g (suc j)) (λ j h. e (suc j) (omega arith)))
 
 -- packing the lanes of a word gives the word
 pub packed-lanes : (m w : ℕ) → w < 2 ^ m → packed m (λ j. lane j w) ≡ w
 unfolding packed
 packed-lanes zero w h = omega arith
 packed-lanes (suc m) w h =
-    let rest : packed m (λ j. lane (suc j) w) ≡ w / 2 = packed-same m (λ j. lane (suc j) w) (λ j. lane j (w / 2)) (λ j l. lane-next j w) ∙ packed-lanes m (w / 2) (omega (arith, pow-suc 2 m)) in
+    let rest : packed m (λ j. lane (suc j) w) ≡ w / 2 =
+    packed-same m (λ j. lane (suc j) w) (λ j. lane j (w / 2)) (λ j l. lane-next j w)
+    ∙ packed-lanes m (w / 2) (omega (arith, pow-suc 2 m)) in
     omega (arith, lane-first w, rest)
 
 -- lane j of a packed number is its bit j
@@ -94,4 +98,5 @@ lane-packed zero j bit h small = absurd (omega arith)
 lane-packed (suc m) zero bit h small = lane-first (bit 0 + 2 * packed m (λ j. bit (suc j))) ∙ omega (arith, small 0)
 lane-packed (suc m) (suc j) bit h small =
     let half : (bit 0 + 2 * packed m (λ j. bit (suc j))) / 2 ≡ packed m (λ j. bit (suc j)) = omega (arith, small 0) in
-    lane-next j (bit 0 + 2 * packed m (λ j. bit (suc j))) ∙ ap (lane j) half ∙ lane-packed m j (λ j. bit (suc j)) (omega arith) (λ i. small (suc i))
+    lane-next j (bit 0 + 2 * packed m (λ j. bit (suc j))) ∙ ap (lane j) half
+    ∙ lane-packed m j (λ j. bit (suc j)) (omega arith) (λ i. small (suc i))

@@ -18,17 +18,20 @@ use Rattle.batch_lanes.proofs.ListLaws.{lanes-length}
 -- What is left in lane j.
 abbrev pub LeftIn : ℕ → ℕ → List ℕ → ℕ → ℕ → List ℕ → ℕ → List ℕ → List ℕ → List ℕ → List ℕ → ℕ → ℕ → Type 0
 LeftIn j inputs t from to tape shown ws₀ board₀ ws board next g =
-    Left inputs t to (laneOf j tape) (length (laneOf j ws₀)) (length (laneOf j board₀)) (shown + conditionalCount (rangeOf t from to)) (stepWires inputs t from to (laneOf j ws₀))
+    Left inputs t to (laneOf j tape) (length (laneOf j ws₀)) (length (laneOf j board₀))
+    (shown + conditionalCount (rangeOf t from to)) (stepWires inputs t from to (laneOf j ws₀))
     (stepBoard inputs t from to (laneOf j tape) shown (laneOf j ws₀) (laneOf j board₀)) (laneOf j ws) (laneOf j board) next g
 
-pub record LanesLeft (inputs : ℕ) (t : List ℕ) (from to : ℕ) (tape : List ℕ) (shown : ℕ) (ws₀ board₀ ws board : List ℕ) (next g : ℕ) : Type 0 where
+pub record LanesLeft (inputs : ℕ) (t : List ℕ) (from to : ℕ) (tape : List ℕ) (shown : ℕ)
+    (ws₀ board₀ ws board : List ℕ) (next g : ℕ) : Type 0 where
   pub order : g ≤ to
   pub wiresLength : length ws ≡ length ws₀
   pub boardLength : length board ≡ length board₀
   pub lanes : (j : ℕ) → j < laneCount → LeftIn j inputs t from to tape shown ws₀ board₀ ws board next g
 
 -- the lanes have the words' lengths, so they are ready if the words are
-pub lane-ready : (j inputs : ℕ) (t : List ℕ) (from to : ℕ) (tape : List ℕ) (shown : ℕ) (ws board : List ℕ) → StepReady inputs t from to tape shown ws board
+pub lane-ready : (j inputs : ℕ) (t : List ℕ) (from to : ℕ) (tape : List ℕ) (shown : ℕ) (ws board : List ℕ)
+    → StepReady inputs t from to tape shown ws board
     → StepReady inputs t from to (laneOf j tape) shown (laneOf j ws) (laneOf j board)
 lane-ready j inputs t from to tape shown ws board r =
     record {
@@ -40,14 +43,16 @@ lane-ready j inputs t from to tape shown ws board r =
       inBoard = omega (arith, r .inBoard, lanes-length j board);
     }
 
-module _ (inputs : ℕ) (t : List ℕ) (from to : ℕ) (tape : List ℕ) (shown : ℕ) (ws₀ board₀ : List ℕ) (ready : StepReady inputs t from to tape shown ws₀ board₀) where
+module _ (inputs : ℕ) (t : List ℕ) (from to : ℕ) (tape : List ℕ) (shown : ℕ) (ws₀ board₀ : List ℕ)
+    (ready : StepReady inputs t from to tape shown ws₀ board₀) where
   pub lanes-start : LanesLeft inputs t from to tape shown ws₀ board₀ ws₀ board₀ shown from
   lanes-start =
       record {
         order = ready .order;
         wiresLength = λ i. length ws₀;
         boardLength = λ i. length board₀;
-        lanes = λ j h. left-start inputs t from to (laneOf j tape) shown (laneOf j ws₀) (laneOf j board₀) (lane-ready j inputs t from to tape shown ws₀ board₀ ready);
+        lanes = λ j h. left-start inputs t from to (laneOf j tape) shown (laneOf j ws₀) (laneOf j board₀)
+            (lane-ready j inputs t from to tape shown ws₀ board₀ ready);
       }
 
   module _ (ws board : List ℕ) (next g : ℕ) (left : LanesLeft inputs t from to tape shown ws₀ board₀ ws board next g) where
@@ -55,7 +60,8 @@ module _ (inputs : ℕ) (t : List ℕ) (from to : ℕ) (tape : List ℕ) (shown 
     pub gate-ready : g < to → GateReady t g (inputs + g) tape next ws board
     gate-ready h =
         let r = lane-ready 0 inputs t from to tape shown ws₀ board₀ ready in
-        let q = next-ready inputs t to (laneOf 0 tape) _ _ _ _ _ (r .inTable) (r .inWires) (r .inTape) (r .inBoard) (laneOf 0 ws) (laneOf 0 board) next g (left .lanes 0 (omega arith)) h in
+        let q = next-ready inputs t to (laneOf 0 tape) _ _ _ _ _ (r .inTable) (r .inWires) (r .inTape) (r .inBoard)
+        (laneOf 0 ws) (laneOf 0 board) next g (left .lanes 0 (omega arith)) h in
         record {
           inTable = q .inTable;
           good = q .good;
@@ -68,7 +74,10 @@ module _ (inputs : ℕ) (t : List ℕ) (from to : ℕ) (tape : List ℕ) (shown 
     pub lanes-turn : g < to → (ws′ board′ : List ℕ) (next′ g′ : ℕ) → g′ ≡ suc g → next′ ≡ next + conditionalCount (gateAt t g ∷ [])
         → length ws′ ≡ length ws → length board′ ≡ length board
         → ((j : ℕ) → j < laneCount → laneOf j ws′ ≡ set (laneOf j ws) (inputs + g) (value (laneOf j ws) (gateAt t g)))
-        → ((j : ℕ) → j < laneCount → laneOf j board′ ≡ cond (conditionalOf (gateAt t g .kind)) (set (laneOf j board) next (shownBit (laneOf j ws) (gateAt t g) (getD (laneOf j tape) next 0))) (laneOf j board))
+        → ((j : ℕ) → j < laneCount → laneOf j board′
+        ≡ cond (conditionalOf (gateAt t g .kind))
+        (set (laneOf j board) next (shownBit (laneOf j ws) (gateAt t g) (getD (laneOf j tape) next 0)))
+        (laneOf j board))
         → LanesLeft inputs t from to tape shown ws₀ board₀ ws′ board′ next′ g′
     lanes-turn h ws′ board′ next′ g′ eg en lw lb ew eb =
         record {
@@ -77,8 +86,10 @@ module _ (inputs : ℕ) (t : List ℕ) (from to : ℕ) (tape : List ℕ) (shown 
           boardLength = lb ∙ left .boardLength;
           lanes = λ j k.
               let r = lane-ready j inputs t from to tape shown ws₀ board₀ ready in
-              left-as inputs t to (laneOf j tape) _ _ _ _ _ (r .inTable) (r .inWires) (r .inTape) (r .inBoard) _ (laneOf j ws′) _ (laneOf j board′) _ next′ _ g′
-              (left-turn inputs t to (laneOf j tape) _ _ _ _ _ (r .inTable) (r .inWires) (r .inTape) (r .inBoard) (laneOf j ws) (laneOf j board) next g (left .lanes j k) h)
+              left-as inputs t to (laneOf j tape) _ _ _ _ _ (r .inTable) (r .inWires) (r .inTape) (r .inBoard) _
+              (laneOf j ws′) _ (laneOf j board′) _ next′ _ g′
+              (left-turn inputs t to (laneOf j tape) _ _ _ _ _ (r .inTable) (r .inWires) (r .inTape) (r .inBoard)
+              (laneOf j ws) (laneOf j board) next g (left .lanes j k) h)
               (ew j k) (eb j k) en eg;
         }
 
@@ -92,8 +103,10 @@ module _ (inputs : ℕ) (t : List ℕ) (from to : ℕ) (tape : List ℕ) (shown 
       λ j k. ended j k .2,
     )
       where
-        ended : (j : ℕ) → j < laneCount → (next ≡ shown + conditionalCount (rangeOf t from to)) × (laneOf j ws ≡ stepWires inputs t from to (laneOf j ws₀))
+        ended : (j : ℕ) → j < laneCount → (next ≡ shown + conditionalCount (rangeOf t from to))
+            × (laneOf j ws ≡ stepWires inputs t from to (laneOf j ws₀))
             × (laneOf j board ≡ stepBoard inputs t from to (laneOf j tape) shown (laneOf j ws₀) (laneOf j board₀))
         ended j k =
             let r = lane-ready j inputs t from to tape shown ws₀ board₀ ready in
-            left-end inputs t to (laneOf j tape) _ _ _ _ _ (r .inTable) (r .inWires) (r .inTape) (r .inBoard) (laneOf j ws) (laneOf j board) next g (left .lanes j k) h
+            left-end inputs t to (laneOf j tape) _ _ _ _ _ (r .inTable) (r .inWires) (r .inTape) (r .inBoard)
+            (laneOf j ws) (laneOf j board) next g (left .lanes j k) h

@@ -37,7 +37,9 @@ module _ (j : ℕ) (h : j < laneCount) (a b c : ℕ) where
 
   -- c, replaced by b where a is 1
   pub choice-lane : lane j (bitXor c (bitAnd a (bitXor b c))) ≡ valueOf 7 (lane j a) (lane j b) (lane j c)
-  choice-lane = lane-xor j c (bitAnd a (bitXor b c)) ∙ rw (lane-and j a (bitXor b c), lane-xor j b c) (chosen (lane j a) (lane j b) (lane j c) (lane-bit j a) (lane-bit j b) (lane-bit j c))
+  choice-lane = lane-xor j c (bitAnd a (bitXor b c))
+      ∙ rw (lane-and j a (bitXor b c), lane-xor j b c)
+      (chosen (lane j a) (lane j b) (lane j c) (lane-bit j a) (lane-bit j b) (lane-bit j c))
     where
       chosen : (x y z : ℕ) → x ≤ 1 → y ≤ 1 → z ≤ 1 → (z + min x ((y + z) % 2)) % 2 ≡ valueOf 7 x y z
       chosen zero y z hx hy hz = let e : (z + min 0 ((y + z) % 2)) % 2 ≡ z = omega arith in e ∙ sym (mux-zero 0 y z refl)

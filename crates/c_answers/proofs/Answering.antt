@@ -30,7 +30,8 @@ puts-same {needed} {result} {numbers} {others} {before} {after} e puts =
 
 -- the result of a call is equal if its three parts are
 same-call : {r r′ : ℕ} {answer answer′ : List ℕ} {lent lent′ : List (List ℕ)} → r ≡ r′ → answer ≡ answer′ → lent ≡ lent′
-    → _≡_ {A = CallResult} (record { returned = r; answer = answer; lent = lent }) (record { returned = r′; answer = answer′; lent = lent′ })
+    → _≡_ {A = CallResult} (record { returned = r; answer = answer; lent = lent })
+    (record { returned = r′; answer = answer′; lent = lent′ })
 same-call {r} {r′} {answer} {answer′} {lent} {lent′} e f g =
     ap (λ (z : ℕ). record { returned = z; answer = answer; lent = lent }) e
     ∙ ap (λ (z : List ℕ). record { returned = r′; answer = z; lent = lent }) f
@@ -68,7 +69,8 @@ module _ (needed : ℕ) (answer : List ℕ) where
 
   -- a call whose answer array is too short changes nothing
   pub short-call : length answer < needed → (numbers : List ℕ) (before after : List (List ℕ))
-      → _≡_ {A = CallResult} (record { returned = shortAnswer; answer = answer; lent = before }) (callResult needed numbers answer before after)
+      → _≡_ {A = CallResult} (record { returned = shortAnswer; answer = answer; lent = before })
+      (callResult needed numbers answer before after)
   unfolding callResult
   short-call short numbers before after =
       same-call (sym (short-status short numbers)) (sym (short-answered short numbers))

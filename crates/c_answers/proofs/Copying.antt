@@ -15,7 +15,8 @@ pub record Copied (numbers answer₀ answer : List ℕ) (i : ℕ) : Type 0 where
   pub copied : answer ≡ take i numbers ++ drop i answer₀
 
 -- a turn copies one more
-pub copy-turn : (s d : List ℕ) (i : ℕ) → i < length s → i < length d → set (take i s ++ drop i d) i (getD s i 0) ≡ take (i + 1) s ++ drop (i + 1) d
+pub copy-turn : (s d : List ℕ) (i : ℕ) → i < length s → i < length d → set (take i s ++ drop i d) i (getD s i 0)
+    ≡ take (i + 1) s ++ drop (i + 1) d
 copy-turn s d i hs hd =
     let rest = drop (suc i) d in
     ap (λ (r : List ℕ). set (take i s ++ r) i (getD s i 0)) (drop-cons d i 0 hd)

@@ -29,7 +29,8 @@ pub record Numbered (last : ℕ) (r : Reason) : Type 0 where
 
 module _ (last : ℕ) where
   -- by the test of the first of them
-  by-first : (n : ℕ) (ns : List ℕ) (r : Reason) (t : Bool) → eqb (r .number) n ≡ t → T (leb 1 n && leb n last) → (T (hasNumberIn ns r) → Numbered last r) → T (t || hasNumberIn ns r) → Numbered last r
+  by-first : (n : ℕ) (ns : List ℕ) (r : Reason) (t : Bool) → eqb (r .number) n ≡ t → T (leb 1 n && leb n last)
+      → (T (hasNumberIn ns r) → Numbered last r) → T (t || hasNumberIn ns r) → Numbered last r
   by-first n ns r true e m rest h =
       let same = eqb-true (r .number) n e in
       let low = leb→le 1 n (and-left (leb 1 n) (leb n last) m) in
@@ -41,7 +42,8 @@ module _ (last : ℕ) where
   unfolding fit hasNumberIn
   numbered [] r m h = absurd h
   numbered (n ∷ ns) r m h =
-      by-first n ns r (eqb (r .number) n) refl (and-left (leb 1 n && leb n last) (fit last ns) m) (λ p. numbered ns r (and-right (leb 1 n && leb n last) (fit last ns) m) p) h
+      by-first n ns r (eqb (r .number) n) refl (and-left (leb 1 n && leb n last) (fit last ns) m)
+      (λ p. numbered ns r (and-right (leb 1 n && leb n last) (fit last ns) m) p) h
 
   -- a status of numbers that begin with 0 or with a reason's number
   pub tells : last < shortAnswer → (needed : ℕ) (numbers answer : List ℕ) (acceptance : Bool)
@@ -49,7 +51,10 @@ module _ (last : ℕ) where
   tells few needed numbers answer acceptance h zero =
       record {
         short = (λ e. by-length (ltb (length answer) needed) refl e, λ l. short-status needed answer l numbers);
-        zero-accepted = λ l. (λ e. zero .0 (sym (room-status needed answer l numbers) ∙ e), λ a. room-status needed answer l numbers ∙ zero .1 a);
+        zero-accepted = λ l. (
+          λ e. zero .0 (sym (room-status needed answer l numbers) ∙ e),
+          λ a. room-status needed answer l numbers ∙ zero .1 a,
+        );
         reason = λ l. omega (arith, room-status needed answer l numbers);
       }
     where
@@ -60,24 +65,29 @@ module _ (last : ℕ) where
   -- for a call whose answer begins with its reason's number, or with 0 if it is accepted
   pub outcome-tells : {Values : Type 0} → last < shortAnswer → (needed : ℕ) (numbers : Outcome Values → List ℕ) (answer : List ℕ)
       → ((r : Reason) → statusOf (numbers (refused r)) ≡ r .number) → ((v : Values) → statusOf (numbers (accepted v)) ≡ 0)
-      → (outcome : Outcome Values) → ((r : Reason) → outcome ≡ refused r → Numbered last r) → StatusReads last needed (numbers outcome) answer (isAccepted outcome)
+      → (outcome : Outcome Values) → ((r : Reason) → outcome ≡ refused r → Numbered last r)
+      → StatusReads last needed (numbers outcome) answer (isAccepted outcome)
   unfolding isAccepted
   outcome-tells few needed numbers answer refusal acceptance (refused r) h =
       let n = h r refl in
-      tells few needed (numbers (refused r)) answer false (omega (arith, refusal r, n .most)) (λ e. absurd (omega (arith, refusal r, n .least)), λ a. absurd a)
+      tells few needed (numbers (refused r)) answer false (omega (arith, refusal r, n .most))
+      (λ e. absurd (omega (arith, refusal r, n .least)), λ a. absurd a)
   outcome-tells few needed numbers answer refusal acceptance (accepted v) h =
       tells few needed (numbers (accepted v)) answer true (omega (arith, acceptance v)) (λ e. tt, λ a. acceptance v)
 
   -- for each kind of answer
-  pub size-tells : last < shortAnswer → (answer : List ℕ) (outcome : Outcome Size) → ((r : Reason) → outcome ≡ refused r → Numbered last r) → SizeStatus last answer outcome
+  pub size-tells : last < shortAnswer → (answer : List ℕ) (outcome : Outcome Size)
+      → ((r : Reason) → outcome ≡ refused r → Numbered last r) → SizeStatus last answer outcome
   unfolding statusOf sizeNumbers
   size-tells few answer outcome h = outcome-tells few 4 sizeNumbers answer (λ r. refl) (λ v. refl) outcome h
 
-  pub measure-tells : last < shortAnswer → (answer : List ℕ) (outcome : Outcome Measures) → ((r : Reason) → outcome ≡ refused r → Numbered last r) → MeasureStatus last answer outcome
+  pub measure-tells : last < shortAnswer → (answer : List ℕ) (outcome : Outcome Measures)
+      → ((r : Reason) → outcome ≡ refused r → Numbered last r) → MeasureStatus last answer outcome
   unfolding statusOf measureNumbers
   measure-tells few answer outcome h = outcome-tells few 5 measureNumbers answer (λ r. refl) (λ v. refl) outcome h
 
-  pub one-tells : last < shortAnswer → (answer : List ℕ) (outcome : Outcome ℕ) → ((r : Reason) → outcome ≡ refused r → Numbered last r) → OneStatus last answer outcome
+  pub one-tells : last < shortAnswer → (answer : List ℕ) (outcome : Outcome ℕ)
+      → ((r : Reason) → outcome ≡ refused r → Numbered last r) → OneStatus last answer outcome
   unfolding statusOf oneNumber
   one-tells few answer outcome h = outcome-tells few 3 oneNumber answer (λ r. refl) (λ v. refl) outcome h
 

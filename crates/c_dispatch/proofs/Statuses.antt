@@ -29,8 +29,11 @@ rounds-tell : (answer : List ℕ) (o : Option Reason) (rounds : List ℕ) → ((
 unfolding statusOf answerNumbers isAccepted outcome
 rounds-tell answer (some r) rounds h =
     let n = h r refl in
-    tells lastReason (omega arith) dispatchAnswer (answerNumbers (some r) rounds) answer false (n .most) (λ e. absurd (omega (arith, n .least)), λ a. absurd a)
-rounds-tell answer none rounds h = tells lastReason (omega arith) dispatchAnswer (answerNumbers none rounds) answer true (omega arith) (λ e. tt, λ a. refl)
+    tells lastReason (omega arith) dispatchAnswer (answerNumbers (some r) rounds) answer false (n .most)
+    (λ e. absurd (omega (arith, n .least)), λ a. absurd a)
+rounds-tell answer none rounds h =
+    tells lastReason (omega arith) dispatchAnswer (answerNumbers none rounds) answer true (omega arith)
+    (λ e. tt, λ a. refl)
 
 pub status-tells : StatusMeans
 status-tells =

@@ -15,7 +15,8 @@ use Rattle.c_levels.specs.Numbers.{depthNumbers}
 use Rattle.c_levels.specs.Status.{lastReason, DepthStatus, StatusMeans}
 
 -- for any call that answers G, C and R
-pub depth-tells : (last : ℕ) → last < shortAnswer → (answer : List ℕ) (outcome : Outcome Depths) → ((r : Reason) → outcome ≡ refused r → Numbered last r) → DepthStatus last answer outcome
+pub depth-tells : (last : ℕ) → last < shortAnswer → (answer : List ℕ) (outcome : Outcome Depths)
+    → ((r : Reason) → outcome ≡ refused r → Numbered last r) → DepthStatus last answer outcome
 unfolding statusOf depthNumbers
 depth-tells last few answer outcome h = outcome-tells last few 5 depthNumbers answer (λ r. refl) (λ v. refl) outcome h
 
@@ -23,5 +24,6 @@ pub status-tells : StatusMeans
 unfolding fit
 status-tells =
     record {
-      levels = λ s table ls answer. depth-tells lastReason (omega arith) answer (levelsOutcome s table ls) (λ r e. numbered lastReason _ r tt (levels-number s table ls r e));
+      levels = λ s table ls answer. depth-tells lastReason (omega arith) answer (levelsOutcome s table ls)
+          (λ r e. numbered lastReason _ r tt (levels-number s table ls r e));
     }

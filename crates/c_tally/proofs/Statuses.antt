@@ -14,10 +14,15 @@ pub status-tells : StatusMeans
 unfolding fit
 status-tells =
     record {
-      measure = λ s answer. measure-tells lastReason (omega arith) answer (measureOutcome s) (λ r e. numbered lastReason _ r tt (numbering.measure-number s r e));
-      write = λ s table answer. size-tells lastReason (omega arith) answer (writeOutcome s table) (λ r e. numbered lastReason _ r tt (numbering.write-number s table r e));
-      test = λ s table answer. size-tells lastReason (omega arith) answer (testOutcome s table) (λ r e. numbered lastReason _ r tt (numbering.test-number s table r e));
+      measure = λ s answer. measure-tells lastReason (omega arith) answer (measureOutcome s)
+          (λ r e. numbered lastReason _ r tt (numbering.measure-number s r e));
+      write = λ s table answer. size-tells lastReason (omega arith) answer (writeOutcome s table)
+          (λ r e. numbered lastReason _ r tt (numbering.write-number s table r e));
+      test = λ s table answer. size-tells lastReason (omega arith) answer (testOutcome s table)
+          (λ r e. numbered lastReason _ r tt (numbering.test-number s table r e));
       run = λ s table ballots tape wires board answer.
-          size-tells lastReason (omega arith) answer (runResult s table ballots tape wires board .answer) (λ r e. numbered lastReason _ r tt (numbering.run-number s table ballots tape wires board r e));
-      count = λ s ballots answer. count-tells lastReason (omega arith) answer (countReason s ballots) (plainClosing s ballots) (λ r e. numbered lastReason _ r tt (numbering.count-number s ballots r e));
+          size-tells lastReason (omega arith) answer (runResult s table ballots tape wires board .answer)
+          (λ r e. numbered lastReason _ r tt (numbering.run-number s table ballots tape wires board r e));
+      count = λ s ballots answer. count-tells lastReason (omega arith) answer (countReason s ballots)
+          (plainClosing s ballots) (λ r e. numbered lastReason _ r tt (numbering.count-number s ballots r e));
     }

@@ -11,6 +11,8 @@ pub status-tells : StatusMeans
 unfolding fit
 status-tells =
     record {
-      write = λ s table output answer. one-tells lastReason (omega arith) answer (textOutcome s table output) (λ r e. numbered lastReason _ r tt (text-number s table output r e));
-      read = λ s text output answer. one-tells lastReason (omega arith) answer (readOutcome s text output) (λ r e. numbered lastReason _ r tt (read-number s text output r e));
+      write = λ s table output answer. one-tells lastReason (omega arith) answer (textOutcome s table output)
+          (λ r e. numbered lastReason _ r tt (text-number s table output r e));
+      read = λ s text output answer. one-tells lastReason (omega arith) answer (readOutcome s text output)
+          (λ r e. numbered lastReason _ r tt (read-number s text output r e));
     }

@@ -16,6 +16,8 @@ status-tells =
     record {
       trustees = λ c answer.
           let left = trusteesResult c in
-          outcome-tells lastReason (omega arith) tallyAnswer (λ (outcome : Outcome Size). tallyNumbers outcome (left .closing)) answer (λ r. refl) (λ v. refl) (left .answer)
+          outcome-tells lastReason (omega arith) tallyAnswer
+          (λ (outcome : Outcome Size). tallyNumbers outcome (left .closing)) answer (λ r. refl) (λ v. refl)
+          (left .answer)
           (λ r e. numbered lastReason _ r tt (number c r e));
     }

@@ -27,7 +27,8 @@ size-long (refused r) = refl
 size-long (accepted size) = refl
 
 -- four numbers, then the bytes
-pub all-put : (outcome : Outcome Size) (closing answer answer₁ answer₂ : List ℕ) → length closing ≡ 8 → tallyAnswer ≤ length answer → answer₁ ≡ sizeNumbers outcome ++ drop 4 answer → answer₂ ≡ sets answer₁ 4 closing
+pub all-put : (outcome : Outcome Size) (closing answer answer₁ answer₂ : List ℕ) → length closing ≡ 8 → tallyAnswer
+    ≤ length answer → answer₁ ≡ sizeNumbers outcome ++ drop 4 answer → answer₂ ≡ sets answer₁ 4 closing
     → answer₂ ≡ tallyNumbers outcome closing ++ drop tallyAnswer answer
 unfolding tallyNumbers
 all-put outcome closing answer answer₁ answer₂ l h e f =
@@ -35,7 +36,8 @@ all-put outcome closing answer answer₁ answer₂ l h e f =
     let long = size-long outcome in
     let whole : length answer₁ ≡ length answer = ap length e ∙ omega (arith, length-append n (drop 4 answer), length-drop 4 answer) in
     let rest : drop (4 + length closing) answer₁ ≡ drop tallyAnswer answer =
-    ap (λ (m : ℕ). drop (m + length closing) answer₁) (sym long) ∙ ap (drop (length n + length closing)) e ∙ drop-append-add n (drop 4 answer) (length closing)
+    ap (λ (m : ℕ). drop (m + length closing) answer₁) (sym long) ∙ ap (drop (length n + length closing)) e
+    ∙ drop-append-add n (drop 4 answer) (length closing)
     ∙ drop-drop (length closing) 4 answer ∙ ap (λ (m : ℕ). drop (4 + m) answer) l in
     f ∙ sets-eq closing answer₁ 4 (omega arith)
     ∙ ap (λ (xs : List ℕ). xs ++ closing ++ drop (4 + length closing) answer₁) (ap (take 4) e ∙ take-at n (drop 4 answer) 4 long)

@@ -14,9 +14,13 @@ pub status-tells : StatusMeans
 unfolding fit
 status-tells =
     record {
-      empty = λ k d table answer. one-tells lastReason (omega arith) answer (emptyOutcome k d table) (λ r e. numbered lastReason _ r tt (urn-memory .empty k d table .number r e));
-      admit = λ k d urn j x answer. one-tells lastReason (omega arith) answer (admitOutcome k d urn j x) (λ r e. numbered lastReason _ r tt (urn-memory .admit k d urn j x .number r e));
-      withdraw = λ k d urn j answer. one-tells lastReason (omega arith) answer (withdrawOutcome k d urn j) (λ r e. numbered lastReason _ r tt (urn-memory .withdraw k d urn j .number r e));
+      empty = λ k d table answer. one-tells lastReason (omega arith) answer (emptyOutcome k d table)
+          (λ r e. numbered lastReason _ r tt (urn-memory .empty k d table .number r e));
+      admit = λ k d urn j x answer. one-tells lastReason (omega arith) answer (admitOutcome k d urn j x)
+          (λ r e. numbered lastReason _ r tt (urn-memory .admit k d urn j x .number r e));
+      withdraw = λ k d urn j answer. one-tells lastReason (omega arith) answer (withdrawOutcome k d urn j)
+          (λ r e. numbered lastReason _ r tt (urn-memory .withdraw k d urn j .number r e));
       runUrn = λ s table urn tape wires board answer.
-          size-tells lastRunReason (omega arith) answer (urnRunResult s table urn tape wires board .answer) (λ r e. numbered lastRunReason _ r tt (urn-run-holds .memory s table urn tape wires board .number r e));
+          size-tells lastRunReason (omega arith) answer (urnRunResult s table urn tape wires board .answer)
+          (λ r e. numbered lastRunReason _ r tt (urn-run-holds .memory s table urn tape wires board .number r e));
     }

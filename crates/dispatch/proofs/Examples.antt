@@ -91,7 +91,8 @@ module _ (mask : ℕ) where
       subst (λ (t : Tables). Front t (0 ∷ 1 ∷ []) (mask ∷ []) (7 ∷ 7 ∷ 7 ∷ []) (7 ∷ 7 ∷ [])) (sym second-is)
       (unfold oneGate pieceOf fitting in (record { list = refl; ballots-are = refl; tape-is = refl; wires-are = refl; board-is = refl }))
 
-better-ran : runResult oneBallot oneGate (1 ∷ 0 ∷ []) (0 ∷ []) (9 ∷ 9 ∷ 9 ∷ []) (9 ∷ 9 ∷ []) .answer ≡ accepted (record { gates = 1; conditional = 1 })
+better-ran : runResult oneBallot oneGate (1 ∷ 0 ∷ []) (0 ∷ []) (9 ∷ 9 ∷ 9 ∷ []) (9 ∷ 9 ∷ []) .answer
+    ≡ accepted (record { gates = 1; conditional = 1 })
 better-ran = ap (λ (r : RunResult). r .answer) (pair-of-runs .first-run)
 
 better-board : runResult oneBallot oneGate (1 ∷ 0 ∷ []) (0 ∷ []) (9 ∷ 9 ∷ 9 ∷ []) (9 ∷ 9 ∷ []) .board ≡ 1 ∷ 0 ∷ []
@@ -108,11 +109,25 @@ first-juries = rw (none-applies (oneJury .tables) _ _ _ _ first-front better-ran
 first-passes : firstOf (dispatchReasons oneJury) ≡ none
 first-passes = unfold oneJury in (by-juries oneJury refl refl ∙ first-juries)
 
-first-call : dispatchResult oneJury ≡ record { reason = none; rounds = 1 ∷ 0 ∷ 0 ∷ 0 ∷ 0 ∷ 0 ∷ 0 ∷ 0 ∷ []; wires = 0 ∷ 0 ∷ 0 ∷ 9 ∷ []; boards = 1 ∷ 0 ∷ 9 ∷ [] }
+first-call : dispatchResult oneJury
+    ≡ record {
+      reason = none;
+      rounds = 1 ∷ 0 ∷ 0 ∷ 0 ∷ 0 ∷ 0 ∷ 0 ∷ 0 ∷ [];
+      wires = 0 ∷ 0 ∷ 0 ∷ 9 ∷ [];
+      boards =
+          1 ∷ 0 ∷ 9 ∷ [];
+    }
 first-call =
-    let end : DispatchResult = record { reason = none; rounds = 1 ∷ 0 ∷ 0 ∷ 0 ∷ 0 ∷ 0 ∷ 0 ∷ 0 ∷ []; wires = 0 ∷ 0 ∷ 0 ∷ 9 ∷ []; boards = 1 ∷ 0 ∷ 9 ∷ [] } in
+    let end : DispatchResult = record {
+      reason = none;
+      rounds = 1 ∷ 0 ∷ 0 ∷ 0 ∷ 0 ∷ 0 ∷ 0 ∷ 0 ∷ [];
+      wires =
+          0 ∷ 0 ∷ 0 ∷ 9 ∷ [];
+      boards = 1 ∷ 0 ∷ 9 ∷ [];
+    } in
     result-by oneJury none first-passes
-    ∙ same-result (dispatchResultAfter none oneJury) end (unfold dispatchResultAfter in refl) (unfold dispatchResultAfter oneJury eightOf through roundsFor oneHeader in refl)
+    ∙ same-result (dispatchResultAfter none oneJury) end (unfold dispatchResultAfter in refl)
+    (unfold dispatchResultAfter oneJury eightOf through roundsFor oneHeader in refl)
     (unfold dispatchResultAfter through oneJury in wires) (unfold dispatchResultAfter through oneJury in boards)
   where
     wires : zeroWires oneHeader (piecesOf oneHeader (oneJury .tables)) ++ behind oneHeader (oneJury .tables) .wires ≡ 0 ∷ 0 ∷ 0 ∷ 9 ∷ []
@@ -122,54 +137,86 @@ first-call =
 
     boards : runBoard oneHeader (piecesOf oneHeader (oneJury .tables)) ++ behind oneHeader (oneJury .tables) .boards ≡ 1 ∷ 0 ∷ 9 ∷ []
     boards =
-        ap (λ (z : List ℕ). z ++ behind oneHeader (oneJury .tables) .boards) (its-board (oneJury .tables) _ _ _ _ first-front better-ran ∙ better-board)
+        ap (λ (z : List ℕ). z ++ behind oneHeader (oneJury .tables) .boards)
+        (its-board (oneJury .tables) _ _ _ _ first-front better-ran ∙ better-board)
         ∙ ap (λ (u : Tables). 1 ∷ 0 ∷ u .boards) first-left
 
 -- two juries, once the second one's run is known
 module _ (mask : ℕ) (board : List ℕ)
-    (second-ran : runResult oneBallot oneGate (0 ∷ 1 ∷ []) (mask ∷ []) (7 ∷ 7 ∷ 7 ∷ []) (7 ∷ 7 ∷ []) .answer ≡ accepted (record { gates = 1; conditional = 1 }))
+    (second-ran : runResult oneBallot oneGate (0 ∷ 1 ∷ []) (mask ∷ []) (7 ∷ 7 ∷ 7 ∷ []) (7 ∷ 7 ∷ []) .answer
+    ≡ accepted (record { gates = 1; conditional = 1 }))
     (second-board : runResult oneBallot oneGate (0 ∷ 1 ∷ []) (mask ∷ []) (7 ∷ 7 ∷ 7 ∷ []) (7 ∷ 7 ∷ []) .board ≡ board) where
   left-over : behind oneHeader (second mask) ≡ lent [] [] [] [] []
   unfolding oneGate
   left-over =
       then (second mask) _ _ _ _ (second-front mask)
-      ∙ ap (λ (u : Tables). lent (drop 4 (u .lists)) (drop 2 (u .ballots)) (drop 1 (u .tapes)) (drop 3 (u .wires)) (drop 2 (u .boards))) (second-is mask)
+      ∙ ap (λ (u : Tables). lent (drop 4 (u .lists)) (drop 2 (u .ballots)) (drop 1 (u .tapes)) (drop 3 (u .wires))
+      (drop 2 (u .boards))) (second-is mask)
 
   both-juries : firstOf (juryReasons 0 (oneHeader ∷ oneHeader ∷ []) (twoJuries mask .tables)) ≡ none
   unfolding juryReasons atJury firstOf
-  both-juries = rw (none-applies (twoJuries mask .tables) _ _ _ _ (two-front mask) better-ran, none-applies (second mask) _ _ _ _ (second-front mask) second-ran)
+  both-juries = rw (
+    none-applies (twoJuries mask .tables) _ _ _ _ (two-front mask) better-ran,
+    none-applies (second mask) _ _ _ _ (second-front mask) second-ran,
+  )
 
   both-pass : firstOf (dispatchReasons (twoJuries mask)) ≡ none
   both-pass = unfold twoJuries in (by-juries (twoJuries mask) refl refl ∙ both-juries)
 
-  two-call : dispatchResult (twoJuries mask) ≡ record { reason = none; rounds = 1 ∷ 1 ∷ 0 ∷ 0 ∷ 0 ∷ 0 ∷ 0 ∷ 0 ∷ []; wires = 0 ∷ 0 ∷ 0 ∷ 0 ∷ 0 ∷ 0 ∷ []; boards = 1 ∷ 0 ∷ (board ++ []) }
+  two-call : dispatchResult (twoJuries mask)
+      ≡ record {
+        reason = none;
+        rounds = 1 ∷ 1 ∷ 0 ∷ 0 ∷ 0 ∷ 0 ∷ 0 ∷ 0 ∷ [];
+        wires = 0 ∷ 0 ∷ 0 ∷ 0 ∷ 0 ∷ 0 ∷ [];
+        boards = 1 ∷ 0 ∷ (board ++ []);
+      }
   two-call =
-      let end : DispatchResult = record { reason = none; rounds = 1 ∷ 1 ∷ 0 ∷ 0 ∷ 0 ∷ 0 ∷ 0 ∷ 0 ∷ []; wires = 0 ∷ 0 ∷ 0 ∷ 0 ∷ 0 ∷ 0 ∷ []; boards = 1 ∷ 0 ∷ (board ++ []) } in
+      let end : DispatchResult = record {
+        reason = none;
+        rounds = 1 ∷ 1 ∷ 0 ∷ 0 ∷ 0 ∷ 0 ∷ 0 ∷ 0 ∷ [];
+        wires =
+            0 ∷ 0 ∷ 0 ∷ 0 ∷ 0 ∷ 0 ∷ [];
+        boards = 1 ∷ 0 ∷ (board ++ []);
+      } in
       result-by (twoJuries mask) none both-pass
-      ∙ same-result (dispatchResultAfter none (twoJuries mask)) end (unfold dispatchResultAfter in refl) (unfold dispatchResultAfter twoJuries eightOf through roundsFor oneHeader in refl)
+      ∙ same-result (dispatchResultAfter none (twoJuries mask)) end (unfold dispatchResultAfter in refl)
+      (unfold dispatchResultAfter twoJuries eightOf through roundsFor oneHeader in refl)
       (unfold dispatchResultAfter through twoJuries in wires) (unfold dispatchResultAfter through twoJuries in boards)
     where
-      wires : zeroWires oneHeader (piecesOf oneHeader (twoJuries mask .tables)) ++ (zeroWires oneHeader (piecesOf oneHeader (second mask)) ++ behind oneHeader (second mask) .wires) ≡ 0 ∷ 0 ∷ 0 ∷ 0 ∷ 0 ∷ 0 ∷ []
+      wires : zeroWires oneHeader (piecesOf oneHeader (twoJuries mask .tables))
+          ++ (zeroWires oneHeader (piecesOf oneHeader (second mask)) ++ behind oneHeader (second mask) .wires)
+          ≡ 0 ∷ 0 ∷ 0 ∷ 0 ∷ 0 ∷ 0 ∷ []
       wires =
-          ap (λ (z : List ℕ). z ++ (zeroWires oneHeader (piecesOf oneHeader (second mask)) ++ behind oneHeader (second mask) .wires)) (its-zeros (twoJuries mask .tables) _ _ _ _ (two-front mask) better-ran)
-          ∙ ap (λ (z : List ℕ). 0 ∷ 0 ∷ 0 ∷ (z ++ behind oneHeader (second mask) .wires)) (its-zeros (second mask) _ _ _ _ (second-front mask) second-ran)
+          ap (λ (z : List ℕ). z ++ (zeroWires oneHeader (piecesOf oneHeader (second mask))
+          ++ behind oneHeader (second mask) .wires))
+          (its-zeros (twoJuries mask .tables) _ _ _ _ (two-front mask) better-ran)
+          ∙ ap (λ (z : List ℕ). 0 ∷ 0 ∷ 0 ∷ (z ++ behind oneHeader (second mask) .wires))
+          (its-zeros (second mask) _ _ _ _ (second-front mask) second-ran)
           ∙ ap (λ (u : Tables). 0 ∷ 0 ∷ 0 ∷ 0 ∷ 0 ∷ 0 ∷ u .wires) left-over
 
-      boards : runBoard oneHeader (piecesOf oneHeader (twoJuries mask .tables)) ++ (runBoard oneHeader (piecesOf oneHeader (second mask)) ++ behind oneHeader (second mask) .boards) ≡ 1 ∷ 0 ∷ (board ++ [])
+      boards : runBoard oneHeader (piecesOf oneHeader (twoJuries mask .tables))
+          ++ (runBoard oneHeader (piecesOf oneHeader (second mask)) ++ behind oneHeader (second mask) .boards)
+          ≡ 1 ∷ 0 ∷ (board ++ [])
       boards =
-          ap (λ (z : List ℕ). z ++ (runBoard oneHeader (piecesOf oneHeader (second mask)) ++ behind oneHeader (second mask) .boards)) (its-board (twoJuries mask .tables) _ _ _ _ (two-front mask) better-ran ∙ better-board)
-          ∙ ap (λ (z : List ℕ). 1 ∷ 0 ∷ (z ++ behind oneHeader (second mask) .boards)) (its-board (second mask) _ _ _ _ (second-front mask) second-ran ∙ second-board)
+          ap (λ (z : List ℕ). z ++ (runBoard oneHeader (piecesOf oneHeader (second mask))
+          ++ behind oneHeader (second mask) .boards))
+          (its-board (twoJuries mask .tables) _ _ _ _ (two-front mask) better-ran ∙ better-board)
+          ∙ ap (λ (z : List ℕ). 1 ∷ 0 ∷ (z ++ behind oneHeader (second mask) .boards))
+          (its-board (second mask) _ _ _ _ (second-front mask) second-ran ∙ second-board)
           ∙ ap (λ (u : Tables). 1 ∷ 0 ∷ (board ++ u .boards)) left-over
 
 -- the worse grade under both masks
-worse-ran : runResult oneBallot oneGate (0 ∷ 1 ∷ []) (1 ∷ []) (7 ∷ 7 ∷ 7 ∷ []) (7 ∷ 7 ∷ []) .answer ≡ accepted (record { gates = 1; conditional = 1 })
+worse-ran : runResult oneBallot oneGate (0 ∷ 1 ∷ []) (1 ∷ []) (7 ∷ 7 ∷ 7 ∷ []) (7 ∷ 7 ∷ []) .answer
+    ≡ accepted (record { gates = 1; conditional = 1 })
 worse-ran = ap (λ (r : RunResult). r .answer) (pair-of-runs .second-run)
 
-other-ran : runResult oneBallot oneGate (0 ∷ 1 ∷ []) (0 ∷ []) (7 ∷ 7 ∷ 7 ∷ []) (7 ∷ 7 ∷ []) .answer ≡ accepted (record { gates = 1; conditional = 1 })
+other-ran : runResult oneBallot oneGate (0 ∷ 1 ∷ []) (0 ∷ []) (7 ∷ 7 ∷ 7 ∷ []) (7 ∷ 7 ∷ []) .answer
+    ≡ accepted (record { gates = 1; conditional = 1 })
 other-ran =
     let a = ran-accepted oneBallot oneGate (0 ∷ 1 ∷ []) (7 ∷ 7 ∷ 7 ∷ []) (7 ∷ 7 ∷ []) (1 ∷ []) _ worse-ran in
     run-answer oneBallot oneGate (0 ∷ 1 ∷ []) (7 ∷ 7 ∷ 7 ∷ []) (7 ∷ 7 ∷ []) (1 ∷ [])
-    (run-passed oneBallot oneGate (0 ∷ 1 ∷ []) (1 ∷ []) (7 ∷ 7 ∷ 7 ∷ []) (7 ∷ 7 ∷ []) (a .0)) (0 ∷ []) (record { size = sym one-conditional; bits = bit })
+    (run-passed oneBallot oneGate (0 ∷ 1 ∷ []) (1 ∷ []) (7 ∷ 7 ∷ 7 ∷ []) (7 ∷ 7 ∷ []) (a .0)) (0 ∷ [])
+    (record { size = sym one-conditional; bits = bit })
     ∙ ap accepted (sym (a .1))
   where
     bit : (i : ℕ) → getD (0 ∷ []) i 0 ≤ 1

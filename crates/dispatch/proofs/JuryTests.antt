@@ -47,29 +47,38 @@ module _ (s : JuryHeader) (t : Tables) where
   unfolding piecesOf listOf pieceOf
   list-piece n e = ap (λ (x : ℕ). take x (t .lists)) e
 
-  pub ballots-piece : (i n : ℕ) → i ≡ ballotBytes (shapeOf s) → n ≡ fitting (i + 0) (length (t .ballots)) → take n (t .ballots) ≡ piecesOf s t .ballots
+  pub ballots-piece : (i n : ℕ) → i ≡ ballotBytes (shapeOf s) → n ≡ fitting (i + 0) (length (t .ballots))
+      → take n (t .ballots) ≡ piecesOf s t .ballots
   unfolding piecesOf pieceOf
-  ballots-piece i n h e = ap (λ (x : ℕ). take x (t .ballots)) (e ∙ ap (λ (x : ℕ). fitting x (length (t .ballots))) {x = i + 0} {y = ballotBytes (shapeOf s)} (omega arith))
+  ballots-piece i n h e = ap (λ (x : ℕ). take x (t .ballots))
+      (e ∙ ap (λ (x : ℕ). fitting x (length (t .ballots))) {x = i + 0} {y = ballotBytes (shapeOf s)} (omega arith))
 
   pub tape-piece : (c n : ℕ) → c ≡ conditionalIn s t → n ≡ fitting (c + 0) (length (t .tapes)) → take n (t .tapes) ≡ piecesOf s t .tapes
   unfolding piecesOf pieceOf
-  tape-piece c n h e = ap (λ (x : ℕ). take x (t .tapes)) (e ∙ ap (λ (x : ℕ). fitting x (length (t .tapes))) {x = c + 0} {y = conditionalIn s t} (omega arith))
+  tape-piece c n h e = ap (λ (x : ℕ). take x (t .tapes))
+      (e ∙ ap (λ (x : ℕ). fitting x (length (t .tapes))) {x = c + 0} {y = conditionalIn s t} (omega arith))
 
-  pub wires-piece : (i g n : ℕ) → i ≡ ballotBytes (shapeOf s) → g ≡ s .gates → n ≡ fitting (i + g) (length (t .wires)) → take n (t .wires) ≡ piecesOf s t .wires
+  pub wires-piece : (i g n : ℕ) → i ≡ ballotBytes (shapeOf s) → g ≡ s .gates → n
+      ≡ fitting (i + g) (length (t .wires)) → take n (t .wires) ≡ piecesOf s t .wires
   unfolding piecesOf pieceOf
   wires-piece i g n h k e =
-      ap (λ (x : ℕ). take x (t .wires)) (e ∙ ap (λ (x : ℕ). fitting x (length (t .wires))) {x = i + g} {y = ballotBytes (shapeOf s) + s .gates} (omega arith))
+      ap (λ (x : ℕ). take x (t .wires))
+      (e ∙ ap (λ (x : ℕ). fitting x (length (t .wires))) {x = i + g} {y = ballotBytes (shapeOf s) + s .gates}
+      (omega arith))
 
-  pub board-piece : (c n : ℕ) → c ≡ conditionalIn s t → n ≡ fitting (c + s .candidates) (length (t .boards)) → take n (t .boards) ≡ piecesOf s t .boards
+  pub board-piece : (c n : ℕ) → c ≡ conditionalIn s t → n ≡ fitting (c + s .candidates) (length (t .boards))
+      → take n (t .boards) ≡ piecesOf s t .boards
   unfolding piecesOf pieceOf
   board-piece c n h e = ap (λ (x : ℕ). take x (t .boards)) (e ∙ ap (λ (x : ℕ). fitting (x + s .candidates) (length (t .boards))) h)
 
   -- after a jury that passes, the next ones decide; a bad one decides itself
-  pub next-jury : (j : ℕ) (ss : List JuryHeader) → firstOf (reasonsOf s t) ≡ none → firstOf (juryReasons j (s ∷ ss) t) ≡ firstOf (juryReasons (suc j) ss (behind s t))
+  pub next-jury : (j : ℕ) (ss : List JuryHeader) → firstOf (reasonsOf s t) ≡ none
+      → firstOf (juryReasons j (s ∷ ss) t) ≡ firstOf (juryReasons (suc j) ss (behind s t))
   unfolding juryReasons atJury firstOf
   next-jury j ss e = ap (λ (o : Option Reason). firstOf (atJury j o ∷ juryReasons (suc j) ss (behind s t))) e
 
-  pub bad-jury : (j : ℕ) (ss : List JuryHeader) (r : Reason) → firstOf (reasonsOf s t) ≡ some r → firstOf (juryReasons j (s ∷ ss) t) ≡ atJury j (some r)
+  pub bad-jury : (j : ℕ) (ss : List JuryHeader) (r : Reason) → firstOf (reasonsOf s t) ≡ some r
+      → firstOf (juryReasons j (s ∷ ss) t) ≡ atJury j (some r)
   unfolding juryReasons atJury firstOf
   bad-jury j ss r e = ap (λ (o : Option Reason). firstOf (atJury j o ∷ juryReasons (suc j) ss (behind s t))) e
 
@@ -87,7 +96,8 @@ unfolding atJury
 at-jury-some j r e = let z : _≡_ {A = ℕ} 0 1 = cc in absurd (omega arith)
 
 -- an accepted answer: no reason applies, and it has the list's C
-pub accepted-mark : (a : Answer) (o : Option Reason) (gs : List Gate) (g c : ℕ) → outcomeOf a ≡ outcome o (sizeOf gs) → a ≡ answer.Accepted g c → (o ≡ none) × (c ≡ conditionalCount gs)
+pub accepted-mark : (a : Answer) (o : Option Reason) (gs : List Gate) (g c : ℕ) → outcomeOf a
+    ≡ outcome o (sizeOf gs) → a ≡ answer.Accepted g c → (o ≡ none) × (c ≡ conditionalCount gs)
 unfolding outcomeOf outcome sizeOf
 accepted-mark a none gs g c e f =
     let same : record { gates = g; conditional = c } ≡ sizeOf gs = same-size (ap outcomeOf (sym f) ∙ e) in
@@ -98,24 +108,30 @@ accepted-mark a none gs g c e f =
 accepted-mark a (some r) gs g c e f = never (record { gates = g; conditional = c }) r (sym e ∙ ap outcomeOf f)
 
 -- The juries before j passed, so the first reason is that of the juries ahead.
-pub record TestedSoFar (ss : List JuryHeader) (t : Tables) (j : ℕ) (left : List JuryHeader) (at : Places) (conditional : List ℕ) : Type 0 where
+pub record TestedSoFar (ss : List JuryHeader) (t : Tables) (j : ℕ) (left : List JuryHeader) (at : Places)
+    (conditional : List ℕ) : Type 0 where
   pub reasons : firstOf (juryReasons j left (from at t)) ≡ firstOf (juryReasons 0 ss t)
-  pub marksUp : Upto (oneOf (λ (s : JuryHeader) (p : Tables). 0)) (oneOf marks) (padding ss) left (from at t) j conditional (eightOf marks ss t)
+  pub marksUp : Upto (oneOf (λ (s : JuryHeader) (p : Tables). 0)) (oneOf marks) (padding ss) left (from at t) j
+      conditional (eightOf marks ss t)
   pub wires : at .wires + wireBytes left ≡ wireBytes ss
   pub inside : Inside at t
 
-pub tested-start : (ss : List JuryHeader) (l b m ws bs : List ℕ) → length ss ≤ 8 → TestedSoFar ss (lent l b m ws bs) 0 ss start (replicate 8 0)
+pub tested-start : (ss : List JuryHeader) (l b m ws bs : List ℕ) → length ss ≤ 8
+    → TestedSoFar ss (lent l b m ws bs) 0 ss start (replicate 8 0)
 unfolding eightOf
 tested-start ss l b m ws bs few =
     let t = lent l b m ws bs in
     record {
       reasons = refl;
-      marksUp = upto-start (oneOf (λ (s : JuryHeader) (p : Tables). 0)) (oneOf marks) (padding ss) ss t (replicate 8 0) (sym (eight-zeros (λ (s : JuryHeader) (p : Tables). 0) (λ (s : JuryHeader) (p : Tables). refl) ss t few));
+      marksUp = upto-start (oneOf (λ (s : JuryHeader) (p : Tables). 0)) (oneOf marks) (padding ss) ss t
+          (replicate 8 0)
+          (sym (eight-zeros (λ (s : JuryHeader) (p : Tables). 0) (λ (s : JuryHeader) (p : Tables). refl) ss t few));
       wires = omega arith;
       inside = record { lists = omega arith; ballots = omega arith; tapes = omega arith; wires = omega arith; boards = omega arith };
     }
 
-pub tested-next : (ss : List JuryHeader) (t : Tables) (j : ℕ) (s : JuryHeader) (left : List JuryHeader) (at : Places) (conditional : List ℕ) (v : ℕ)
+pub tested-next : (ss : List JuryHeader) (t : Tables) (j : ℕ) (s : JuryHeader) (left : List JuryHeader)
+    (at : Places) (conditional : List ℕ) (v : ℕ)
     → TestedSoFar ss t j (s ∷ left) at conditional → firstOf (reasonsOf s (from at t)) ≡ none → v ≡ conditionalIn s (from at t)
     → TestedSoFar ss t (suc j) left (placesAfter at s (conditionalIn s (from at t))) (set conditional j v)
 unfolding wireBytes
@@ -124,11 +140,15 @@ tested-next ss t j s left at conditional v k e c =
     let p = jury-passed s h e in
     let q = from-after at s t in
     record {
-      reasons = subst (λ (x : Tables). firstOf (juryReasons (suc j) left x) ≡ firstOf (juryReasons 0 ss t)) q (sym (next-jury s h j left e) ∙ k .reasons);
+      reasons = subst (λ (x : Tables). firstOf (juryReasons (suc j) left x) ≡ firstOf (juryReasons 0 ss t)) q
+          (sym (next-jury s h j left e) ∙ k .reasons);
       marksUp =
-          subst (λ (x : Tables). Upto (oneOf (λ (s : JuryHeader) (p : Tables). 0)) (oneOf marks) (padding ss) left x (suc j) (set conditional j v) (eightOf marks ss t)) q
-          (subst (λ (i : ℕ). Upto (oneOf (λ (s : JuryHeader) (p : Tables). 0)) (oneOf marks) (padding ss) left (behind s h) i (set conditional j v) (eightOf marks ss t)) (add-one j)
-          (upto-set (λ (s : JuryHeader) (p : Tables). 0) marks (padding ss) s left h j conditional (eightOf marks ss t) (k .marksUp) v (c ∙ sym (p .marked))));
+          subst (λ (x : Tables). Upto (oneOf (λ (s : JuryHeader) (p : Tables). 0)) (oneOf marks) (padding ss) left x
+          (suc j) (set conditional j v) (eightOf marks ss t)) q
+          (subst (λ (i : ℕ). Upto (oneOf (λ (s : JuryHeader) (p : Tables). 0)) (oneOf marks) (padding ss) left
+          (behind s h) i (set conditional j v) (eightOf marks ss t)) (add-one j)
+          (upto-set (λ (s : JuryHeader) (p : Tables). 0) marks (padding ss) s left h j conditional
+          (eightOf marks ss t) (k .marksUp) v (c ∙ sym (p .marked))));
       wires = omega (arith, k .wires);
       inside = inside-next at s t (k .inside) p;
     }
@@ -138,7 +158,8 @@ pub tested-end : (ss : List JuryHeader) (t : Tables) (j : ℕ) (at : Places) (co
 unfolding juryReasons firstOf wireBytes
 tested-end ss t j at conditional k = (
   k .reasons,
-  upto-end (oneOf (λ (s : JuryHeader) (p : Tables). 0)) (oneOf marks) (padding ss) (from at t) j conditional (eightOf marks ss t) (k .marksUp),
+  upto-end (oneOf (λ (s : JuryHeader) (p : Tables). 0)) (oneOf marks) (padding ss) (from at t) j conditional
+      (eightOf marks ss t) (k .marksUp),
   omega (arith, k .wires),
 )
 
@@ -154,7 +175,8 @@ pub lent-same : (l l′ b b′ m m′ w w′ o o′ : List ℕ) → l ≡ l′ �
 lent-same l l′ b b′ m m′ w w′ o o′ e₀ e₁ e₂ e₃ e₄ = λ x. record { lists = e₀ x; ballots = e₁ x; tapes = e₂ x; wires = e₃ x; boards = e₄ x }
 
 -- an accepted list has as many gates as its header says, and its own C
-pub stated-size : (s : JuryHeader) (t : Tables) (size : Size) → TestPassed (shapeOf s) (piecesOf s t .lists) size → (size .gates ≡ s .gates) × (size .conditional ≡ conditionalIn s t)
+pub stated-size : (s : JuryHeader) (t : Tables) (size : Size) → TestPassed (shapeOf s) (piecesOf s t .lists) size
+    → (size .gates ≡ s .gates) × (size .conditional ≡ conditionalIn s t)
 unfolding piecesOf conditionalIn sizeOf
 stated-size s t size k =
     let list = accepted-list (ballotBytes (shapeOf s)) (s .candidates) (listOf s t) (size .gates) (size .conditional) (k .tests) in

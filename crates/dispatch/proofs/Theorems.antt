@@ -51,8 +51,10 @@ rounds-most : (gates quantum r : ℕ) → 1 ≤ quantum → (roundsFor gates qua
 unfolding roundsFor
 rounds-most gates quantum r h =
     let iff = div-lt-iff-lt-mul {k = quantum} {x = gates + (quantum - 1)} {y = suc r} h in (
-      λ (p : (gates + (quantum - 1)) / quantum ≤ r). let q : gates + (quantum - 1) < suc r * quantum = iff .0 (omega arith) in omega (arith, suc-mul r quantum),
-      λ (p : gates ≤ r * quantum). let q : (gates + (quantum - 1)) / quantum < suc r = iff .1 (omega (arith, suc-mul r quantum)) in omega arith,
+      λ (p : (gates + (quantum - 1)) / quantum ≤ r). let q : gates + (quantum - 1) < suc r * quantum =
+          iff .0 (omega arith) in omega (arith, suc-mul r quantum),
+      λ (p : gates ≤ r * quantum). let q : (gates + (quantum - 1)) / quantum < suc r =
+          iff .1 (omega (arith, suc-mul r quantum)) in omega arith,
     )
 
 exact : RoundsExact
@@ -66,7 +68,8 @@ exact =
       given = λ (gates quantum r : ℕ) (h : 1 ≤ quantum).
           let iff = rounds-most gates quantum r h in (
             λ (p : min (r * quantum) gates < min (suc r * quantum) gates). below gates quantum r (iff .0) (omega arith),
-            λ (p : r < roundsFor gates quantum). let q : r * quantum < gates = above gates quantum r (iff .1) p in omega (arith, suc-mul r quantum),
+            λ (p : r < roundsFor gates quantum). let q : r * quantum < gates = above gates quantum r (iff .1) p in
+                omega (arith, suc-mul r quantum),
           );
     }
   where
@@ -84,7 +87,10 @@ exact =
 
 -- a number between two others, as a flag and as a fact
 between : (least n most : ℕ) → (leb least n && leb n most) ≡ true → (least ≤ n) × (n ≤ most)
-between least n most e = (leb-true least n (and-first (leb least n) (leb n most) e), leb-true n most (and-second (leb least n) (leb n most) e))
+between least n most e = (
+  leb-true least n (and-first (leb least n) (leb n most) e),
+  leb-true n most (and-second (leb least n) (leb n most) e),
+)
 
 outside : (least n most : ℕ) → (leb least n && leb n most) ≡ false → ¬ ((least ≤ n) × (n ≤ most))
 outside least n most e h =
@@ -105,12 +111,14 @@ juries-pass : (c : Call) → dispatchResult c .reason ≡ none → firstOf (jury
 unfolding dispatchReasons
 juries-pass c e = go (leb 1 (c .count) && leb (c .count) 8) (leb 1 (c .quantum) && leb (c .quantum) 65536) (no-reason c none e)
   where
-    go : (a b : Bool) → firstOf (unless a 19 ∷ unless b 20 ∷ juryReasons 0 (juriesIn c) (c .tables)) ≡ none → firstOf (juryReasons 0 (juriesIn c) (c .tables)) ≡ none
+    go : (a b : Bool) → firstOf (unless a 19 ∷ unless b 20 ∷ juryReasons 0 (juriesIn c) (c .tables)) ≡ none
+        → firstOf (juryReasons 0 (juriesIn c) (c .tables)) ≡ none
     go true true p = unfold unless firstOf in p
     go true false p = unfold unless firstOf in (let z : _≡_ {A = ℕ} 0 1 = cc in absurd (omega arith))
     go false b p = unfold unless firstOf in (let z : _≡_ {A = ℕ} 0 1 = cc in absurd (omega arith))
 
-accepted-at : (i j : ℕ) (ss : List JuryHeader) (t : Tables) → firstOf (juryReasons i ss t) ≡ none → j < length ss → firstOf (reasonsOf (juryAt j ss) (tablesFrom j ss t)) ≡ none
+accepted-at : (i j : ℕ) (ss : List JuryHeader) (t : Tables) → firstOf (juryReasons i ss t) ≡ none → j < length ss
+    → firstOf (reasonsOf (juryAt j ss) (tablesFrom j ss t)) ≡ none
 unfolding tablesFrom
 accepted-at i j [] t e h = absurd (omega arith)
 accepted-at i zero (s ∷ ss) t e h = first-accepted i s ss t e .0
@@ -123,14 +131,16 @@ run-accepted ss t j e =
     let k = jury-passed (juryAt j ss) (tablesFrom j ss t) e .passed in
     run-answer (shapeOf (juryAt j ss)) (p .lists) (p .ballots) (p .wires) (p .boards) (p .tapes) k (p .tapes) (k .mask)
 
-number-at : (f : JuryHeader → Tables → ℕ) (rest : Tables → List ℕ) (j : ℕ) (ss : List JuryHeader) (t : Tables) → j < length ss → getD (through (oneOf f) rest ss t) j 0 ≡ f (juryAt j ss) (piecesAt j ss t)
+number-at : (f : JuryHeader → Tables → ℕ) (rest : Tables → List ℕ) (j : ℕ) (ss : List JuryHeader) (t : Tables) → j
+    < length ss → getD (through (oneOf f) rest ss t) j 0 ≡ f (juryAt j ss) (piecesAt j ss t)
 unfolding through tablesFrom
 number-at f rest j [] t h = absurd (omega arith)
 number-at f rest zero (s ∷ ss) t h = refl
 number-at f rest (suc j) (s ∷ ss) t h = number-at f rest j ss (behind s t) (omega arith)
 
 -- the length of a run's board
-ran-long : (s : JuryHeader) (t : Tables) → firstOf (reasonsOf s t) ≡ none → length (runBoard s (piecesOf s t)) ≡ conditionalIn s t + s .candidates
+ran-long : (s : JuryHeader) (t : Tables) → firstOf (reasonsOf s t) ≡ none → length (runBoard s (piecesOf s t))
+    ≡ conditionalIn s t + s .candidates
 unfolding runBoard
 ran-long s t e =
     let p = piecesOf s t in
@@ -138,13 +148,16 @@ ran-long s t e =
 
 -- jury j's piece of the boards
 board-at : (i j : ℕ) (ss : List JuryHeader) (t : Tables) (w : List ℕ) → firstOf (juryReasons i ss t) ≡ none → j < length ss
-    → piecesAt j ss (lent (t .lists) (t .ballots) (t .tapes) w (through runBoard (λ (t : Tables). t .boards) ss t)) .boards ≡ runBoard (juryAt j ss) (piecesAt j ss t)
+    → piecesAt j ss (lent (t .lists) (t .ballots) (t .tapes) w
+    (through runBoard (λ (t : Tables). t .boards) ss t)) .boards ≡ runBoard (juryAt j ss) (piecesAt j ss t)
 unfolding through tablesFrom behind conditionalIn listOf
 board-at i j [] t w e h = absurd (omega arith)
 board-at i zero (s ∷ ss) t w e h = first-board s ss t w (first-accepted i s ss t e .0)
   where
     first-board : (s : JuryHeader) (ss : List JuryHeader) (t : Tables) (w : List ℕ) → firstOf (reasonsOf s t) ≡ none
-        → piecesOf s (lent (t .lists) (t .ballots) (t .tapes) w (runBoard s (piecesOf s t) ++ through runBoard (λ (t : Tables). t .boards) ss (behind s t))) .boards ≡ runBoard s (piecesOf s t)
+        → piecesOf s (lent (t .lists) (t .ballots) (t .tapes) w
+        (runBoard s (piecesOf s t) ++ through runBoard (λ (t : Tables). t .boards) ss (behind s t))) .boards
+        ≡ runBoard s (piecesOf s t)
     first-board s ss t w a =
         unfold piecesOf conditionalIn listOf in
         (let n = conditionalIn s t + s .candidates in
@@ -160,22 +173,28 @@ board-at i (suc j) (s ∷ ss) t w e h =
     let long : length b ≡ n = ran-long s t (a .0) in
     let cut : drop n (b ++ rest) ≡ rest = drop-at b rest n long in
     let later = behind s t in
-    ap (λ (x : List ℕ). piecesAt j ss (lent (later .lists) (later .ballots) (later .tapes) (drop (ballotBytes (shapeOf s) + s .gates) w) x) .boards) cut
+    ap (λ (x : List ℕ). piecesAt j ss
+    (lent (later .lists) (later .ballots) (later .tapes) (drop (ballotBytes (shapeOf s) + s .gates) w)
+    x) .boards) cut
     ∙ board-at (suc i) j ss (behind s t) (drop (ballotBytes (shapeOf s) + s .gates) w) (a .1) (omega arith)
 
 -- zeros in place of a jury's wires
-zeros-long : (s : JuryHeader) (t : Tables) → firstOf (reasonsOf s t) ≡ none → length (zeroWires s (piecesOf s t)) ≡ ballotBytes (shapeOf s) + s .gates
+zeros-long : (s : JuryHeader) (t : Tables) → firstOf (reasonsOf s t) ≡ none → length (zeroWires s (piecesOf s t))
+    ≡ ballotBytes (shapeOf s) + s .gates
 zeros-long s t e = length-replicate {A = ℕ} (length (piecesOf s t .wires)) 0 ∙ jury-passed s t e .wiresLong
 
 -- jury j's piece of the wire table
 wires-at : (i j : ℕ) (ss : List JuryHeader) (t : Tables) (o : List ℕ) → firstOf (juryReasons i ss t) ≡ none → j < length ss
-    → piecesAt j ss (lent (t .lists) (t .ballots) (t .tapes) (through zeroWires (λ (t : Tables). t .wires) ss t) o) .wires ≡ zeroWires (juryAt j ss) (piecesAt j ss t)
+    → piecesAt j ss (lent (t .lists) (t .ballots) (t .tapes) (through zeroWires (λ (t : Tables). t .wires) ss t)
+    o) .wires ≡ zeroWires (juryAt j ss) (piecesAt j ss t)
 unfolding through tablesFrom behind conditionalIn listOf
 wires-at i j [] t o e h = absurd (omega arith)
 wires-at i zero (s ∷ ss) t o e h = first-wires s ss t o (first-accepted i s ss t e .0)
   where
     first-wires : (s : JuryHeader) (ss : List JuryHeader) (t : Tables) (o : List ℕ) → firstOf (reasonsOf s t) ≡ none
-        → piecesOf s (lent (t .lists) (t .ballots) (t .tapes) (zeroWires s (piecesOf s t) ++ through zeroWires (λ (t : Tables). t .wires) ss (behind s t)) o) .wires ≡ zeroWires s (piecesOf s t)
+        → piecesOf s (lent (t .lists) (t .ballots) (t .tapes)
+        (zeroWires s (piecesOf s t) ++ through zeroWires (λ (t : Tables). t .wires) ss (behind s t)) o) .wires
+        ≡ zeroWires s (piecesOf s t)
     first-wires s ss t o a =
         unfold piecesOf in
         (let n = ballotBytes (shapeOf s) + s .gates in
@@ -195,7 +214,8 @@ wires-at i (suc j) (s ∷ ss) t o e h =
 
 -- what follows the pieces of all juries
 wires-behind : (i : ℕ) (ss : List JuryHeader) (t : Tables) (o : List ℕ) → firstOf (juryReasons i ss t) ≡ none
-    → tablesFrom (length ss) ss (lent (t .lists) (t .ballots) (t .tapes) (through zeroWires (λ (t : Tables). t .wires) ss t) o) .wires ≡ tablesFrom (length ss) ss t .wires
+    → tablesFrom (length ss) ss (lent (t .lists) (t .ballots) (t .tapes)
+    (through zeroWires (λ (t : Tables). t .wires) ss t) o) .wires ≡ tablesFrom (length ss) ss t .wires
 unfolding through tablesFrom behind conditionalIn listOf
 wires-behind i [] t o e = refl
 wires-behind i (s ∷ ss) t o e =
@@ -209,7 +229,8 @@ wires-behind i (s ∷ ss) t o e =
     ∙ wires-behind (suc i) ss (behind s t) left (a .1)
 
 boards-behind : (i : ℕ) (ss : List JuryHeader) (t : Tables) (w : List ℕ) → firstOf (juryReasons i ss t) ≡ none
-    → tablesFrom (length ss) ss (lent (t .lists) (t .ballots) (t .tapes) w (through runBoard (λ (t : Tables). t .boards) ss t)) .boards ≡ tablesFrom (length ss) ss t .boards
+    → tablesFrom (length ss) ss (lent (t .lists) (t .ballots) (t .tapes) w
+    (through runBoard (λ (t : Tables). t .boards) ss t)) .boards ≡ tablesFrom (length ss) ss t .boards
 unfolding through tablesFrom behind conditionalIn listOf
 boards-behind i [] t w e = refl
 boards-behind i (s ∷ ss) t w e =
@@ -243,26 +264,32 @@ module _ (c : Call) (j : ℕ) (e : dispatchResult c .reason ≡ none) (h : j < l
             ∙ number-at (λ (s : JuryHeader) (p : Tables). roundsFor (s .gates) (c .quantum)) (padding qs) j qs t h;
         runs = run-accepted qs t j accepts;
         emptied =
-            ap (λ (r : DispatchResult). piecesAt j qs (lent (t .lists) (t .ballots) (t .tapes) (r .wires) (dispatchResult c .boards)) .wires) is-after
+            ap (λ (r : DispatchResult). piecesAt j qs
+            (lent (t .lists) (t .ballots) (t .tapes) (r .wires) (dispatchResult c .boards)) .wires) is-after
             ∙ wires-at 0 j qs t (dispatchResult c .boards) (juries-pass c e) h;
         board =
-            ap (λ (r : DispatchResult). piecesAt j qs (lent (t .lists) (t .ballots) (t .tapes) (dispatchResult c .wires) (r .boards)) .boards) is-after
+            ap (λ (r : DispatchResult). piecesAt j qs
+            (lent (t .lists) (t .ballots) (t .tapes) (dispatchResult c .wires) (r .boards)) .boards) is-after
             ∙ board-at 0 j qs t (dispatchResult c .wires) (juries-pass c e) h;
       }
 
   board-by : runBoard (juryAt j (juriesIn c)) (piecesAt j (juriesIn c) (c .tables))
-      ≡ boardOf (wiresOf (piecesAt j (juriesIn c) (c .tables) .ballots) (gatesOf (piecesAt j (juriesIn c) (c .tables) .lists))) (gatesOf (piecesAt j (juriesIn c) (c .tables) .lists)) (juryAt j (juriesIn c) .candidates) (piecesAt j (juriesIn c) (c .tables) .tapes)
+      ≡ boardOf (wiresOf (piecesAt j (juriesIn c) (c .tables) .ballots)
+      (gatesOf (piecesAt j (juriesIn c) (c .tables) .lists))) (gatesOf (piecesAt j (juriesIn c) (c .tables) .lists))
+      (juryAt j (juriesIn c) .candidates) (piecesAt j (juriesIn c) (c .tables) .tapes)
   unfolding runBoard
   board-by =
       let s = juryAt j (juriesIn c) in
       let p = piecesAt j (juriesIn c) (c .tables) in
       run-board (shapeOf s) (p .lists) (p .ballots) (p .wires) (p .boards) (p .tapes) (passed .passed) (p .tapes) (passed .passed .mask)
 
-same-board : (l l′ b b′ m m′ : List ℕ) (k k′ : ℕ) → l ≡ l′ → b ≡ b′ → m ≡ m′ → k ≡ k′ → boardOf (wiresOf b (gatesOf l)) (gatesOf l) k m ≡ boardOf (wiresOf b′ (gatesOf l′)) (gatesOf l′) k′ m′
+same-board : (l l′ b b′ m m′ : List ℕ) (k k′ : ℕ) → l ≡ l′ → b ≡ b′ → m ≡ m′ → k ≡ k′
+    → boardOf (wiresOf b (gatesOf l)) (gatesOf l) k m ≡ boardOf (wiresOf b′ (gatesOf l′)) (gatesOf l′) k′ m′
 same-board l l′ b b′ m m′ k k′ e₀ e₁ e₂ e₃ = rw (e₀, e₁, e₂, e₃)
 
 -- the boards of all juries are as long as what was lent
-all-boards : (i : ℕ) (ss : List JuryHeader) (t : Tables) → firstOf (juryReasons i ss t) ≡ none → length (through runBoard (λ (t : Tables). t .boards) ss t) ≡ length (t .boards)
+all-boards : (i : ℕ) (ss : List JuryHeader) (t : Tables) → firstOf (juryReasons i ss t) ≡ none
+    → length (through runBoard (λ (t : Tables). t .boards) ss t) ≡ length (t .boards)
 unfolding through behind
 all-boards i [] t e = refl
 all-boards i (s ∷ ss) t e =
@@ -292,7 +319,8 @@ unfolding juryReasons
 found-at i [] t r e = unfold firstOf in (let z : _≡_ {A = ℕ} 0 1 = cc in absurd (omega arith))
 found-at i (s ∷ ss) t r e = go (firstOf (reasonsOf s t)) refl (λ h. found-at (suc i) ss (behind s t) r h) e
   where
-    good : firstOf (reasonsOf s t) ≡ none → (f : Found (suc i) ss (behind s t) r) (j : ℕ) → j < suc (f .which) → firstOf (reasonsOf (juryAt j (s ∷ ss)) (tablesFrom j (s ∷ ss) t)) ≡ none
+    good : firstOf (reasonsOf s t) ≡ none → (f : Found (suc i) ss (behind s t) r) (j : ℕ) → j < suc (f .which)
+        → firstOf (reasonsOf (juryAt j (s ∷ ss)) (tablesFrom j (s ∷ ss) t)) ≡ none
     good p f zero h = unfold tablesFrom in p
     good p f (suc j) h = unfold tablesFrom in (f .before j (omega arith))
 
@@ -307,7 +335,8 @@ found-at i (s ∷ ss) t r e = go (firstOf (reasonsOf s t)) refl (λ h. found-at 
           bad = unfold tablesFrom in (f .bad);
         }
 
-    go : (o : Option Reason) → firstOf (reasonsOf s t) ≡ o → (firstOf (juryReasons (suc i) ss (behind s t)) ≡ some r → Found (suc i) ss (behind s t) r)
+    go : (o : Option Reason) → firstOf (reasonsOf s t) ≡ o
+        → (firstOf (juryReasons (suc i) ss (behind s t)) ≡ some r → Found (suc i) ss (behind s t) r)
         → firstOf (atJury i o ∷ juryReasons (suc i) ss (behind s t)) ≡ some r → Found i (s ∷ ss) t r
     go none p rest f = unfold atJury firstOf in (later p (rest f))
     go (some q) p rest f =
@@ -357,7 +386,8 @@ refusals =
         let s = juryAt k qs in
         let outcome : runAt k qs t .answer ≡ refused q =
         unfold runResultAfter reasonsOf in
-        (ap (λ (x : RunResult). x .answer) (ran-by (shapeOf s) (p .lists) (p .ballots) (p .tapes) (p .wires) (p .boards) (some q) (f .bad))) in
+        (ap (λ (x : RunResult). x .answer)
+        (ran-by (shapeOf s) (p .lists) (p .ballots) (p .tapes) (p .wires) (p .boards) (some q) (f .bad))) in
         let place : r .place ≡ 0 + k = unfold reasonAt in (ap (λ (x : Reason). x .place) (f .named)) in
         let here : k ≡ r .place = omega arith in
         record {
@@ -376,12 +406,17 @@ refusals =
     name c r true false p q e =
         inr (inl (between 1 (c .count) 8 p, outside 1 (c .quantum) 65536 q, same-reason r (reasonAt 20 0) (sym e ∙ bad-quantum c p q)))
     name c r true true p q e =
-        inr (inr (between 1 (c .count) 8 p, between 1 (c .quantum) 65536 q, of-run (juriesIn c) (c .tables) r (found-at 0 (juriesIn c) (c .tables) r (sym (by-juries c p q) ∙ e))))
+        inr (inr (
+          between 1 (c .count) 8 p,
+          between 1 (c .quantum) 65536 q,
+          of-run (juriesIn c) (c .tables) r (found-at 0 (juriesIn c) (c .tables) r (sym (by-juries c p q) ∙ e)),
+        ))
 
 -- a call is accepted if all its juries are
 accepted-as-all : AcceptedAsAll
 accepted-as-all c = (
-  λ e. let f = limits (leb 1 (c .count) && leb (c .count) 8) (leb 1 (c .quantum) && leb (c .quantum) 65536) refl refl (no-reason c none e) in
+  λ e. let f = limits (leb 1 (c .count) && leb (c .count) 8) (leb 1 (c .quantum) && leb (c .quantum) 65536) refl
+      refl (no-reason c none e) in
       (f .0, f .1, λ (j : ℕ) h. run-accepted (juriesIn c) (c .tables) j (accepted-at 0 j (juriesIn c) (c .tables) (juries-pass c e) h)),
   λ h. back (dispatchResult c .reason) refl h,
 )
@@ -393,12 +428,14 @@ accepted-as-all c = (
     limits true true p q e = (between 1 (c .count) 8 p, between 1 (c .quantum) 65536 q)
 
     back : (o : Option Reason) → dispatchResult c .reason ≡ o
-        → JuriesFit c × QuantumFits c × ((j : ℕ) → j < length (juriesIn c) → RunsAt j (juriesIn c) (c .tables)) → dispatchResult c .reason ≡ none
+        → JuriesFit c × QuantumFits c × ((j : ℕ) → j < length (juriesIn c) → RunsAt j (juriesIn c) (c .tables))
+        → dispatchResult c .reason ≡ none
     back none e h = e
     back (some r) e h =
         ⊎-elim (λ x. absurd (x .0 (h .0)))
         (⊎-elim (λ x. absurd (x .1 (h .1)))
-        (λ x. never (sizeOf (gatesOf (piecesAt (r .place) (juriesIn c) (c .tables) .lists))) (x .2 .its) (sym (x .2 .run) ∙ h .2 (r .place) (x .2 .among))))
+        (λ x. never (sizeOf (gatesOf (piecesAt (r .place) (juriesIn c) (c .tables) .lists))) (x .2 .its)
+        (sym (x .2 .run) ∙ h .2 (r .place) (x .2 .among))))
         (refusals .named c r e)
 
 -- the place of the largest of some numbers
@@ -413,7 +450,12 @@ largest-at (suc n) g = go (largest-at n g)
 
     go : (j : ℕ) × (j < suc n) × ((i : ℕ) → i < suc n → g i ≤ g j) → (j : ℕ) × (j < suc (suc n)) × ((i : ℕ) → i < suc (suc n) → g i ≤ g j)
     go b =
-        ⊎-elim (λ (l : g (b .0) < g (suc n)). (suc n, omega arith, λ (i : ℕ) h. last (g (suc n)) i h (λ (k : ℕ) m. omega (arith, b .2 k m)) (omega arith)))
+        ⊎-elim (λ (l : g (b .0) < g (suc n)). (
+          suc n,
+          omega arith,
+          λ (i : ℕ) h. last (g (suc n)) i h (λ (k : ℕ) m. omega (arith, b .2 k m))
+              (omega arith),
+        ))
         (λ (l : g (suc n) ≤ g (b .0)). (b .0, omega (arith, b .1), λ (i : ℕ) h. last (g (b .0)) i h (b .2) l))
         (below-or-not (g (b .0)) (g (suc n)))
 
@@ -441,8 +483,12 @@ module _ (c : Call) (j : ℕ) (a : AcceptedJury c j) where
   all-done i h = rounds-most (jury c i .gates) (c .quantum) (its (found .0)) least .0 (omega (arith, takes i h, most i h))
 
   none-idle : NoIdleRound (c .quantum) (its (found .0)) (juriesIn c)
-  none-idle r h =
-      (found .0, longest-among, exact .given (jury c (found .0) .gates) (c .quantum) r least .1 (omega (arith, h, takes (found .0) longest-among)))
+  none-idle r h = (
+    found .0,
+    longest-among,
+    exact .given (jury c (found .0) .gates) (c .quantum) r least .1
+        (omega (arith, h, takes (found .0) longest-among)),
+  )
 
   no-other : (n : ℕ) → AllDone (c .quantum) n (juriesIn c) → NoIdleRound (c .quantum) n (juriesIn c) → n ≡ its (found .0)
   no-other n done idle =
@@ -460,7 +506,8 @@ module _ (c : Call) (j : ℕ) (a : AcceptedJury c j) where
       record { longest = found .0; among = longest-among; most = most; all-done = all-done; none-idle = none-idle; no-other = no-other }
 
 -- no length changes
-lengths : (c : Call) → (length (dispatchResult c .wires) ≡ length (c .tables .wires)) × (length (dispatchResult c .boards) ≡ length (c .tables .boards))
+lengths : (c : Call) → (length (dispatchResult c .wires) ≡ length (c .tables .wires))
+    × (length (dispatchResult c .boards) ≡ length (c .tables .boards))
 lengths c = by (firstOf (dispatchReasons c)) refl
   where
     wires-long : (i : ℕ) (ss : List JuryHeader) (t : Tables) → firstOf (juryReasons i ss t) ≡ none
@@ -484,8 +531,10 @@ lengths c = by (firstOf (dispatchReasons c)) refl
     by none e =
         let q = result-by c none e in
         let pass = juries-pass c (unfold dispatchResultAfter in (ap (λ (d : DispatchResult). d .reason) q)) in
-        unfold dispatchResultAfter in
-        (ap (λ (d : DispatchResult). length (d .wires)) q ∙ wires-long 0 (juriesIn c) (c .tables) pass, ap (λ (d : DispatchResult). length (d .boards)) q ∙ all-boards 0 (juriesIn c) (c .tables) pass)
+        unfold dispatchResultAfter in (
+          ap (λ (d : DispatchResult). length (d .wires)) q ∙ wires-long 0 (juriesIn c) (c .tables) pass,
+          ap (λ (d : DispatchResult). length (d .boards)) q ∙ all-boards 0 (juriesIn c) (c .tables) pass,
+        )
 
 -- reasons of one number
 either-same : (a : Bool) (b c : Bool) → (T b → T c) → T (a || b) → T (a || c)
@@ -562,8 +611,10 @@ untouched c = by (firstOf (dispatchReasons c)) refl
         let pass = juries-pass c (unfold dispatchResultAfter in (ap (λ (d : DispatchResult). d .reason) q)) in
         unfold dispatchResultAfter in
         (record {
-          wires = ap (λ (d : DispatchResult). left qs t d .wires) q ∙ wires-behind 0 qs t (through runBoard (λ (t : Tables). t .boards) qs t) pass;
-          boards = ap (λ (d : DispatchResult). left qs t d .boards) q ∙ boards-behind 0 qs t (through zeroWires (λ (t : Tables). t .wires) qs t) pass;
+          wires = ap (λ (d : DispatchResult). left qs t d .wires) q
+              ∙ wires-behind 0 qs t (through runBoard (λ (t : Tables). t .boards) qs t) pass;
+          boards = ap (λ (d : DispatchResult). left qs t d .boards) q
+              ∙ boards-behind 0 qs t (through zeroWires (λ (t : Tables). t .wires) qs t) pass;
         })
 
 -- demand 3 for two juries, by their runs
@@ -574,16 +625,20 @@ hidden : (s s′ : JuryHeader) (p q : Tables) (x y : List ℕ)
     → Hidden (shapeOf s) (p .lists) (p .ballots) (q .ballots) (p .wires) (q .wires) (p .boards) (q .boards)
 unfolding runBoard
 hidden s s′ p q x y runs runs′ e f st list closing =
-    let first : runResult (shapeOf s) (p .lists) (q .ballots) (q .tapes) (q .wires) (q .boards) .answer ≡ accepted (sizeOf (gatesOf (p .lists))) =
-    subst (λ (z : JuryHeader). runResult (shapeOf z) (p .lists) (q .ballots) (q .tapes) (q .wires) (q .boards) .answer ≡ accepted (sizeOf (gatesOf (p .lists)))) (sym st)
-    (subst (λ (l : List ℕ). runResult (shapeOf s′) l (q .ballots) (q .tapes) (q .wires) (q .boards) .answer ≡ accepted (sizeOf (gatesOf l))) (sym list) runs′) in
+    let first : runResult (shapeOf s) (p .lists) (q .ballots) (q .tapes) (q .wires) (q .boards) .answer
+    ≡ accepted (sizeOf (gatesOf (p .lists))) =
+    subst (λ (z : JuryHeader). runResult (shapeOf z) (p .lists) (q .ballots) (q .tapes) (q .wires)
+    (q .boards) .answer ≡ accepted (sizeOf (gatesOf (p .lists)))) (sym st)
+    (subst (λ (l : List ℕ). runResult (shapeOf s′) l (q .ballots) (q .tapes) (q .wires) (q .boards) .answer
+    ≡ accepted (sizeOf (gatesOf l))) (sym list) runs′) in
     let same : y ≡ runResult (shapeOf s) (p .lists) (q .ballots) (q .tapes) (q .wires) (q .boards) .board =
     f ∙ ap (λ (l : List ℕ). runResult (shapeOf s′) l (q .ballots) (q .tapes) (q .wires) (q .boards) .board) (sym list)
     ∙ ap (λ (z : JuryHeader). runResult (shapeOf z) (p .lists) (q .ballots) (q .tapes) (q .wires) (q .boards) .board) (sym st) in
     let ends : closingBytes (shapeOf s) (runResult (shapeOf s) (p .lists) (p .ballots) (p .tapes) (p .wires) (p .boards) .board)
     ≡ closingBytes (shapeOf s) (runResult (shapeOf s) (p .lists) (q .ballots) (q .tapes) (q .wires) (q .boards) .board) =
     sym (ap (closingBytes (shapeOf s)) e) ∙ closing ∙ ap (closingBytes (shapeOf s)) same in
-    board-tells-no-more (shapeOf s) (p .lists) (p .ballots) (q .ballots) (p .tapes) (q .tapes) (p .wires) (q .wires) (p .boards) (q .boards) _ _ runs first ends .2
+    board-tells-no-more (shapeOf s) (p .lists) (p .ballots) (q .ballots) (p .tapes) (q .tapes) (p .wires) (q .wires)
+    (p .boards) (q .boards) _ _ runs first ends .2
 
 -- demand 2 for a jury, by its run
 accuracy : (c : Call) (j : ℕ) (table : List ℕ) (size : Size) → EachJury c j
@@ -594,7 +649,8 @@ unfolding runBoard
 accuracy c j table size each wrote own =
     let s = shapeOf (jury c j) in
     let p = pieces c j in
-    let h = subst (λ (l : List ℕ). runResult s l (p .ballots) (p .tapes) (p .wires) (p .boards) .answer ≡ accepted (sizeOf (gatesOf (p .lists)))) own (each .runs) in
+    let h = subst (λ (l : List ℕ). runResult s l (p .ballots) (p .tapes) (p .wires) (p .boards) .answer
+    ≡ accepted (sizeOf (gatesOf (p .lists)))) own (each .runs) in
     let b = each .board ∙ ap (λ (l : List ℕ). runResult s l (p .ballots) (p .tapes) (p .wires) (p .boards) .board) own in
     subst (λ (l : List ℕ). SaysWhoWins s (p .ballots) (closingBytes s l)) (sym b)
     (three-demands .accuracy s table size wrote .says-who-wins (p .ballots) (p .tapes) (p .wires) (p .boards) _ h)
@@ -615,7 +671,8 @@ dispatching =
           record {
             board =
                 x .board ∙ board-by c j (a .accepts) (a .among)
-                ∙ same-board _ _ _ _ _ _ _ _ (inputs .list) (inputs .ballots) (inputs .tape) (ap (λ (z : JuryHeader). z .candidates) (inputs .header))
+                ∙ same-board _ _ _ _ _ _ _ _ (inputs .list) (inputs .ballots) (inputs .tape)
+                (ap (λ (z : JuryHeader). z .candidates) (inputs .header))
                 ∙ sym (y .board ∙ board-by c′ i (a′ .accepts) (a′ .among));
             rounds = λ (same : c .quantum ≡ c′ .quantum).
                 x .rounds ∙ ap (λ (z : JuryHeader). roundsFor (z .gates) (c .quantum)) (inputs .header)

@@ -57,7 +57,8 @@ boards-start j (s ∷ ss) t e =
     let a = first-accepted j s ss t e in
     let p = jury-passed s t (a .0) in
     let n = conditionalIn s t + s .candidates in
-    ap (λ (x : List ℕ). x ++ through (juryBoard 0) boardsLeft ss (behind s t)) (board-before s (piecesOf s t) (p .run) (omega (arith, p .gates, p .some-gate)) ∙ p .boardIs)
+    ap (λ (x : List ℕ). x ++ through (juryBoard 0) boardsLeft ss (behind s t))
+    (board-before s (piecesOf s t) (p .run) (omega (arith, p .gates, p .some-gate)) ∙ p .boardIs)
     ∙ ap (λ (x : List ℕ). take n (t .boards) ++ x) (boards-start (suc j) ss (behind s t) (a .1))
     ∙ take-append-drop n (t .boards)
 
@@ -74,7 +75,9 @@ pub shown-start : (ss : List JuryHeader) (t : Tables) → length ss ≤ 8 → ei
 shown-start ss t few = eight-zeros (juryShown 0) none-shown ss t few
   where
     none-shown : (s : JuryHeader) (p : Tables) → juryShown 0 s p ≡ 0
-    none-shown s p = unfold juryShown in (ap (λ (n : ℕ). conditionalCount (take n (gatesOf (p .lists)))) {x = min 0 (s .gates)} {y = 0} (omega arith) ∙ count-nil)
+    none-shown s p = unfold juryShown in
+        (ap (λ (n : ℕ). conditionalCount (take n (gatesOf (p .lists)))) {x = min 0 (s .gates)} {y = 0} (omega arith)
+        ∙ count-nil)
 
 -- no jury has too many gates
 pub few-gates : (j : ℕ) (ss : List JuryHeader) (t : Tables) → firstOf (juryReasons j ss t) ≡ none → mostGates ss ≤ 1048576
@@ -100,7 +103,8 @@ unfolding mostGates
 most-none = refl
 
 -- a jury that has done all its gates has the board of an undivided run
-board-all : (given : ℕ) (s : JuryHeader) (t : Tables) → firstOf (reasonsOf s t) ≡ none → s .gates ≤ given → juryBoard given s (piecesOf s t) ≡ runBoard s (piecesOf s t)
+board-all : (given : ℕ) (s : JuryHeader) (t : Tables) → firstOf (reasonsOf s t) ≡ none → s .gates ≤ given
+    → juryBoard given s (piecesOf s t) ≡ runBoard s (piecesOf s t)
 unfolding juryBoard runBoard runResultAfter reasonsOf
 board-all given s t e h =
     let p = piecesOf s t in
@@ -139,7 +143,8 @@ wires-emptied given j (s ∷ ss) t e =
     ∙ ap (λ (x : List ℕ). replicate n 0 ++ x) (wires-emptied given (suc j) ss (behind s t) (a .1))
     ∙ ap (λ (i : ℕ). replicate i 0 ++ through zeroWires wiresLeft ss (behind s t)) (sym (k .wiresLong))
 
-pub wires-room : (given j : ℕ) (ss : List JuryHeader) (t : Tables) → firstOf (juryReasons j ss t) ≡ none → wireBytes ss ≤ length (wiresGiven given ss t)
+pub wires-room : (given j : ℕ) (ss : List JuryHeader) (t : Tables) → firstOf (juryReasons j ss t) ≡ none
+    → wireBytes ss ≤ length (wiresGiven given ss t)
 unfolding wiresGiven through wireBytes
 wires-room given j [] t e = omega arith
 wires-room given j (s ∷ ss) t e =
@@ -209,7 +214,8 @@ state-start ss t conditional few e c =
     }
 
 -- the wire table once the wires of all juries are emptied
-pub emptied : (given : ℕ) (ss : List JuryHeader) (t : Tables) → firstOf (juryReasons 0 ss t) ≡ none → (n : ℕ) (w last : List ℕ) → n ≡ wireBytes ss → w ≡ wiresGiven given ss t
+pub emptied : (given : ℕ) (ss : List JuryHeader) (t : Tables) → firstOf (juryReasons 0 ss t) ≡ none
+    → (n : ℕ) (w last : List ℕ) → n ≡ wireBytes ss → w ≡ wiresGiven given ss t
     → last ≡ replicate (length (take n w)) 0 → last ++ drop n w ≡ through zeroWires (λ (t : Tables). t .wires) ss t
 emptied given ss t e n w last h k f =
     let long : length (take n w) ≡ wireBytes ss = length-take-le n w (omega (arith, ap length k, wires-room given 0 ss t e)) ∙ h in

@@ -22,7 +22,8 @@ use Rattle.dispatch_rounds.specs.Rounds.{wiresAfter, boardAfter, juryWir
 use Rattle.dispatch_rounds.specs.inner.State.{JuryState}
 
 -- the definitions, by how many gates are done
-after-wires : (b : List ℕ) (gs : List Gate) (m : ℕ) (ws : List ℕ) → 1 ≤ m → wiresAfter b gs m ws ≡ wiresOf b (take m gs) ++ drop (length b + m) ws
+after-wires : (b : List ℕ) (gs : List Gate) (m : ℕ) (ws : List ℕ) → 1 ≤ m → wiresAfter b gs m ws
+    ≡ wiresOf b (take m gs) ++ drop (length b + m) ws
 unfolding wiresAfter
 after-wires b gs zero ws h = absurd (omega arith)
 after-wires b gs (suc m) ws h = refl
@@ -32,12 +33,14 @@ after-some : (b : List ℕ) (gs : List Gate) (k : ℕ) (tape : List ℕ) (m : �
 unfolding boardAfter
 after-some b gs k tape m board h = rw (lt-ltb m (length gs) h)
 
-pub after-all : (b : List ℕ) (gs : List Gate) (k : ℕ) (tape : List ℕ) (m : ℕ) (board : List ℕ) → length gs ≤ m → boardAfter b gs k tape m board ≡ boardOf (wiresOf b gs) gs k tape
+pub after-all : (b : List ℕ) (gs : List Gate) (k : ℕ) (tape : List ℕ) (m : ℕ) (board : List ℕ) → length gs ≤ m
+    → boardAfter b gs k tape m board ≡ boardOf (wiresOf b gs) gs k tape
 unfolding boardAfter
 after-all b gs k tape m board h = rw (le-ltb m (length gs) h)
 
 -- the length of the wire table stays
-after-wires-long : (b : List ℕ) (gs : List Gate) (m : ℕ) (ws : List ℕ) → m ≤ length gs → length ws ≡ length b + length gs → length (wiresAfter b gs m ws) ≡ length ws
+after-wires-long : (b : List ℕ) (gs : List Gate) (m : ℕ) (ws : List ℕ) → m ≤ length gs → length ws ≡ length b
+    + length gs → length (wiresAfter b gs m ws) ≡ length ws
 unfolding wiresAfter
 after-wires-long b gs zero ws h l = refl
 after-wires-long b gs (suc m) ws h l =
@@ -50,16 +53,19 @@ after-wires-long b gs (suc m) ws h l =
     )
 
 module _ (s : JuryHeader) (p : Tables) where
-  first-part : (m : ℕ) (ws ws′ board : List ℕ) (shown : ℕ) → RunReady (p .ballots) (p .lists) (s .candidates) (p .tapes) (p .wires) (p .boards)
+  first-part : (m : ℕ) (ws ws′ board : List ℕ) (shown : ℕ)
+      → RunReady (p .ballots) (p .lists) (s .candidates) (p .tapes) (p .wires) (p .boards)
       → ws ≡ wiresAfter (p .ballots) (gatesOf (p .lists)) m (p .wires)
-      → board ≡ shownBits (wiresOf (p .ballots) (gatesOf (p .lists))) (take m (gatesOf (p .lists))) (p .tapes) ++ drop (conditionalCount (take m (gatesOf (p .lists)))) (p .boards)
+      → board ≡ shownBits (wiresOf (p .ballots) (gatesOf (p .lists))) (take m (gatesOf (p .lists))) (p .tapes)
+      ++ drop (conditionalCount (take m (gatesOf (p .lists)))) (p .boards)
       → shown ≡ conditionalCount (take m (gatesOf (p .lists)))
       → ws′ ≡ cond (eqb m 0) (take (length (p .ballots)) (p .ballots) ++ drop (length (p .ballots)) ws) ws
       → Stands (p .ballots) (p .lists) (p .tapes) (p .wires) (p .boards) m ws′ board shown
   unfolding wiresAfter
   first-part zero ws ws′ board shown run w o n e =
       let i = length (p .ballots) in
-      let first = stands-first (p .ballots) (p .lists) (s .candidates) (p .tapes) (p .wires) (p .boards) run (take i (p .ballots) ++ drop i (p .wires)) (p .boards) 0 refl refl refl in
+      let first = stands-first (p .ballots) (p .lists) (s .candidates) (p .tapes) (p .wires) (p .boards) run
+      (take i (p .ballots) ++ drop i (p .wires)) (p .boards) 0 refl refl refl in
       stands-first (p .ballots) (p .lists) (s .candidates) (p .tapes) (p .wires) (p .boards) run ws′ board shown
       (e ∙ ap (λ (x : List ℕ). take i (p .ballots) ++ drop i x) w) (o ∙ sym (first .boardIs)) (n ∙ sym (first .count))
   first-part (suc m) ws ws′ board shown run w o n e =
@@ -78,11 +84,13 @@ module _ (s : JuryHeader) (p : Tables) where
       let gates = gatesOf (p .lists) in
       first-part given ws ws′ board shown (j .run)
       (j .wiresAre ∙ ap (λ (n : ℕ). wiresAfter b gates n (p .wires)) m)
-      (j .boardIs ∙ ap (λ (n : ℕ). boardAfter b gates (s .candidates) (p .tapes) n (p .boards)) m ∙ after-some b gates (s .candidates) (p .tapes) given (p .boards) (omega (arith, j .gates)))
+      (j .boardIs ∙ ap (λ (n : ℕ). boardAfter b gates (s .candidates) (p .tapes) n (p .boards)) m
+      ∙ after-some b gates (s .candidates) (p .tapes) given (p .boards) (omega (arith, j .gates)))
       (j .count ∙ ap (λ (n : ℕ). conditionalCount (take n gates)) m)
       e
 
-  module _ (run : RunReady (p .ballots) (p .lists) (s .candidates) (p .tapes) (p .wires) (p .boards)) (some-gate : 1 ≤ s .gates) (gates : length (gatesOf (p .lists)) ≡ s .gates) where
+  module _ (run : RunReady (p .ballots) (p .lists) (s .candidates) (p .tapes) (p .wires) (p .boards))
+      (some-gate : 1 ≤ s .gates) (gates : length (gatesOf (p .lists)) ≡ s .gates) where
     -- after a round in which it is not finished
     pub turn-goes-on : (given : ℕ) (ws board : List ℕ) (shown : ℕ) → 1 ≤ given → given < s .gates
         → Stands (p .ballots) (p .lists) (p .tapes) (p .wires) (p .boards) given ws board shown → JuryState given s p ws board shown
@@ -115,7 +123,8 @@ module _ (s : JuryHeader) (p : Tables) where
           run = run;
           some-gate = some-gate;
           gates = gates;
-          wiresAre = st .wiresAre ∙ sym (after-wires b list (length list) (p .wires) (omega arith)) ∙ sym (ap (λ (n : ℕ). wiresAfter b list n (p .wires)) m);
+          wiresAre = st .wiresAre ∙ sym (after-wires b list (length list) (p .wires) (omega arith))
+              ∙ sym (ap (λ (n : ℕ). wiresAfter b list n (p .wires)) m);
           boardIs =
               closed-board b (p .lists) (s .candidates) (p .tapes) (p .wires) (p .boards) run ws board shown st board′ e
               ∙ sym (after-all b list (s .candidates) (p .tapes) (length list) (p .boards) (omega arith))
@@ -124,10 +133,12 @@ module _ (s : JuryHeader) (p : Tables) where
         }
 
   -- a finished jury stays as it is
-  pub turn-idle : (given more : ℕ) (ws board : List ℕ) (shown : ℕ) → s .gates ≤ given → JuryState given s p ws board shown → JuryState (given + more) s p ws board shown
+  pub turn-idle : (given more : ℕ) (ws board : List ℕ) (shown : ℕ) → s .gates ≤ given
+      → JuryState given s p ws board shown → JuryState (given + more) s p ws board shown
   unfolding juryWires juryBoard juryShown
   turn-idle given more ws board shown h j =
-      let m : min given (s .gates) ≡ min (given + more) (s .gates) = min-eq-right h ∙ sym (min-eq-right {n = s .gates} {m = given + more} (omega arith)) in
+      let m : min given (s .gates) ≡ min (given + more) (s .gates) = min-eq-right h
+      ∙ sym (min-eq-right {n = s .gates} {m = given + more} (omega arith)) in
       record {
         run = j .run;
         some-gate = j .some-gate;
@@ -137,20 +148,25 @@ module _ (s : JuryHeader) (p : Tables) where
         count = j .count ∙ ap (λ (n : ℕ). conditionalCount (take n (gatesOf (p .lists)))) m;
       }
 
-  pub jury-wires-long : (given : ℕ) → length (gatesOf (p .lists)) ≡ s .gates → length (p .wires) ≡ length (p .ballots) + s .gates → length (juryWires given s p) ≡ length (p .wires)
+  pub jury-wires-long : (given : ℕ) → length (gatesOf (p .lists)) ≡ s .gates → length (p .wires)
+      ≡ length (p .ballots) + s .gates → length (juryWires given s p) ≡ length (p .wires)
   unfolding juryWires
-  jury-wires-long given g l = after-wires-long (p .ballots) (gatesOf (p .lists)) (min given (s .gates)) (p .wires) (omega arith) (omega arith)
+  jury-wires-long given g l = after-wires-long (p .ballots) (gatesOf (p .lists)) (min given (s .gates)) (p .wires)
+      (omega arith) (omega arith)
 
   -- before the first round
   pub wires-before : juryWires 0 s p ≡ p .wires
   unfolding juryWires wiresAfter
   wires-before = ap (λ (n : ℕ). wiresAfter (p .ballots) (gatesOf (p .lists)) n (p .wires)) {x = min 0 (s .gates)} {y = 0} (omega arith)
 
-  pub board-before : RunReady (p .ballots) (p .lists) (s .candidates) (p .tapes) (p .wires) (p .boards) → 1 ≤ length (gatesOf (p .lists)) → juryBoard 0 s p ≡ p .boards
+  pub board-before : RunReady (p .ballots) (p .lists) (s .candidates) (p .tapes) (p .wires) (p .boards) → 1
+      ≤ length (gatesOf (p .lists)) → juryBoard 0 s p ≡ p .boards
   unfolding juryBoard
   board-before run h =
       let i = length (p .ballots) in
-      let first = stands-first (p .ballots) (p .lists) (s .candidates) (p .tapes) (p .wires) (p .boards) run (take i (p .ballots) ++ drop i (p .wires)) (p .boards) 0 refl refl refl in
-      ap (λ (n : ℕ). boardAfter (p .ballots) (gatesOf (p .lists)) (s .candidates) (p .tapes) n (p .boards)) {x = min 0 (s .gates)} {y = 0} (omega arith)
+      let first = stands-first (p .ballots) (p .lists) (s .candidates) (p .tapes) (p .wires) (p .boards) run
+      (take i (p .ballots) ++ drop i (p .wires)) (p .boards) 0 refl refl refl in
+      ap (λ (n : ℕ). boardAfter (p .ballots) (gatesOf (p .lists)) (s .candidates) (p .tapes) n (p .boards))
+      {x = min 0 (s .gates)} {y = 0} (omega arith)
       ∙ after-some (p .ballots) (gatesOf (p .lists)) (s .candidates) (p .tapes) 0 (p .boards) h
       ∙ sym (first .boardIs)

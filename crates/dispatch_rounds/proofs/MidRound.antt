@@ -24,9 +24,11 @@ use Rattle.dispatch_rounds.proofs.JuryStates.{jury-wires-long}
 
 -- the tables from these places on
 abbrev pub from : Places → Tables → Tables
-from at t = lent (drop (at .lists) (t .lists)) (drop (at .ballots) (t .ballots)) (drop (at .tapes) (t .tapes)) (drop (at .wires) (t .wires)) (drop (at .boards) (t .boards))
+from at t = lent (drop (at .lists) (t .lists)) (drop (at .ballots) (t .ballots)) (drop (at .tapes) (t .tapes))
+    (drop (at .wires) (t .wires)) (drop (at .boards) (t .boards))
 
-pub from-after : (at : Places) (s : JuryHeader) (t : Tables) → behind s (from at t) ≡ from (placesAfter at s (conditionalIn s (from at t))) t
+pub from-after : (at : Places) (s : JuryHeader) (t : Tables) → behind s (from at t)
+    ≡ from (placesAfter at s (conditionalIn s (from at t))) t
 unfolding behind
 from-after at s t =
     let i = ballotBytes (shapeOf s) in
@@ -46,7 +48,8 @@ pub record Inside (at : Places) (t : Tables) : Type 0 where
   pub wires : at .wires ≤ length (t .wires)
   pub boards : at .boards ≤ length (t .boards)
 
-pub inside-next : (at : Places) (s : JuryHeader) (t : Tables) → Inside at t → Passed s (from at t) → Inside (placesAfter at s (conditionalIn s (from at t))) t
+pub inside-next : (at : Places) (s : JuryHeader) (t : Tables) → Inside at t → Passed s (from at t)
+    → Inside (placesAfter at s (conditionalIn s (from at t))) t
 inside-next at s t i p =
     record {
       lists = omega (arith, i .lists, p .inLists, length-drop (at .lists) (t .lists));
@@ -57,7 +60,8 @@ inside-next at s t i p =
     }
 
 -- the juries from j on begin with jury j
-pub left-cons : (count j : ℕ) (xs : List JuryHeader) (d : JuryHeader) → j < count → count ≤ length xs → drop j (take count xs) ≡ getD xs j d ∷ drop (suc j) (take count xs)
+pub left-cons : (count j : ℕ) (xs : List JuryHeader) (d : JuryHeader) → j < count → count ≤ length xs
+    → drop j (take count xs) ≡ getD xs j d ∷ drop (suc j) (take count xs)
 left-cons count j xs d h l =
     drop-cons (take count xs) j d (omega (arith, length-take-le count xs l))
     ∙ ap (λ (s : JuryHeader). s ∷ drop (suc j) (take count xs)) (getD-take count xs j d h)
@@ -69,10 +73,13 @@ abbrev pub padding : List JuryHeader → Tables → List ℕ
 padding ss t = replicate (8 - length ss) 0
 
 -- in the middle of a round; the juries `left` are ahead
-pub record Mid (ss : List JuryHeader) (t : Tables) (given next : ℕ) (conditional : List ℕ) (j : ℕ) (left : List JuryHeader) (at : Places) (wires boards shown : List ℕ) : Type 0 where
+pub record Mid (ss : List JuryHeader) (t : Tables) (given next : ℕ) (conditional : List ℕ) (j : ℕ)
+    (left : List JuryHeader) (at : Places) (wires boards shown : List ℕ) : Type 0 where
   pub wiresUp : Upto (juryWires given) (juryWires next) (λ (t : Tables). t .wires) left (from at t) (at .wires) wires (wiresGiven next ss t)
-  pub boardsUp : Upto (juryBoard given) (juryBoard next) (λ (t : Tables). t .boards) left (from at t) (at .boards) boards (boardsGiven next ss t)
-  pub shownUp : Upto (oneOf (juryShown given)) (oneOf (juryShown next)) (padding ss) left (from at t) j shown (eightOf (juryShown next) ss t)
+  pub boardsUp : Upto (juryBoard given) (juryBoard next) (λ (t : Tables). t .boards) left (from at t) (at .boards)
+      boards (boardsGiven next ss t)
+  pub shownUp : Upto (oneOf (juryShown given)) (oneOf (juryShown next)) (padding ss) left (from at t) j shown
+      (eightOf (juryShown next) ss t)
   pub marksUp : Upto (oneOf marks) (oneOf marks) (padding ss) left (from at t) j conditional conditional
   pub accepted : firstOf (juryReasons j left (from at t)) ≡ none
   pub inside : Inside at t
@@ -82,7 +89,8 @@ pub record Mid (ss : List JuryHeader) (t : Tables) (given next : ℕ) (condition
 abbrev pub start : Places
 start = record { lists = 0; ballots = 0; tapes = 0; wires = 0; boards = 0 }
 
-pub mid-start : (given next : ℕ) (ss : List JuryHeader) (l b m ws bs conditional wires boards shown : List ℕ) → RoundState given ss (lent l b m ws bs) conditional wires boards shown
+pub mid-start : (given next : ℕ) (ss : List JuryHeader) (l b m ws bs conditional wires boards shown : List ℕ)
+    → RoundState given ss (lent l b m ws bs) conditional wires boards shown
     → Mid ss (lent l b m ws bs) given next conditional 0 ss start wires boards shown
 unfolding wiresGiven boardsGiven eightOf
 mid-start given next ss l b m ws bs conditional wires boards shown s =
@@ -100,20 +108,25 @@ mid-start given next ss l b m ws bs conditional wires boards shown s =
     }
 
 -- at the end of the round
-pub mid-end : (ss : List JuryHeader) (t : Tables) (given next : ℕ) (conditional : List ℕ) (j : ℕ) (at : Places) (wires boards shown : List ℕ)
+pub mid-end : (ss : List JuryHeader) (t : Tables) (given next : ℕ) (conditional : List ℕ) (j : ℕ) (at : Places)
+    (wires boards shown : List ℕ)
     → firstOf (juryReasons 0 ss t) ≡ none → conditional ≡ eightOf marks ss t
     → Mid ss t given next conditional j [] at wires boards shown → RoundState next ss t conditional wires boards shown
 mid-end ss t given next conditional j at wires boards shown a c m =
     record {
       accepted = a;
       conditionalAre = c;
-      wiresAre = upto-end (juryWires given) (juryWires next) (λ (t : Tables). t .wires) (from at t) (at .wires) wires (wiresGiven next ss t) (m .wiresUp);
-      boardsAre = upto-end (juryBoard given) (juryBoard next) (λ (t : Tables). t .boards) (from at t) (at .boards) boards (boardsGiven next ss t) (m .boardsUp);
-      shownAre = upto-end (oneOf (juryShown given)) (oneOf (juryShown next)) (padding ss) (from at t) j shown (eightOf (juryShown next) ss t) (m .shownUp);
+      wiresAre = upto-end (juryWires given) (juryWires next) (λ (t : Tables). t .wires) (from at t) (at .wires)
+          wires (wiresGiven next ss t) (m .wiresUp);
+      boardsAre = upto-end (juryBoard given) (juryBoard next) (λ (t : Tables). t .boards) (from at t) (at .boards)
+          boards (boardsGiven next ss t) (m .boardsUp);
+      shownAre = upto-end (oneOf (juryShown given)) (oneOf (juryShown next)) (padding ss) (from at t) j shown
+          (eightOf (juryShown next) ss t) (m .shownUp);
       long = m .longDone tt;
     }
 
-module _ (ss : List JuryHeader) (t : Tables) (given next : ℕ) (conditional : List ℕ) (j : ℕ) (s : JuryHeader) (left : List JuryHeader) (at : Places) (wires boards shown : List ℕ)
+module _ (ss : List JuryHeader) (t : Tables) (given next : ℕ) (conditional : List ℕ) (j : ℕ) (s : JuryHeader)
+    (left : List JuryHeader) (at : Places) (wires boards shown : List ℕ)
     (m : Mid ss t given next conditional j (s ∷ left) at wires boards shown) where
   -- what is known of the jury whose turn it is
   pub mid-passed : Passed s (from at t)
@@ -129,24 +142,31 @@ module _ (ss : List JuryHeader) (t : Tables) (given next : ℕ) (conditional : L
 
   pub mid-wires : take (ballotBytes (shapeOf s) + s .gates) (drop (at .wires) wires) ≡ juryWires given s (piecesOf s (from at t))
   mid-wires =
-      upto-part (juryWires given) (juryWires next) (λ (t : Tables). t .wires) s left (from at t) (at .wires) (ballotBytes (shapeOf s) + s .gates) wires (wiresGiven next ss t) (m .wiresUp) wires-long
+      upto-part (juryWires given) (juryWires next) (λ (t : Tables). t .wires) s left (from at t) (at .wires)
+      (ballotBytes (shapeOf s) + s .gates) wires (wiresGiven next ss t) (m .wiresUp) wires-long
 
   pub mid-wires-room : at .wires + (ballotBytes (shapeOf s) + s .gates) ≤ length wires
   mid-wires-room =
-      upto-room (juryWires given) (juryWires next) (λ (t : Tables). t .wires) s left (from at t) (at .wires) (ballotBytes (shapeOf s) + s .gates) wires (wiresGiven next ss t) (m .wiresUp) wires-long
+      upto-room (juryWires given) (juryWires next) (λ (t : Tables). t .wires) s left (from at t) (at .wires)
+      (ballotBytes (shapeOf s) + s .gates) wires (wiresGiven next ss t) (m .wiresUp) wires-long
 
-  pub mid-boards : take (conditionalIn s (from at t) + s .candidates) (drop (at .boards) boards) ≡ juryBoard given s (piecesOf s (from at t))
+  pub mid-boards : take (conditionalIn s (from at t) + s .candidates) (drop (at .boards) boards)
+      ≡ juryBoard given s (piecesOf s (from at t))
   mid-boards =
-      upto-part (juryBoard given) (juryBoard next) (λ (t : Tables). t .boards) s left (from at t) (at .boards) (conditionalIn s (from at t) + s .candidates) boards (boardsGiven next ss t) (m .boardsUp) (m .long .0)
+      upto-part (juryBoard given) (juryBoard next) (λ (t : Tables). t .boards) s left (from at t) (at .boards)
+      (conditionalIn s (from at t) + s .candidates) boards (boardsGiven next ss t) (m .boardsUp) (m .long .0)
 
   pub mid-boards-room : at .boards + (conditionalIn s (from at t) + s .candidates) ≤ length boards
   mid-boards-room =
-      upto-room (juryBoard given) (juryBoard next) (λ (t : Tables). t .boards) s left (from at t) (at .boards) (conditionalIn s (from at t) + s .candidates) boards (boardsGiven next ss t) (m .boardsUp) (m .long .0)
+      upto-room (juryBoard given) (juryBoard next) (λ (t : Tables). t .boards) s left (from at t) (at .boards)
+      (conditionalIn s (from at t) + s .candidates) boards (boardsGiven next ss t) (m .boardsUp) (m .long .0)
 
   pub mid-shown : (d : ℕ) → getD shown j d ≡ juryShown given s (piecesOf s (from at t))
-  mid-shown d = upto-read (juryShown given) (juryShown next) (padding ss) s left (from at t) j shown (eightOf (juryShown next) ss t) (m .shownUp) d
+  mid-shown d = upto-read (juryShown given) (juryShown next) (padding ss) s left (from at t) j shown
+      (eightOf (juryShown next) ss t) (m .shownUp) d
 
-  pub mid-stands : JuryState given s (piecesOf s (from at t)) (juryWires given s (piecesOf s (from at t))) (juryBoard given s (piecesOf s (from at t))) (juryShown given s (piecesOf s (from at t)))
+  pub mid-stands : JuryState given s (piecesOf s (from at t)) (juryWires given s (piecesOf s (from at t)))
+      (juryBoard given s (piecesOf s (from at t))) (juryShown given s (piecesOf s (from at t)))
   mid-stands =
       let p = mid-passed in
       record { run = p .run; some-gate = p .some-gate; gates = p .gates; wiresAre = refl; boardIs = refl; count = refl }
@@ -166,15 +186,25 @@ module _ (ss : List JuryHeader) (t : Tables) (given next : ℕ) (conditional : L
       let at′ = placesAfter at s c in
       record {
         wiresUp =
-            subst (λ (x : Tables). Upto (juryWires given) (juryWires next) (λ (t : Tables). t .wires) left x (at .wires + n) (take (at .wires) wires ++ (q ++ drop n (drop (at .wires) wires))) (wiresGiven next ss t)) e
-            (upto-next (juryWires given) (juryWires next) (λ (t : Tables). t .wires) s left here (at .wires) n wires (wiresGiven next ss t) (m .wiresUp) wires-long q (st .wiresAre) lq);
+            subst (λ (x : Tables). Upto (juryWires given) (juryWires next) (λ (t : Tables). t .wires) left x
+            (at .wires + n) (take (at .wires) wires ++ (q ++ drop n (drop (at .wires) wires)))
+            (wiresGiven next ss t)) e
+            (upto-next (juryWires given) (juryWires next) (λ (t : Tables). t .wires) s left here (at .wires) n wires
+            (wiresGiven next ss t) (m .wiresUp) wires-long q (st .wiresAre) lq);
         boardsUp =
-            subst (λ (x : Tables). Upto (juryBoard given) (juryBoard next) (λ (t : Tables). t .boards) left x (at .boards + (c + s .candidates)) (take (at .boards) boards ++ (r ++ drop (c + s .candidates) (drop (at .boards) boards))) (boardsGiven next ss t)) e
-            (upto-next (juryBoard given) (juryBoard next) (λ (t : Tables). t .boards) s left here (at .boards) (c + s .candidates) boards (boardsGiven next ss t) (m .boardsUp) (m .long .0) r (st .boardIs) lr);
+            subst (λ (x : Tables). Upto (juryBoard given) (juryBoard next) (λ (t : Tables). t .boards) left x
+            (at .boards + (c + s .candidates))
+            (take (at .boards) boards ++ (r ++ drop (c + s .candidates) (drop (at .boards) boards)))
+            (boardsGiven next ss t)) e
+            (upto-next (juryBoard given) (juryBoard next) (λ (t : Tables). t .boards) s left here (at .boards)
+            (c + s .candidates) boards (boardsGiven next ss t) (m .boardsUp) (m .long .0) r (st .boardIs) lr);
         shownUp =
-            subst (λ (x : Tables). Upto (oneOf (juryShown given)) (oneOf (juryShown next)) (padding ss) left x (suc j) (set shown j v) (eightOf (juryShown next) ss t)) e
-            (subst (λ (i : ℕ). Upto (oneOf (juryShown given)) (oneOf (juryShown next)) (padding ss) left (behind s here) i (set shown j v) (eightOf (juryShown next) ss t)) (add-one j)
-            (upto-set (juryShown given) (juryShown next) (padding ss) s left here j shown (eightOf (juryShown next) ss t) (m .shownUp) v (st .count)));
+            subst (λ (x : Tables). Upto (oneOf (juryShown given)) (oneOf (juryShown next)) (padding ss) left x
+            (suc j) (set shown j v) (eightOf (juryShown next) ss t)) e
+            (subst (λ (i : ℕ). Upto (oneOf (juryShown given)) (oneOf (juryShown next)) (padding ss) left
+            (behind s here) i (set shown j v) (eightOf (juryShown next) ss t)) (add-one j)
+            (upto-set (juryShown given) (juryShown next) (padding ss) s left here j shown
+            (eightOf (juryShown next) ss t) (m .shownUp) v (st .count)));
         marksUp =
             subst (λ (x : Tables). Upto (oneOf marks) (oneOf marks) (padding ss) left x (suc j) conditional conditional) e (marks-next);
         accepted = subst (λ (x : Tables). firstOf (juryReasons (suc j) left x) ≡ none) e (first-accepted j s left here (m .accepted) .1);
@@ -203,7 +233,8 @@ slice-is n a e xs h = ap (λ (k : ℕ). take k (drop a xs)) {x = e - a} {y = n} 
 pub part-long : (n a : ℕ) (xs : List ℕ) → a + n ≤ length xs → length (take n (drop a xs)) ≡ n
 part-long n a xs h = length-take-le n (drop a xs) (omega (arith, length-drop a xs))
 
-pub spliced-long : (n a : ℕ) (xs q : List ℕ) → a + n ≤ length xs → length q ≡ n → length (take a xs ++ (q ++ drop n (drop a xs))) ≡ length xs
+pub spliced-long : (n a : ℕ) (xs q : List ℕ) → a + n ≤ length xs → length q ≡ n
+    → length (take a xs ++ (q ++ drop n (drop a xs))) ≡ length xs
 spliced-long n a xs q h l =
     omega (
       arith,
@@ -215,7 +246,8 @@ spliced-long n a xs q h l =
     )
 
 -- the same jury under other names for its pieces
-pub jury-as : (given : ℕ) (s : JuryHeader) (p : Tables) (l b m w o w′ o′ : List ℕ) (n n′ : ℕ) → l ≡ p .lists → b ≡ p .ballots → m ≡ p .tapes → w ≡ w′ → o ≡ o′ → n ≡ n′
+pub jury-as : (given : ℕ) (s : JuryHeader) (p : Tables) (l b m w o w′ o′ : List ℕ) (n n′ : ℕ) → l ≡ p .lists → b
+    ≡ p .ballots → m ≡ p .tapes → w ≡ w′ → o ≡ o′ → n ≡ n′
     → JuryState given s p w′ o′ n′ → JuryState given s (lent l b m (p .wires) (p .boards)) w o n
 jury-as given s p l b m w o w′ o′ n n′ e₀ e₁ e₂ e₃ e₄ e₅ j = rw (e₀, e₁, e₂, e₃, e₄, e₅) j
 
@@ -227,7 +259,8 @@ jury-back given s p l b m w o n e₀ e₁ e₂ j =
     (subst (λ (x : List ℕ). JuryState given s (lent x b m (p .wires) (p .boards)) w o n) e₀ j))
 
 -- the same point of a round under other names
-pub mid-as : (ss : List JuryHeader) (t : Tables) (given next : ℕ) (conditional : List ℕ) (j j′ : ℕ) (left left′ : List JuryHeader) (at at′ : Places) (wires wires′ boards boards′ shown : List ℕ)
+pub mid-as : (ss : List JuryHeader) (t : Tables) (given next : ℕ) (conditional : List ℕ) (j j′ : ℕ)
+    (left left′ : List JuryHeader) (at at′ : Places) (wires wires′ boards boards′ shown : List ℕ)
     → j′ ≡ j → left′ ≡ left → at′ ≡ at → wires′ ≡ wires → boards′ ≡ boards → Mid ss t given next conditional j left at wires boards shown
     → Mid ss t given next conditional j′ left′ at′ wires′ boards′ shown
 mid-as ss t given next conditional j j′ left left′ at at′ wires wires′ boards boards′ shown e₀ e₁ e₂ e₃ e₄ m = rw (e₀, e₁, e₂, e₃, e₄) m

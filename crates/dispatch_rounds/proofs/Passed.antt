@@ -36,8 +36,10 @@ first-accepted j s ss t e = go (firstOf (reasonsOf s t)) refl e
     go (some r) p q = unfold atJury firstOf in (let z : _≡_ {A = ℕ} 0 1 = cc in absurd (omega arith))
 
 pub record Passed (s : JuryHeader) (t : Tables) : Type 0 where
-  pub passed : RunPassed (shapeOf s) (piecesOf s t .lists) (piecesOf s t .ballots) (piecesOf s t .tapes) (piecesOf s t .wires) (piecesOf s t .boards)
-  pub run : RunReady (piecesOf s t .ballots) (piecesOf s t .lists) (s .candidates) (piecesOf s t .tapes) (piecesOf s t .wires) (piecesOf s t .boards)
+  pub passed : RunPassed (shapeOf s) (piecesOf s t .lists) (piecesOf s t .ballots) (piecesOf s t .tapes)
+      (piecesOf s t .wires) (piecesOf s t .boards)
+  pub run : RunReady (piecesOf s t .ballots) (piecesOf s t .lists) (s .candidates) (piecesOf s t .tapes)
+      (piecesOf s t .wires) (piecesOf s t .boards)
   pub within-limits : T (withinLimits (shapeOf s))
   pub some-gate : 1 ≤ s .gates
   pub few-gates : s .gates ≤ 1048576
@@ -58,7 +60,8 @@ pub record Passed (s : JuryHeader) (t : Tables) : Type 0 where
   pub marked : conditionalCount (gatesOf (piecesOf s t .lists)) ≡ conditionalIn s t
 
 -- a list that is not empty fits, and has as many gates as its header says
-pub list-fits : (s : JuryHeader) (t : Tables) → 1 ≤ length (gatesOf (listOf s t)) → (4 * s .gates ≤ length (t .lists)) × (length (gatesOf (listOf s t)) ≡ s .gates)
+pub list-fits : (s : JuryHeader) (t : Tables) → 1 ≤ length (gatesOf (listOf s t))
+    → (4 * s .gates ≤ length (t .lists)) × (length (gatesOf (listOf s t)) ≡ s .gates)
 unfolding listOf
 list-fits s t h =
     let n = 4 * s .gates in

@@ -36,21 +36,25 @@ some-fits n xs e = go (leb n (length xs)) refl e
     go false p q = absurd (omega arith)
 
 -- The table half done: the front is as it will be in the end, then come the old pieces.
-pub record Upto (f g : JuryHeader → Tables → List ℕ) (rest : Tables → List ℕ) (ss : List JuryHeader) (t : Tables) (at : ℕ) (here final : List ℕ) : Type 0 where
+pub record Upto (f g : JuryHeader → Tables → List ℕ) (rest : Tables → List ℕ) (ss : List JuryHeader) (t : Tables)
+    (at : ℕ) (here final : List ℕ) : Type 0 where
   pub front : List ℕ
   pub long : length front ≡ at
   pub hereIs : here ≡ front ++ through f rest ss t
   pub finalIs : final ≡ front ++ through g rest ss t
 
-pub upto-start : (f g : JuryHeader → Tables → List ℕ) (rest : Tables → List ℕ) (ss : List JuryHeader) (t : Tables) (here : List ℕ) → here ≡ through f rest ss t
+pub upto-start : (f g : JuryHeader → Tables → List ℕ) (rest : Tables → List ℕ) (ss : List JuryHeader) (t : Tables)
+    (here : List ℕ) → here ≡ through f rest ss t
     → Upto f g rest ss t 0 here (through g rest ss t)
 upto-start f g rest ss t here e = record { front = []; long = refl; hereIs = e; finalIs = refl }
 
-pub upto-end : (f g : JuryHeader → Tables → List ℕ) (rest : Tables → List ℕ) (t : Tables) (at : ℕ) (here final : List ℕ) → Upto f g rest [] t at here final → here ≡ final
+pub upto-end : (f g : JuryHeader → Tables → List ℕ) (rest : Tables → List ℕ) (t : Tables) (at : ℕ)
+    (here final : List ℕ) → Upto f g rest [] t at here final → here ≡ final
 unfolding through
 upto-end f g rest t at here final u = u .hereIs ∙ sym (u .finalIs)
 
-module _ (f g : JuryHeader → Tables → List ℕ) (rest : Tables → List ℕ) (s : JuryHeader) (ss : List JuryHeader) (t : Tables) (at n : ℕ) (here final : List ℕ)
+module _ (f g : JuryHeader → Tables → List ℕ) (rest : Tables → List ℕ) (s : JuryHeader) (ss : List JuryHeader)
+    (t : Tables) (at n : ℕ) (here final : List ℕ)
     (u : Upto f g rest (s ∷ ss) t at here final) (old : length (f s (piecesOf s t)) ≡ n) where
   rest-of : drop at here ≡ f s (piecesOf s t) ++ through f rest ss (behind s t)
   unfolding through
@@ -72,7 +76,8 @@ module _ (f g : JuryHeader → Tables → List ℕ) (rest : Tables → List ℕ)
       )
 
   -- once it is replaced
-  pub upto-next : (q : List ℕ) → q ≡ g s (piecesOf s t) → length q ≡ n → Upto f g rest ss (behind s t) (at + n) (take at here ++ (q ++ drop n (drop at here))) final
+  pub upto-next : (q : List ℕ) → q ≡ g s (piecesOf s t) → length q ≡ n
+      → Upto f g rest ss (behind s t) (at + n) (take at here ++ (q ++ drop n (drop at here))) final
   unfolding through
   upto-next q e l =
       let p = piecesOf s t in
@@ -80,7 +85,8 @@ module _ (f g : JuryHeader → Tables → List ℕ) (rest : Tables → List ℕ)
         front = u .front ++ q;
         long = omega (arith, length-append (u .front) q, u .long);
         hereIs =
-            ap (λ (x : List ℕ). x ++ (q ++ drop n (drop at here))) (ap (take at) (u .hereIs) ∙ take-at (u .front) (through f rest (s ∷ ss) t) at (u .long))
+            ap (λ (x : List ℕ). x ++ (q ++ drop n (drop at here)))
+            (ap (take at) (u .hereIs) ∙ take-at (u .front) (through f rest (s ∷ ss) t) at (u .long))
             ∙ ap (λ (x : List ℕ). u .front ++ (q ++ x)) (ap (drop n) rest-of ∙ drop-at (f s p) (through f rest ss (behind s t)) n old)
             ∙ sym (append-assoc (u .front) q (through f rest ss (behind s t)));
         finalIs =
@@ -92,11 +98,13 @@ module _ (f g : JuryHeader → Tables → List ℕ) (rest : Tables → List ℕ)
 abbrev pub oneOf : (JuryHeader → Tables → ℕ) → JuryHeader → Tables → List ℕ
 oneOf number s p = number s p ∷ []
 
-module _ (f g : JuryHeader → Tables → ℕ) (rest : Tables → List ℕ) (s : JuryHeader) (ss : List JuryHeader) (t : Tables) (at : ℕ) (here final : List ℕ)
+module _ (f g : JuryHeader → Tables → ℕ) (rest : Tables → List ℕ) (s : JuryHeader) (ss : List JuryHeader)
+    (t : Tables) (at : ℕ) (here final : List ℕ)
     (u : Upto (oneOf f) (oneOf g) rest (s ∷ ss) t at here final) where
   pub upto-read : (d : ℕ) → getD here at d ≡ f s (piecesOf s t)
   unfolding through
-  upto-read d = ap (λ (x : List ℕ). getD x at d) (u .hereIs) ∙ getD-at (u .front) (f s (piecesOf s t)) (through (oneOf f) rest ss (behind s t)) d at (u .long)
+  upto-read d = ap (λ (x : List ℕ). getD x at d) (u .hereIs)
+      ∙ getD-at (u .front) (f s (piecesOf s t)) (through (oneOf f) rest ss (behind s t)) d at (u .long)
 
   pub upto-set : (v : ℕ) → v ≡ g s (piecesOf s t) → Upto (oneOf f) (oneOf g) rest ss (behind s t) (at + 1) (set here at v) final
   unfolding through
@@ -114,7 +122,8 @@ module _ (f g : JuryHeader → Tables → ℕ) (rest : Tables → List ℕ) (s :
       }
 
 -- equal pieces make equal tables
-pub through-same : (f g : JuryHeader → Tables → List ℕ) (rest : Tables → List ℕ) → ((s : JuryHeader) (p : Tables) → f s p ≡ g s p) → (ss : List JuryHeader) (t : Tables)
+pub through-same : (f g : JuryHeader → Tables → List ℕ) (rest : Tables → List ℕ)
+    → ((s : JuryHeader) (p : Tables) → f s p ≡ g s p) → (ss : List JuryHeader) (t : Tables)
     → through f rest ss t ≡ through g rest ss t
 unfolding through
 through-same f g rest e [] t = refl
@@ -123,12 +132,14 @@ through-same f g rest e (s ∷ ss) t =
     ∙ ap (λ (x : List ℕ). g s (piecesOf s t) ++ x) (through-same f g rest e ss (behind s t))
 
 -- eight zeros
-zeros-through : (pad : List ℕ) (ss : List JuryHeader) (t : Tables) → through (oneOf (λ (s : JuryHeader) (p : Tables). 0)) (λ (t : Tables). pad) ss t ≡ replicate (length ss) 0 ++ pad
+zeros-through : (pad : List ℕ) (ss : List JuryHeader) (t : Tables)
+    → through (oneOf (λ (s : JuryHeader) (p : Tables). 0)) (λ (t : Tables). pad) ss t ≡ replicate (length ss) 0 ++ pad
 unfolding through
 zeros-through pad [] t = refl
 zeros-through pad (s ∷ ss) t = ap (λ (x : List ℕ). 0 ∷ x) (zeros-through pad ss (behind s t))
 
-pub eight-zeros : (number : JuryHeader → Tables → ℕ) → ((s : JuryHeader) (p : Tables) → number s p ≡ 0) → (ss : List JuryHeader) (t : Tables) → length ss ≤ 8
+pub eight-zeros : (number : JuryHeader → Tables → ℕ) → ((s : JuryHeader) (p : Tables) → number s p ≡ 0)
+    → (ss : List JuryHeader) (t : Tables) → length ss ≤ 8
     → eightOf number ss t ≡ replicate 8 0
 unfolding eightOf
 eight-zeros number e ss t few =

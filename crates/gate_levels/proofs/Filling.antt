@@ -53,10 +53,18 @@ module _ (inputs : ℕ) (table : List ℕ) where
     pub most-is : most ≡ largest (take g levels)
     pub small : largest (take g levels) ≤ g
 
-  pub left-start : (levels : List ℕ) → firstBad inputs 0 (gatesOf table) ≡ Nowhere → length levels ≡ length (gatesOf table) → Left levels 0 0
+  pub left-start : (levels : List ℕ) → firstBad inputs 0 (gatesOf table) ≡ Nowhere → length levels
+      ≡ length (gatesOf table) → Left levels 0 0
   unfolding levelsOf largest
   left-start levels good long =
-      record { order = omega arith; long = long; rest = refl; good = all-good inputs 0 (gatesOf table) good; most-is = refl; small = omega arith }
+      record {
+        order = omega arith;
+        long = long;
+        rest = refl;
+        good = all-good inputs 0 (gatesOf table) good;
+        most-is = refl;
+        small = omega arith;
+      }
 
   module _ (levels : List ℕ) (most g : ℕ) (left : Left levels most g) (pos : 1 ≤ inputs) (h : g < length (gatesOf table)) where
     x : Gate
@@ -108,7 +116,8 @@ module _ (inputs : ℕ) (table : List ℕ) where
           ap (λ (w : ℕ). levelsFrom inputs (take g levels ++ (w ∷ [])) later) own
           ∙ sym (ap (levelsFrom inputs (take g levels)) starts) ∙ left .rest
 
-      pub left-turn : (levels′ : List ℕ) (most′ g′ : ℕ) → length levels′ ≡ length levels → take (suc g) levels′ ≡ take g levels ++ (v ∷ []) → most′ ≡ max most v → g′ ≡ suc g → Left levels′ most′ g′
+      pub left-turn : (levels′ : List ℕ) (most′ g′ : ℕ) → length levels′ ≡ length levels → take (suc g) levels′
+          ≡ take g levels ++ (v ∷ []) → most′ ≡ max most v → g′ ≡ suc g → Left levels′ most′ g′
       left-turn levels′ most′ g′ long taken m e =
           let more = largest-more (take g levels) v in
           rw e (record {
@@ -134,12 +143,14 @@ module _ (inputs : ℕ) (table : List ℕ) where
               ∙ levels-keep inputs (take g levels ++ (v ∷ [])) later g (omega (arith, length-append (take g levels) (v ∷ []), prefix-long))
               ∙ ap (λ (n : ℕ). getD (take g levels ++ (v ∷ [])) n 0) (sym prefix-long) ∙ getD-append-seam (take g levels) v [] 0
 
-          go : (b : Bool) → sameNumbers levels (levelsOf inputs (gatesOf table)) ≡ b → Other ≡ cond b (Own (roundsOf inputs (gatesOf table))) Other
+          go : (b : Bool) → sameNumbers levels (levelsOf inputs (gatesOf table)) ≡ b → Other
+              ≡ cond b (Own (roundsOf inputs (gatesOf table))) Other
           go true e = absurd (differs (ap (λ (l : List ℕ). getD l g 0) (same-true levels (levelsOf inputs (gatesOf table)) e) ∙ at))
           go false e = refl
 
   -- nothing is left
-  pub left-end : (levels : List ℕ) (most g : ℕ) → Left levels most g → length (gatesOf table) ≤ g → (levels ≡ levelsOf inputs (gatesOf table)) × (most ≡ roundsOf inputs (gatesOf table))
+  pub left-end : (levels : List ℕ) (most g : ℕ) → Left levels most g → length (gatesOf table) ≤ g
+      → (levels ≡ levelsOf inputs (gatesOf table)) × (most ≡ roundsOf inputs (gatesOf table))
   unfolding roundsOf levelsFrom
   left-end levels most g left h =
       let none : drop g (gatesOf table) ≡ [] = drop-of-length-le (gatesOf table) {i = g} h in
@@ -147,7 +158,8 @@ module _ (inputs : ℕ) (table : List ℕ) where
       let e : levels ≡ levelsOf inputs (gatesOf table) = sym all ∙ sym (ap (levelsFrom inputs (take g levels)) none) ∙ left .rest in
       (e, left .most-is ∙ ap largest (all ∙ e))
 
-  pub own-levels : (levels : List ℕ) (most g : ℕ) → Left levels most g → length (gatesOf table) ≤ g → (rounds : ℕ) → rounds ≡ most → Own rounds ≡ compared inputs (gatesOf table) levels
+  pub own-levels : (levels : List ℕ) (most g : ℕ) → Left levels most g → length (gatesOf table) ≤ g → (rounds : ℕ)
+      → rounds ≡ most → Own rounds ≡ compared inputs (gatesOf table) levels
   unfolding compared
   own-levels levels most g left h rounds e =
       let f = left-end levels most g left h in
@@ -155,15 +167,19 @@ module _ (inputs : ℕ) (table : List ℕ) where
       rw same (ap Own (e ∙ f .1))
 
 -- one gate by its numbers
-module _ (inputs : ℕ) (table : List ℕ) (g : ℕ) (levels : List ℕ) (ready : LevelReady inputs table g levels) (a b c : ℕ) (ea : a ≡ wireLevel inputs levels (getD table (4 * g + 1) 0))
+module _ (inputs : ℕ) (table : List ℕ) (g : ℕ) (levels : List ℕ) (ready : LevelReady inputs table g levels)
+    (a b c : ℕ) (ea : a ≡ wireLevel inputs levels (getD table (4 * g + 1) 0))
     (eb : b ≡ wireLevel inputs levels (getD table (4 * g + 2) 0)) (ec : c ≡ wireLevel inputs levels (getD table (4 * g + 3) 0)) where
-  pub level-by : (d : ℕ) (m : Bool) → d ≡ max (max a b) c → m ≡ conditionalOf (getD table (4 * g) 0) → d + cond m 1 0 ≡ gateLevel inputs levels (gateAt table g)
+  pub level-by : (d : ℕ) (m : Bool) → d ≡ max (max a b) c → m ≡ conditionalOf (getD table (4 * g) 0) → d
+      + cond m 1 0 ≡ gateLevel inputs levels (gateAt table g)
   unfolding gateLevel
   level-by d m ed em =
       ap (λ (n : ℕ). n + cond m 1 0) ed ∙ ap (λ (n : Bool). max (max a b) c + cond n 1 0) em
       ∙ ap (λ (n : ℕ). max (max n b) c + cond (conditionalOf (getD table (4 * g) 0)) 1 0) ea
-      ∙ ap (λ (n : ℕ). max (max (wireLevel inputs levels (getD table (4 * g + 1) 0)) n) c + cond (conditionalOf (getD table (4 * g) 0)) 1 0) eb
-      ∙ ap (λ (n : ℕ). max (max (wireLevel inputs levels (getD table (4 * g + 1) 0)) (wireLevel inputs levels (getD table (4 * g + 2) 0))) n + cond (conditionalOf (getD table (4 * g) 0)) 1 0) ec
+      ∙ ap (λ (n : ℕ). max (max (wireLevel inputs levels (getD table (4 * g + 1) 0)) n) c
+      + cond (conditionalOf (getD table (4 * g) 0)) 1 0) eb
+      ∙ ap (λ (n : ℕ). max (max (wireLevel inputs levels (getD table (4 * g + 1) 0))
+      (wireLevel inputs levels (getD table (4 * g + 2) 0))) n + cond (conditionalOf (getD table (4 * g) 0)) 1 0) ec
       ∙ sym (ap (gateLevel inputs levels) (gate-numbers table g))
 
   small-wire : (x : ℕ) → x < inputs + g → wireLevel inputs levels x ≤ g
@@ -187,7 +203,8 @@ module _ (inputs : ℕ) (table : List ℕ) (g : ℕ) (levels : List ℕ) (ready 
 
 -- an operand names an input or a gate whose level is known
 pub operands-in : (inputs : ℕ) (table : List ℕ) (g : ℕ) (levels : List ℕ) → LevelReady inputs table g levels
-    → (getD table (4 * g + 1) 0 < inputs + length levels) × (getD table (4 * g + 2) 0 < inputs + length levels) × (getD table (4 * g + 3) 0 < inputs + length levels)
+    → (getD table (4 * g + 1) 0 < inputs + length levels) × (getD table (4 * g + 2) 0 < inputs + length levels)
+    × (getD table (4 * g + 3) 0 < inputs + length levels)
 operands-in inputs table g levels ready =
     let n = gate-numbers table g in
     let l = ready .in-levels in

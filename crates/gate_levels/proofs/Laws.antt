@@ -37,7 +37,8 @@ unfolding levelsOf
 length-levels inputs gs = omega (arith, length-from inputs [] gs)
 
 -- A wire's level depends only on the levels of the gates up to it.
-pub wire-level-same : (inputs n : ℕ) (ls ms : List ℕ) (x : ℕ) → x < inputs + n → ((i : ℕ) → i < n → getD ls i 0 ≡ getD ms i 0) → wireLevel inputs ls x ≡ wireLevel inputs ms x
+pub wire-level-same : (inputs n : ℕ) (ls ms : List ℕ) (x : ℕ) → x < inputs + n
+    → ((i : ℕ) → i < n → getD ls i 0 ≡ getD ms i 0) → wireLevel inputs ls x ≡ wireLevel inputs ms x
 unfolding wireLevel
 wire-level-same inputs n ls ms x h e = go (ltb x inputs) refl
   where
@@ -45,7 +46,8 @@ wire-level-same inputs n ls ms x h e = go (ltb x inputs) refl
     go true f = refl
     go false f = e (x - inputs) (omega (arith, ltb-false x inputs f))
 
-pub gate-level-same : (inputs n : ℕ) (ls ms : List ℕ) (g : Gate) → Below (inputs + n) g → ((i : ℕ) → i < n → getD ls i 0 ≡ getD ms i 0) → gateLevel inputs ls g ≡ gateLevel inputs ms g
+pub gate-level-same : (inputs n : ℕ) (ls ms : List ℕ) (g : Gate) → Below (inputs + n) g
+    → ((i : ℕ) → i < n → getD ls i 0 ≡ getD ms i 0) → gateLevel inputs ls g ≡ gateLevel inputs ms g
 unfolding gateLevel
 gate-level-same inputs n ls ms g b e =
     rw (
@@ -59,7 +61,8 @@ abbrev pub Leveled : ℕ → List ℕ → ℕ → List Gate → Type 0
 Leveled inputs ls n [] = Unit {0}
 Leveled inputs ls n (g ∷ gs) = (getD ls n 0 ≡ gateLevel inputs ls g) × Leveled inputs ls (suc n) gs
 
-pub from-leveled : (inputs : ℕ) (ls : List ℕ) (gs : List Gate) → 1 ≤ inputs → AllGood (inputs + length ls) gs → Leveled inputs (levelsFrom inputs ls gs) (length ls) gs
+pub from-leveled : (inputs : ℕ) (ls : List ℕ) (gs : List Gate) → 1 ≤ inputs → AllGood (inputs + length ls) gs
+    → Leveled inputs (levelsFrom inputs ls gs) (length ls) gs
 unfolding levelsFrom
 from-leveled inputs ls [] pos good = tt
 from-leveled inputs ls (g ∷ gs) pos good =
@@ -71,7 +74,9 @@ from-leveled inputs ls (g ∷ gs) pos good =
       levels-keep inputs next gs (length ls) (omega arith) ∙ getD-append-seam ls v [] 0
           ∙ gate-level-same inputs (length ls) ls final g (operands-below (inputs + length ls) g (omega arith) (good .0))
           (λ (i : ℕ) h. sym (levels-keep inputs next gs i (omega arith) ∙ List·getD-append ls (v ∷ []) 0 i h)),
-      subst (λ (m : ℕ). Leveled inputs final m gs) long (from-leveled inputs next gs pos (subst (λ (m : ℕ). AllGood m gs) (sym (add-suc inputs (length ls)) ∙ own) (good .1))),
+      subst (λ (m : ℕ). Leveled inputs final m gs) long
+          (from-leveled inputs next gs pos (subst (λ (m : ℕ). AllGood m gs) (sym (add-suc inputs (length ls)) ∙ own)
+          (good .1))),
     )
 
 pub levels-leveled : (inputs : ℕ) (gs : List Gate) → 1 ≤ inputs → AllGood inputs gs → Leveled inputs (levelsOf inputs gs) 0 gs

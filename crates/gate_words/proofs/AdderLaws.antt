@@ -13,7 +13,8 @@ use Rattle.gate_words.proofs.GateValues.{holds-three, copy-is, not-is, 
 use Rattle.basics.proofs.Arithmetic.{bit-cases}
 
 -- three bits: x is the sum modulo 2 of the first two, t that of all; the carry is v if x is 1, s if it is 0
-full-sum : (s u v x t c : ℕ) → s ≤ 1 → u ≤ 1 → v ≤ 1 → x ≡ (s + u) % 2 → t ≡ (x + v) % 2 → (x ≡ 0 → c ≡ s) → (x ≡ 1 → c ≡ v) → t + 2 * c ≡ s + u + v
+full-sum : (s u v x t c : ℕ) → s ≤ 1 → u ≤ 1 → v ≤ 1 → x ≡ (s + u) % 2 → t ≡ (x + v) % 2 → (x ≡ 0 → c ≡ s)
+    → (x ≡ 1 → c ≡ v) → t + 2 * c ≡ s + u + v
 full-sum s u v x t c hs hu hv ex et c₀ c₁ =
     ⊎-elim (λ (e : x ≡ 0). let k = c₀ e in omega arith) (λ (e : x ≡ 1). let k = c₁ e in omega arith) (bit-cases x (omega arith))
 

@@ -17,14 +17,26 @@ module _ (W : ℕ → ℕ) (b : Binary W) where
   choose-one n f x y zero e h = omega (arith, number-none W n 1, number-none W x 1)
   choose-one n f x y (suc w) e h =
       let r = choose-one (n + 1) f (x + 1) (y + 1) w e (holds-rest W n (muxOf f x y) (choose f (x + 1) (y + 1) w) h) in
-      omega (arith, r, number-more W n 1 w, number-more W x 1 w, holds-first W n (muxOf f x y) (choose f (x + 1) (y + 1) w) h ∙ mux-one (W f) (W x) (W y) e)
+      omega (
+        arith,
+        r,
+        number-more W n 1 w,
+        number-more W x 1 w,
+        holds-first W n (muxOf f x y) (choose f (x + 1) (y + 1) w) h ∙ mux-one (W f) (W x) (W y) e,
+      )
 
   pub choose-zero : (n f x y w : ℕ) → W f ≡ 0 → Holds W n (choose f x y w) → number W n 1 w ≡ number W y 1 w
   unfolding choose
   choose-zero n f x y zero e h = omega (arith, number-none W n 1, number-none W y 1)
   choose-zero n f x y (suc w) e h =
       let r = choose-zero (n + 1) f (x + 1) (y + 1) w e (holds-rest W n (muxOf f x y) (choose f (x + 1) (y + 1) w) h) in
-      omega (arith, r, number-more W n 1 w, number-more W y 1 w, holds-first W n (muxOf f x y) (choose f (x + 1) (y + 1) w) h ∙ mux-zero (W f) (W x) (W y) e)
+      omega (
+        arith,
+        r,
+        number-more W n 1 w,
+        number-more W y 1 w,
+        holds-first W n (muxOf f x y) (choose f (x + 1) (y + 1) w) h ∙ mux-zero (W f) (W x) (W y) e,
+      )
 
   pub masked-one : (n f x w : ℕ) → W f ≡ 1 → Holds W n (masked f x w) → number W n 1 w ≡ number W x 1 w
   unfolding masked
@@ -46,7 +58,8 @@ module _ (W : ℕ → ℕ) (b : Binary W) where
   any-one n s at d zero p h = unfold chainEnd in (omega (arith, b s, ones-none W at d))
   any-one n s at d (suc m) p h =
       let g = holds-first W n (orOf s at) (anyOf (n + 1) n (at + d) d m) h ∙ or-is W b s at in
-      let r = any-one (n + 1) n (at + d) d m (omega (arith, g, ones-more W at d m)) (holds-rest W n (orOf s at) (anyOf (n + 1) n (at + d) d m) h) in
+      let r = any-one (n + 1) n (at + d) d m (omega (arith, g, ones-more W at d m))
+      (holds-rest W n (orOf s at) (anyOf (n + 1) n (at + d) d m) h) in
       sym (ap W (chain-next n s m)) ∙ r
 
   pub any-zero : (n s at d m : ℕ) → W s + ones W at d m ≡ 0 → Holds W n (anyOf n s at d m) → W (chainEnd n s m) ≡ 0
@@ -54,5 +67,6 @@ module _ (W : ℕ → ℕ) (b : Binary W) where
   any-zero n s at d zero p h = unfold chainEnd in (omega arith)
   any-zero n s at d (suc m) p h =
       let g = holds-first W n (orOf s at) (anyOf (n + 1) n (at + d) d m) h ∙ or-is W b s at in
-      let r = any-zero (n + 1) n (at + d) d m (omega (arith, g, ones-more W at d m)) (holds-rest W n (orOf s at) (anyOf (n + 1) n (at + d) d m) h) in
+      let r = any-zero (n + 1) n (at + d) d m (omega (arith, g, ones-more W at d m))
+      (holds-rest W n (orOf s at) (anyOf (n + 1) n (at + d) d m) h) in
       sym (ap W (chain-next n s m)) ∙ r

@@ -17,7 +17,8 @@ left-one i n h = omega arith
 pub next-place : (x i : ℕ) → x + i + 1 ≡ x + (i + 1)
 next-place x i = omega arith
 
-pub choose-step : (f x y i n : ℕ) → i < n → choose f (x + i) (y + i) (n - i) ≡ (muxOf f (x + i) (y + i) ∷ []) ++ choose f (x + (i + 1)) (y + (i + 1)) (n - (i + 1))
+pub choose-step : (f x y i n : ℕ) → i < n → choose f (x + i) (y + i) (n - i) ≡ (muxOf f (x + i) (y + i) ∷ [])
+    ++ choose f (x + (i + 1)) (y + (i + 1)) (n - (i + 1))
 unfolding choose
 choose-step f x y i n h = rw (left-one i n h, next-place x i, next-place y i)
 

@@ -53,14 +53,17 @@ module _ (W : ℕ → ℕ) (b : Binary W) where
   down-next n down (suc w) = omega arith
 
   -- the wire that one digit passes on: x if the digits differ, else what it was so far
-  one-digit : (x y s t k : ℕ) → x ≤ 1 → y ≤ 1 → s ≤ 1 → t ≡ (x + y) % 2 → (t ≡ 0 → k ≡ s) → (t ≡ 1 → k ≡ x) → (y < x + s → k ≡ 1) × (x + s ≤ y → k ≡ 0)
+  one-digit : (x y s t k : ℕ) → x ≤ 1 → y ≤ 1 → s ≤ 1 → t ≡ (x + y) % 2 → (t ≡ 0 → k ≡ s) → (t ≡ 1 → k ≡ x)
+      → (y < x + s → k ≡ 1) × (x + s ≤ y → k ≡ 0)
   one-digit x y s t k hx hy hs e k₀ k₁ =
-      ⊎-elim (λ (z : t ≡ 0). let p = k₀ z in ((λ q. omega arith), (λ q. omega arith))) (λ (z : t ≡ 1). let p = k₁ z in ((λ q. omega arith), (λ q. omega arith))) (bit-cases t (omega arith))
+      ⊎-elim (λ (z : t ≡ 0). let p = k₀ z in ((λ q. omega arith), (λ q. omega arith)))
+      (λ (z : t ≡ 1). let p = k₁ z in ((λ q. omega arith), (λ q. omega arith))) (bit-cases t (omega arith))
 
   module _ (n x y up down w : ℕ) (h : Holds W n (compareWords n x y up down (suc w))) where
     gates-of : (W n ≡ valueOn W (xorOf x y)) × (W (n + 1) ≡ valueOn W (muxOf n x up)) × (W (n + 2) ≡ valueOn W (muxOf n y down))
         × Holds W (n + 3) (compareWords (n + 3) (x + 1) (y + 1) (n + 1) (n + 2) w)
-    gates-of = holds-three W n (xorOf x y) (muxOf n x up) (muxOf n y down) (compareWords (n + 3) (x + 1) (y + 1) (n + 1) (n + 2) w) (unfold compareWords in h)
+    gates-of = holds-three W n (xorOf x y) (muxOf n x up) (muxOf n y down)
+        (compareWords (n + 3) (x + 1) (y + 1) (n + 1) (n + 2) w) (unfold compareWords in h)
 
     up-digit : (W y < W x + W up → W (n + 1) ≡ 1) × (W x + W up ≤ W y → W (n + 1) ≡ 0)
     up-digit =
@@ -83,13 +86,17 @@ module _ (W : ℕ → ℕ) (b : Binary W) where
       let mx = number-more W x 1 w in
       let my = number-more W y 1 w in (
         (λ (l : number W y 1 (suc w) < number W x 1 (suc w) + W up).
-            sym e ∙ r .0 (⊎-elim (λ (z : W (n + 1) ≡ 0). let k : W x + W up ≤ W y = not-one z (d .0) in omega arith) (λ (z : W (n + 1) ≡ 1). omega (arith, b x, b up)) (bit-cases (W (n + 1)) (b (n + 1))))),
+            sym e ∙ r .0 (⊎-elim (λ (z : W (n + 1) ≡ 0). let k : W x + W up ≤ W y = not-one z (d .0) in omega arith)
+            (λ (z : W (n + 1) ≡ 1). omega (arith, b x, b up)) (bit-cases (W (n + 1)) (b (n + 1))))),
         (λ (l : number W x 1 (suc w) + W up ≤ number W y 1 (suc w)).
-            sym e ∙ r .1 (⊎-elim (λ (z : W (n + 1) ≡ 0). omega (arith, b y)) (λ (z : W (n + 1) ≡ 1). let k : W y < W x + W up = not-zero z (d .1) in omega arith) (bit-cases (W (n + 1)) (b (n + 1))))),
+            sym e ∙ r .1 (⊎-elim (λ (z : W (n + 1) ≡ 0). omega (arith, b y))
+            (λ (z : W (n + 1) ≡ 1). let k : W y < W x + W up = not-zero z (d .1) in omega arith)
+            (bit-cases (W (n + 1)) (b (n + 1))))),
       )
 
   pub words-down : (n x y up down w : ℕ) → Holds W n (compareWords n x y up down w)
-      → (number W x 1 w < number W y 1 w + W down → W (downEnd n down w) ≡ 1) × (number W y 1 w + W down ≤ number W x 1 w → W (downEnd n down w) ≡ 0)
+      → (number W x 1 w < number W y 1 w + W down → W (downEnd n down w) ≡ 1)
+      × (number W y 1 w + W down ≤ number W x 1 w → W (downEnd n down w) ≡ 0)
   words-down n x y up down zero h = unfold downEnd number in ((λ l. omega (arith, b down, l)), (λ l. omega (arith, l)))
   words-down n x y up down (suc w) h =
       let d = down-digit n x y up down w h in
@@ -98,9 +105,12 @@ module _ (W : ℕ → ℕ) (b : Binary W) where
       let mx = number-more W x 1 w in
       let my = number-more W y 1 w in (
         (λ (l : number W x 1 (suc w) < number W y 1 (suc w) + W down).
-            sym e ∙ r .0 (⊎-elim (λ (z : W (n + 2) ≡ 0). let k : W y + W down ≤ W x = not-one z (d .0) in omega arith) (λ (z : W (n + 2) ≡ 1). omega (arith, b y, b down)) (bit-cases (W (n + 2)) (b (n + 2))))),
+            sym e ∙ r .0 (⊎-elim (λ (z : W (n + 2) ≡ 0). let k : W y + W down ≤ W x = not-one z (d .0) in
+            omega arith) (λ (z : W (n + 2) ≡ 1). omega (arith, b y, b down)) (bit-cases (W (n + 2)) (b (n + 2))))),
         (λ (l : number W y 1 (suc w) + W down ≤ number W x 1 (suc w)).
-            sym e ∙ r .1 (⊎-elim (λ (z : W (n + 2) ≡ 0). omega (arith, b x)) (λ (z : W (n + 2) ≡ 1). let k : W x < W y + W down = not-zero z (d .1) in omega arith) (bit-cases (W (n + 2)) (b (n + 2))))),
+            sym e ∙ r .1 (⊎-elim (λ (z : W (n + 2) ≡ 0). omega (arith, b x))
+            (λ (z : W (n + 2) ≡ 1). let k : W x < W y + W down = not-zero z (d .1) in omega arith)
+            (bit-cases (W (n + 2)) (b (n + 2))))),
       )
 
   -- one way: the wires from f on say in which digits the words differ
@@ -120,15 +130,18 @@ module _ (W : ℕ → ℕ) (b : Binary W) where
       let mx = number-more W x 1 w in
       let my = number-more W y 1 w in (
         (λ (l : number W y 1 (suc w) < number W x 1 (suc w) + W s).
-            sym e ∙ r .0 (⊎-elim (λ (z : W n ≡ 0). let k : W x + W s ≤ W y = not-one z (d .0) in omega arith) (λ (z : W n ≡ 1). omega (arith, b x, b s)) (bit-cases (W n) (b n)))),
+            sym e ∙ r .0 (⊎-elim (λ (z : W n ≡ 0). let k : W x + W s ≤ W y = not-one z (d .0) in omega arith)
+            (λ (z : W n ≡ 1). omega (arith, b x, b s)) (bit-cases (W n) (b n)))),
         (λ (l : number W x 1 (suc w) + W s ≤ number W y 1 (suc w)).
-            sym e ∙ r .1 (⊎-elim (λ (z : W n ≡ 0). omega (arith, b y)) (λ (z : W n ≡ 1). let k : W y < W x + W s = not-zero z (d .1) in omega arith) (bit-cases (W n) (b n)))),
+            sym e ∙ r .1 (⊎-elim (λ (z : W n ≡ 0). omega (arith, b y))
+            (λ (z : W n ≡ 1). let k : W y < W x + W s = not-zero z (d .1) in omega arith) (bit-cases (W n) (b n)))),
       )
 
   -- words of w + 1 digits, x's lowest digit starting the chain: 1 if x is above, 0 if it is below, either if they are
   -- equal
   pub above-words : (n f x y w : ℕ) → Holds W f (differences (x + 1) (y + 1) w) → Holds W n (above n f (x + 1) x w)
-      → (number W y 1 (suc w) < number W x 1 (suc w) → W (chainEnd n x w) ≡ 1) × (number W x 1 (suc w) < number W y 1 (suc w) → W (chainEnd n x w) ≡ 0)
+      → (number W y 1 (suc w) < number W x 1 (suc w) → W (chainEnd n x w) ≡ 1)
+      × (number W x 1 (suc w) < number W y 1 (suc w) → W (chainEnd n x w) ≡ 0)
   above-words n f x y w g h =
       let r = above-law n f (x + 1) (y + 1) x w g h in
       let mx = number-more W x 1 w in
@@ -136,8 +149,12 @@ module _ (W : ℕ → ℕ) (b : Binary W) where
       ((λ l. r .0 (omega (arith, mx, my, l, b x, b y))), (λ l. r .1 (omega (arith, mx, my, l, b x, b y))))
 
   -- so if it is 1 the first word is at least the second, and if it is 0 at most
-  pub above-one : (n f x y w : ℕ) → Holds W f (differences (x + 1) (y + 1) w) → Holds W n (above n f (x + 1) x w) → W (chainEnd n x w) ≡ 1 → number W y 1 (suc w) ≤ number W x 1 (suc w)
-  above-one n f x y w g h e = let no : ¬ (number W x 1 (suc w) < number W y 1 (suc w)) = λ l. let z = above-words n f x y w g h .1 l in omega arith in omega arith
+  pub above-one : (n f x y w : ℕ) → Holds W f (differences (x + 1) (y + 1) w) → Holds W n (above n f (x + 1) x w)
+      → W (chainEnd n x w) ≡ 1 → number W y 1 (suc w) ≤ number W x 1 (suc w)
+  above-one n f x y w g h e = let no : ¬ (number W x 1 (suc w) < number W y 1 (suc w)) = λ l. let z =
+      above-words n f x y w g h .1 l in omega arith in omega arith
 
-  pub above-zero : (n f x y w : ℕ) → Holds W f (differences (x + 1) (y + 1) w) → Holds W n (above n f (x + 1) x w) → W (chainEnd n x w) ≡ 0 → number W x 1 (suc w) ≤ number W y 1 (suc w)
-  above-zero n f x y w g h e = let no : ¬ (number W y 1 (suc w) < number W x 1 (suc w)) = λ l. let z = above-words n f x y w g h .0 l in omega arith in omega arith
+  pub above-zero : (n f x y w : ℕ) → Holds W f (differences (x + 1) (y + 1) w) → Holds W n (above n f (x + 1) x w)
+      → W (chainEnd n x w) ≡ 0 → number W x 1 (suc w) ≤ number W y 1 (suc w)
+  above-zero n f x y w g h e = let no : ¬ (number W y 1 (suc w) < number W x 1 (suc w)) = λ l. let z =
+      above-words n f x y w g h .0 l in omega arith in omega arith

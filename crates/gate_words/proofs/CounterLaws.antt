@@ -40,12 +40,15 @@ sum-next : (n s m e : ℕ) → levelSum (n + 3) (n + 1) m e ≡ levelSum n s (su
 sum-next n s m e = go (adders m e) refl
   where
     go : (t : ℕ) → adders m e ≡ t → levelSum (n + 3) (n + 1) m e ≡ levelSum n s (suc (suc m)) e
-    go zero p = let q : n + 1 ≡ n + 3 * 0 + 1 = omega arith in sum-none (n + 3) (n + 1) m e p ∙ q ∙ sym (sum-some n s (suc (suc m)) e 0 (two-more m e ∙ ap suc p))
-    go (suc t) p = let q : n + 3 + 3 * t + 1 ≡ n + 3 * suc t + 1 = omega arith in sum-some (n + 3) (n + 1) m e t p ∙ q ∙ sym (sum-some n s (suc (suc m)) e (suc t) (two-more m e ∙ ap suc p))
+    go zero p = let q : n + 1 ≡ n + 3 * 0 + 1 = omega arith in sum-none (n + 3) (n + 1) m e p ∙ q
+        ∙ sym (sum-some n s (suc (suc m)) e 0 (two-more m e ∙ ap suc p))
+    go (suc t) p = let q : n + 3 + 3 * t + 1 ≡ n + 3 * suc t + 1 = omega arith in sum-some (n + 3) (n + 1) m e t p
+        ∙ q ∙ sym (sum-some n s (suc (suc m)) e (suc t) (two-more m e ∙ ap suc p))
 
 module _ (W : ℕ → ℕ) (b : Binary W) where
   -- a level of one adder
-  one-adder : (n s m e k : ℕ) → adders m e ≡ 1 → W (n + 1) + 2 * W (n + 2) ≡ k → W (levelSum n s m e) + 2 * ones W (n + 2) 3 (adders m e) ≡ k
+  one-adder : (n s m e k : ℕ) → adders m e ≡ 1 → W (n + 1) + 2 * W (n + 2) ≡ k → W (levelSum n s m e) + 2
+      * ones W (n + 2) 3 (adders m e) ≡ k
   one-adder n s m e k p f =
       let place : n + 3 * 0 + 1 ≡ n + 1 = omega arith in
       rw (sum-some n s m e 0 p, place, p) (omega (arith, ones-more W (n + 2) 3 0, ones-none W (n + 2 + 3) 3))
@@ -55,15 +58,19 @@ module _ (W : ℕ → ℕ) (b : Binary W) where
       → W (levelSum n s m e) + 2 * ones W (n + 2) 3 (adders m e) ≡ W s + ones W at d m + e
   unfolding level
   level-law n s at d zero zero l h = unfold adders in (rw (sum-none n s 0 0 refl, ones-none W (n + 2) 3, ones-none W at d) (omega arith))
-  level-law n s at d (suc zero) zero l h = one-adder n s 0 1 (W s + ones W at d 0 + 1) (unfold adders in refl) (omega (arith, increment-law W b n s h, ones-none W at d))
+  level-law n s at d (suc zero) zero l h =
+      one-adder n s 0 1 (W s + ones W at d 0 + 1) (unfold adders in refl)
+      (omega (arith, increment-law W b n s h, ones-none W at d))
   level-law n s at d (suc (suc e)) zero l h = absurd (omega arith)
   level-law n s at d e (suc zero) l h =
-      one-adder n s 1 e (W s + ones W at d 1 + e) (unfold adders in (omega arith)) (omega (arith, half-law W b n s at e l h, ones-more W at d 0, ones-none W (at + d) d))
+      one-adder n s 1 e (W s + ones W at d 1 + e) (unfold adders in (omega arith))
+      (omega (arith, half-law W b n s at e l h, ones-more W at d 0, ones-none W (at + d) d))
   level-law n s at d e (suc (suc m)) l h =
       let rest = level (n + 3) (n + 1) (at + d + d) d e m in
       let p = holds-append W n (fullAdder n s at (at + d)) rest h in
       let f = full-law W b n s at (at + d) (p .0) in
-      let r = level-law (n + 3) (n + 1) (at + d + d) d e m l (subst (λ (k : ℕ). Holds W k rest) (ap (λ (k : ℕ). n + k) (length-full n s at (at + d))) (p .1)) in
+      let r = level-law (n + 3) (n + 1) (at + d + d) d e m l
+      (subst (λ (k : ℕ). Holds W k rest) (ap (λ (k : ℕ). n + k) (length-full n s at (at + d))) (p .1)) in
       let place : n + 3 + 2 ≡ n + 2 + 3 = omega arith in
       omega (
         arith,
@@ -82,7 +89,14 @@ module _ (W : ℕ → ℕ) (b : Binary W) where
       → number W q 1 (suc r) ≡ ones W at d m + x
   unfolding countLevels countDigitsAs
   count-law n at d m x zero q k h g =
-      rw (k .0, k .1) (omega (arith, number-one W q 1, holds-first W q (copyOf at) [] g, copy-is W b at, ones-more W at d 0, ones-none W (at + d) d))
+      rw (k .0, k .1) (omega (
+        arith,
+        number-one W q 1,
+        holds-first W q (copyOf at) [] g,
+        copy-is W b at,
+        ones-more W at d 0,
+        ones-none W (at + d) d,
+      ))
   count-law n at d m x (suc r) q k h g =
       let e = x % 2 in
       let t = adders (m - 1) e in
@@ -106,7 +120,8 @@ module _ (W : ℕ → ℕ) (b : Binary W) where
         ones-more W at d (m - 1),
       )
 
-  pub counter-law : (n at d m x r : ℕ) → Countable m x r → Holds W n (counter n at d m x r) → number W (n + countSize m x r) 1 (suc r) ≡ ones W at d m + x
+  pub counter-law : (n at d m x r : ℕ) → Countable m x r → Holds W n (counter n at d m x r)
+      → number W (n + countSize m x r) 1 (suc r) ≡ ones W at d m + x
   unfolding counter
   counter-law n at d m x r k h =
       let p = holds-append W n (countLevels n at d m x r) (countDigits n at m x r) h in

@@ -14,7 +14,8 @@ use Rattle.gate_words.specs.Counter.{level, adders, levelSum, countLevel
 use Rattle.gate_words.proofs.WordSteps.{length-full, length-half, length-increment}
 use Rattle.basics.proofs.Arithmetic.{count-down}
 
-pub level-two : (n s at d e m : ℕ) → 1 < m → level n s at d e m ≡ fullAdder n s at (at + d) ++ level (n + 3) (n + 1) (at + d + d) d e (m - 2)
+pub level-two : (n s at d e m : ℕ) → 1 < m → level n s at d e m ≡ fullAdder n s at (at + d)
+    ++ level (n + 3) (n + 1) (at + d + d) d e (m - 2)
 unfolding level
 level-two n s at d e zero h = absurd (omega arith)
 level-two n s at d e (suc zero) h = absurd (omega arith)
@@ -43,7 +44,12 @@ length-level n s at d (suc zero) zero h = length-increment n s
 length-level n s at d (suc (suc e)) zero h = absurd (omega arith)
 length-level n s at d e (suc zero) h = omega (arith, length-half n s at e)
 length-level n s at d e (suc (suc m)) h =
-    omega (arith, length-append (fullAdder n s at (at + d)) (level (n + 3) (n + 1) (at + d + d) d e m), length-full n s at (at + d), length-level (n + 3) (n + 1) (at + d + d) d e m h)
+    omega (
+      arith,
+      length-append (fullAdder n s at (at + d)) (level (n + 3) (n + 1) (at + d + d) d e m),
+      length-full n s at (at + d),
+      length-level (n + 3) (n + 1) (at + d + d) d e m h,
+    )
 
 -- a countdown of levels
 nothing : (r : ℕ) → r ≤ 0 → r ≡ 0
@@ -51,10 +57,12 @@ nothing r h = omega arith
 
 -- the first level of a counter, and the others
 pub count-step : (n at d m x r : ℕ) → 0 < r
-    → countLevels n at d m x r ≡ level n at (at + d) d (x % 2) (m - 1) ++ countLevels (n + 3 * adders (m - 1) (x % 2)) (n + 2) 3 (adders (m - 1) (x % 2)) (x / 2) (r - 1)
+    → countLevels n at d m x r ≡ level n at (at + d) d (x % 2) (m - 1)
+    ++ countLevels (n + 3 * adders (m - 1) (x % 2)) (n + 2) 3 (adders (m - 1) (x % 2)) (x / 2) (r - 1)
 count-step n at d m x r h = ap (countLevels n at d m x) (count-down r h) ∙ first (r - 1)
   where
-    first : (r : ℕ) → countLevels n at d m x (suc r) ≡ level n at (at + d) d (x % 2) (m - 1) ++ countLevels (n + 3 * adders (m - 1) (x % 2)) (n + 2) 3 (adders (m - 1) (x % 2)) (x / 2) r
+    first : (r : ℕ) → countLevels n at d m x (suc r) ≡ level n at (at + d) d (x % 2) (m - 1)
+        ++ countLevels (n + 3 * adders (m - 1) (x % 2)) (n + 2) 3 (adders (m - 1) (x % 2)) (x / 2) r
     first r = unfold countLevels in refl
 
 pub count-none : (n at d m x r : ℕ) → r ≤ 0 → countLevels n at d m x r ≡ []
@@ -63,18 +71,21 @@ count-none n at d m x r h = rw (nothing r h)
 
 pub digits-step : (low top n at m x r : ℕ) → 0 < r
     → countDigitsAs low top n at m x r
-    ≡ (gate low (levelSum n at (m - 1) (x % 2)) 0 0 ∷ []) ++ countDigitsAs low top (n + 3 * adders (m - 1) (x % 2)) (n + 2) (adders (m - 1) (x % 2)) (x / 2) (r - 1)
+    ≡ (gate low (levelSum n at (m - 1) (x % 2)) 0 0 ∷ [])
+    ++ countDigitsAs low top (n + 3 * adders (m - 1) (x % 2)) (n + 2) (adders (m - 1) (x % 2)) (x / 2) (r - 1)
 digits-step low top n at m x r h = ap (countDigitsAs low top n at m x) (count-down r h) ∙ first (r - 1)
   where
     first : (r : ℕ) → countDigitsAs low top n at m x (suc r)
-        ≡ (gate low (levelSum n at (m - 1) (x % 2)) 0 0 ∷ []) ++ countDigitsAs low top (n + 3 * adders (m - 1) (x % 2)) (n + 2) (adders (m - 1) (x % 2)) (x / 2) r
+        ≡ (gate low (levelSum n at (m - 1) (x % 2)) 0 0 ∷ [])
+        ++ countDigitsAs low top (n + 3 * adders (m - 1) (x % 2)) (n + 2) (adders (m - 1) (x % 2)) (x / 2) r
     first r = unfold countDigitsAs in refl
 
 pub digits-last : (low top n at m x r : ℕ) → r ≤ 0 → countDigitsAs low top n at m x r ≡ (gate top at 0 0 ∷ []) ++ []
 unfolding countDigitsAs
 digits-last low top n at m x r h = rw (nothing r h)
 
-pub count-size-step : (m x r : ℕ) → 0 < r → countSize m x r ≡ 3 * adders (m - 1) (x % 2) + countSize (adders (m - 1) (x % 2)) (x / 2) (r - 1)
+pub count-size-step : (m x r : ℕ) → 0 < r → countSize m x r ≡ 3 * adders (m - 1) (x % 2)
+    + countSize (adders (m - 1) (x % 2)) (x / 2) (r - 1)
 count-size-step m x r h = ap (countSize m x) (count-down r h) ∙ first (r - 1)
   where
     first : (r : ℕ) → countSize m x (suc r) ≡ 3 * adders (m - 1) (x % 2) + countSize (adders (m - 1) (x % 2)) (x / 2) r
@@ -89,16 +100,28 @@ unfolding countLevels countSize
 length-count n at d m x zero = refl
 length-count n at d m x (suc r) =
     let t = adders (m - 1) (x % 2) in
-    omega (arith, length-append (level n at (at + d) d (x % 2) (m - 1)) (countLevels (n + 3 * t) (n + 2) 3 t (x / 2) r), length-level n at (at + d) d (x % 2) (m - 1) (omega arith), length-count (n + 3 * t) (n + 2) 3 t (x / 2) r)
+    omega (
+      arith,
+      length-append (level n at (at + d) d (x % 2) (m - 1))
+          (countLevels (n + 3 * t) (n + 2) 3 t (x / 2) r),
+      length-level n at (at + d) d (x % 2) (m - 1) (omega arith),
+      length-count (n + 3 * t) (n + 2) 3 t (x / 2) r,
+    )
 
 pub length-digits : (low top n at m x r : ℕ) → length (countDigitsAs low top n at m x r) ≡ r + 1
 unfolding countDigitsAs
 length-digits low top n at m x zero = refl
-length-digits low top n at m x (suc r) = omega (arith, length-digits low top (n + 3 * adders (m - 1) (x % 2)) (n + 2) (adders (m - 1) (x % 2)) (x / 2) r)
+length-digits low top n at m x (suc r) =
+    omega (arith, length-digits low top (n + 3 * adders (m - 1) (x % 2)) (n + 2) (adders (m - 1) (x % 2)) (x / 2) r)
 
 pub length-counter : (n at d m x r : ℕ) → length (counter n at d m x r) ≡ countSize m x r + (r + 1)
 unfolding counter
-length-counter n at d m x r = omega (arith, length-append (countLevels n at d m x r) (countDigits n at m x r), length-count n at d m x r, length-digits 2 2 n at m x r)
+length-counter n at d m x r = omega (
+  arith,
+  length-append (countLevels n at d m x r) (countDigits n at m x r),
+  length-count n at d m x r,
+  length-digits 2 2 n at m x r,
+)
 
 -- a level's carries exist once it is written
 pub below-carries : (n t : ℕ) → Below (n + 3 * t) (n + 2) 3 t

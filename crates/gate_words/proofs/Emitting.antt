@@ -36,7 +36,8 @@ bit-none-used (suc (suc v)) h = absurd (omega arith)
 
 module _ (w : Writer) (t t₁ : List ℕ) (w₁ : Writer) (a b c : ℕ) where
   pub constant-wrote : (v : ℕ) → Wrote w t (emitted (v % 2) a b c ∷ []) t₁ w₁ → Wrote w t (constant v ∷ []) t₁ w₁
-  constant-wrote v = wrote-as w t (emitted (v % 2) a b c ∷ []) (constant v ∷ []) t₁ w₁ (ap (λ (g : Gate). g ∷ []) (none-used (v % 2) a b c (bit-none-used (v % 2) (omega arith))))
+  constant-wrote v = wrote-as w t (emitted (v % 2) a b c ∷ []) (constant v ∷ []) t₁ w₁
+      (ap (λ (g : Gate). g ∷ []) (none-used (v % 2) a b c (bit-none-used (v % 2) (omega arith))))
 
   pub one-wrote : (kind : ℕ) → operandsOf kind ≡ 1 → Wrote w t (emitted kind a b c ∷ []) t₁ w₁ → Wrote w t (gate kind a 0 0 ∷ []) t₁ w₁
   one-wrote kind e = wrote-as w t (emitted kind a b c ∷ []) (gate kind a 0 0 ∷ []) t₁ w₁ (ap (λ (g : Gate). g ∷ []) (one-used kind a b c e))
@@ -60,16 +61,20 @@ module _ (w : Writer) (t t₁ : List ℕ) (w₁ : Writer) (a b c : ℕ) where
   xor-wrote = wrote-as w t (emitted 6 a b c ∷ []) (xorOf a b ∷ []) t₁ w₁ (ap (λ (g : Gate). g ∷ []) (two-used 6 a b c (operand-counts .6)))
 
   pub mux-wrote : Wrote w t (emitted 7 a b c ∷ []) t₁ w₁ → Wrote w t (muxOf a b c ∷ []) t₁ w₁
-  mux-wrote = wrote-as w t (emitted 7 a b c ∷ []) (muxOf a b c ∷ []) t₁ w₁ (ap (λ (g : Gate). g ∷ []) (three-used 7 a b c (operand-counts .7)))
+  mux-wrote = wrote-as w t (emitted 7 a b c ∷ []) (muxOf a b c ∷ []) t₁ w₁
+      (ap (λ (g : Gate). g ∷ []) (three-used 7 a b c (operand-counts .7)))
 
 -- three gates, one after the other
-pub wrote-three : (w : Writer) (t : List ℕ) (g₁ : Gate) (t₁ : List ℕ) (w₁ : Writer) (g₂ : Gate) (t₂ : List ℕ) (w₂ : Writer) (g₃ : Gate) (t₃ : List ℕ) (w₃ : Writer)
+pub wrote-three : (w : Writer) (t : List ℕ) (g₁ : Gate) (t₁ : List ℕ) (w₁ : Writer) (g₂ : Gate) (t₂ : List ℕ)
+    (w₂ : Writer) (g₃ : Gate) (t₃ : List ℕ) (w₃ : Writer)
     → Wrote w t (g₁ ∷ []) t₁ w₁ → Wrote w₁ t₁ (g₂ ∷ []) t₂ w₂ → Wrote w₂ t₂ (g₃ ∷ []) t₃ w₃ → Wrote w t (g₁ ∷ g₂ ∷ g₃ ∷ []) t₃ w₃
 wrote-three w t g₁ t₁ w₁ g₂ t₂ w₂ g₃ t₃ w₃ a b c =
     wrote-both w t (g₁ ∷ []) t₁ w₁ (g₂ ∷ g₃ ∷ []) t₃ w₃ a (wrote-both w₁ t₁ (g₂ ∷ []) t₂ w₂ (g₃ ∷ []) t₃ w₃ b c)
 
 -- and four
-pub wrote-four : (w : Writer) (t : List ℕ) (g₁ : Gate) (t₁ : List ℕ) (w₁ : Writer) (g₂ : Gate) (t₂ : List ℕ) (w₂ : Writer) (g₃ : Gate) (t₃ : List ℕ) (w₃ : Writer) (g₄ : Gate) (t₄ : List ℕ) (w₄ : Writer)
-    → Wrote w t (g₁ ∷ []) t₁ w₁ → Wrote w₁ t₁ (g₂ ∷ []) t₂ w₂ → Wrote w₂ t₂ (g₃ ∷ []) t₃ w₃ → Wrote w₃ t₃ (g₄ ∷ []) t₄ w₄ → Wrote w t (g₁ ∷ g₂ ∷ g₃ ∷ g₄ ∷ []) t₄ w₄
+pub wrote-four : (w : Writer) (t : List ℕ) (g₁ : Gate) (t₁ : List ℕ) (w₁ : Writer) (g₂ : Gate) (t₂ : List ℕ)
+    (w₂ : Writer) (g₃ : Gate) (t₃ : List ℕ) (w₃ : Writer) (g₄ : Gate) (t₄ : List ℕ) (w₄ : Writer)
+    → Wrote w t (g₁ ∷ []) t₁ w₁ → Wrote w₁ t₁ (g₂ ∷ []) t₂ w₂ → Wrote w₂ t₂ (g₃ ∷ []) t₃ w₃
+    → Wrote w₃ t₃ (g₄ ∷ []) t₄ w₄ → Wrote w t (g₁ ∷ g₂ ∷ g₃ ∷ g₄ ∷ []) t₄ w₄
 wrote-four w t g₁ t₁ w₁ g₂ t₂ w₂ g₃ t₃ w₃ g₄ t₄ w₄ a b c d =
     wrote-both w t (g₁ ∷ []) t₁ w₁ (g₂ ∷ g₃ ∷ g₄ ∷ []) t₄ w₄ a (wrote-three w₁ t₁ g₂ t₂ w₂ g₃ t₃ w₃ g₄ t₄ w₄ b c d)

@@ -27,7 +27,8 @@ module _ (w₀ : Writer) (t₀ : List ℕ) (whole : List Gate) where
   goes-as w t rest rest′ e g = rw (← e) g
 
   -- a piece is written
-  pub goes-on : (w : Writer) (t : List ℕ) (b rest : List Gate) (t₁ : List ℕ) (w₁ : Writer) → Goes w₀ t₀ whole w t (b ++ rest) → Wrote w t b t₁ w₁ → Goes w₀ t₀ whole w₁ t₁ rest
+  pub goes-on : (w : Writer) (t : List ℕ) (b rest : List Gate) (t₁ : List ℕ) (w₁ : Writer)
+      → Goes w₀ t₀ whole w t (b ++ rest) → Wrote w t b t₁ w₁ → Goes w₀ t₀ whole w₁ t₁ rest
   goes-on w t b rest t₁ w₁ g a =
       record {
         ends = λ t′ r h. g .ends t′ r (wrote-both w t b t₁ w₁ rest t′ r a h);
@@ -38,7 +39,8 @@ module _ (w₀ : Writer) (t₀ : List ℕ) (whole : List Gate) where
       }
 
   -- there is room for m gates of the rest
-  pub goes-room : (w : Writer) (t : List ℕ) (rest : List Gate) (m n : ℕ) → Goes w₀ t₀ whole w t rest → m ≤ length rest → length whole ≤ n → Room w₀ n → Room w m
+  pub goes-room : (w : Writer) (t : List ℕ) (rest : List Gate) (m n : ℕ) → Goes w₀ t₀ whole w t rest → m
+      ≤ length rest → length whole ≤ n → Room w₀ n → Room w m
   goes-room w t rest m n g l k r =
       record {
         few = omega (arith, g .gateLeft, r .few);

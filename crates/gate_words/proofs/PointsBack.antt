@@ -54,8 +54,13 @@ next n gs p = subst (λ (j : ℕ). AllGood j gs) (add-one n) p
 
 pub full-good : (n s u v : ℕ) → s < n → u < n → v < n → AllGood n (fullAdder n s u v)
 unfolding fullAdder
-full-good n s u v hs hu hv =
-    (good-xor n s u hs hu, (good-xor (suc n) n v (omega arith) (omega arith), (good-mux (suc (suc n)) n v s (omega arith) (omega arith) (omega arith), tt)))
+full-good n s u v hs hu hv = (
+  good-xor n s u hs hu,
+  (
+    good-xor (suc n) n v (omega arith) (omega arith),
+    (good-mux (suc (suc n)) n v s (omega arith) (omega arith) (omega arith), tt),
+  ),
+)
 
 pub half-good : (n s u e : ℕ) → s < n → u < n → AllGood n (halfAdder n s u e)
 unfolding halfAdder
@@ -75,7 +80,10 @@ increment-good n s hs = (good-not n s hs, (good-copy (suc n) n (omega arith), (g
 pub choose-good : (n f x y w : ℕ) → f < n → x + w ≤ n → y + w ≤ n → AllGood n (choose f x y w)
 unfolding choose
 choose-good n f x y zero hf hx hy = tt
-choose-good n f x y (suc w) hf hx hy = (good-mux n f x y hf (omega arith) (omega arith), choose-good (suc n) f (x + 1) (y + 1) w (omega arith) (omega arith) (omega arith))
+choose-good n f x y (suc w) hf hx hy = (
+  good-mux n f x y hf (omega arith) (omega arith),
+  choose-good (suc n) f (x + 1) (y + 1) w (omega arith) (omega arith) (omega arith),
+)
 
 pub masked-good : (n f x w : ℕ) → f < n → x + w ≤ n → AllGood n (masked f x w)
 unfolding masked
@@ -87,7 +95,8 @@ unfolding chain
 chain-good n kind s at d zero k e hs bl = tt
 chain-good n kind s at d (suc m) k e hs bl = (
   good-two n kind s at k e hs (bl .0),
-  next n (chain kind (n + 1) n (at + d) d m) (chain-good (n + 1) kind n (at + d) d m k e (omega arith) (below-more n (n + 1) (at + d) d m (omega arith) (bl .1))),
+  next n (chain kind (n + 1) n (at + d) d m)
+      (chain-good (n + 1) kind n (at + d) d m k e (omega arith) (below-more n (n + 1) (at + d) d m (omega arith) (bl .1))),
 )
 
 pub any-good : (n s at d m : ℕ) → s < n → Below n at d m → AllGood n (chain 5 n s at d m)
@@ -95,18 +104,28 @@ any-good n s at d m hs bl = chain-good n 5 s at d m (omega arith) (operand-count
 
 pub first-digit-good : (n x y : ℕ) → x < n → y < n → AllGood n (firstDigit n x y)
 unfolding firstDigit
-first-digit-good n x y hx hy = (good-xor n x y hx hy, (good-and (suc n) x n (omega arith) (omega arith), (good-xor (suc (suc n)) n (n + 1) (omega arith) (omega arith), tt)))
+first-digit-good n x y hx hy = (
+  good-xor n x y hx hy,
+  (
+    good-and (suc n) x n (omega arith) (omega arith),
+    (good-xor (suc (suc n)) n (n + 1) (omega arith) (omega arith), tt),
+  ),
+)
 
 pub differences-good : (n x y w : ℕ) → x + w ≤ n → y + w ≤ n → AllGood n (differences x y w)
 unfolding differences
 differences-good n x y zero hx hy = tt
-differences-good n x y (suc w) hx hy = (good-xor n x y (omega arith) (omega arith), differences-good (suc n) (x + 1) (y + 1) w (omega arith) (omega arith))
+differences-good n x y (suc w) hx hy =
+    (good-xor n x y (omega arith) (omega arith), differences-good (suc n) (x + 1) (y + 1) w (omega arith) (omega arith))
 
 pub above-good : (n f x s w : ℕ) → f + w ≤ n → x + w ≤ n → s < n → AllGood n (above n f x s w)
 unfolding above
 above-good n f x s zero hf hx hs = tt
-above-good n f x s (suc w) hf hx hs =
-    (good-mux n f x s (omega arith) (omega arith) hs, next n (above (n + 1) (f + 1) (x + 1) n w) (above-good (n + 1) (f + 1) (x + 1) n w (omega arith) (omega arith) (omega arith)))
+above-good n f x s (suc w) hf hx hs = (
+  good-mux n f x s (omega arith) (omega arith) hs,
+  next n (above (n + 1) (f + 1) (x + 1) n w)
+      (above-good (n + 1) (f + 1) (x + 1) n w (omega arith) (omega arith) (omega arith)),
+)
 
 pub compare-good : (n x y up down w : ℕ) → x + w ≤ n → y + w ≤ n → up < n → down < n → AllGood n (compareWords n x y up down w)
 unfolding compareWords
@@ -133,7 +152,8 @@ level-good n s at d e zero hs bl = either (eqb e 0)
     either false = increment-good n s hs
 level-good n s at d e (suc zero) hs bl = half-good n s at e hs (bl .0)
 level-good n s at d e (suc (suc m)) hs bl =
-    behind n 3 (fullAdder n s at (at + d)) (level (n + 3) (n + 1) (at + d + d) d e m) (length-full n s at (at + d)) (full-good n s at (at + d) hs (bl .0) (bl .1 .0))
+    behind n 3 (fullAdder n s at (at + d)) (level (n + 3) (n + 1) (at + d + d) d e m) (length-full n s at (at + d))
+    (full-good n s at (at + d) hs (bl .0) (bl .1 .0))
     (level-good (n + 3) (n + 1) (at + d + d) d e m (omega arith) (below-more n (n + 3) (at + d + d) d m (omega arith) (bl .1 .1)))
 
 pub count-levels-good : (n at d m x r : ℕ) → Below n at d m → Countable m x r → AllGood n (countLevels n at d m x r)
@@ -143,7 +163,8 @@ count-levels-good n at d m x (suc r) bl k =
     let t = adders (m - 1) (x % 2) in
     let one : m ≡ suc (m - 1) = omega (arith, k .0) in
     let bl′ : Below n at d (suc (m - 1)) = subst (Below n at d) one bl in
-    behind n (3 * t) (level n at (at + d) d (x % 2) (m - 1)) (countLevels (n + 3 * t) (n + 2) 3 t (x / 2) r) (length-level n at (at + d) d (x % 2) (m - 1) (omega arith))
+    behind n (3 * t) (level n at (at + d) d (x % 2) (m - 1)) (countLevels (n + 3 * t) (n + 2) 3 t (x / 2) r)
+    (length-level n at (at + d) d (x % 2) (m - 1) (omega arith))
     (level-good n at (at + d) d (x % 2) (m - 1) (bl′ .0) (bl′ .1))
     (count-levels-good (n + 3 * t) (n + 2) 3 t (x / 2) r (below-carries n t) (k .1))
 
@@ -164,7 +185,8 @@ pub countable-some : (m x r : ℕ) → Countable m x r → 0 < m
 countable-some m x zero k = omega (arith, k .0)
 countable-some m x (suc r) k = k .0
 
-pub count-digits-good : (low top n at m x r q : ℕ) → low < 8 → operandsOf low ≡ 1 → top < 8 → operandsOf top ≡ 1 → at < q → n + countSize m x r ≤ q → Countable m x r
+pub count-digits-good : (low top n at m x r q : ℕ) → low < 8 → operandsOf low ≡ 1 → top < 8 → operandsOf top ≡ 1
+    → at < q → n + countSize m x r ≤ q → Countable m x r
     → AllGood q (countDigitsAs low top n at m x r)
 unfolding countDigitsAs
 count-digits-good low top n at m x zero q l₁ l₂ t₁ t₂ ha h k = (good-one q top at t₁ t₂ ha, tt)
@@ -174,11 +196,14 @@ count-digits-good low top n at m x (suc r) q l₁ l₂ t₁ t₂ ha h k =
     let down : suc r - 1 ≡ r = omega arith in
     let rest = ap (countSize t (x / 2)) down in (
       good-one q low (levelSum n at (m - 1) (x % 2)) l₁ l₂ (sum-below n at (m - 1) (x % 2) q ha (omega arith)),
-      count-digits-good low top (n + 3 * t) (n + 2) t (x / 2) r (suc q) l₁ l₂ t₁ t₂ (omega (arith, countable-some t (x / 2) r (k .1))) (omega arith) (k .1),
+      count-digits-good low top (n + 3 * t) (n + 2) t (x / 2) r (suc q) l₁ l₂ t₁ t₂
+          (omega (arith, countable-some t (x / 2) r (k .1))) (omega arith) (k .1),
     )
 
 pub counter-good : (n at d m x r : ℕ) → Below n at d m → Countable m x r → AllGood n (counter n at d m x r)
 unfolding counter
 counter-good n at d m x r bl k =
-    behind n (countSize m x r) (countLevels n at d m x r) (countDigits n at m x r) (length-count n at d m x r) (count-levels-good n at d m x r bl k)
-    (count-digits-good 2 2 n at m x r (n + countSize m x r) (omega arith) (operand-counts .2) (omega arith) (operand-counts .2) (omega (arith, below-first n at d m (countable-some m x r k) bl)) (omega arith) k)
+    behind n (countSize m x r) (countLevels n at d m x r) (countDigits n at m x r) (length-count n at d m x r)
+    (count-levels-good n at d m x r bl k)
+    (count-digits-good 2 2 n at m x r (n + countSize m x r) (omega arith) (operand-counts .2) (omega arith)
+    (operand-counts .2) (omega (arith, below-first n at d m (countable-some m x r k) bl)) (omega arith) k)

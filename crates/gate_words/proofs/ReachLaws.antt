@@ -53,7 +53,15 @@ length-high-reach n x y c h =
     let v = carriesBy (n + suc h) (n + 1) (x + 1) x h in
     let a = allOf (n + suc h + h) n (n + 1) 1 h in
     let m = muxOf (chainEnd (n + suc h + h) n h) c (chainEnd (n + suc h) x h) ∷ [] in
-    omega (arith, length-append (d ++ v ++ a) m, length-append (d ++ v) a, length-append d v, length-differences x y (suc h), length-carries-by (n + suc h) (n + 1) (x + 1) x h, length-chain 4 (n + suc h + h) n (n + 1) 1 h)
+    omega (
+      arith,
+      length-append (d ++ v ++ a) m,
+      length-append (d ++ v) a,
+      length-append d v,
+      length-differences x y (suc h),
+      length-carries-by (n + suc h) (n + 1) (x + 1) x h,
+      length-chain 4 (n + suc h + h) n (n + 1) 1 h,
+    )
 
 pub length-reach-halves : (n x y e l h : ℕ) → length (reachHalves n x y e l h) ≡ 2 * l + 3 * h + 3
 unfolding reachHalves
@@ -61,7 +69,14 @@ length-reach-halves n x y e l h =
     let f = carryBit x y e in
     let v = carries (n + 1) (x + 1) (y + 1) n l in
     let t = highReach (n + 1 + 2 * l) (x + 1 + l) (y + 1 + l) (n + 2 * l) h in
-    omega (arith, length-append (f ++ v) t, length-append f v, length-carry-bit x y e, length-carries (n + 1) (x + 1) (y + 1) n l, length-high-reach (n + 1 + 2 * l) (x + 1 + l) (y + 1 + l) (n + 2 * l) h)
+    omega (
+      arith,
+      length-append (f ++ v) t,
+      length-append f v,
+      length-carry-bit x y e,
+      length-carries (n + 1) (x + 1) (y + 1) n l,
+      length-high-reach (n + 1 + 2 * l) (x + 1 + l) (y + 1 + l) (n + 2 * l) h,
+    )
 
 pub length-reach : (n x y e r : ℕ) → length (reach n x y e r) ≡ reachSpan r
 unfolding reach reachLast
@@ -70,7 +85,9 @@ length-reach n x y e (suc r) = omega (arith, length-reach-halves n x y e (r / 2)
 
 -- the first digits, and the rest
 
-pub carries-step : (n x y c i w : ℕ) → i < w → carries n (x + i) (y + i) c (w - i) ≡ (xorOf (x + i) (y + i) ∷ muxOf n c (x + i) ∷ []) ++ carries (n + 2) (x + (i + 1)) (y + (i + 1)) (n + 1) (w - (i + 1))
+pub carries-step : (n x y c i w : ℕ) → i < w → carries n (x + i) (y + i) c (w - i)
+    ≡ (xorOf (x + i) (y + i) ∷ muxOf n c (x + i) ∷ [])
+    ++ carries (n + 2) (x + (i + 1)) (y + (i + 1)) (n + 1) (w - (i + 1))
 unfolding carries
 carries-step n x y c i w h = rw (left-one i w h, next-place x i, next-place y i)
 
@@ -78,7 +95,8 @@ pub carries-none : (n x y c i w : ℕ) → w ≤ i → carries n x y c (w - i) �
 unfolding carries
 carries-none n x y c i w h = let e : w - i ≡ 0 = omega arith in rw e
 
-pub carries-by-step : (n f x c i w : ℕ) → i < w → carriesBy n (f + i) (x + i) c (w - i) ≡ (muxOf (f + i) c (x + i) ∷ []) ++ carriesBy (n + 1) (f + (i + 1)) (x + (i + 1)) n (w - (i + 1))
+pub carries-by-step : (n f x c i w : ℕ) → i < w → carriesBy n (f + i) (x + i) c (w - i)
+    ≡ (muxOf (f + i) c (x + i) ∷ []) ++ carriesBy (n + 1) (f + (i + 1)) (x + (i + 1)) n (w - (i + 1))
 unfolding carriesBy
 carries-by-step n f x c i w h = rw (left-one i w h, next-place f i, next-place x i)
 
@@ -123,7 +141,8 @@ carries-good n x y c (suc w) hx hy hc =
       good-xor n x y (omega arith) (omega arith),
       (
         good-mux (suc n) n c x (omega arith) (omega arith) (omega arith),
-        subst (λ (j : ℕ). AllGood j (carries (n + 2) (x + 1) (y + 1) (n + 1) w)) two (carries-good (n + 2) (x + 1) (y + 1) (n + 1) w (omega arith) (omega arith) (omega arith)),
+        subst (λ (j : ℕ). AllGood j (carries (n + 2) (x + 1) (y + 1) (n + 1) w)) two
+            (carries-good (n + 2) (x + 1) (y + 1) (n + 1) w (omega arith) (omega arith) (omega arith)),
       ),
     )
 
@@ -132,7 +151,8 @@ unfolding carriesBy
 carries-by-good n f x c zero hf hx hc = tt
 carries-by-good n f x c (suc w) hf hx hc = (
   good-mux n f c x (omega arith) hc (omega arith),
-  subst (λ (j : ℕ). AllGood j (carriesBy (n + 1) (f + 1) (x + 1) n w)) (add-one n) (carries-by-good (n + 1) (f + 1) (x + 1) n w (omega arith) (omega arith) (omega arith)),
+  subst (λ (j : ℕ). AllGood j (carriesBy (n + 1) (f + 1) (x + 1) n w)) (add-one n)
+      (carries-by-good (n + 1) (f + 1) (x + 1) n w (omega arith) (omega arith) (omega arith)),
 )
 
 pub high-reach-good : (n x y c h : ℕ) → x + suc h ≤ n → y + suc h ≤ n → c < n → AllGood n (highReach n x y c h)
@@ -149,9 +169,16 @@ high-reach-good n x y c h hx hy hc =
     behind n (suc h + h + h) (d ++ v ++ a) (muxOf (chainEnd (n + suc h + h) n h) c (chainEnd (n + suc h) x h) ∷ [])
     (omega (arith, length-append (d ++ v) a, length-append d v))
     (behind n (suc h + h) (d ++ v) a (omega (arith, length-append d v))
-    (behind n (suc h) d v ld (differences-good n x y (suc h) hx hy) (carries-by-good (n + suc h) (n + 1) (x + 1) x h (omega arith) (omega arith) (omega arith)))
-    (subst (λ (j : ℕ). AllGood j a) e₁ (chain-good (n + suc h + h) 4 n (n + 1) 1 h (omega arith) (operand-counts .4) (omega arith) (beside (n + suc h + h) (n + 1) h (omega arith)))))
-    (good-mux q (chainEnd (n + suc h + h) n h) c (chainEnd (n + suc h) x h) (chain-below (n + suc h + h) n h q (omega arith) (omega arith)) (omega arith) (chain-below (n + suc h) x h q (omega arith) (omega arith)), tt)
+    (behind n (suc h) d v ld (differences-good n x y (suc h) hx hy)
+    (carries-by-good (n + suc h) (n + 1) (x + 1) x h (omega arith) (omega arith) (omega arith)))
+    (subst (λ (j : ℕ). AllGood j a) e₁
+    (chain-good (n + suc h + h) 4 n (n + 1) 1 h (omega arith) (operand-counts .4) (omega arith)
+    (beside (n + suc h + h) (n + 1) h (omega arith))))) (
+      good-mux q (chainEnd (n + suc h + h) n h) c (chainEnd (n + suc h) x h)
+          (chain-below (n + suc h + h) n h q (omega arith) (omega arith)) (omega arith)
+          (chain-below (n + suc h) x h q (omega arith) (omega arith)),
+      tt,
+    )
 
 pub reach-halves-good : (n x y e l h : ℕ) → x + suc (suc (l + h)) ≤ n → y + suc (suc (l + h)) ≤ n → AllGood n (reachHalves n x y e l h)
 unfolding reachHalves
@@ -161,7 +188,8 @@ reach-halves-good n x y e l h hx hy =
     let q : n + 1 + 2 * l ≡ n + (1 + 2 * l) = omega arith in
     behind n (1 + 2 * l) (f ++ v) (highReach (n + 1 + 2 * l) (x + 1 + l) (y + 1 + l) (n + 2 * l) h)
     (omega (arith, length-append f v, length-carry-bit x y e, length-carries (n + 1) (x + 1) (y + 1) n l))
-    (behind n 1 f v (length-carry-bit x y e) (carry-bit-good n x y e (omega arith) (omega arith)) (carries-good (n + 1) (x + 1) (y + 1) n l (omega arith) (omega arith) (omega arith)))
+    (behind n 1 f v (length-carry-bit x y e) (carry-bit-good n x y e (omega arith) (omega arith))
+    (carries-good (n + 1) (x + 1) (y + 1) n l (omega arith) (omega arith) (omega arith)))
     (subst (λ (j : ℕ). AllGood j (highReach (n + 1 + 2 * l) (x + 1 + l) (y + 1 + l) (n + 2 * l) h)) q
     (high-reach-good (n + 1 + 2 * l) (x + 1 + l) (y + 1 + l) (n + 2 * l) h (omega arith) (omega arith) (omega arith)))
 
@@ -173,9 +201,11 @@ reach-good n x y e (suc r) hx hy = reach-halves-good n x y e (r / 2) (r - r / 2)
 -- what they say
 
 -- one digit: if two bits are equal, the carry is that bit, and else the carry in
-one-carry : (x y s t k : ℕ) → x ≤ 1 → y ≤ 1 → s ≤ 1 → t ≡ (x + y) % 2 → (t ≡ 0 → k ≡ x) → (t ≡ 1 → k ≡ s) → (k ≤ 1) × (2 * k ≤ x + y + s) × (x + y + s ≤ 2 * k + 1)
+one-carry : (x y s t k : ℕ) → x ≤ 1 → y ≤ 1 → s ≤ 1 → t ≡ (x + y) % 2 → (t ≡ 0 → k ≡ x) → (t ≡ 1 → k ≡ s) → (k ≤ 1)
+    × (2 * k ≤ x + y + s) × (x + y + s ≤ 2 * k + 1)
 one-carry x y s t k hx hy hs e k₀ k₁ =
-    ⊎-elim (λ (z : t ≡ 0). let p = k₀ z in (omega arith, omega arith, omega arith)) (λ (z : t ≡ 1). let p = k₁ z in (omega arith, omega arith, omega arith)) (bit-cases t (omega arith))
+    ⊎-elim (λ (z : t ≡ 0). let p = k₀ z in (omega arith, omega arith, omega arith))
+    (λ (z : t ≡ 1). let p = k₁ z in (omega arith, omega arith, omega arith)) (bit-cases t (omega arith))
 
 -- a bit says that a sum reaches a limit
 pub record Reaches (bit limit sum : ℕ) : Type 0 where
@@ -183,14 +213,17 @@ pub record Reaches (bit limit sum : ℕ) : Type 0 where
   pub missed : sum < limit → bit ≡ 0
 
 -- so it does with one more digit: twice the limit, and twice the sum and the lowest digits
-one-more : (sum k low : ℕ) {bit limit twice whole : ℕ} → Reaches bit limit (sum + k) → twice ≡ 2 * limit → whole ≡ low + 2 * sum → 2 * k ≤ low → low ≤ 2 * k + 1 → Reaches bit twice whole
+one-more : (sum k low : ℕ) {bit limit twice whole : ℕ} → Reaches bit limit (sum + k) → twice ≡ 2 * limit → whole
+    ≡ low + 2 * sum → 2 * k ≤ low → low ≤ 2 * k + 1 → Reaches bit twice whole
 one-more sum k low r e f g h = record { reached = λ q. r .reached (omega arith); missed = λ q. r .missed (omega arith) }
 
 module _ (W : ℕ → ℕ) (b : Binary W) where
   carry-bit-law : (n x y e : ℕ) → e ≤ 1 → Holds W n (carryBit x y e) → (2 * W n ≤ W x + W y + e) × (W x + W y + e ≤ 2 * W n + 1)
   unfolding carryBit
-  carry-bit-law n x y zero l h = let g = holds-first W n (andOf x y) [] h ∙ and-is W b x y in (omega (arith, b x, b y), omega (arith, b x, b y))
-  carry-bit-law n x y (suc zero) l h = let g = holds-first W n (orOf x y) [] h ∙ or-is W b x y in (omega (arith, b x, b y), omega (arith, b x, b y))
+  carry-bit-law n x y zero l h = let g = holds-first W n (andOf x y) [] h ∙ and-is W b x y in
+      (omega (arith, b x, b y), omega (arith, b x, b y))
+  carry-bit-law n x y (suc zero) l h = let g = holds-first W n (orOf x y) [] h ∙ or-is W b x y in
+      (omega (arith, b x, b y), omega (arith, b x, b y))
   carry-bit-law n x y (suc (suc e)) l h = absurd (omega arith)
 
   -- a chain of carries above a part for which a bit is known to say it
@@ -202,7 +235,8 @@ module _ (W : ℕ → ℕ) (b : Binary W) where
       let t = top c (λ z. refl) (λ z. absurd (omega arith)) in
       let px : x + zero ≡ x = add-zero x in
       let py : y + zero ≡ y = add-zero y in
-      rw (zero-add h) (subst (λ (i : ℕ). Reaches bit (2 ^ h) (number W x 1 h + number W i 1 h + W c)) py (subst (λ (i : ℕ). Reaches bit (2 ^ h) (number W i 1 h + number W (y + zero) 1 h + W c)) px t))
+      rw (zero-add h) (subst (λ (i : ℕ). Reaches bit (2 ^ h) (number W x 1 h + number W i 1 h + W c)) py
+      (subst (λ (i : ℕ). Reaches bit (2 ^ h) (number W i 1 h + number W (y + zero) 1 h + W c)) px t))
   carries-law n x y c (suc w) h bit g top =
       let rest = carries (n + 2) (x + 1) (y + 1) (n + 1) w in
       let g₁ = holds-first W n (xorOf x y) (muxOf n c x ∷ rest) g ∙ xor-is W b x y in
@@ -210,14 +244,17 @@ module _ (W : ℕ → ℕ) (b : Binary W) where
       let m = holds-first W (n + 1) (muxOf n c x) rest g₂ in
       let place : n + 1 + 1 ≡ n + 2 = omega arith in
       let g₃ = subst (λ (i : ℕ). Holds W i rest) place (holds-rest W (n + 1) (muxOf n c x) rest g₂) in
-      let d = one-carry (W x) (W y) (W c) (W n) (W (n + 1)) (b x) (b y) (b c) g₁ (λ e. m ∙ mux-zero (W n) (W c) (W x) e) (λ e. m ∙ mux-one (W n) (W c) (W x) e) in
+      let d = one-carry (W x) (W y) (W c) (W n) (W (n + 1)) (b x) (b y) (b c) g₁
+      (λ e. m ∙ mux-zero (W n) (W c) (W x) e) (λ e. m ∙ mux-one (W n) (W c) (W x) e) in
       let px : x + suc w ≡ x + 1 + w = omega arith in
       let py : y + suc w ≡ y + 1 + w = omega arith in
       let r = carries-law (n + 2) (x + 1) (y + 1) (n + 1) w h bit g₃
       (λ k z p. subst (λ (i : ℕ). Reaches bit (2 ^ h) (number W (x + 1 + w) 1 h + number W i 1 h + W k)) py
       (subst (λ (i : ℕ). Reaches bit (2 ^ h) (number W i 1 h + number W (y + suc w) 1 h + W k)) px
       (top k (λ q. absurd (omega arith)) (λ q. last k w z p)))) in
-      rw (suc-add w h) (one-more (number W (x + 1) 1 (w + h) + number W (y + 1) 1 (w + h)) (W (n + 1)) (W x + W y + W c) r (pow-succ' 2 (w + h)) (omega (arith, number-more W x 1 (w + h), number-more W y 1 (w + h))) (d .1) (d .2))
+      rw (suc-add w h) (one-more (number W (x + 1) 1 (w + h) + number W (y + 1) 1 (w + h)) (W (n + 1))
+      (W x + W y + W c) r (pow-succ' 2 (w + h))
+      (omega (arith, number-more W x 1 (w + h), number-more W y 1 (w + h))) (d .1) (d .2))
     where
       last : (k w : ℕ) → (w ≡ 0 → k ≡ n + 1) → (0 < w → k + 1 ≡ n + 2 + 2 * w) → k + 1 ≡ n + 2 * suc w
       last k zero z p = omega (arith, z refl)
@@ -231,13 +268,19 @@ module _ (W : ℕ → ℕ) (b : Binary W) where
       let differ = differences (x + 1) (y + 1) w in
       let rest = carriesBy (n + 1) (f + 1) (x + 1) n w in
       let m = holds-first W n (muxOf f c x) rest h in
-      let d = one-carry (W x) (W y) (W c) (W f) (W n) (b x) (b y) (b c) (holds-first W f (xorOf x y) differ g ∙ xor-is W b x y) (λ e. m ∙ mux-zero (W f) (W c) (W x) e) (λ e. m ∙ mux-one (W f) (W c) (W x) e) in
-      let r = carries-by-law (n + 1) (f + 1) (x + 1) (y + 1) n w (holds-rest W f (xorOf x y) differ g) (holds-rest W n (muxOf f c x) rest h) in
-      let s : Reaches (W (chainEnd (n + 1) n w)) (2 ^ suc w) (number W x 1 (suc w) + number W y 1 (suc w) + W c) = one-more (number W (x + 1) 1 w + number W (y + 1) 1 w) (W n) (W x + W y + W c) r (pow-succ' 2 w) (omega (arith, number-more W x 1 w, number-more W y 1 w)) (d .1) (d .2) in
+      let d = one-carry (W x) (W y) (W c) (W f) (W n) (b x) (b y) (b c)
+      (holds-first W f (xorOf x y) differ g ∙ xor-is W b x y) (λ e. m ∙ mux-zero (W f) (W c) (W x) e)
+      (λ e. m ∙ mux-one (W f) (W c) (W x) e) in
+      let r = carries-by-law (n + 1) (f + 1) (x + 1) (y + 1) n w (holds-rest W f (xorOf x y) differ g)
+      (holds-rest W n (muxOf f c x) rest h) in
+      let s : Reaches (W (chainEnd (n + 1) n w)) (2 ^ suc w) (number W x 1 (suc w) + number W y 1 (suc w) + W c) =
+      one-more (number W (x + 1) 1 w + number W (y + 1) 1 w) (W n) (W x + W y + W c) r (pow-succ' 2 w)
+      (omega (arith, number-more W x 1 w, number-more W y 1 w)) (d .1) (d .2) in
       subst (λ (i : ℕ). Reaches (W i) (2 ^ suc w) (number W x 1 (suc w) + number W y 1 (suc w) + W c)) (chain-next n c w) s
 
   -- all digits differ exactly if the words add up to all ones
-  all-one : (n s f x y w : ℕ) → Holds W f (differences x y w) → Holds W n (allOf n s f 1 w) → W (chainEnd n s w) ≡ 1 → (W s ≡ 1) × (number W x 1 w + number W y 1 w + 1 ≡ 2 ^ w)
+  all-one : (n s f x y w : ℕ) → Holds W f (differences x y w) → Holds W n (allOf n s f 1 w) → W (chainEnd n s w) ≡ 1
+      → (W s ≡ 1) × (number W x 1 w + number W y 1 w + 1 ≡ 2 ^ w)
   unfolding chain differences
   all-one n s f x y zero g h e = unfold chainEnd number in (e, omega arith)
   all-one n s f x y (suc w) g h e =
@@ -245,11 +288,13 @@ module _ (W : ℕ → ℕ) (b : Binary W) where
       let rest = allOf (n + 1) n (f + 1) 1 w in
       let a = holds-first W n (andOf s f) rest h ∙ and-is W b s f in
       let d = holds-first W f (xorOf x y) differ g ∙ xor-is W b x y in
-      let r = all-one (n + 1) n (f + 1) (x + 1) (y + 1) w (holds-rest W f (xorOf x y) differ g) (holds-rest W n (andOf s f) rest h) (ap W (chain-next n s w) ∙ e) in
+      let r = all-one (n + 1) n (f + 1) (x + 1) (y + 1) w (holds-rest W f (xorOf x y) differ g)
+      (holds-rest W n (andOf s f) rest h) (ap W (chain-next n s w) ∙ e) in
       let o : W f ≡ 1 = omega (arith, r .0, b s, b f) in
       (omega (arith, r .0, b s, b f), omega (arith, r .1, pow-succ' 2 w, number-more W x 1 w, number-more W y 1 w, b x, b y))
 
-  all-zero : (n s f x y w : ℕ) → Holds W f (differences x y w) → Holds W n (allOf n s f 1 w) → W (chainEnd n s w) ≡ 0 → W s ≡ 1 → number W x 1 w + number W y 1 w + 1 ≡ 2 ^ w → ⊥
+  all-zero : (n s f x y w : ℕ) → Holds W f (differences x y w) → Holds W n (allOf n s f 1 w) → W (chainEnd n s w)
+      ≡ 0 → W s ≡ 1 → number W x 1 w + number W y 1 w + 1 ≡ 2 ^ w → ⊥
   unfolding chain differences
   all-zero n s f x y zero g h e o q = unfold chainEnd in omega arith
   all-zero n s f x y (suc w) g h e o q =
@@ -261,11 +306,13 @@ module _ (W : ℕ → ℕ) (b : Binary W) where
       let my = number-more W y 1 w in
       let p = pow-succ' 2 w in
       let t : W x + W y ≡ 1 = omega (arith, b x, b y) in
-      all-zero (n + 1) n (f + 1) (x + 1) (y + 1) w (holds-rest W f (xorOf x y) differ g) (holds-rest W n (andOf s f) rest h) (ap W (chain-next n s w) ∙ e) (omega arith) (omega arith)
+      all-zero (n + 1) n (f + 1) (x + 1) (y + 1) w (holds-rest W f (xorOf x y) differ g)
+      (holds-rest W n (andOf s f) rest h) (ap W (chain-next n s w) ∙ e) (omega arith) (omega arith)
 
   -- four blocks in a row
   cut-high : (n x y c h : ℕ) → Holds W n (highReach n x y c h)
-      → Holds W n (differences x y (suc h)) × Holds W (n + suc h) (carriesBy (n + suc h) (n + 1) (x + 1) x h) × Holds W (n + suc h + h) (allOf (n + suc h + h) n (n + 1) 1 h)
+      → Holds W n (differences x y (suc h)) × Holds W (n + suc h) (carriesBy (n + suc h) (n + 1) (x + 1) x h)
+      × Holds W (n + suc h + h) (allOf (n + suc h + h) n (n + 1) 1 h)
       × Holds W (n + suc h + h + h) (muxOf (chainEnd (n + suc h + h) n h) c (chainEnd (n + suc h) x h) ∷ [])
   unfolding highReach
   cut-high n x y c h g =
@@ -284,7 +331,8 @@ module _ (W : ℕ → ℕ) (b : Binary W) where
       let e₃ : n + length (d ++ v ++ a) ≡ n + suc h + h + h = omega (arith, length-append (d ++ v) a, length-append d v) in
       (u .0, subst (λ (i : ℕ). Holds W i v) e₁ (u .1), subst (λ (i : ℕ). Holds W i a) e₂ (t .1), subst (λ (i : ℕ). Holds W i m) e₃ (s .1))
 
-  pub high-reach-law : (n x y c h : ℕ) → Holds W n (highReach n x y c h) → Reaches (W (n + suc h + h + h)) (2 ^ suc h) (number W x 1 (suc h) + number W y 1 (suc h) + W c)
+  pub high-reach-law : (n x y c h : ℕ) → Holds W n (highReach n x y c h)
+      → Reaches (W (n + suc h + h + h)) (2 ^ suc h) (number W x 1 (suc h) + number W y 1 (suc h) + W c)
   high-reach-law n x y c h g =
       let p = cut-high n x y c h g in
       let first : Holds W n (xorOf x y ∷ differences (x + 1) (y + 1) h) = unfold differences in (p .0) in
@@ -300,9 +348,14 @@ module _ (W : ℕ → ℕ) (b : Binary W) where
       ⊎-elim
       (λ (z : W all ≡ 0).
       let k = m ∙ mux-zero (W all) (W c) (W free) z in
-      let no : W n ≡ 1 → number W (x + 1) 1 h + number W (y + 1) 1 h + 1 ≡ 2 ^ h → ⊥ = all-zero (n + suc h + h) n (n + 1) (x + 1) (y + 1) h rest (p .2) z in
+      let no : W n ≡ 1 → number W (x + 1) 1 h + number W (y + 1) 1 h + 1 ≡ 2 ^ h → ⊥ =
+      all-zero (n + suc h + h) n (n + 1) (x + 1) (y + 1) h rest (p .2) z in
       ⊎-elim
-      (λ (u : W n ≡ 0). record { reached = λ q. k ∙ v .reached (omega (arith, b x, b y, b c)); missed = λ q. k ∙ v .missed (omega (arith, b x, b y, b c)) })
+      (λ (u : W n ≡ 0). record {
+        reached = λ q. k ∙ v .reached (omega (arith, b x, b y, b c));
+        missed = λ q. k
+            ∙ v .missed (omega (arith, b x, b y, b c));
+      })
       (λ (u : W n ≡ 1). let ne : ¬ (number W (x + 1) 1 h + number W (y + 1) 1 h + 1 ≡ 2 ^ h) = no u in
       record { reached = λ q. k ∙ v .reached (omega (arith, b x, b y, b c)); missed = λ q. k ∙ v .missed (omega (arith, b x, b y, b c)) })
       (bit-cases (W n) (b n)))
@@ -315,7 +368,8 @@ module _ (W : ℕ → ℕ) (b : Binary W) where
       (bit-cases (W all) (b all))
 
   pub reach-halves-law : (n x y e l h : ℕ) → e ≤ 1 → Holds W n (reachHalves n x y e l h)
-      → Reaches (W (n + (2 * l + 3 * h + 2))) (2 ^ suc (suc (l + h))) (number W x 1 (suc (suc (l + h))) + number W y 1 (suc (suc (l + h))) + e)
+      → Reaches (W (n + (2 * l + 3 * h + 2))) (2 ^ suc (suc (l + h)))
+      (number W x 1 (suc (suc (l + h))) + number W y 1 (suc (suc (l + h))) + e)
   unfolding reachHalves
   reach-halves-law n x y e l h le g =
       let f = carryBit x y e in
@@ -325,23 +379,29 @@ module _ (W : ℕ → ℕ) (b : Binary W) where
       let s = holds-append W n (f ++ v) t g in
       let u = holds-append W n f v (s .0) in
       let e₁ : n + length f ≡ n + 1 = omega (arith, length-carry-bit x y e) in
-      let e₂ : n + length (f ++ v) ≡ m = omega (arith, length-append f v, length-carry-bit x y e, length-carries (n + 1) (x + 1) (y + 1) n l) in
+      let e₂ : n + length (f ++ v) ≡ m =
+      omega (arith, length-append f v, length-carry-bit x y e, length-carries (n + 1) (x + 1) (y + 1) n l) in
       let c = carry-bit-law n x y e le (u .0) in
       let top = high-reach-law m (x + 1 + l) (y + 1 + l) (n + 2 * l) h (subst (λ (i : ℕ). Holds W i t) e₂ (s .1)) in
       let place : m + suc h + h + h ≡ n + (2 * l + 3 * h + 2) = omega arith in
       let bit = W (n + (2 * l + 3 * h + 2)) in
-      let top′ = subst (λ (i : ℕ). Reaches (W i) (2 ^ suc h) (number W (x + 1 + l) 1 (suc h) + number W (y + 1 + l) 1 (suc h) + W (n + 2 * l))) place top in
+      let top′ = subst (λ (i : ℕ). Reaches (W i) (2 ^ suc h)
+      (number W (x + 1 + l) 1 (suc h) + number W (y + 1 + l) 1 (suc h) + W (n + 2 * l))) place top in
       let r = carries-law (n + 1) (x + 1) (y + 1) n l (suc h) bit (subst (λ (i : ℕ). Holds W i v) e₁ (u .1))
-      (λ k z p. subst (λ (i : ℕ). Reaches bit (2 ^ suc h) (number W (x + 1 + l) 1 (suc h) + number W (y + 1 + l) 1 (suc h) + W i)) (sym (last k l z p)) top′) in
+      (λ k z p. subst (λ (i : ℕ). Reaches bit (2 ^ suc h)
+      (number W (x + 1 + l) 1 (suc h) + number W (y + 1 + l) 1 (suc h) + W i)) (sym (last k l z p)) top′) in
       let w : l + suc h ≡ suc (l + h) = omega arith in
       let r′ = subst (λ (i : ℕ). Reaches bit (2 ^ i) (number W (x + 1) 1 i + number W (y + 1) 1 i + W n)) w r in
-      one-more (number W (x + 1) 1 (suc (l + h)) + number W (y + 1) 1 (suc (l + h))) (W n) (W x + W y + e) r′ (pow-succ' 2 (suc (l + h))) (omega (arith, number-more W x 1 (suc (l + h)), number-more W y 1 (suc (l + h)))) (c .0) (c .1)
+      one-more (number W (x + 1) 1 (suc (l + h)) + number W (y + 1) 1 (suc (l + h))) (W n) (W x + W y + e) r′
+      (pow-succ' 2 (suc (l + h))) (omega (arith, number-more W x 1 (suc (l + h)), number-more W y 1 (suc (l + h))))
+      (c .0) (c .1)
     where
       last : (k l : ℕ) → (l ≡ 0 → k ≡ n) → (0 < l → k + 1 ≡ n + 1 + 2 * l) → k ≡ n + 2 * l
       last k zero z p = omega (arith, z refl)
       last k (suc l) z p = omega (arith, p (omega arith))
 
-  pub reach-law : (n x y e r : ℕ) → e ≤ 1 → Holds W n (reach n x y e r) → Reaches (W (n + reachLast r)) (2 ^ suc r) (number W x 1 (suc r) + number W y 1 (suc r) + e)
+  pub reach-law : (n x y e r : ℕ) → e ≤ 1 → Holds W n (reach n x y e r)
+      → Reaches (W (n + reachLast r)) (2 ^ suc r) (number W x 1 (suc r) + number W y 1 (suc r) + e)
   unfolding reach reachLast
   reach-law n x y e zero le g =
       let c = carry-bit-law n x y e le g in
@@ -354,4 +414,6 @@ module _ (W : ℕ → ℕ) (b : Binary W) where
       record { reached = λ q. z ∙ omega (arith, c .0, c .1, b n); missed = λ q. z ∙ omega (arith, c .0, c .1) }
   reach-law n x y e (suc r) le g =
       let w : r / 2 + (r - r / 2) ≡ r = omega arith in
-      subst (λ (i : ℕ). Reaches (W (n + (2 * (r / 2) + 3 * (r - r / 2) + 2))) (2 ^ suc (suc i)) (number W x 1 (suc (suc i)) + number W y 1 (suc (suc i)) + e)) w (reach-halves-law n x y e (r / 2) (r - r / 2) le g)
+      subst (λ (i : ℕ). Reaches (W (n + (2 * (r / 2) + 3 * (r - r / 2) + 2))) (2 ^ suc (suc i))
+      (number W x 1 (suc (suc i)) + number W y 1 (suc (suc i)) + e)) w
+      (reach-halves-law n x y e (r / 2) (r - r / 2) le g)

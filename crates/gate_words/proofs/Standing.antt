@@ -20,7 +20,8 @@ pub stands : (w : Writer) (n l m : ℕ) → w .wire ≡ n → m ≤ l → Room w
 stands w n l m e h r = record { place = e; left = room-less w m l h r }
 
 -- so it is after a block of l gates
-pub stands-after : (w : Writer) (t : List ℕ) (gs : List Gate) (t₁ : List ℕ) (w₁ : Writer) (n l m : ℕ) → Wrote w t gs t₁ w₁ → length gs ≡ l → Stands w n (l + m) → Stands w₁ (n + l) m
+pub stands-after : (w : Writer) (t : List ℕ) (gs : List Gate) (t₁ : List ℕ) (w₁ : Writer) (n l m : ℕ)
+    → Wrote w t gs t₁ w₁ → length gs ≡ l → Stands w n (l + m) → Stands w₁ (n + l) m
 stands-after w t gs t₁ w₁ n l m a e s =
     record { place = omega (arith, a .wires, s .place); left = room-after w t gs t₁ w₁ m (l + m) a (omega arith) (s .left) }
 

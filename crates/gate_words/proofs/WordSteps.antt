@@ -14,7 +14,8 @@ use Rattle.gate_words.specs.Comparison.{firstDigit, compareWords, differ
 use Rattle.gate_words.proofs.ChoiceSteps.{left-one, next-place}
 
 pub compare-step : (n x y up down i w : ℕ) → i < w
-    → compareWords n (x + i) (y + i) up down (w - i) ≡ compareWords n (x + i) (y + i) up down 1 ++ compareWords (n + 3) (x + (i + 1)) (y + (i + 1)) (n + 1) (n + 2) (w - (i + 1))
+    → compareWords n (x + i) (y + i) up down (w - i) ≡ compareWords n (x + i) (y + i) up down 1
+    ++ compareWords (n + 3) (x + (i + 1)) (y + (i + 1)) (n + 1) (n + 2) (w - (i + 1))
 unfolding compareWords
 compare-step n x y up down i w h = rw (left-one i w h, next-place x i, next-place y i)
 
@@ -22,7 +23,8 @@ pub compare-none : (n x y up down i w : ℕ) → w ≤ i → compareWords n x y 
 unfolding compareWords
 compare-none n x y up down i w h = let e : w - i ≡ 0 = omega arith in rw e
 
-pub differences-step : (x y i w : ℕ) → i < w → differences (x + i) (y + i) (w - i) ≡ (xorOf (x + i) (y + i) ∷ []) ++ differences (x + (i + 1)) (y + (i + 1)) (w - (i + 1))
+pub differences-step : (x y i w : ℕ) → i < w → differences (x + i) (y + i) (w - i) ≡ (xorOf (x + i) (y + i) ∷ [])
+    ++ differences (x + (i + 1)) (y + (i + 1)) (w - (i + 1))
 unfolding differences
 differences-step x y i w h = rw (left-one i w h, next-place x i, next-place y i)
 
@@ -30,7 +32,8 @@ pub differences-none : (x y i w : ℕ) → w ≤ i → differences x y (w - i) �
 unfolding differences
 differences-none x y i w h = let e : w - i ≡ 0 = omega arith in rw e
 
-pub above-step : (n f x s i w : ℕ) → i < w → above n (f + i) (x + i) s (w - i) ≡ (muxOf (f + i) (x + i) s ∷ []) ++ above (n + 1) (f + (i + 1)) (x + (i + 1)) n (w - (i + 1))
+pub above-step : (n f x s i w : ℕ) → i < w → above n (f + i) (x + i) s (w - i) ≡ (muxOf (f + i) (x + i) s ∷ [])
+    ++ above (n + 1) (f + (i + 1)) (x + (i + 1)) n (w - (i + 1))
 unfolding above
 above-step n f x s i w h = rw (left-one i w h, next-place f i, next-place x i)
 

@@ -38,7 +38,9 @@ wrote-both w t gs t₁ w₁ hs t₂ w₂ a b =
       long = b .long ∙ a .long;
       numbers =
           λ (h : 4 * (w .gate + length (gs ++ hs)) ≤ length t).
-          b .numbers (omega (arith, h, a .long, a .gates, length-append gs hs)) ∙ ap (λ (l : List ℕ). sets l (4 * w₁ .gate) (numbersOf hs)) (a .numbers (omega (arith, h, length-append gs hs)))
+          b .numbers (omega (arith, h, a .long, a .gates, length-append gs hs))
+          ∙ ap (λ (l : List ℕ). sets l (4 * w₁ .gate) (numbersOf hs))
+          (a .numbers (omega (arith, h, length-append gs hs)))
           ∙ sets-append (numbersOf gs) (numbersOf hs) t (4 * w .gate) (4 * w₁ .gate) (omega (arith, a .gates, length-numbers gs))
           ∙ ap (sets t (4 * w .gate)) (sym (numbers-append gs hs));
       gates = omega (arith, a .gates, b .gates, length-append gs hs);
@@ -54,7 +56,8 @@ wrote-as w t gs hs t₁ w₁ e a = rw (← e) a
 pub room-less : (w : Writer) (m n : ℕ) → m ≤ n → Room w n → Room w m
 room-less w m n h r = record { few = omega (arith, r .few); small = omega (arith, r .small); counted = r .counted }
 
-pub room-after : (w : Writer) (t : List ℕ) (gs : List Gate) (t₁ : List ℕ) (w₁ : Writer) (m n : ℕ) → Wrote w t gs t₁ w₁ → length gs + m ≤ n → Room w n → Room w₁ m
+pub room-after : (w : Writer) (t : List ℕ) (gs : List Gate) (t₁ : List ℕ) (w₁ : Writer) (m n : ℕ)
+    → Wrote w t gs t₁ w₁ → length gs + m ≤ n → Room w n → Room w₁ m
 room-after w t gs t₁ w₁ m n a h r =
     record {
       few = omega (arith, a .gates, r .few);
@@ -67,7 +70,8 @@ pub wrote-long : (w : Writer) (t : List ℕ) (gs : List Gate) (t₁ : List ℕ) 
 wrote-long w t gs t₁ w₁ a = a .long
 
 -- four numbers stored one after the other
-pub sets-four : (t : List ℕ) (at k a b c : ℕ) → sets t at (k ∷ a ∷ b ∷ c ∷ []) ≡ set (set (set (set t at k) (at + 1) a) (at + 2) b) (at + 3) c
+pub sets-four : (t : List ℕ) (at k a b c : ℕ) → sets t at (k ∷ a ∷ b ∷ c ∷ [])
+    ≡ set (set (set (set t at k) (at + 1) a) (at + 2) b) (at + 3) c
 sets-four t at k a b c = rw (add-one at, add-two at, add-three at)
 
 -- a store that may not be made keeps the length

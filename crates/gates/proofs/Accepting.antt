@@ -24,7 +24,8 @@ unfolding tested judged
 good-list-accepted inputs k gs good enough few =
     let n = length-numbers gs in
     let ns = numbersOf gs in
-    let found : firstBad inputs 0 (gatesOf ns) ≡ Nowhere = ap (firstBad inputs 0) (read-whole gs) ∙ none-bad inputs 0 gs (subst (λ (m : ℕ). AllGood m gs) (sym (add-zero inputs)) good) in
+    let found : firstBad inputs 0 (gatesOf ns) ≡ Nowhere = ap (firstBad inputs 0) (read-whole gs)
+    ∙ none-bad inputs 0 gs (subst (λ (m : ℕ). AllGood m gs) (sym (add-zero inputs)) good) in
     rw (
       eq-eqb (length ns % 4) 0 (omega arith),
       le-ltb (length ns / 4) k (omega arith),
@@ -57,7 +58,8 @@ unfolding tested
 part-of-a-gate inputs k table e = rw e
 
 -- a list of too many gates
-pub too-many : (inputs k : ℕ) (table : List ℕ) → eqb (length table % 4) 0 ≡ true → k ≤ 8 → 4194304 < length table → tested inputs k table ≡ TooManyGates
+pub too-many : (inputs k : ℕ) (table : List ℕ) → eqb (length table % 4) 0 ≡ true → k ≤ 8 → 4194304 < length table
+    → tested inputs k table ≡ TooManyGates
 unfolding tested
 too-many inputs k table e few long =
     let whole = eqb-true (length table % 4) 0 e in

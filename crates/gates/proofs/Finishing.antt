@@ -22,7 +22,8 @@ length-zip f (x ∷ xs) [] = sym (min-zero (suc (length xs)))
 length-zip f (x ∷ xs) (y ∷ ys) = ap suc (length-zip f xs ys) ∙ sym (suc-min-suc (length xs) (length ys))
 
 -- a tape of C bytes gives C shown bits
-pub length-shown : (ws : List ℕ) (gs : List Gate) (tape : List ℕ) → length tape ≡ conditionalCount gs → length (shownBits ws gs tape) ≡ conditionalCount gs
+pub length-shown : (ws : List ℕ) (gs : List Gate) (tape : List ℕ) → length tape ≡ conditionalCount gs
+    → length (shownBits ws gs tape) ≡ conditionalCount gs
 unfolding shownBits conditionalCount
 length-shown ws gs tape e = omega (arith, length-zip (shownBit ws) (conditionals gs) tape)
 
@@ -40,7 +41,8 @@ module _ (i : ℕ) (t : List ℕ) (gates k : ℕ) (tape ws board : List ℕ) (e 
 
   -- the steps in order, each from what the one before left: the wire table, board and count of the step, and the
   -- closed board
-  module _ (enough : k ≤ gates) (good : firstBad i 0 (gatesOf t) ≡ Nowhere) (lt : length tape ≡ conditionalCount (gatesOf t)) (lb : length board ≡ conditionalCount (gatesOf t) + k) where
+  module _ (enough : k ≤ gates) (good : firstBad i 0 (gatesOf t) ≡ Nowhere)
+      (lt : length tape ≡ conditionalCount (gatesOf t)) (lb : length board ≡ conditionalCount (gatesOf t) + k) where
     count-range : conditionalCount (rangeOf t 0 gates) ≡ conditionalCount (gatesOf t)
     count-range = ap conditionalCount (whole-range t gates e)
 
@@ -74,7 +76,8 @@ module _ (i : ℕ) (t : List ℕ) (gates k : ℕ) (tape ws board : List ℕ) (e 
             boardLength = omega (arith, ap length stepped-board, length-sets board 0 bits, count-range);
           }
 
-      pub final-board : (board₃ : List ℕ) → board₃ ≡ take shown board₂ ++ outputsOf k ws₂ → board₃ ≡ boardOf (wiresOf (take i ws) (gatesOf t)) (gatesOf t) k tape
+      pub final-board : (board₃ : List ℕ) → board₃ ≡ take shown board₂ ++ outputsOf k ws₂ → board₃
+          ≡ boardOf (wiresOf (take i ws) (gatesOf t)) (gatesOf t) k tape
       unfolding boardOf bits
       final-board board₃ e₃ =
           let l : length bits ≡ conditionalCount (gatesOf t) = length-shown (wiresOf (take i ws) (gatesOf t)) (gatesOf t) tape lt in
@@ -85,7 +88,8 @@ module _ (i : ℕ) (t : List ℕ) (gates k : ℕ) (tape ws board : List ℕ) (e 
           ∙ ap (λ (b : List ℕ). bits ++ outputsOf k b) final-wires
 
 -- inputs that were copied are at the front of the wire table
-pub copied-front : (inputs ws last : List ℕ) → last ≡ take (length inputs) inputs ++ drop (length inputs) ws → take (length inputs) last ≡ inputs
+pub copied-front : (inputs ws last : List ℕ) → last ≡ take (length inputs) inputs ++ drop (length inputs) ws
+    → take (length inputs) last ≡ inputs
 copied-front inputs ws last e =
     let p : length (take (length inputs) inputs) ≡ length inputs = ap length (take-length inputs) in
     ap (take (length inputs)) e ∙ take-at (take (length inputs) inputs) (drop (length inputs) ws) (length inputs) p ∙ take-length inputs

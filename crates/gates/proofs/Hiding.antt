@@ -34,12 +34,14 @@ unfolding firstAboveOne
 all-bits i [] e = λ j. omega arith
 all-bits i (x ∷ xs) e = go (ltb 1 x) refl (λ q. all-bits (suc i) xs q) e
   where
-    go : (t : Bool) → ltb 1 x ≡ t → (firstAboveOne (suc i) xs ≡ Nowhere → Bits xs) → cond t (At i) (firstAboveOne (suc i) xs) ≡ Nowhere → Bits (x ∷ xs)
+    go : (t : Bool) → ltb 1 x ≡ t → (firstAboveOne (suc i) xs ≡ Nowhere → Bits xs)
+        → cond t (At i) (firstAboveOne (suc i) xs) ≡ Nowhere → Bits (x ∷ xs)
     go true p rest q = let z : _≡_ {A = ℕ} 0 1 = cc in absurd (omega arith)
     go false p rest q = bits-cons x xs (ltb-false 1 x p) (rest q)
 
 -- byte i of two lists that are combined place by place
-zip-at : {A B : Type 0} (f : A → B → ℕ) (cs : List A) (ms : List B) (i : ℕ) (c : A) (m : B) → i < length cs → i < length ms → getD (zipWith f cs ms) i 0 ≡ f (getD cs i c) (getD ms i m)
+zip-at : {A B : Type 0} (f : A → B → ℕ) (cs : List A) (ms : List B) (i : ℕ) (c : A) (m : B) → i < length cs → i
+    < length ms → getD (zipWith f cs ms) i 0 ≡ f (getD cs i c) (getD ms i m)
 unfolding zipWith
 zip-at f [] ms i c m h l = absurd (omega arith)
 zip-at f (x ∷ cs) [] i c m h l = absurd (omega arith)
@@ -47,7 +49,8 @@ zip-at f (x ∷ cs) (y ∷ ms) zero c m h l = refl
 zip-at f (x ∷ cs) (y ∷ ms) (suc i) c m h l = zip-at f cs ms i c m (omega arith) (omega arith)
 
 -- a board by its bytes
-pub board-finished : (ws : List ℕ) (gs : List Gate) (k : ℕ) (tape : List ℕ) → k ≤ length ws → length tape ≡ conditionalCount gs → Finished ws gs k tape (boardOf ws gs k tape)
+pub board-finished : (ws : List ℕ) (gs : List Gate) (k : ℕ) (tape : List ℕ) → k ≤ length ws → length tape
+    ≡ conditionalCount gs → Finished ws gs k tape (boardOf ws gs k tape)
 unfolding boardOf shownBits shownBit
 board-finished ws gs k tape h l =
     let bits = shownBits ws gs tape in
@@ -67,7 +70,8 @@ board-finished ws gs k tape h l =
 twice : (a m : ℕ) → m ≤ 1 → (a + (a + m) % 2) % 2 ≡ m
 twice a m h = omega arith
 
-unmask : (ws : List ℕ) (cs : List Gate) (ms : List ℕ) → length ms ≡ length cs → Bits ms → zipWith (shownBit ws) cs (zipWith (shownBit ws) cs ms) ≡ ms
+unmask : (ws : List ℕ) (cs : List Gate) (ms : List ℕ) → length ms ≡ length cs → Bits ms
+    → zipWith (shownBit ws) cs (zipWith (shownBit ws) cs ms) ≡ ms
 unfolding zipWith shownBit
 unmask ws [] [] e b = refl
 unmask ws [] (m ∷ ms) e b = absurd (omega arith)

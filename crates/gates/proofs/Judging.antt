@@ -29,28 +29,36 @@ unfolding firstBad
 bad-step inputs t g ok h e = rw (gates-from t g, e)
 
 -- a bad gate is the answer
-pub judges-bad : (inputs : ℕ) (t : List ℕ) (g conditional : ℕ) (r : ListCheck) → g < length (gatesOf t) → false ≡ goodGate (inputs + g) (gateAt t g)
+pub judges-bad : (inputs : ℕ) (t : List ℕ) (g conditional : ℕ) (r : ListCheck) → g < length (gatesOf t) → false
+    ≡ goodGate (inputs + g) (gateAt t g)
     → Judges inputs t g conditional r → BadGate g ≡ r
 unfolding judged
 judges-bad inputs t g conditional r h e j =
-    sym (ap (λ (p : Place). judged p (length (gatesOf t)) (conditional + conditionalCount (drop g (gatesOf t)))) (bad-step inputs t g false h e)) ∙ j
+    sym (ap (λ (p : Place). judged p (length (gatesOf t)) (conditional + conditionalCount (drop g (gatesOf t))))
+    (bad-step inputs t g false h e)) ∙ j
 
 -- after a good gate the rest decides
-pub judges-good : (inputs : ℕ) (t : List ℕ) (g conditional mark : ℕ) (r : ListCheck) → g < length (gatesOf t) → true ≡ goodGate (inputs + g) (gateAt t g)
+pub judges-good : (inputs : ℕ) (t : List ℕ) (g conditional mark : ℕ) (r : ListCheck) → g < length (gatesOf t) → true
+    ≡ goodGate (inputs + g) (gateAt t g)
     → mark ≡ cond (conditionalOf (gateAt t g .kind)) 1 0 → Judges inputs t g conditional r → Judges inputs t (suc g) (conditional + mark) r
 judges-good inputs t g conditional mark r h e m j =
-    let n : conditionalCount (drop g (gatesOf t)) ≡ cond (conditionalOf (gateAt t g .kind)) 1 0 + conditionalCount (drop (suc g) (gatesOf t)) =
+    let n : conditionalCount (drop g (gatesOf t)) ≡ cond (conditionalOf (gateAt t g .kind)) 1 0
+    + conditionalCount (drop (suc g) (gatesOf t)) =
     ap conditionalCount (gates-from t g h) ∙ count-cons (gateAt t g) (drop (suc g) (gatesOf t)) in
-    let s : conditional + mark + conditionalCount (drop (suc g) (gatesOf t)) ≡ conditional + conditionalCount (drop g (gatesOf t)) = omega arith in
+    let s : conditional + mark + conditionalCount (drop (suc g) (gatesOf t)) ≡ conditional
+    + conditionalCount (drop g (gatesOf t)) = omega arith in
     ap (judged (firstBad inputs (suc g) (drop (suc g) (gatesOf t))) (length (gatesOf t))) s
-    ∙ sym (ap (λ (p : Place). judged p (length (gatesOf t)) (conditional + conditionalCount (drop g (gatesOf t)))) (bad-step inputs t g true h e)) ∙ j
+    ∙ sym (ap (λ (p : Place). judged p (length (gatesOf t)) (conditional + conditionalCount (drop g (gatesOf t))))
+    (bad-step inputs t g true h e)) ∙ j
 
 -- past the last gate the list is accepted
-pub judges-all : (inputs : ℕ) (t : List ℕ) (g conditional gates : ℕ) (r : ListCheck) → gates ≡ length (gatesOf t) → gates ≤ g → Judges inputs t g conditional r → Accepted gates conditional ≡ r
+pub judges-all : (inputs : ℕ) (t : List ℕ) (g conditional gates : ℕ) (r : ListCheck) → gates ≡ length (gatesOf t)
+    → gates ≤ g → Judges inputs t g conditional r → Accepted gates conditional ≡ r
 unfolding judged firstBad
 judges-all inputs t g conditional gates r e h j =
     let d : drop g (gatesOf t) ≡ [] = drop-of-length-le (gatesOf t) {i = g} (omega arith) in
     let n : conditional ≡ conditional + conditionalCount (drop g (gatesOf t)) = omega (arith, ap conditionalCount d, count-nil) in
     ap (λ (x : ℕ). Accepted x conditional) e
     ∙ ap (Accepted (length (gatesOf t))) n
-    ∙ sym (ap (λ (l : List Gate). judged (firstBad inputs g l) (length (gatesOf t)) (conditional + conditionalCount (drop g (gatesOf t)))) d) ∙ j
+    ∙ sym (ap (λ (l : List Gate). judged (firstBad inputs g l) (length (gatesOf t))
+    (conditional + conditionalCount (drop g (gatesOf t)))) d) ∙ j

@@ -66,11 +66,14 @@ unfolding valueOf choose
 mux-value-zero b c = refl
 
 -- Operand counts and marks of the kinds, as in the table.
-pub operand-counts : (operandsOf 0 ≡ 0) × (operandsOf 1 ≡ 0) × (operandsOf 2 ≡ 1) × (operandsOf 3 ≡ 1) × (operandsOf 4 ≡ 2) × (operandsOf 5 ≡ 2) × (operandsOf 6 ≡ 2) × (operandsOf 7 ≡ 3)
+pub operand-counts : (operandsOf 0 ≡ 0) × (operandsOf 1 ≡ 0) × (operandsOf 2 ≡ 1) × (operandsOf 3 ≡ 1)
+    × (operandsOf 4 ≡ 2) × (operandsOf 5 ≡ 2) × (operandsOf 6 ≡ 2) × (operandsOf 7 ≡ 3)
 unfolding operandsOf
 operand-counts = (refl, refl, refl, refl, refl, refl, refl, refl)
 
-pub marks : (conditionalOf 0 ≡ false) × (conditionalOf 1 ≡ false) × (conditionalOf 2 ≡ false) × (conditionalOf 3 ≡ false) × (conditionalOf 4 ≡ true) × (conditionalOf 5 ≡ true) × (conditionalOf 6 ≡ false) × (conditionalOf 7 ≡ true)
+pub marks : (conditionalOf 0 ≡ false) × (conditionalOf 1 ≡ false) × (conditionalOf 2 ≡ false)
+    × (conditionalOf 3 ≡ false) × (conditionalOf 4 ≡ true) × (conditionalOf 5 ≡ true) × (conditionalOf 6 ≡ false)
+    × (conditionalOf 7 ≡ true)
 unfolding conditionalOf
 marks = (refl, refl, refl, refl, refl, refl, refl, refl)
 
@@ -80,7 +83,8 @@ AllGood n [] = Unit {0}
 AllGood n (g ∷ gs) = T (goodGate n g) × AllGood (suc n) gs
 
 -- a gate is good if its kind is known, its operands in use name earlier wires, and the others are 0
-pub is-good : (n : ℕ) (g : Gate) → g .kind < 8 → T (goodOperand (ltb 0 (operandsOf (g .kind))) n (g .a)) → T (goodOperand (ltb 1 (operandsOf (g .kind))) n (g .b))
+pub is-good : (n : ℕ) (g : Gate) → g .kind < 8 → T (goodOperand (ltb 0 (operandsOf (g .kind))) n (g .a))
+    → T (goodOperand (ltb 1 (operandsOf (g .kind))) n (g .b))
     → T (goodOperand (ltb 2 (operandsOf (g .kind))) n (g .c)) → T (goodGate n g)
 unfolding goodGate
 is-good n g k a b c =
@@ -103,13 +107,18 @@ pub good-one : (n kind a : ℕ) → kind < 8 → operandsOf kind ≡ 1 → a < n
 unfolding goodOperand
 good-one n kind a k e ha = is-good n (record { kind = kind; a = a; b = 0; c = 0 }) k (rw e (lt→ltb a n ha)) (rw e tt) (rw e tt)
 
-pub good-two : (n kind a b : ℕ) → kind < 8 → operandsOf kind ≡ 2 → a < n → b < n → T (goodGate n (record { kind = kind; a = a; b = b; c = 0 }))
+pub good-two : (n kind a b : ℕ) → kind < 8 → operandsOf kind ≡ 2 → a < n → b < n
+    → T (goodGate n (record { kind = kind; a = a; b = b; c = 0 }))
 unfolding goodOperand
-good-two n kind a b k e ha hb = is-good n (record { kind = kind; a = a; b = b; c = 0 }) k (rw e (lt→ltb a n ha)) (rw e (lt→ltb b n hb)) (rw e tt)
+good-two n kind a b k e ha hb =
+    is-good n (record { kind = kind; a = a; b = b; c = 0 }) k (rw e (lt→ltb a n ha)) (rw e (lt→ltb b n hb)) (rw e tt)
 
-pub good-three : (n kind a b c : ℕ) → kind < 8 → operandsOf kind ≡ 3 → a < n → b < n → c < n → T (goodGate n (record { kind = kind; a = a; b = b; c = c }))
+pub good-three : (n kind a b c : ℕ) → kind < 8 → operandsOf kind ≡ 3 → a < n → b < n → c < n
+    → T (goodGate n (record { kind = kind; a = a; b = b; c = c }))
 unfolding goodOperand
-good-three n kind a b c k e ha hb hc = is-good n (record { kind = kind; a = a; b = b; c = c }) k (rw e (lt→ltb a n ha)) (rw e (lt→ltb b n hb)) (rw e (lt→ltb c n hc))
+good-three n kind a b c k e ha hb hc =
+    is-good n (record { kind = kind; a = a; b = b; c = c }) k (rw e (lt→ltb a n ha)) (rw e (lt→ltb b n hb))
+    (rw e (lt→ltb c n hc))
 
 -- lists put one after the other
 pub good-append : (n : ℕ) (gs hs : List Gate) → AllGood n gs → AllGood (n + length gs) hs → AllGood n (gs ++ hs)
@@ -120,7 +129,9 @@ good-append n (g ∷ gs) hs p q = (p .0, good-append (suc n) gs hs (p .1) (subst
 pub none-bad : (inputs g : ℕ) (gs : List Gate) → AllGood (inputs + g) gs → firstBad inputs g gs ≡ Nowhere
 unfolding firstBad
 none-bad inputs g [] p = refl
-none-bad inputs g (x ∷ xs) p = rw (T-true (goodGate (inputs + g) x) (p .0)) (none-bad inputs (suc g) xs (subst (λ (m : ℕ). AllGood m xs) (sym (add-suc inputs g)) (p .1)))
+none-bad inputs g (x ∷ xs) p =
+    rw (T-true (goodGate (inputs + g) x) (p .0))
+    (none-bad inputs (suc g) xs (subst (λ (m : ℕ). AllGood m xs) (sym (add-suc inputs g)) (p .1)))
 
 pub all-good : (inputs g : ℕ) (gs : List Gate) → firstBad inputs g gs ≡ Nowhere → AllGood (inputs + g) gs
 all-good inputs g [] e = tt
@@ -156,8 +167,11 @@ unfolding wiresOf value
 wires-hold ws [] p = tt
 wires-hold ws (g ∷ gs) p =
     let next = ws ++ (value ws g ∷ []) in
-    let long : length next ≡ suc (length ws) = omega (arith, length-append ws (value ws g ∷ [])) in
-    (first-holds ws g gs (p .0), subst (λ (m : ℕ). Holds (wire (wiresOf next gs)) m gs) long (wires-hold next gs (subst (λ (m : ℕ). AllGood m gs) (sym long) (p .1))))
+    let long : length next ≡ suc (length ws) = omega (arith, length-append ws (value ws g ∷ [])) in (
+      first-holds ws g gs (p .0),
+      subst (λ (m : ℕ). Holds (wire (wiresOf next gs)) m gs) long
+          (wires-hold next gs (subst (λ (m : ℕ). AllGood m gs) (sym long) (p .1))),
+    )
 
 -- The inputs are the first wires.
 pub wires-start : (ws : List ℕ) (gs : List Gate) (i : ℕ) → i < length ws → wire (wiresOf ws gs) i ≡ getD ws i 0
@@ -177,7 +191,8 @@ length-outputs k ws h = omega (arith, length-drop (length ws - k) ws)
 bit-value : (k a b c : ℕ) → k < 8 → a ≤ 1 → b ≤ 1 → c ≤ 1 → valueOf k a b c ≤ 1
 unfolding valueOf differ choose
 bit-value k a b c h ha hb hc =
-    each-kind (λ (k : ℕ). valueOf k a b c ≤ 1) (omega arith) (omega arith) ha (omega arith) (omega arith) (omega arith) (either (eqb a b) 0 1 (omega arith) (omega arith)) (either (eqb a 0) c b hc hb) k h
+    each-kind (λ (k : ℕ). valueOf k a b c ≤ 1) (omega arith) (omega arith) ha (omega arith) (omega arith)
+    (omega arith) (either (eqb a b) 0 1 (omega arith) (omega arith)) (either (eqb a 0) c b hc hb) k h
   where
     either : (t : Bool) (x y : ℕ) → x ≤ 1 → y ≤ 1 → cond t x y ≤ 1
     either true x y p q = p
@@ -195,7 +210,8 @@ wires-bits ws [] p b = b
 wires-bits ws (g ∷ gs) p b =
     let next = ws ++ (value ws g ∷ []) in
     let long : length next ≡ suc (length ws) = omega (arith, length-append ws (value ws g ∷ [])) in
-    let bit = bit-value (g .kind) (getD ws (g .a) 0) (getD ws (g .b) 0) (getD ws (g .c) 0) (good-gate (length ws) g (p .0) .known) (b (g .a)) (b (g .b)) (b (g .c)) in
+    let bit = bit-value (g .kind) (getD ws (g .a) 0) (getD ws (g .b) 0) (getD ws (g .c) 0)
+    (good-gate (length ws) g (p .0) .known) (b (g .a)) (b (g .b)) (b (g .c)) in
     wires-bits next gs (subst (λ (m : ℕ). AllGood m gs) (sym long) (p .1)) (bits-more ws (value ws g) b bit)
 
 pub wire-bit : (ws : List ℕ) → Bits ws → (i : ℕ) → wire ws i ≤ 1

@@ -37,23 +37,28 @@ good-take n (suc m) (g ∷ gs) p = (p .0, good-take (suc n) m gs (p .1))
 good-drop : (n m : ℕ) (gs : List Gate) → AllGood n gs → AllGood (n + m) (drop m gs)
 good-drop n zero gs p = subst (λ (i : ℕ). AllGood i gs) (sym (add-zero n)) p
 good-drop n (suc m) [] p = tt
-good-drop n (suc m) (g ∷ gs) p = subst (λ (i : ℕ). AllGood i (drop m gs)) {x = suc n + m} {y = n + suc m} (omega arith) (good-drop (suc n) m gs (p .1))
+good-drop n (suc m) (g ∷ gs) p =
+    subst (λ (i : ℕ). AllGood i (drop m gs)) {x = suc n + m} {y = n + suc m} (omega arith)
+    (good-drop (suc n) m gs (p .1))
 
-range-all-good : (inputs : ℕ) (t : List ℕ) (from to : ℕ) → firstBad inputs 0 (gatesOf t) ≡ Nowhere → AllGood (inputs + from) (rangeOf t from to)
+range-all-good : (inputs : ℕ) (t : List ℕ) (from to : ℕ) → firstBad inputs 0 (gatesOf t) ≡ Nowhere
+    → AllGood (inputs + from) (rangeOf t from to)
 unfolding rangeOf
 range-all-good inputs t from to e =
     good-take (inputs + from) (to - from) (drop from (gatesOf t))
     (good-drop inputs from (gatesOf t) (subst (λ (i : ℕ). AllGood i (gatesOf t)) (add-zero inputs) (all-good inputs 0 (gatesOf t) e)))
 
 -- C of the first gates, and of the first gates with a range after them
-pub count-range : (t : List ℕ) (from to : ℕ) → from ≤ to → conditionalCount (take from (gatesOf t)) + conditionalCount (rangeOf t from to) ≡ conditionalCount (take to (gatesOf t))
+pub count-range : (t : List ℕ) (from to : ℕ) → from ≤ to → conditionalCount (take from (gatesOf t))
+    + conditionalCount (rangeOf t from to) ≡ conditionalCount (take to (gatesOf t))
 count-range t from to h = sym (count-append (take from (gatesOf t)) (rangeOf t from to)) ∙ ap conditionalCount (range-append t from to h)
 
 pub count-prefix : (gs : List Gate) (m : ℕ) → conditionalCount (take m gs) ≤ conditionalCount gs
 count-prefix gs m = omega (arith, count-append (take m gs) (drop m gs), ap conditionalCount (take-append-drop m gs))
 
 -- there are as many shown bits as conditional gates if the tape is long enough
-length-shown-bits : (ws : List ℕ) (gs : List Gate) (tape : List ℕ) → conditionalCount gs ≤ length tape → length (shownBits ws gs tape) ≡ conditionalCount gs
+length-shown-bits : (ws : List ℕ) (gs : List Gate) (tape : List ℕ) → conditionalCount gs ≤ length tape
+    → length (shownBits ws gs tape) ≡ conditionalCount gs
 unfolding shownBits conditionalCount
 length-shown-bits ws gs tape h = omega (arith, length-zip (shownBit ws) (conditionals gs) tape)
 
@@ -62,10 +67,13 @@ shown-append : (ws : List ℕ) (gs hs : List Gate) (tape : List ℕ) → conditi
     → shownBits ws (gs ++ hs) tape ≡ shownBits ws gs tape ++ shownBits ws hs (drop (conditionalCount gs) tape)
 unfolding shownBits conditionals conditionalCount zipWith
 shown-append ws [] hs tape h = refl
-shown-append ws (g ∷ gs) hs tape h = go (λ (ms : List ℕ) (k : length (conditionals gs) ≤ length ms). shown-append ws gs hs ms k) (conditionalOf (g .kind)) tape h
+shown-append ws (g ∷ gs) hs tape h =
+    go (λ (ms : List ℕ) (k : length (conditionals gs) ≤ length ms). shown-append ws gs hs ms k)
+    (conditionalOf (g .kind)) tape h
   where
     go : ((ms : List ℕ) → length (conditionals gs) ≤ length ms
-        → zipWith (shownBit ws) (conditionals (gs ++ hs)) ms ≡ zipWith (shownBit ws) (conditionals gs) ms ++ zipWith (shownBit ws) (conditionals hs) (drop (length (conditionals gs)) ms))
+        → zipWith (shownBit ws) (conditionals (gs ++ hs)) ms ≡ zipWith (shownBit ws) (conditionals gs) ms
+        ++ zipWith (shownBit ws) (conditionals hs) (drop (length (conditionals gs)) ms))
         → (t : Bool) (ms : List ℕ) → length (cond t (g ∷ conditionals gs) (conditionals gs)) ≤ length ms
         → zipWith (shownBit ws) (cond t (g ∷ conditionals (gs ++ hs)) (conditionals (gs ++ hs))) ms
         ≡ zipWith (shownBit ws) (cond t (g ∷ conditionals gs) (conditionals gs)) ms
@@ -75,15 +83,19 @@ shown-append ws (g ∷ gs) hs tape h = go (λ (ms : List ℕ) (k : length (condi
     go more false ms k = more ms k
 
 -- good gates show the same bits of two wire tables that agree below the wires that they make
-shown-agree : (vs ws : List ℕ) (own : ℕ) (gs : List Gate) (tape : List ℕ) → AllGood own gs → ((i : ℕ) → i < own + length gs → getD vs i 0 ≡ getD ws i 0)
+shown-agree : (vs ws : List ℕ) (own : ℕ) (gs : List Gate) (tape : List ℕ) → AllGood own gs
+    → ((i : ℕ) → i < own + length gs → getD vs i 0 ≡ getD ws i 0)
     → shownBits vs gs tape ≡ shownBits ws gs tape
 unfolding shownBits conditionals zipWith shownBit wire
 shown-agree vs ws own [] tape p same = refl
 shown-agree vs ws own (g ∷ gs) tape p same =
-    go (λ (ms : List ℕ). shown-agree vs ws (suc own) gs ms (p .1) (λ (i : ℕ) (h : i < suc own + length gs). same i (omega arith))) (conditionalOf (g .kind)) refl tape
+    go (λ (ms : List ℕ). shown-agree vs ws (suc own) gs ms (p .1)
+    (λ (i : ℕ) (h : i < suc own + length gs). same i (omega arith))) (conditionalOf (g .kind)) refl tape
   where
-    go : ((ms : List ℕ) → zipWith (shownBit vs) (conditionals gs) ms ≡ zipWith (shownBit ws) (conditionals gs) ms) → (t : Bool) → conditionalOf (g .kind) ≡ t → (ms : List ℕ)
-        → zipWith (shownBit vs) (cond t (g ∷ conditionals gs) (conditionals gs)) ms ≡ zipWith (shownBit ws) (cond t (g ∷ conditionals gs) (conditionals gs)) ms
+    go : ((ms : List ℕ) → zipWith (shownBit vs) (conditionals gs) ms ≡ zipWith (shownBit ws) (conditionals gs) ms)
+        → (t : Bool) → conditionalOf (g .kind) ≡ t → (ms : List ℕ)
+        → zipWith (shownBit vs) (cond t (g ∷ conditionals gs) (conditionals gs)) ms
+        ≡ zipWith (shownBit ws) (cond t (g ∷ conditionals gs) (conditionals gs)) ms
     go rest true e [] = refl
     go rest true e (m ∷ ms) =
         let facts = good-gate own g (p .0) in
@@ -100,7 +112,8 @@ pub record Stands (inputs t tape lw lb : List ℕ) (m : ℕ) (ws board : List �
 
 module _ (inputs t : List ℕ) (k : ℕ) (tape lw lb : List ℕ) (run : RunReady inputs t k tape lw lb) where
   -- before the first gate: the inputs are in the wire table, the board is untouched
-  pub stands-first : (ws board : List ℕ) (shown : ℕ) → ws ≡ take (length inputs) inputs ++ drop (length inputs) lw → board ≡ lb → shown ≡ 0 → Stands inputs t tape lw lb 0 ws board shown
+  pub stands-first : (ws board : List ℕ) (shown : ℕ) → ws ≡ take (length inputs) inputs ++ drop (length inputs) lw
+      → board ≡ lb → shown ≡ 0 → Stands inputs t tape lw lb 0 ws board shown
   unfolding wiresOf shownBits conditionals conditionalCount zipWith
   stands-first ws board shown e f n =
       record {
@@ -111,7 +124,8 @@ module _ (inputs t : List ℕ) (k : ℕ) (tape lw lb : List ℕ) (run : RunReady
         count = n;
       }
 
-  module _ (from to : ℕ) (h : from ≤ to) (l : to ≤ length (gatesOf t)) (ws board : List ℕ) (shown : ℕ) (s : Stands inputs t tape lw lb from ws board shown) where
+  module _ (from to : ℕ) (h : from ≤ to) (l : to ≤ length (gatesOf t)) (ws board : List ℕ) (shown : ℕ)
+      (s : Stands inputs t tape lw lb from ws board shown) where
     made : List ℕ
     made = wiresOf inputs (take from (gatesOf t))
 
@@ -140,7 +154,8 @@ module _ (inputs t : List ℕ) (k : ℕ) (tape lw lb : List ℕ) (run : RunReady
     first-long : length first-bits ≡ shown
     unfolding first-bits
     first-long =
-        length-shown-bits (wiresOf inputs (gatesOf t)) (take from (gatesOf t)) tape (omega (arith, count-prefix (gatesOf t) from, run .tapeLength)) ∙ sym (s .count)
+        length-shown-bits (wiresOf inputs (gatesOf t)) (take from (gatesOf t)) tape
+        (omega (arith, count-prefix (gatesOf t) from, run .tapeLength)) ∙ sym (s .count)
 
     board-long : length board ≡ length lb
     unfolding first-bits
@@ -173,7 +188,8 @@ module _ (inputs t : List ℕ) (k : ℕ) (tape lw lb : List ℕ) (run : RunReady
     unfolding stepWires made
     step-wires =
         let i = length inputs in
-        let taken : take (i + from) ws ≡ made = ap (take (i + from)) (s .wiresAre) ∙ take-at made (drop (i + from) lw) (i + from) made-long in
+        let taken : take (i + from) ws ≡ made = ap (take (i + from)) (s .wiresAre)
+        ∙ take-at made (drop (i + from) lw) (i + from) made-long in
         let far : i + to ≡ length made + (to - from) = omega (arith, made-long) in
         let left : drop (i + to) ws ≡ drop (i + to) lw =
         ap (λ (n : ℕ). drop n ws) far ∙ ap (drop (length made + (to - from))) (s .wiresAre)
@@ -186,7 +202,8 @@ module _ (inputs t : List ℕ) (k : ℕ) (tape lw lb : List ℕ) (run : RunReady
         ∙ ap (λ (x : List Gate). wiresOf inputs x ++ drop (i + to) lw) (range-append t from to h)
 
     -- the wires that the range reads are those of the whole list
-    wires-agree : (i : ℕ) → i < length inputs + to → getD (stepWires (length inputs) t from to ws) i 0 ≡ getD (wiresOf inputs (gatesOf t)) i 0
+    wires-agree : (i : ℕ) → i < length inputs + to → getD (stepWires (length inputs) t from to ws) i 0
+        ≡ getD (wiresOf inputs (gatesOf t)) i 0
     wires-agree i b =
         let first = wiresOf inputs (take to (gatesOf t)) in
         ap (λ (x : List ℕ). getD x i 0) step-wires
@@ -205,7 +222,8 @@ module _ (inputs t : List ℕ) (k : ℕ) (tape lw lb : List ℕ) (run : RunReady
     range-bits-are : shownBits (stepWires (length inputs) t from to ws) (rangeOf t from to) (drop shown tape) ≡ range-bits
     unfolding range-bits
     range-bits-are =
-        shown-agree (stepWires (length inputs) t from to ws) (wiresOf inputs (gatesOf t)) (length inputs + from) (rangeOf t from to) (drop shown tape)
+        shown-agree (stepWires (length inputs) t from to ws) (wiresOf inputs (gatesOf t)) (length inputs + from)
+        (rangeOf t from to) (drop shown tape)
         (range-all-good (length inputs) t from to (run .good))
         (λ (i : ℕ) (b : i < length inputs + from + length (rangeOf t from to)). wires-agree i (omega (arith, range-long)))
 
@@ -228,10 +246,12 @@ module _ (inputs t : List ℕ) (k : ℕ) (tape lw lb : List ℕ) (run : RunReady
         ap (λ (m : ℕ). drop (m + length range-bits) board) (sym first-long) ∙ ap (drop (length first-bits + length range-bits)) (s .boardIs)
         ∙ drop-append-add first-bits rest (length range-bits)
         ∙ drop-drop (length range-bits) (conditionalCount (take from (gatesOf t))) lb
-        ∙ ap (λ (m : ℕ). drop m lb) {x = conditionalCount (take from (gatesOf t)) + length range-bits} {y = conditionalCount (take to (gatesOf t))} (omega (arith, s .count)) in
+        ∙ ap (λ (m : ℕ). drop m lb) {x = conditionalCount (take from (gatesOf t)) + length range-bits}
+        {y = conditionalCount (take to (gatesOf t))} (omega (arith, s .count)) in
         let joined : first-bits ++ range-bits ≡ shownBits (wiresOf inputs (gatesOf t)) (take to (gatesOf t)) tape =
         ap (λ (m : ℕ). first-bits ++ shownBits (wiresOf inputs (gatesOf t)) (rangeOf t from to) (drop m tape)) (s .count)
-        ∙ sym (shown-append (wiresOf inputs (gatesOf t)) (take from (gatesOf t)) (rangeOf t from to) tape (omega (arith, count-prefix (gatesOf t) from, run .tapeLength)))
+        ∙ sym (shown-append (wiresOf inputs (gatesOf t)) (take from (gatesOf t)) (rangeOf t from to) tape
+        (omega (arith, count-prefix (gatesOf t) from, run .tapeLength)))
         ∙ ap (λ (x : List Gate). shownBits (wiresOf inputs (gatesOf t)) x tape) (range-append t from to h) in
         ap (sets board shown) range-bits-are
         ∙ sets-eq range-bits board shown (omega (arith, board-long, count-prefix (gatesOf t) to, run .boardLength))
@@ -240,7 +260,8 @@ module _ (inputs t : List ℕ) (k : ℕ) (tape lw lb : List ℕ) (run : RunReady
         ∙ ap (λ (x : List ℕ). shownBits (wiresOf inputs (gatesOf t)) (take to (gatesOf t)) tape ++ x) left
 
     -- so the step leads from m gates to more
-    pub step-stands : (ws′ board′ : List ℕ) (shown′ : ℕ) → shown′ ≡ shown + conditionalCount (rangeOf t from to) → ws′ ≡ stepWires (length inputs) t from to ws
+    pub step-stands : (ws′ board′ : List ℕ) (shown′ : ℕ) → shown′ ≡ shown + conditionalCount (rangeOf t from to)
+        → ws′ ≡ stepWires (length inputs) t from to ws
         → board′ ≡ stepBoard (length inputs) t from to tape shown ws board → Stands inputs t tape lw lb to ws′ board′ shown′
     step-stands ws′ board′ shown′ n e f =
         record { wiresAre = e ∙ step-wires; boardIs = f ∙ step-board; count = omega (arith, s .count, count-range t from to h) }
@@ -251,7 +272,8 @@ module _ (inputs t : List ℕ) (k : ℕ) (tape lw lb : List ℕ) (run : RunReady
     last-wires =
         s .wiresAre
         ∙ ap (λ (x : List Gate). wiresOf inputs x ++ drop (length inputs + length (gatesOf t)) lw) (take-length (gatesOf t))
-        ∙ ap (λ (x : List ℕ). wiresOf inputs (gatesOf t) ++ x) (drop-of-length-le lw {i = length inputs + length (gatesOf t)} (omega (arith, run .wiresLength)))
+        ∙ ap (λ (x : List ℕ). wiresOf inputs (gatesOf t) ++ x)
+        (drop-of-length-le lw {i = length inputs + length (gatesOf t)} (omega (arith, run .wiresLength)))
         ∙ append-nil (wiresOf inputs (gatesOf t))
 
     last-count : shown ≡ conditionalCount (gatesOf t)
@@ -283,7 +305,8 @@ module _ (inputs t : List ℕ) (k : ℕ) (tape lw lb : List ℕ) (run : RunReady
         }
 
     -- the whole board
-    pub closed-board : (board′ : List ℕ) → board′ ≡ take shown board ++ outputsOf k ws → board′ ≡ boardOf (wiresOf inputs (gatesOf t)) (gatesOf t) k tape
+    pub closed-board : (board′ : List ℕ) → board′ ≡ take shown board ++ outputsOf k ws → board′
+        ≡ boardOf (wiresOf inputs (gatesOf t)) (gatesOf t) k tape
     unfolding boardOf
     closed-board board′ e =
         let bits = shownBits (wiresOf inputs (gatesOf t)) (gatesOf t) tape in

@@ -16,7 +16,8 @@ use Rattle.gates.specs.declared.place.Place.the-variants.{At, Nowhere}
 use Rattle.gates.proofs.Goodness.{and-left, and-right, good-gate}
 
 -- gate g by its four numbers
-pub gate-numbers : (t : List ℕ) (g : ℕ) → gateAt t g ≡ record { kind = getD t (4 * g) 0; a = getD t (4 * g + 1) 0; b = getD t (4 * g + 2) 0; c = getD t (4 * g + 3) 0 }
+pub gate-numbers : (t : List ℕ) (g : ℕ) → gateAt t g
+    ≡ record { kind = getD t (4 * g) 0; a = getD t (4 * g + 1) 0; b = getD t (4 * g + 2) 0; c = getD t (4 * g + 3) 0 }
 unfolding gateAt
 gate-numbers t g = refl
 
@@ -38,7 +39,8 @@ pub first-bad-nil : (inputs g : ℕ) → firstBad inputs g [] ≡ Nowhere
 unfolding firstBad
 first-bad-nil inputs g = refl
 
-pub first-bad-cons : (inputs g : ℕ) (x : Gate) (xs : List Gate) → firstBad inputs g (x ∷ xs) ≡ cond (goodGate (inputs + g) x) (firstBad inputs (suc g) xs) (At g)
+pub first-bad-cons : (inputs g : ℕ) (x : Gate) (xs : List Gate) → firstBad inputs g (x ∷ xs)
+    ≡ cond (goodGate (inputs + g) x) (firstBad inputs (suc g) xs) (At g)
 unfolding firstBad
 first-bad-cons inputs g x xs = refl
 
@@ -76,7 +78,8 @@ below-by false own x pos h =
     let z = h refl in
     eq-eqb x 0 z ∙ sym (lt-ltb x own (omega arith))
 
-pub good-by : (own : ℕ) (g : Gate) → 0 < own → g .kind < 8 → Unused g → goodGate own g ≡ (ltb (g .a) own && ltb (g .b) own && ltb (g .c) own)
+pub good-by : (own : ℕ) (g : Gate) → 0 < own → g .kind < 8 → Unused g → goodGate own g
+    ≡ (ltb (g .a) own && ltb (g .b) own && ltb (g .c) own)
 unfolding goodGate
 good-by own g pos known u =
     let n = operandsOf (g .kind) in

@@ -31,7 +31,8 @@ range-from t g to h l =
     rw (e, gates-from t g)
 
 -- if no gate is bad, the first is good and none after it is bad
-pub first-good : (inputs g : ℕ) (x : Gate) (xs : List Gate) → firstBad inputs g (x ∷ xs) ≡ Nowhere → T (goodGate (inputs + g) x) × (firstBad inputs (suc g) xs ≡ Nowhere)
+pub first-good : (inputs g : ℕ) (x : Gate) (xs : List Gate) → firstBad inputs g (x ∷ xs) ≡ Nowhere
+    → T (goodGate (inputs + g) x) × (firstBad inputs (suc g) xs ≡ Nowhere)
 unfolding firstBad
 first-good inputs g x xs e = go (goodGate (inputs + g) x) e
   where
@@ -40,7 +41,8 @@ first-good inputs g x xs e = go (goodGate (inputs + g) x) e
     go false p = let z : _≡_ {A = ℕ} 0 1 = cc in absurd (omega arith)
 
 -- the wires from gate g on, and after gate g is done
-pub wires-turn : (inputs : ℕ) (t : List ℕ) (g to : ℕ) (ws : List ℕ) → g < to → to ≤ length (gatesOf t) → inputs + to ≤ length ws → T (goodGate (inputs + g) (gateAt t g))
+pub wires-turn : (inputs : ℕ) (t : List ℕ) (g to : ℕ) (ws : List ℕ) → g < to → to ≤ length (gatesOf t) → inputs + to
+    ≤ length ws → T (goodGate (inputs + g) (gateAt t g))
     → stepWires inputs t (suc g) to (set ws (inputs + g) (value ws (gateAt t g))) ≡ stepWires inputs t g to ws
 unfolding stepWires wiresOf
 wires-turn inputs t g to ws h l m good =
@@ -52,7 +54,8 @@ wires-turn inputs t g to ws h l m good =
     let less : own < inputs + to = omega arith in
     let size : length (take own ws) ≡ own = length-take-le own ws (omega arith) in
     let same : value (take own ws) x ≡ v = same-value (take own ws) ws own x (good-gate own x good) (λ i k. getD-take own ws i 0 k) in
-    let made : take (inputs + suc g) (set ws own v) ≡ take own ws ++ (v ∷ []) = ap (λ (n : ℕ). take n (set ws own v)) (add-suc inputs g) ∙ take-suc-set ws own v below in
+    let made : take (inputs + suc g) (set ws own v) ≡ take own ws ++ (v ∷ []) =
+    ap (λ (n : ℕ). take n (set ws own v)) (add-suc inputs g) ∙ take-suc-set ws own v below in
     ap (λ (l : List ℕ). wiresOf l rest ++ drop (inputs + to) (set ws own v)) made
     ∙ ap (λ (l : List ℕ). wiresOf (take own ws ++ (v ∷ [])) rest ++ l) (drop-set-lt (inputs + to) ws own v less)
     ∙ ap (λ (y : ℕ). wiresOf (take own ws ++ (y ∷ [])) rest ++ drop (inputs + to) ws) (sym same)
@@ -67,7 +70,8 @@ uses-a k h e =
     (λ p. omega arith) (λ p. omega arith) (λ p. omega arith) (λ p. omega arith) k h e
 
 -- wires that are there already are in the final wire table
-pub wires-stand : (inputs : ℕ) (t : List ℕ) (g to : ℕ) (ws : List ℕ) (i : ℕ) → inputs + g ≤ length ws → i < inputs + g → getD (stepWires inputs t g to ws) i 0 ≡ getD ws i 0
+pub wires-stand : (inputs : ℕ) (t : List ℕ) (g to : ℕ) (ws : List ℕ) (i : ℕ) → inputs + g ≤ length ws → i < inputs
+    + g → getD (stepWires inputs t g to ws) i 0 ≡ getD ws i 0
 unfolding stepWires
 wires-stand inputs t g to ws i m h =
     let own = inputs + g in
@@ -100,7 +104,8 @@ board-turn final ws x xs board tape next same room = go (conditionalOf (x .kind)
 
 -- The step's invariant: gates g to `to` are left, and with what is there they make the wires, the board and the count
 -- of the whole range.
-pub record Left (inputs : ℕ) (t : List ℕ) (to : ℕ) (tape : List ℕ) (wiresSize boardSize total : ℕ) (final finalBoard ws board : List ℕ) (next g : ℕ) : Type 0 where
+pub record Left (inputs : ℕ) (t : List ℕ) (to : ℕ) (tape : List ℕ) (wiresSize boardSize total : ℕ)
+    (final finalBoard ws board : List ℕ) (next g : ℕ) : Type 0 where
   pub order : g ≤ to
   pub wiresLeft : stepWires inputs t g to ws ≡ final
   pub boardLeft : sets board next (shownBits final (rangeOf t g to) (drop next tape)) ≡ finalBoard
@@ -110,19 +115,28 @@ pub record Left (inputs : ℕ) (t : List ℕ) (to : ℕ) (tape : List ℕ) (wire
   pub boardLength : length board ≡ boardSize
 
 module _ (inputs : ℕ) (t : List ℕ) (to : ℕ) (tape : List ℕ) (wiresSize boardSize total : ℕ) (final finalBoard : List ℕ)
-    (inTable : to ≤ length (gatesOf t)) (inWires : inputs + to ≤ wiresSize) (inTape : total ≤ length tape) (inBoard : total ≤ boardSize) where
-  first-of-left : (ws board : List ℕ) (next g : ℕ) → Left inputs t to tape wiresSize boardSize total final finalBoard ws board next g → g < to
+    (inTable : to ≤ length (gatesOf t)) (inWires : inputs + to ≤ wiresSize) (inTape : total ≤ length tape)
+    (inBoard : total ≤ boardSize) where
+  first-of-left : (ws board : List ℕ) (next g : ℕ)
+      → Left inputs t to tape wiresSize boardSize total final finalBoard ws board next g → g < to
       → T (goodGate (inputs + g) (gateAt t g)) × (firstBad inputs (suc g) (rangeOf t (suc g) to) ≡ Nowhere)
   first-of-left ws board next g left h =
       first-good inputs g (gateAt t g) (rangeOf t (suc g) to) (sym (ap (firstBad inputs g) (range-from t g to h inTable)) ∙ left .goodLeft)
 
-  count-of-left : (ws board : List ℕ) (next g : ℕ) → Left inputs t to tape wiresSize boardSize total final finalBoard ws board next g → g < to
+  count-of-left : (ws board : List ℕ) (next g : ℕ)
+      → Left inputs t to tape wiresSize boardSize total final finalBoard ws board next g → g < to
       → next + conditionalCount (gateAt t g ∷ []) + conditionalCount (rangeOf t (suc g) to) ≡ total
   count-of-left ws board next g left h =
-      omega (arith, left .countLeft, ap conditionalCount (range-from t g to h inTable), count-append (gateAt t g ∷ []) (rangeOf t (suc g) to))
+      omega (
+        arith,
+        left .countLeft,
+        ap conditionalCount (range-from t g to h inTable),
+        count-append (gateAt t g ∷ []) (rangeOf t (suc g) to),
+      )
 
   -- what the next gate asks
-  pub next-ready : (ws board : List ℕ) (next g : ℕ) → Left inputs t to tape wiresSize boardSize total final finalBoard ws board next g → g < to
+  pub next-ready : (ws board : List ℕ) (next g : ℕ)
+      → Left inputs t to tape wiresSize boardSize total final finalBoard ws board next g → g < to
       → GateReady t g (inputs + g) tape next ws board
   next-ready ws board next g left h =
       record {
@@ -134,7 +148,8 @@ module _ (inputs : ℕ) (t : List ℕ) (to : ℕ) (tape : List ℕ) (wiresSize b
       }
 
   -- what is left after it
-  pub left-turn : (ws board : List ℕ) (next g : ℕ) → Left inputs t to tape wiresSize boardSize total final finalBoard ws board next g → g < to
+  pub left-turn : (ws board : List ℕ) (next g : ℕ)
+      → Left inputs t to tape wiresSize boardSize total final finalBoard ws board next g → g < to
       → Left inputs t to tape wiresSize boardSize total final finalBoard
       (set ws (inputs + g) (value ws (gateAt t g)))
       (cond (conditionalOf (gateAt t g .kind)) (set board next (shownBit ws (gateAt t g) (getD tape next 0))) board)
@@ -151,7 +166,8 @@ module _ (inputs : ℕ) (t : List ℕ) (to : ℕ) (tape : List ℕ) (wiresSize b
         wiresLeft = wires-turn inputs t g to ws h inTable (omega (arith, left .wiresLength)) (good .0) ∙ left .wiresLeft;
         boardLeft =
             board-turn final ws x (rangeOf t (suc g) to) board tape next stands (next-ready ws board next g left h .inTape)
-            ∙ sym (ap (λ (l : List Gate). sets board next (shownBits final l (drop next tape))) (range-from t g to h inTable)) ∙ left .boardLeft;
+            ∙ sym (ap (λ (l : List Gate). sets board next (shownBits final l (drop next tape)))
+            (range-from t g to h inTable)) ∙ left .boardLeft;
         countLeft = count-of-left ws board next g left h;
         goodLeft = good .1;
         wiresLength = length-set ws (inputs + g) (value ws x) ∙ left .wiresLength;
@@ -166,12 +182,15 @@ module _ (inputs : ℕ) (t : List ℕ) (to : ℕ) (tape : List ℕ) (wiresSize b
       stand i room k = unfold wire in (sym (ap (λ (l : List ℕ). getD l i 0) (left .wiresLeft)) ∙ wires-stand inputs t g to ws i room k)
 
   -- the same under other names
-  pub left-as : (ws ws′ board board′ : List ℕ) (next next′ g g′ : ℕ) → Left inputs t to tape wiresSize boardSize total final finalBoard ws board next g
-      → ws′ ≡ ws → board′ ≡ board → next′ ≡ next → g′ ≡ g → Left inputs t to tape wiresSize boardSize total final finalBoard ws′ board′ next′ g′
+  pub left-as : (ws ws′ board board′ : List ℕ) (next next′ g g′ : ℕ)
+      → Left inputs t to tape wiresSize boardSize total final finalBoard ws board next g
+      → ws′ ≡ ws → board′ ≡ board → next′ ≡ next → g′ ≡ g
+      → Left inputs t to tape wiresSize boardSize total final finalBoard ws′ board′ next′ g′
   left-as ws ws′ board board′ next next′ g g′ left e f n h = rw (e, f, n, h) left
 
   -- nothing is left
-  pub left-end : (ws board : List ℕ) (next g : ℕ) → Left inputs t to tape wiresSize boardSize total final finalBoard ws board next g → to ≤ g
+  pub left-end : (ws board : List ℕ) (next g : ℕ)
+      → Left inputs t to tape wiresSize boardSize total final finalBoard ws board next g → to ≤ g
       → (next ≡ total) × (ws ≡ final) × (board ≡ finalBoard)
   left-end ws board next g left h =
       let e : g ≡ to = omega (arith, left .order) in

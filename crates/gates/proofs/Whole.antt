@@ -30,11 +30,21 @@ unfolding outputsOf
 outputs-are k ws = refl
 
 -- before the first gate of a range, all of it is left
-pub left-start : (inputs : ℕ) (t : List ℕ) (from to : ℕ) (tape : List ℕ) (shown : ℕ) (ws board : List ℕ) → StepReady inputs t from to tape shown ws board
-    → Left inputs t to tape (length ws) (length board) (shown + conditionalCount (rangeOf t from to)) (stepWires inputs t from to ws) (stepBoard inputs t from to tape shown ws board) ws board shown from
+pub left-start : (inputs : ℕ) (t : List ℕ) (from to : ℕ) (tape : List ℕ) (shown : ℕ) (ws board : List ℕ)
+    → StepReady inputs t from to tape shown ws board
+    → Left inputs t to tape (length ws) (length board) (shown + conditionalCount (rangeOf t from to))
+    (stepWires inputs t from to ws) (stepBoard inputs t from to tape shown ws board) ws board shown from
 unfolding stepBoard
 left-start inputs t from to tape shown ws board r =
-    record { order = r .order; wiresLeft = refl; boardLeft = refl; countLeft = refl; goodLeft = r .good; wiresLength = refl; boardLength = refl }
+    record {
+      order = r .order;
+      wiresLeft = refl;
+      boardLeft = refl;
+      countLeft = refl;
+      goodLeft = r .good;
+      wiresLength = refl;
+      boardLength = refl;
+    }
 
 -- a step over all gates of a list, from a wire table with its inputs in front
 module _ (i : ℕ) (t : List ℕ) (gates : ℕ) (ws : List ℕ) (e : gates ≡ length (gatesOf t)) (w : length ws ≡ i + gates) where
@@ -45,7 +55,8 @@ module _ (i : ℕ) (t : List ℕ) (gates : ℕ) (ws : List ℕ) (e : gates ≡ l
       rw (add-zero i, end, whole-range t gates e) (append-nil (wiresOf (take i ws) (gatesOf t)))
 
   -- the board: the shown bits that the step left, then the outputs
-  module _ (k : ℕ) (tape board : List ℕ) (lt : length tape ≡ conditionalCount (gatesOf t)) (lb : length board ≡ conditionalCount (gatesOf t) + k) where
+  module _ (k : ℕ) (tape board : List ℕ) (lt : length tape ≡ conditionalCount (gatesOf t))
+      (lb : length board ≡ conditionalCount (gatesOf t) + k) where
     bits : List ℕ
     bits = shownBits (wiresOf (take i ws) (gatesOf t)) (gatesOf t) tape
 
@@ -53,11 +64,14 @@ module _ (i : ℕ) (t : List ℕ) (gates : ℕ) (ws : List ℕ) (e : gates ≡ l
     unfolding stepBoard bits
     stepped = rw (whole-wires, whole-range t gates e)
 
-    pub whole-board : take (conditionalCount (gatesOf t)) (stepBoard i t 0 gates tape 0 ws board) ++ outputsOf k (wiresOf (take i ws) (gatesOf t))
+    pub whole-board : take (conditionalCount (gatesOf t)) (stepBoard i t 0 gates tape 0 ws board)
+        ++ outputsOf k (wiresOf (take i ws) (gatesOf t))
         ≡ boardOf (wiresOf (take i ws) (gatesOf t)) (gatesOf t) k tape
     unfolding boardOf bits
     whole-board =
         let l : length bits ≡ conditionalCount (gatesOf t) = length-shown (wiresOf (take i ws) (gatesOf t)) (gatesOf t) tape lt in
-        let f : stepBoard i t 0 gates tape 0 ws board ≡ bits ++ drop (0 + length bits) board = stepped ∙ sets-eq bits board 0 (omega arith) in
+        let f : stepBoard i t 0 gates tape 0 ws board ≡ bits ++ drop (0 + length bits) board = stepped
+        ∙ sets-eq bits board 0 (omega arith) in
         ap (λ (b : List ℕ). take (conditionalCount (gatesOf t)) b ++ outputsOf k (wiresOf (take i ws) (gatesOf t))) f
-        ∙ ap (λ (b : List ℕ). b ++ outputsOf k (wiresOf (take i ws) (gatesOf t))) (take-at bits (drop (0 + length bits) board) (conditionalCount (gatesOf t)) l)
+        ∙ ap (λ (b : List ℕ). b ++ outputsOf k (wiresOf (take i ws) (gatesOf t)))
+        (take-at bits (drop (0 + length bits) board) (conditionalCount (gatesOf t)) l)

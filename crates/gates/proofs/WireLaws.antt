@@ -27,13 +27,16 @@ pub wires-keep : (ws : List ℕ) (gs : List Gate) (i : ℕ) → i < length ws �
 unfolding wiresOf
 wires-keep ws [] i h = refl
 wires-keep ws (g ∷ gs) i h =
-    wires-keep (ws ++ (value ws g ∷ [])) gs i (omega (arith, length-append ws (value ws g ∷ []))) ∙ List·getD-append ws (value ws g ∷ []) 0 i h
+    wires-keep (ws ++ (value ws g ∷ [])) gs i (omega (arith, length-append ws (value ws g ∷ [])))
+    ∙ List·getD-append ws (value ws g ∷ []) 0 i h
 
 -- a good gate has the same value on two wire tables that agree below its own wire
-pub same-value : (ws vs : List ℕ) (own : ℕ) (g : Gate) → GoodGate own g → ((i : ℕ) → i < own → getD ws i 0 ≡ getD vs i 0) → value ws g ≡ value vs g
+pub same-value : (ws vs : List ℕ) (own : ℕ) (g : Gate) → GoodGate own g
+    → ((i : ℕ) → i < own → getD ws i 0 ≡ getD vs i 0) → value ws g ≡ value vs g
 unfolding value wire
 same-value ws vs own g good agree =
-    value-uses (g .kind) (getD ws (g .a) 0) (getD ws (g .b) 0) (getD ws (g .c) 0) (getD vs (g .a) 0) (getD vs (g .b) 0) (getD vs (g .c) 0) (good .known)
+    value-uses (g .kind) (getD ws (g .a) 0) (getD ws (g .b) 0) (getD ws (g .c) 0) (getD vs (g .a) 0)
+    (getD vs (g .b) 0) (getD vs (g .c) 0) (good .known)
     (λ u. agree (g .a) (good .a-below u))
     (λ u. agree (g .b) (good .b-below u))
     (λ u. agree (g .c) (good .c-below u))

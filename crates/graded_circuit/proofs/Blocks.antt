@@ -63,7 +63,8 @@ pub reach-block : (n x y e r : ℕ) → x + suc r ≤ n → y + suc r ≤ n → 
 reach-block n x y e r hx hy = record { long = length-reach n x y e r; good = reach-good n x y e r hx hy }
 
 pub parity-block : (n s at d m : ℕ) → s < n → Below n at d m → Block n (parity n s at d m) m
-parity-block n s at d m hs bl = record { long = length-chain 6 n s at d m; good = chain-good n 6 s at d m (omega arith) (operand-counts .6) hs bl }
+parity-block n s at d m hs bl =
+    record { long = length-chain 6 n s at d m; good = chain-good n 6 s at d m (omega arith) (operand-counts .6) hs bl }
 
 pub rows-block : (n x dx y dy m : ℕ) → Below n x dx m → Below n y dy m → Block n (xorRows x dx y dy m) m
 rows-block n x dx y dy m hx hy = record { long = length-rows x dx y dy m; good = rows-good n x dx y dy m hx hy }
@@ -71,6 +72,8 @@ rows-block n x dx y dy m hx hy = record { long = length-rows x dx y dy m; good =
 pub levels-block : (n at d m x r : ℕ) → Below n at d m → Countable m x r → Block n (countLevels n at d m x r) (countSize m x r)
 levels-block n at d m x r bl k = record { long = length-count n at d m x r; good = count-levels-good n at d m x r bl k }
 
-pub digits-block : (low top n at m x r q : ℕ) → low < 8 → operandsOf low ≡ 1 → top < 8 → operandsOf top ≡ 1 → at < q → n + countSize m x r ≤ q → Countable m x r
+pub digits-block : (low top n at m x r q : ℕ) → low < 8 → operandsOf low ≡ 1 → top < 8 → operandsOf top ≡ 1 → at < q
+    → n + countSize m x r ≤ q → Countable m x r
     → Block q (countDigitsAs low top n at m x r) (r + 1)
-digits-block low top n at m x r q l₁ l₂ t₁ t₂ ha h k = record { long = length-digits low top n at m x r; good = count-digits-good low top n at m x r q l₁ l₂ t₁ t₂ ha h k }
+digits-block low top n at m x r q l₁ l₂ t₁ t₂ ha h k =
+    record { long = length-digits low top n at m x r; good = count-digits-good low top n at m x r q l₁ l₂ t₁ t₂ ha h k }

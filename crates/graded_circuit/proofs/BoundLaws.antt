@@ -114,11 +114,17 @@ module _ (p : Plan) (f : Planned p) where
   tie-break-below-most (suc r) zero h = omega arith
   tie-break-below-most (suc r) (suc t) h =
       let few : t ≤ 4 = omega arith in
-      omega (arith, reach-last-most r, mul-le-mul-right {m = t} {n = 4} (sideSpan r) few, mul-le-mul-right {m = t} {n = 4} (eitherSpan r) few)
+      omega (
+        arith,
+        reach-last-most r,
+        mul-le-mul-right {m = t} {n = 4} (sideSpan r) few,
+        mul-le-mul-right {m = t} {n = 4} (eitherSpan r) few,
+      )
 
   key-most : keySpan p ≤ 6 * w
   unfolding w
-  key-most = let few : p .grades - 1 ≤ 6 = omega (arith, f .d-most) in omega (arith, mul-le-mul-right {m = p .grades - 1} {n = 6} (wordSpan p) few)
+  key-most = let few : p .grades - 1 ≤ 6 = omega (arith, f .d-most) in
+      omega (arith, mul-le-mul-right {m = p .grades - 1} {n = 6} (wordSpan p) few)
 
   -- a merge of at most eight candidates, with the key that is kept
   merge : ℕ
@@ -127,7 +133,14 @@ module _ (p : Plan) (f : Planned p) where
   merge-most : (l m : ℕ) → l + m ≤ 8 → mergeSpan p l m + keySpan p ≤ merge
   unfolding merge w
   merge-most l m h =
-      omega (arith, key, ones-span-most (p .grades - 1) (p .places), places-most, tie-break-below-most (p .digits) (p .grades - 2) (omega (arith, f .d-most)), f .d-most)
+      omega (
+        arith,
+        key,
+        ones-span-most (p .grades - 1) (p .places),
+        places-most,
+        tie-break-below-most (p .digits) (p .grades - 2) (omega (arith, f .d-most)),
+        f .d-most,
+      )
     where
       key : keySpan p ≤ 6 * suc (p .digits)
       key = unfold w in key-most
@@ -179,10 +192,13 @@ module _ (p : Plan) (f : Planned p) where
       let d = p .grades in
       let n = p .ballots in
       let v = suc (p .digits) in
-      let assoc : k * (d * (2 * (n * v) + (30 * v + 20))) ≡ k * d * (2 * (n * v) + (30 * v + 20)) = sym (mul-assoc k d (2 * (n * v) + (30 * v + 20))) in
-      let split : k * d * (2 * (n * v) + (30 * v + 20)) ≡ k * d * (2 * (n * v)) + k * d * (30 * v + 20) = mul-add (k * d) (2 * (n * v)) (30 * v + 20) in
+      let assoc : k * (d * (2 * (n * v) + (30 * v + 20))) ≡ k * d * (2 * (n * v) + (30 * v + 20)) =
+      sym (mul-assoc k d (2 * (n * v) + (30 * v + 20))) in
+      let split : k * d * (2 * (n * v) + (30 * v + 20)) ≡ k * d * (2 * (n * v)) + k * d * (30 * v + 20) =
+      mul-add (k * d) (2 * (n * v)) (30 * v + 20) in
       let first : k * d * (2 * (n * v)) ≡ 2 * k * d * n * v =
-      sym (mul-assoc (k * d) 2 (n * v)) ∙ ap (λ (x : ℕ). x * (n * v)) (mul-comm (k * d) 2 ∙ sym (mul-assoc 2 k d)) ∙ sym (mul-assoc (2 * k * d) n v) in
+      sym (mul-assoc (k * d) 2 (n * v)) ∙ ap (λ (x : ℕ). x * (n * v)) (mul-comm (k * d) 2 ∙ sym (mul-assoc 2 k d))
+      ∙ sym (mul-assoc (2 * k * d) n v) in
       assoc ∙ split ∙ ap (λ (x : ℕ). x + k * d * (30 * v + 20)) first
 
   -- what request 2.1 adds is more than the merges take

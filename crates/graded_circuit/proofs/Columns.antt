@@ -28,7 +28,8 @@ ones-table W at d zero = ones-none W at d ∙ sym (sum-none (λ i. W (at + i * d
 ones-table W at d (suc m) =
     let here : at + 0 * d ≡ at = omega (arith, zero-mul d) in
     ones-more W at d m
-    ∙ ap (λ (k : ℕ). W at + k) (ones-table W (at + d) d m ∙ ap sum (tabulate-cong m (λ i. W (at + d + i * d)) (λ i. W (at + suc i * d)) (λ i l. ap W (next i))))
+    ∙ ap (λ (k : ℕ). W at + k) (ones-table W (at + d) d m
+    ∙ ap sum (tabulate-cong m (λ i. W (at + d + i * d)) (λ i. W (at + suc i * d)) (λ i l. ap W (next i))))
     ∙ ap (λ (k : ℕ). W k + sum (tabulate m (λ i. W (at + suc i * d)))) (sym here)
     ∙ sym (sum-first m (λ i. W (at + i * d)))
   where
@@ -44,15 +45,19 @@ module _ (s : Shape) (xs : List ℕ) (gs : List Gate) (a : GradedBallots s xs) w
       → wire (wiresOf xs gs) (c * s .grades + g + i * (s .candidates * s .grades)) ≡ getD xs ((i * s .candidates + c) * s .grades + g) 0
   byte i c g l hc hg =
       let e = place i (s .candidates) c (s .grades) g in
-      ap (wire (wiresOf xs gs)) (sym e) ∙ wires-start xs gs ((i * s .candidates + c) * s .grades + g) (omega (arith, a .size, byte-within s i c g l hc hg))
+      ap (wire (wiresOf xs gs)) (sym e)
+      ∙ wires-start xs gs ((i * s .candidates + c) * s .grades + g)
+      (omega (arith, a .size, byte-within s i c g l hc hg))
 
-  pub column : (c g : ℕ) → c < s .candidates → g < s .grades → ones (wire (wiresOf xs gs)) (c * s .grades + g) (s .candidates * s .grades) (s .ballots) ≡ countOf s xs c g
+  pub column : (c g : ℕ) → c < s .candidates → g < s .grades
+      → ones (wire (wiresOf xs gs)) (c * s .grades + g) (s .candidates * s .grades) (s .ballots) ≡ countOf s xs c g
   column c g hc hg =
       ones-table (wire (wiresOf xs gs)) (c * s .grades + g) (s .candidates * s .grades) (s .ballots)
       ∙ ap sum (tabulate-cong (s .ballots) _ _ (λ i l. byte i c g l hc hg))
       ∙ sym (column-bytes s xs a c g)
 
-  pub one-grade : (c i : ℕ) → c < s .candidates → i < s .ballots → sum (tabulate (s .grades) (λ g. wire (wiresOf xs gs) (c * s .grades + g + i * (s .candidates * s .grades)))) ≡ 1
+  pub one-grade : (c i : ℕ) → c < s .candidates → i < s .ballots
+      → sum (tabulate (s .grades) (λ g. wire (wiresOf xs gs) (c * s .grades + g + i * (s .candidates * s .grades)))) ≡ 1
   one-grade c i hc l =
       ap sum (tabulate-cong (s .grades) _ _ (λ g hg. bit g hg))
       ∙ sum-ones (s .grades) (drop (row * s .grades) xs)
@@ -61,7 +66,8 @@ module _ (s : Shape) (xs : List ℕ) (gs : List Gate) (a : GradedBallots s xs) w
       row : ℕ
       row = i * s .candidates + c
 
-      bit : (g : ℕ) → g < s .grades → wire (wiresOf xs gs) (c * s .grades + g + i * (s .candidates * s .grades)) ≡ addend (getD (drop (row * s .grades) xs) g 0)
+      bit : (g : ℕ) → g < s .grades → wire (wiresOf xs gs) (c * s .grades + g + i * (s .candidates * s .grades))
+          ≡ addend (getD (drop (row * s .grades) xs) g 0)
       bit g hg =
           byte i c g l hc hg
           ∙ sym (added (getD xs (row * s .grades + g) 0) (a .bits (row * s .grades + g)))

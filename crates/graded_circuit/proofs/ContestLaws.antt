@@ -45,18 +45,24 @@ single x r m h = omega (arith, suc-mul 0 (suc r + 1), zero-mul (suc r + 1))
 abbrev pub Leaves : ℕ → ℕ → Type 0
 Leaves digits h = h ≤ digits - 1
 
-pub tie-break-below-block : (p : Plan) (n x y e s digits h t : ℕ) → Leaves digits h → e < n → s < n → x + suc t * (digits + 1) ≤ n → y + suc t * (digits + 1) ≤ n
+pub tie-break-below-block : (p : Plan) (n x y e s digits h t : ℕ) → Leaves digits h → e < n → s < n → x + suc t
+    * (digits + 1) ≤ n → y + suc t * (digits + 1) ≤ n
     → Block n (tieBreakBelow p n x y e s digits h t) (tieBreakBelowSpan digits t + 2)
 unfolding tieBreakBelow tieBreakBelowSpan
-tie-break-below-block p n x y e s zero h t hr he hs hx hy = gate-block (good-copy n e he) (gate-block (good-copy (suc n) s (omega arith)) (none-block (suc (suc n))))
+tie-break-below-block p n x y e s zero h t hr he hs hx hy =
+    gate-block (good-copy n e he) (gate-block (good-copy (suc n) s (omega arith)) (none-block (suc (suc n))))
 tie-break-below-block p n x y e s (suc r) h zero hr he hs hx hy =
     let q = n + compareSpan r in
     let fx = single x r n hx in
     let em = chain-below (n + suc r) n r q (omega arith) (omega arith) in
     let sm = chain-below (n + unequalSpan r) x r q (omega arith) (omega arith) in
     both-block (compare-block n x y r h (omega arith) fx (single y r n hy)) refl
-    (gate-block (good-or q e (unequalAt n r) (omega arith) em) (gate-block (good-mux (suc q) e s (aboveAt n x r) (omega arith) (omega arith) (omega arith)) (none-block (suc (suc q)))))
-tie-break-below-block p n x y e s (suc r) h (suc t) hr he hs hx hy = sized (omega arith) (tie-break-block n x y r t (strided x t r n hx) (strided y t r n hy) (p .ballots % 2) h e s (omega arith) he hs)
+    (gate-block (good-or q e (unequalAt n r) (omega arith) em)
+    (gate-block (good-mux (suc q) e s (aboveAt n x r) (omega arith) (omega arith) (omega arith))
+    (none-block (suc (suc q)))))
+tie-break-below-block p n x y e s (suc r) h (suc t) hr he hs hx hy =
+    sized (omega arith) (tie-break-block n x y r t (strided x t r n hx) (strided y t r n hy) (p .ballots % 2) h e s
+    (omega arith) he hs)
 
 module _ (p : Plan) (f : Planned p) where
   grades-are : p .grades - 1 ≡ suc (p .grades - 2)
@@ -78,7 +84,8 @@ module _ (p : Plan) (f : Planned p) where
   pub key-some : wordSpan p ≤ keySpan p
   key-some = omega (arith, ap (λ (k : ℕ). k * wordSpan p) grades-are, suc-mul (p .grades - 2) (wordSpan p))
 
-  pub contest-block : (n x y h : ℕ) → Leaves (p .digits) h → x + keySpan p ≤ n → y + keySpan p ≤ n → Block n (contest p n x y h) (contestSpan p)
+  pub contest-block : (n x y h : ℕ) → Leaves (p .digits) h → x + keySpan p ≤ n → y + keySpan p ≤ n
+      → Block n (contest p n x y h) (contestSpan p)
   unfolding contest
   contest-block n x y h hr hx hy =
       let d = p .grades - 1 in
@@ -88,14 +95,17 @@ module _ (p : Plan) (f : Planned p) where
       let some : 0 < d = omega (arith, grades-are) in
       let span = ones-span d r in
       let em : onesDiffer n d r < l = differ-below l (differAt n d) r (omega arith) in
-      let sm : onesLarger n z d r < l = larger-below l (leftDigit n z d) r (omega (arith, left-below n z (wordSpan p) d some (flags-end y n hy))) in
+      let sm : onesLarger n z d r < l =
+      larger-below l (leftDigit n z d) r (omega (arith, left-below n z (wordSpan p) d some (flags-end y n hy))) in
       sized (omega arith)
       (both-block (ones-block n z (x + p .digits) (wordSpan p) d r grade-fits (flags-end y n hy) (flags-end x n hx)) refl
-      (tie-break-below-block p l x y (onesDiffer n d r) (onesLarger n z d r) (p .digits) h (p .grades - 2) hr em sm (key-words x l (omega arith)) (key-words y l (omega arith))))
+      (tie-break-below-block p l x y (onesDiffer n d r) (onesLarger n z d r) (p .digits) h (p .grades - 2) hr em sm
+      (key-words x l (omega arith)) (key-words y l (omega arith))))
 
   module _ (W : ℕ → ℕ) (b : Binary W) where
     -- the wires that say which grades the median is worse than
-    unary : (x median : ℕ) (S : ℕ → ℕ) → Sums (p .ballots) (p .grades) S median → Spells W b p f x S → Unary W (x + p .digits) (wordSpan p) (p .grades - 1) median
+    unary : (x median : ℕ) (S : ℕ → ℕ) → Sums (p .ballots) (p .grades) S median → Spells W b p f x S
+        → Unary W (x + p .digits) (wordSpan p) (p .grades - 1) median
     unary x median S s k =
         record {
           within = omega (arith, s .inside);
@@ -113,7 +123,8 @@ module _ (p : Plan) (f : Planned p) where
         strided i t r n (subst (λ (j : ℕ). i + suc (suc t) * (j + 1) ≤ n) e (subst (λ (j : ℕ). i + j * (p .digits + 1) ≤ n) (sym many) l))
 
     -- keys whose medians differ: they decide
-    tie-break-below-medians : (x y digits t n k e s : ℕ) → Leaves digits k → p .digits ≡ digits → p .grades - 2 ≡ t → x + keySpan p ≤ n → y + keySpan p ≤ n → W e ≡ 1 → Holds W n (tieBreakBelow p n x y e s digits k t)
+    tie-break-below-medians : (x y digits t n k e s : ℕ) → Leaves digits k → p .digits ≡ digits → p .grades - 2 ≡ t
+        → x + keySpan p ≤ n → y + keySpan p ≤ n → W e ≡ 1 → Holds W n (tieBreakBelow p n x y e s digits k t)
         → (W (n + tieBreakBelowSpan digits t) ≡ 1) × (W (n + tieBreakBelowSpan digits t + 1) ≡ W s)
     unfolding tieBreakBelow tieBreakBelowSpan
     tie-break-below-medians x y zero t n k e s hr q z hx hy one h =
@@ -127,9 +138,11 @@ module _ (p : Plan) (f : Planned p) where
         let sm = aboveAt n x r in
         let fx : x + suc r ≤ n = omega (arith, key-some) in
         let fy : y + suc r ≤ n = omega (arith, key-some) in
-        let o = cut2 W n (compareCut n x y r k) (orOf e em ∷ muxOf e s sm ∷ []) m (omega (arith, compare-block n x y r k (omega arith) fx fy .long)) h in
+        let o = cut2 W n (compareCut n x y r k) (orOf e em ∷ muxOf e s sm ∷ []) m
+        (omega (arith, compare-block n x y r k (omega arith) fx fy .long)) h in
         let w₁ = holds-first W m (orOf e em) (muxOf e s sm ∷ []) (o .1) ∙ or-is W b e em in
-        let w₂ = holds-first W (m + 1) (muxOf e s sm) [] (holds-rest W m (orOf e em) (muxOf e s sm ∷ []) (o .1)) ∙ mux-one (W e) (W s) (W sm) one in
+        let w₂ = holds-first W (m + 1) (muxOf e s sm) [] (holds-rest W m (orOf e em) (muxOf e s sm ∷ []) (o .1))
+        ∙ mux-one (W e) (W s) (W sm) one in
         (omega (arith, b em), w₂)
     tie-break-below-medians x y (suc r) (suc t) n k e s hr q z hx hy one h =
         let at : n + (resolveAt 0 r t + 14) ≡ resolveAt n r t + 14 = omega arith in
@@ -150,7 +163,8 @@ module _ (p : Plan) (f : Planned p) where
             (below-or-not g median)
 
         -- a single sum
-        alone : (r n h : ℕ) → h ≤ r → p .digits ≡ suc r → p .grades - 2 ≡ 0 → Holds W n (compareCut n x y r h) → Outcome (W (unequalAt n r)) (W (aboveAt n x r)) (p .ballots) (p .grades - 1) A C
+        alone : (r n h : ℕ) → h ≤ r → p .digits ≡ suc r → p .grades - 2 ≡ 0 → Holds W n (compareCut n x y r h)
+            → Outcome (W (unequalAt n r)) (W (aboveAt n x r)) (p .ballots) (p .grades - 1) A C
         alone r n k hr e z h =
             let d : 0 < p .grades - 1 = omega (arith, f .d-least) in
             let px : x + 0 * wordSpan p ≡ x = omega (arith, zero-mul (wordSpan p)) in
@@ -165,17 +179,31 @@ module _ (p : Plan) (f : Planned p) where
             ⊎-elim
             (λ (o : A 0 ≡ C 0). inl (t .same (omega arith), λ g l. let q : 0 ≡ g = omega arith in sym (ap A q) ∙ o ∙ ap C q))
             (⊎-elim
-            (λ (o : C 0 < A 0). inr (inl (t .differ (λ q. unlike (A 0) (C 0) o (omega arith)), t .over (omega arith), record { grade = 0; decides = first A C d o z })))
-            (λ (o : A 0 < C 0). inr (inr (t .differ (λ q. unlike (C 0) (A 0) o (omega arith)), t .under (omega arith), record { grade = 0; decides = first C A d o z }))))
+            (λ (o : C 0 < A 0). inr (inl (
+              t .differ (λ q. unlike (A 0) (C 0) o (omega arith)),
+              t .over (omega arith),
+              record { grade = 0; decides = first A C d o z },
+            )))
+            (λ (o : A 0 < C 0). inr (inr (
+              t .differ (λ q. unlike (C 0) (A 0) o (omega arith)),
+              t .under (omega arith),
+              record { grade = 0; decides = first C A d o z },
+            ))))
             (three-ways (A 0) (C 0))
           where
             unlike : (u v : ℕ) → v < u → u ≡ v → ⊥
             unlike u v l e = omega arith
 
             first : (A C : ℕ → ℕ) → 0 < p .grades - 1 → C 0 < A 0 → p .grades - 2 ≡ 0 → Decides (p .ballots) (p .grades - 1) A C 0
-            first A C d l z = record { inside = d; larger = l; worse-later = λ j h k m. absurd (omega arith); better-later = λ j h m. absurd (omega arith) }
+            first A C d l z = record {
+              inside = d;
+              larger = l;
+              worse-later = λ j h k m. absurd (omega arith);
+              better-later = λ j h m. absurd (omega arith);
+            }
 
-        tie-break-below-law : (digits t n k e′ s′ : ℕ) → Leaves digits k → p .digits ≡ digits → p .grades - 2 ≡ t → x + keySpan p ≤ n → y + keySpan p ≤ n → W e′ ≡ 0 → Holds W n (tieBreakBelow p n x y e′ s′ digits k t)
+        tie-break-below-law : (digits t n k e′ s′ : ℕ) → Leaves digits k → p .digits ≡ digits → p .grades - 2 ≡ t
+            → x + keySpan p ≤ n → y + keySpan p ≤ n → W e′ ≡ 0 → Holds W n (tieBreakBelow p n x y e′ s′ digits k t)
             → Outcome (W (n + tieBreakBelowSpan digits t)) (W (n + tieBreakBelowSpan digits t + 1)) (p .ballots) (p .grades - 1) A C
         unfolding tieBreakBelow tieBreakBelowSpan
         tie-break-below-law zero t n k e′ s′ hr e z hx hy even h =
@@ -184,9 +212,15 @@ module _ (p : Plan) (f : Planned p) where
             let q = n + compareSpan r in
             let em = unequalAt n r in
             let sm = aboveAt n x r in
-            let o = cut2 W n (compareCut n x y r k) (orOf e′ em ∷ muxOf e′ s′ sm ∷ []) q (omega (arith, compare-block n x y r k (omega arith) (single-of r x n z hx e) (single-of r y n z hy e) .long)) h in
+            let o = cut2 W n (compareCut n x y r k) (orOf e′ em ∷ muxOf e′ s′ sm ∷ []) q
+            (omega (
+              arith,
+              compare-block n x y r k (omega arith) (single-of r x n z hx e)
+                  (single-of r y n z hy e) .long,
+            )) h in
             let w₁ = holds-first W q (orOf e′ em) (muxOf e′ s′ sm ∷ []) (o .1) ∙ or-is W b e′ em in
-            let w₂ = holds-first W (q + 1) (muxOf e′ s′ sm) [] (holds-rest W q (orOf e′ em) (muxOf e′ s′ sm ∷ []) (o .1)) ∙ mux-zero (W e′) (W s′) (W sm) even in
+            let w₂ = holds-first W (q + 1) (muxOf e′ s′ sm) []
+            (holds-rest W q (orOf e′ em) (muxOf e′ s′ sm ∷ []) (o .1)) ∙ mux-zero (W e′) (W s′) (W sm) even in
             let w₁′ : W em ≡ W q = omega (arith, b em) in
             subst (λ (u : ℕ). Outcome (W q) u (p .ballots) (p .grades - 1) A C) (sym w₂)
             (subst (λ (u : ℕ). Outcome u (W sm) (p .ballots) (p .grades - 1) A C) w₁′ (alone r n k (omega arith) e z (o .0)))
@@ -204,7 +238,8 @@ module _ (p : Plan) (f : Planned p) where
             (tie-break-law W b p f r t e z A C median a c n x y (bound x hx) (bound y hy) kx ky k (omega arith) e′ s′ even h)))
 
       -- a better median comes first
-      ahead : (A C : ℕ → ℕ) (i j : ℕ) → Sums (p .ballots) (p .grades) A i → Sums (p .ballots) (p .grades) C j → i < j → Ahead (p .ballots) (p .grades - 1) A C
+      ahead : (A C : ℕ → ℕ) (i j : ℕ) → Sums (p .ballots) (p .grades) A i → Sums (p .ballots) (p .grades) C j → i
+          < j → Ahead (p .ballots) (p .grades - 1) A C
       ahead A C i j a c l =
           let half = a .reached i (omega arith) in
           let less = c .passed i l in
@@ -218,7 +253,8 @@ module _ (p : Plan) (f : Planned p) where
             };
           }
 
-      pub contest-law : (i j n k : ℕ) → Leaves (p .digits) k → Sums (p .ballots) (p .grades) A i → Sums (p .ballots) (p .grades) C j → x + keySpan p ≤ n → y + keySpan p ≤ n → Holds W n (contest p n x y k)
+      pub contest-law : (i j n k : ℕ) → Leaves (p .digits) k → Sums (p .ballots) (p .grades) A i
+          → Sums (p .ballots) (p .grades) C j → x + keySpan p ≤ n → y + keySpan p ≤ n → Holds W n (contest p n x y k)
           → Outcome (W (resultAt p n)) (W (resultAt p n + 1)) (p .ballots) (p .grades - 1) A C
       unfolding contest
       contest-law i j n k hr a c hx hy h =
@@ -231,12 +267,14 @@ module _ (p : Plan) (f : Planned p) where
           let medians = compareOnes n z (x + p .digits) (wordSpan p) d r in
           let o = cut2 W n medians (tieBreakBelow p l x y em sm (p .digits) k (p .grades - 2)) l
           (omega (arith, ones-block n z (x + p .digits) (wordSpan p) d r grade-fits (flags-end y n hy) (flags-end x n hx) .long)) h in
-          let t = ones-law W b n z (x + p .digits) (wordSpan p) d r j i grade-fits (flags-end y n hy) (flags-end x n hx) (unary y j C c ky) (unary x i A a kx) (o .0) in
+          let t = ones-law W b n z (x + p .digits) (wordSpan p) d r j i grade-fits (flags-end y n hy)
+          (flags-end x n hx) (unary y j C c ky) (unary x i A a kx) (o .0) in
           let decide : W em ≡ 1 → (W (resultAt p n) ≡ 1) × (W (resultAt p n + 1) ≡ W sm) =
           λ z. tie-break-below-medians x y (p .digits) (p .grades - 2) l k em sm hr refl refl (omega arith) (omega arith) z (o .1) in
           ⊎-elim
           (λ (q : i ≡ j).
-          tie-break-below-law i a (subst (λ (u : ℕ). Sums (p .ballots) (p .grades) C u) (sym q) c) (p .digits) (p .grades - 2) l k em sm hr refl refl (omega arith) (omega arith) (t .same (sym q)) (o .1))
+          tie-break-below-law i a (subst (λ (u : ℕ). Sums (p .ballots) (p .grades) C u) (sym q) c) (p .digits)
+          (p .grades - 2) l k em sm hr refl refl (omega arith) (omega arith) (t .same (sym q)) (o .1))
           (⊎-elim
           (λ (q : j < i). let u = t .under q in let v = decide (u .0) in inr (inr (v .0, v .1 ∙ u .1, ahead C A j i c a q)))
           (λ (q : i < j). let u = t .over q in let v = decide (u .0) in inr (inl (v .0, v .1 ∙ u .1, ahead A C i j a c q))))

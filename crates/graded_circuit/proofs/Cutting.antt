@@ -14,7 +14,8 @@ module _ (W : ℕ → ℕ) (n : ℕ) where
       let s = holds-append W n gs hs h in
       (s .0, subst (λ (i : ℕ). Holds W i hs) e (s .1))
 
-  pub cut3 : (gs hs is : List Gate) (k l : ℕ) → n + length gs ≡ k → k + length hs ≡ l → Holds W n (gs ++ hs ++ is) → Holds W n gs × Holds W k hs × Holds W l is
+  pub cut3 : (gs hs is : List Gate) (k l : ℕ) → n + length gs ≡ k → k + length hs ≡ l → Holds W n (gs ++ hs ++ is)
+      → Holds W n gs × Holds W k hs × Holds W l is
   cut3 gs hs is k l e₁ e₂ h =
       let s = cut2 (gs ++ hs) is l (omega (arith, length-append gs hs)) h in
       let t = cut2 gs hs k e₁ (s .0) in

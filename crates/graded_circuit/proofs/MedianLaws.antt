@@ -54,11 +54,22 @@ unfolding digitDifference
 length-difference n x y d m =
     let a = parity n x (x + d) d (m - 1) in
     let b = parity (n + (m - 1)) y (y + d) d (m - 1) in
-    omega (arith, length-append (a ++ b) (xorOf (leftDigit n x m) (rightDigit n y m) ∷ []), length-append a b, length-chain 6 n x (x + d) d (m - 1), length-chain 6 (n + (m - 1)) y (y + d) d (m - 1))
+    omega (
+      arith,
+      length-append (a ++ b) (xorOf (leftDigit n x m) (rightDigit n y m) ∷ []),
+      length-append a b,
+      length-chain 6 n x (x + d) d (m - 1),
+      length-chain 6 (n + (m - 1)) y (y + d) d (m - 1),
+    )
 
 pub length-next : (n x y d m e s : ℕ) → length (nextDigit n x y d m e s) ≡ differenceSpan m + 2
 unfolding nextDigit
-length-next n x y d m e s = omega (arith, length-append (digitDifference n x y d m) (orOf e (differAt n m) ∷ muxOf (differAt n m) (leftDigit n x m) s ∷ []), length-difference n x y d m)
+length-next n x y d m e s = omega (
+  arith,
+  length-append (digitDifference n x y d m)
+      (orOf e (differAt n m) ∷ muxOf (differAt n m) (leftDigit n x m) s ∷ []),
+  length-difference n x y d m,
+)
 
 pub length-later : (n x y d m e s w : ℕ) → length (laterDigits n x y d m e s w) ≡ laterSpan m w
 unfolding laterDigits laterSpan
@@ -66,7 +77,12 @@ length-later n x y d m e s zero = refl
 length-later n x y d m e s (suc w) =
     let q = differAt n m in
     let rest = laterDigits (q + 3) (x + d) (y + d) (d + d) (m / 2) (q + 1) (q + 2) w in
-    omega (arith, length-append (nextDigit n x y d m e s) rest, length-next n x y d m e s, length-later (q + 3) (x + d) (y + d) (d + d) (m / 2) (q + 1) (q + 2) w)
+    omega (
+      arith,
+      length-append (nextDigit n x y d m e s) rest,
+      length-next n x y d m e s,
+      length-later (q + 3) (x + d) (y + d) (d + d) (m / 2) (q + 1) (q + 2) w,
+    )
 
 -- both digits are there once their sums are
 pub left-below : (n x d m : ℕ) → 0 < m → x + m * d < n + d → leftDigit n x m < differAt n m
@@ -75,7 +91,8 @@ left-below n x d m some h = chain-below n x (m - 1) (differAt n m) (omega (arith
 right-below : (n y d m : ℕ) → 0 < m → y + m * d < n + d → rightDigit n y m < differAt n m
 right-below n y d m some h = chain-below (n + (m - 1)) y (m - 1) (differAt n m) (omega (arith, first-of y d m n some h .0)) (omega arith)
 
-pub difference-block : (n x y d m : ℕ) → 0 < m → x + m * d < n + d → y + m * d < n + d → Block n (digitDifference n x y d m) (differenceSpan m)
+pub difference-block : (n x y d m : ℕ) → 0 < m → x + m * d < n + d → y + m * d < n + d
+    → Block n (digitDifference n x y d m) (differenceSpan m)
 unfolding digitDifference
 difference-block n x y d m some hx hy =
     let q = first-of x d m n some hx in
@@ -83,31 +100,39 @@ difference-block n x y d m some hx hy =
     let z = differAt n m in
     both-block (both-block (parity-block n x (x + d) d (m - 1) (q .0) (all-below n (x + d) d (m - 1) (q .1))) refl
     (parity-block (n + (m - 1)) y (y + d) d (m - 1) (k .0) (all-below (n + (m - 1)) (y + d) d (m - 1) (k .1)))) (omega arith)
-    (gate-block (good-xor z (leftDigit n x m) (rightDigit n y m) (left-below n x d m some hx) (right-below n y d m some hy)) (none-block (suc z)))
+    (gate-block (good-xor z (leftDigit n x m) (rightDigit n y m) (left-below n x d m some hx)
+    (right-below n y d m some hy)) (none-block (suc z)))
 
-pub next-block : (n x y d m e s : ℕ) → 0 < m → e < n → s < n → x + m * d < n + d → y + m * d < n + d → Block n (nextDigit n x y d m e s) (differenceSpan m + 2)
+pub next-block : (n x y d m e s : ℕ) → 0 < m → e < n → s < n → x + m * d < n + d → y + m * d < n + d
+    → Block n (nextDigit n x y d m e s) (differenceSpan m + 2)
 unfolding nextDigit
 next-block n x y d m e s some he hs hx hy =
     let q = differAt n m in
     let left = left-below n x d m some hx in
     both-block (difference-block n x y d m some hx hy) (omega arith)
-    (gate-block (good-or (q + 1) e q (omega arith) (omega arith)) (gate-block (good-mux (suc (q + 1)) q (leftDigit n x m) s (omega arith) (omega arith) (omega arith)) (none-block (suc (suc (q + 1))))))
+    (gate-block (good-or (q + 1) e q (omega arith) (omega arith))
+    (gate-block (good-mux (suc (q + 1)) q (leftDigit n x m) s (omega arith) (omega arith) (omega arith))
+    (none-block (suc (suc (q + 1))))))
 
-pub later-block : (n x y d m e s w : ℕ) → Fits m w → e < n → s < n → x + m * d < n + d → y + m * d < n + d → Block n (laterDigits n x y d m e s w) (laterSpan m w)
+pub later-block : (n x y d m e s w : ℕ) → Fits m w → e < n → s < n → x + m * d < n + d → y + m * d < n + d
+    → Block n (laterDigits n x y d m e s w) (laterSpan m w)
 unfolding laterDigits laterSpan
 later-block n x y d m e s zero f he hs hx hy = none-block n
 later-block n x y d m e s (suc w) f he hs hx hy =
     let q = differAt n m in
     both-block (next-block n x y d m e s (fits-some m w f) he hs hx hy) (omega arith)
-    (later-block (q + 3) (x + d) (y + d) (d + d) (m / 2) (q + 1) (q + 2) w (fits-half m w f) (omega arith) (omega arith) (omega (arith, half-apart m d)) (omega (arith, half-apart m d)))
+    (later-block (q + 3) (x + d) (y + d) (d + d) (m / 2) (q + 1) (q + 2) w (fits-half m w f) (omega arith)
+    (omega arith) (omega (arith, half-apart m d)) (omega (arith, half-apart m d)))
 
-pub ones-block : (n x y d m w : ℕ) → Fits m (suc w) → x + m * d < n + d → y + m * d < n + d → Block n (compareOnes n x y d m w) (onesSpan m w)
+pub ones-block : (n x y d m w : ℕ) → Fits m (suc w) → x + m * d < n + d → y + m * d < n + d
+    → Block n (compareOnes n x y d m w) (onesSpan m w)
 unfolding compareOnes onesSpan
 ones-block n x y d m w f hx hy =
     let some = fits-some m w f in
     let q = differAt n m in
     both-block (difference-block n x y d m some hx hy) (omega arith)
-    (later-block (q + 1) (x + d) (y + d) (d + d) (m / 2) q (leftDigit n x m) w (fits-half m w f) (omega arith) (omega (arith, left-below n x d m some hx)) (omega (arith, half-apart m d)) (omega (arith, half-apart m d)))
+    (later-block (q + 1) (x + d) (y + d) (d + d) (m / 2) q (leftDigit n x m) w (fits-half m w f) (omega arith)
+    (omega (arith, left-below n x d m some hx)) (omega (arith, half-apart m d)) (omega (arith, half-apart m d)))
 
 -- the wires that say it are there
 pub differ-below : (end e w : ℕ) → e < end → differEnd end e w < end
@@ -177,22 +202,32 @@ unary-half W at d m most u =
     place i = omega (arith, mul-add i d d, suc-mul (i + i) d, add-mul i i d)
 
 module _ (W : ℕ → ℕ) (b : Binary W) where
-  lowest-digit : (n at d m most : ℕ) → 0 < m → Unary W at d m most → Holds W n (parity n at (at + d) d (m - 1)) → W (chainEnd n at (m - 1)) ≡ most % 2
+  lowest-digit : (n at d m most : ℕ) → 0 < m → Unary W at d m most → Holds W n (parity n at (at + d) d (m - 1))
+      → W (chainEnd n at (m - 1)) ≡ most % 2
   lowest-digit n at d m most some u h =
       let one : m ≡ suc (m - 1) = omega arith in
       let all = ap (ones W at d) one ∙ ones-more W at d (m - 1) in
       omega (arith, parity-law W b n at (at + d) d (m - 1) h, ones-unary W at d m most u)
 
   -- what the sums modulo 2 say
-  difference-law : (n x y d m i j : ℕ) → 0 < m → Unary W x d m i → Unary W y d m j → Holds W n (digitDifference n x y d m) → (W (leftDigit n x m) ≡ i % 2) × (W (differAt n m) ≡ (i % 2 + j % 2) % 2)
+  difference-law : (n x y d m i j : ℕ) → 0 < m → Unary W x d m i → Unary W y d m j
+      → Holds W n (digitDifference n x y d m) → (W (leftDigit n x m) ≡ i % 2) × (W (differAt n m) ≡ (i % 2 + j % 2) % 2)
   unfolding digitDifference
   difference-law n x y d m i j some u v h =
       let left = leftDigit n x m in
       let right = rightDigit n y m in
-      let c = cut3 W n (parity n x (x + d) d (m - 1)) (parity (n + (m - 1)) y (y + d) d (m - 1)) (xorOf left right ∷ []) (n + (m - 1)) (differAt n m)
+      let c = cut3 W n (parity n x (x + d) d (m - 1)) (parity (n + (m - 1)) y (y + d) d (m - 1))
+      (xorOf left right ∷ []) (n + (m - 1)) (differAt n m)
       (omega (arith, length-chain 6 n x (x + d) d (m - 1))) (omega (arith, length-chain 6 (n + (m - 1)) y (y + d) d (m - 1))) h in
-      let a = lowest-digit n x d m i some u (c .0) in
-      (a, omega (arith, holds-first W (differAt n m) (xorOf left right) [] (c .2) ∙ xor-is W b left right, a, lowest-digit (n + (m - 1)) y d m j some v (c .1)))
+      let a = lowest-digit n x d m i some u (c .0) in (
+        a,
+        omega (
+          arith,
+          holds-first W (differAt n m) (xorOf left right) [] (c .2) ∙ xor-is W b left right,
+          a,
+          lowest-digit (n + (m - 1)) y d m j some v (c .1),
+        ),
+      )
 
   -- wires e′ and s′ tell of the numbers i and j, where they are equal, what e and s do
   pub record Above (i j e s e′ s′ : ℕ) : Type 0 where
@@ -201,7 +236,8 @@ module _ (W : ℕ → ℕ) (b : Binary W) where
     pub under : i < j → (W e′ ≡ 1) × (W s′ ≡ 0)
 
   -- the digits above, and what wires q + 1 and q + 2 say of the digits so far
-  one-more : (i j e s q left e′ s′ : ℕ) → W q ≡ (i % 2 + j % 2) % 2 → W left ≡ i % 2 → W (q + 1) ≡ max (W e) (W q) → W (q + 2) ≡ valueOn W (muxOf q left s)
+  one-more : (i j e s q left e′ s′ : ℕ) → W q ≡ (i % 2 + j % 2) % 2 → W left ≡ i % 2 → W (q + 1) ≡ max (W e) (W q)
+      → W (q + 2) ≡ valueOn W (muxOf q left s)
       → Above (i / 2) (j / 2) (q + 1) (q + 2) e′ s′ → Above i j e s e′ s′
   one-more i j e s q left e′ s′ differ first either choice rest =
       record {
@@ -225,24 +261,34 @@ module _ (W : ℕ → ℕ) (b : Binary W) where
             (below-or-not (i / 2) (j / 2));
       }
 
-  later-law : (n x y d m e s w i j : ℕ) → Fits m w → x + m * d < n + d → y + m * d < n + d → Unary W x d m i → Unary W y d m j → Holds W n (laterDigits n x y d m e s w)
+  later-law : (n x y d m e s w i j : ℕ) → Fits m w → x + m * d < n + d → y + m * d < n + d → Unary W x d m i
+      → Unary W y d m j → Holds W n (laterDigits n x y d m e s w)
       → Above i j e s (differEnd (n + laterSpan m w) e w) (largerEnd (n + laterSpan m w) s w)
   unfolding laterDigits nextDigit
   later-law n x y d m e s zero i j f hx hy u v h = unfold differEnd largerEnd in
-      record { same = λ z. (refl, refl); over = λ l. absurd (omega (arith, f .enough, u .within)); under = λ l. absurd (omega (arith, f .enough, v .within)) }
+      record {
+        same = λ z. (refl, refl);
+        over = λ l. absurd (omega (arith, f .enough, u .within));
+        under =
+            λ l. absurd (omega (arith, f .enough, v .within));
+      }
   later-law n x y d m e s (suc w) i j f hx hy u v h =
       let some = fits-some m w f in
       let q = differAt n m in
       let left = leftDigit n x m in
       let end = q + 3 + laterSpan (m / 2) w in
-      let c = cut3 W n (digitDifference n x y d m) (orOf e q ∷ muxOf q left s ∷ []) (laterDigits (q + 3) (x + d) (y + d) (d + d) (m / 2) (q + 1) (q + 2) w) (q + 1) (q + 3) (omega (arith, difference-block n x y d m some hx hy .long)) (omega arith) h in
+      let c = cut3 W n (digitDifference n x y d m) (orOf e q ∷ muxOf q left s ∷ [])
+      (laterDigits (q + 3) (x + d) (y + d) (d + d) (m / 2) (q + 1) (q + 2) w) (q + 1) (q + 3)
+      (omega (arith, difference-block n x y d m some hx hy .long)) (omega arith) h in
       let a = holds-first W (q + 1) (orOf e q) (muxOf q left s ∷ []) (c .1) in
       let place : q + 2 ≡ q + 1 + 1 = omega arith in
       let g = ap W place ∙ holds-first W (q + 1 + 1) (muxOf q left s) [] (holds-rest W (q + 1) (orOf e q) (muxOf q left s ∷ []) (c .1)) in
       let digits = difference-law n x y d m i j some u v (c .0) in
-      let rest = later-law (q + 3) (x + d) (y + d) (d + d) (m / 2) (q + 1) (q + 2) w (i / 2) (j / 2) (fits-half m w f) (omega (arith, half-apart m d)) (omega (arith, half-apart m d))
+      let rest = later-law (q + 3) (x + d) (y + d) (d + d) (m / 2) (q + 1) (q + 2) w (i / 2) (j / 2)
+      (fits-half m w f) (omega (arith, half-apart m d)) (omega (arith, half-apart m d))
       (unary-half W x d m i u) (unary-half W y d m j v) (c .2) in
-      subst₂ (Above i j e s) (differ-next q (n + laterSpan m (suc w)) e w (m / 2) (later-more n m w)) (larger-next q (n + laterSpan m (suc w)) s w (m / 2) (later-more n m w))
+      subst₂ (Above i j e s) (differ-next q (n + laterSpan m (suc w)) e w (m / 2) (later-more n m w))
+      (larger-next q (n + laterSpan m (suc w)) s w (m / 2) (later-more n m w))
       (one-more i j e s q left (differEnd end (q + 1) w) (largerEnd end (q + 2) w) (digits .1) (digits .0) (a ∙ or-is W b e q) g rest)
 
   -- wires e and s tell of two numbers: whether they differ, and, where they do, that the first one is larger
@@ -266,7 +312,8 @@ module _ (W : ℕ → ℕ) (b : Binary W) where
             (below-or-not (i / 2) (j / 2));
       }
 
-  pub ones-law : (n x y d m w i j : ℕ) → Fits m (suc w) → x + m * d < n + d → y + m * d < n + d → Unary W x d m i → Unary W y d m j → Holds W n (compareOnes n x y d m w)
+  pub ones-law : (n x y d m w i j : ℕ) → Fits m (suc w) → x + m * d < n + d → y + m * d < n + d → Unary W x d m i
+      → Unary W y d m j → Holds W n (compareOnes n x y d m w)
       → Compared i j (onesDiffer n m w) (onesLarger n x m w)
   unfolding compareOnes onesSpan
   ones-law n x y d m w i j f hx hy u v h =
@@ -274,9 +321,12 @@ module _ (W : ℕ → ℕ) (b : Binary W) where
       let q = differAt n m in
       let left = leftDigit n x m in
       let end : q + 1 + laterSpan (m / 2) w ≡ n + (differenceSpan m + laterSpan (m / 2) w) = omega arith in
-      let c = cut2 W n (digitDifference n x y d m) (laterDigits (q + 1) (x + d) (y + d) (d + d) (m / 2) q left w) (q + 1) (omega (arith, difference-block n x y d m some hx hy .long)) h in
+      let c = cut2 W n (digitDifference n x y d m) (laterDigits (q + 1) (x + d) (y + d) (d + d) (m / 2) q left w)
+      (q + 1) (omega (arith, difference-block n x y d m some hx hy .long)) h in
       let digits = difference-law n x y d m i j some u v (c .0) in
-      let rest = later-law (q + 1) (x + d) (y + d) (d + d) (m / 2) q left w (i / 2) (j / 2) (fits-half m w f) (omega (arith, half-apart m d)) (omega (arith, half-apart m d))
+      let rest = later-law (q + 1) (x + d) (y + d) (d + d) (m / 2) q left w (i / 2) (j / 2) (fits-half m w f)
+      (omega (arith, half-apart m d)) (omega (arith, half-apart m d))
       (unary-half W x d m i u) (unary-half W y d m j v) (c .1) in
       subst (λ (k : ℕ). Compared i j (differEnd k q w) (largerEnd k left w)) end
-      (all-digits i j q left (differEnd (q + 1 + laterSpan (m / 2) w) q w) (largerEnd (q + 1 + laterSpan (m / 2) w) left w) (digits .1) (digits .0) rest)
+      (all-digits i j q left (differEnd (q + 1 + laterSpan (m / 2) w) q w)
+      (largerEnd (q + 1 + laterSpan (m / 2) w) left w) (digits .1) (digits .0) rest)

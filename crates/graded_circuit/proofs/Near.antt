@@ -35,9 +35,11 @@ pub record Decides (n d : ℕ) (A C : ℕ → ℕ) (i : ℕ) : Type 0 where
   pub worse-later : (j : ℕ) → j < d → i < j → A j < C j → n ≤ A i + A j
   pub better-later : (j : ℕ) → j < i → A j < C j → C j + C i < n
 
-module _ (n d t median : ℕ) (A C : ℕ → ℕ) (a : Sums n d A median) (c : Sums n d C median) (down up : ℕ) (near : Near t median A C down up) where
+module _ (n d t median : ℕ) (A C : ℕ → ℕ) (a : Sums n d A median) (c : Sums n d C median) (down up : ℕ)
+    (near : Near t median A C down up) where
   up-last : A up ≡ C up → up ≡ suc t
-  up-last e = ⊎-elim (λ (l : up < suc t). absurd (near .up-far l .1 e)) (λ (l : suc t ≤ up). omega (arith, near .up-in)) (below-or-not up (suc t))
+  up-last e = ⊎-elim (λ (l : up < suc t). absurd (near .up-far l .1 e))
+      (λ (l : suc t ≤ up). omega (arith, near .up-in)) (below-or-not up (suc t))
 
   down-first : A down ≡ C down → down ≡ 0
   down-first e = ⊎-elim (λ (l : 0 < down). absurd (near .down-far l .1 e)) (λ (l : down ≤ 0). omega arith) (below-or-not 0 down)
@@ -47,18 +49,21 @@ module _ (n d t median : ℕ) (A C : ℕ → ℕ) (a : Sums n d A median) (c : S
       record {
         inside = near .down-in;
         larger = larger;
-        worse-later = λ j hj l m. ⊎-elim (λ (k : j < median). before j hj l m k) (λ (k : median ≤ j). behind j hj l m k) (below-or-not j median);
+        worse-later = λ j hj l m. ⊎-elim (λ (k : j < median). before j hj l m k)
+            (λ (k : median ≤ j). behind j hj l m k) (below-or-not j median);
         better-later = λ j l m. let k = near .down-far (omega arith) .0 in omega (arith, c .grows j down (omega arith), c .passed down k);
       }
     where
       at-up : (j : ℕ) → up ≡ j → A j < C j → n ≤ A down + A j
-      at-up j e m = ⊎-elim (λ (h : n ≤ A down + A up). omega (arith, ap A e)) (λ (h : A up ≡ C up). absurd (omega (arith, ap A e, ap C e))) reach
+      at-up j e m = ⊎-elim (λ (h : n ≤ A down + A up). omega (arith, ap A e))
+          (λ (h : A up ≡ C up). absurd (omega (arith, ap A e, ap C e))) reach
 
       before : (j : ℕ) → j < suc (suc t) → down < j → A j < C j → j < median → n ≤ A down + A j
       before j hj l m k = ⊎-elim
           (λ (q : j < suc t). absurd (omega (arith, near .down-rest j l q k)))
           (λ (q : suc t ≤ j). at-up j
-          (⊎-elim (λ (u : up < suc t). absurd (omega (arith, near .up-far u .0))) (λ (u : suc t ≤ up). omega (arith, near .up-in)) (below-or-not up (suc t))) m)
+          (⊎-elim (λ (u : up < suc t). absurd (omega (arith, near .up-far u .0)))
+          (λ (u : suc t ≤ up). omega (arith, near .up-in)) (below-or-not up (suc t))) m)
           (below-or-not j (suc t))
 
       behind : (j : ℕ) → j < suc (suc t) → down < j → A j < C j → median ≤ j → n ≤ A down + A j

@@ -41,14 +41,18 @@ sides-block n x y r h zero hr hx hy = sized (sym (zero-mul (sideSpan r))) (none-
 sides-block n x y r h (suc t) hr hx hy =
     let e = suc-mul t (stride r) in
     sized (omega (arith, suc-mul t (sideSpan r)))
-    (both-block (side-flags-block n x y r h hr (omega arith) (omega arith)) refl (sides-block (n + sideSpan r) (x + stride r) (y + stride r) r h t hr (omega arith) (omega arith)))
+    (both-block (side-flags-block n x y r h hr (omega arith) (omega arith)) refl
+    (sides-block (n + sideSpan r) (x + stride r) (y + stride r) r h t hr (omega arith) (omega arith)))
 
-pub either-block : (n f x y u v r : ℕ) → f < n → x + suc r ≤ n → y + suc r ≤ n → u + suc r ≤ n → v + suc r ≤ n → Block n (either f x y u v r) (eitherSpan r)
+pub either-block : (n f x y u v r : ℕ) → f < n → x + suc r ≤ n → y + suc r ≤ n → u + suc r ≤ n → v + suc r ≤ n
+    → Block n (either f x y u v r) (eitherSpan r)
 unfolding either
 either-block n f x y u v r hf hx hy hu hv =
-    both-block (choose-block n f x u (suc r) hf hx hu) refl (choose-block (n + suc r) f y v (suc r) (omega arith) (omega arith) (omega arith))
+    both-block (choose-block n f x u (suc r) hf hx hu) refl
+    (choose-block (n + suc r) f y v (suc r) (omega arith) (omega arith) (omega arith))
 
-pub last-of-block : (n f x y u v r t : ℕ) → f + t * sideSpan r < n + sideSpan r → x + t * stride r ≤ n → y + t * stride r ≤ n → u + suc r ≤ n → v + suc r ≤ n
+pub last-of-block : (n f x y u v r t : ℕ) → f + t * sideSpan r < n + sideSpan r → x + t * stride r ≤ n → y + t
+    * stride r ≤ n → u + suc r ≤ n → v + suc r ≤ n
     → Block n (lastOf n f x y u v r t) (t * eitherSpan r)
 unfolding lastOf
 last-of-block n f x y u v r zero hf hx hy hu hv = sized (sym (zero-mul (eitherSpan r))) (none-block n)
@@ -57,9 +61,11 @@ last-of-block n f x y u v r (suc t) hf hx hy hu hv =
     let e′ = suc-mul t (sideSpan r) in
     sized (omega (arith, suc-mul t (eitherSpan r)))
     (both-block (either-block n f x y u v r (omega arith) (omega arith) (omega arith) hu hv) refl
-    (last-of-block (n + eitherSpan r) (f + sideSpan r) (x + stride r) (y + stride r) n (n + suc r) r t (omega arith) (omega arith) (omega arith) (omega arith) (omega arith)))
+    (last-of-block (n + eitherSpan r) (f + sideSpan r) (x + stride r) (y + stride r) n (n + suc r) r t (omega arith)
+    (omega arith) (omega arith) (omega arith) (omega arith)))
 
-pub first-of-block : (n f x y u v r t : ℕ) → f + t * sideSpan r < n + sideSpan r → x + t * stride r ≤ n → y + t * stride r ≤ n → u + suc r ≤ n → v + suc r ≤ n
+pub first-of-block : (n f x y u v r t : ℕ) → f + t * sideSpan r < n + sideSpan r → x + t * stride r ≤ n → y + t
+    * stride r ≤ n → u + suc r ≤ n → v + suc r ≤ n
     → Block n (firstOf n f x y u v r t) (t * eitherSpan r)
 unfolding firstOf
 first-of-block n f x y u v r zero hf hx hy hu hv = sized (sym (zero-mul (eitherSpan r))) (none-block n)
@@ -67,7 +73,8 @@ first-of-block n f x y u v r (suc t) hf hx hy hu hv =
     let e = suc-mul t (stride r) in
     let e′ = suc-mul t (sideSpan r) in
     sized (omega (arith, suc-mul t (eitherSpan r)))
-    (both-block (either-block n (f + t * sideSpan r) (x + t * stride r) (y + t * stride r) u v r (omega arith) (omega arith) (omega arith) hu hv) refl
+    (both-block (either-block n (f + t * sideSpan r) (x + t * stride r) (y + t * stride r) u v r (omega arith)
+    (omega arith) (omega arith) hu hv) refl
     (first-of-block (n + eitherSpan r) f x y n (n + suc r) r t (omega arith) (omega arith) (omega arith) (omega arith) (omega arith)))
 
 pub left-below : (n u r t m : ℕ) → u + suc r ≤ m → n + t * eitherSpan r ≤ m → leftEnd n u r t + suc r ≤ m
@@ -141,7 +148,13 @@ module _ (W : ℕ → ℕ) (b : Binary W) where
       let g₂ = holds-first W (q + 1) (xorOf e q) [] (holds-rest W q (andOf e f) (xorOf e q ∷ []) (c .1)) ∙ xor-is W b e q in
       ⊎-elim
       (λ (s : spelled r x ≡ spelled r y). let z = unequal-cut-zero n x y r k hr W b s (c .0) in
-      record { below-one = λ i. absurd (omega (arith, g₁, z)); below-zero = λ i l. s; from-one = λ i. absurd (omega (arith, g₁, g₂, z)); from-zero = λ i l. s })
+      record {
+        below-one = λ i. absurd (omega (arith, g₁, z));
+        below-zero = λ i l. s;
+        from-one =
+            λ i. absurd (omega (arith, g₁, g₂, z));
+        from-zero = λ i l. s;
+      })
       (λ (s : spelled r x ≢ spelled r y). let z = unequal-cut-one n x y r k hr W b s (c .0) in
       record {
         below-one = λ i. (s, omega (arith, g₁, z, b f));
@@ -151,22 +164,27 @@ module _ (W : ℕ → ℕ) (b : Binary W) where
       })
       (same-or-not (spelled r x) (spelled r y))
 
-  pub sides-law : (n x y r k t : ℕ) → k ≤ r → x + t * stride r ≤ n → y + t * stride r ≤ n → Holds W n (sides n x y r k t) → (i : ℕ) → i < t → Side (n + i * sideSpan r) (x + i * stride r) (y + i * stride r) r
+  pub sides-law : (n x y r k t : ℕ) → k ≤ r → x + t * stride r ≤ n → y + t * stride r ≤ n
+      → Holds W n (sides n x y r k t) → (i : ℕ) → i < t
+      → Side (n + i * sideSpan r) (x + i * stride r) (y + i * stride r) r
   unfolding sides
   sides-law n x y r k zero hr hx hy h i l = absurd (omega arith)
   sides-law n x y r k (suc t) hr hx hy h zero l =
       let e = suc-mul t (stride r) in
-      let c = cut2 W n (sideFlags n x y r k) (sides (n + sideSpan r) (x + stride r) (y + stride r) r k t) (n + sideSpan r) (omega (arith, side-flags-block n x y r k hr (omega arith) (omega arith) .long)) h in
+      let c = cut2 W n (sideFlags n x y r k) (sides (n + sideSpan r) (x + stride r) (y + stride r) r k t)
+      (n + sideSpan r) (omega (arith, side-flags-block n x y r k hr (omega arith) (omega arith) .long)) h in
       rw (first-place n (sideSpan r), first-place x (stride r), first-place y (stride r)) (side-flags-law n x y r k hr (c .0))
   sides-law n x y r k (suc t) hr hx hy h (suc i) l =
       let e = suc-mul t (stride r) in
-      let c = cut2 W n (sideFlags n x y r k) (sides (n + sideSpan r) (x + stride r) (y + stride r) r k t) (n + sideSpan r) (omega (arith, side-flags-block n x y r k hr (omega arith) (omega arith) .long)) h in
+      let c = cut2 W n (sideFlags n x y r k) (sides (n + sideSpan r) (x + stride r) (y + stride r) r k t)
+      (n + sideSpan r) (omega (arith, side-flags-block n x y r k hr (omega arith) (omega arith) .long)) h in
       rw (← next-place n (sideSpan r) i, ← next-place x (stride r) i, ← next-place y (stride r) i)
       (sides-law (n + sideSpan r) (x + stride r) (y + stride r) r k t hr (omega arith) (omega arith) (c .1) i (omega arith))
 
   module _ (n f x y u v r : ℕ) (h : Holds W n (either f x y u v r)) where
     cut-either : Holds W n (choose f x u (suc r)) × Holds W (n + suc r) (choose f y v (suc r))
-    cut-either = cut2 W n (choose f x u (suc r)) (choose f y v (suc r)) (n + suc r) (omega (arith, length-choose f x u (suc r))) (unfold either in h)
+    cut-either = cut2 W n (choose f x u (suc r)) (choose f y v (suc r)) (n + suc r)
+        (omega (arith, length-choose f x u (suc r))) (unfold either in h)
 
     either-one : W f ≡ 1 → (spelled r n ≡ spelled r x) × (spelled r (n + suc r) ≡ spelled r y)
     either-one e = (choose-one W b n f x u (suc r) e (cut-either .0), choose-one W b (n + suc r) f y v (suc r) e (cut-either .1))
@@ -181,18 +199,21 @@ module _ (W : ℕ → ℕ) (b : Binary W) where
   abbrev pub wordOf : ℕ → ℕ → ℕ → ℕ
   wordOf x r i = spelled r (x + i * stride r)
 
-  pub last-of-law : (n f x y u v r t : ℕ) → f + t * sideSpan r < n + sideSpan r → x + t * stride r ≤ n → y + t * stride r ≤ n → u + suc r ≤ n → v + suc r ≤ n
+  pub last-of-law : (n f x y u v r t : ℕ) → f + t * sideSpan r < n + sideSpan r → x + t * stride r ≤ n → y + t
+      * stride r ≤ n → u + suc r ≤ n → v + suc r ≤ n
       → Holds W n (lastOf n f x y u v r t)
       → Absent (flagAt f r) t (spelled r u) (spelled r v) (spelled r (leftEnd n u r t)) (spelled r (rightEnd n v r t))
       ⊎ LastAt (flagAt f r) (wordOf x r) (wordOf y r) t (spelled r (leftEnd n u r t)) (spelled r (rightEnd n v r t))
   unfolding lastOf
-  last-of-law n f x y u v r zero hf hx hy hu hv h = unfold leftEnd rightEnd in (inl (record { none = λ i l. absurd (omega arith); stays-left = refl; stays-right = refl }))
+  last-of-law n f x y u v r zero hf hx hy hu hv h = unfold leftEnd rightEnd in
+      (inl (record { none = λ i l. absurd (omega arith); stays-left = refl; stays-right = refl }))
   last-of-law n f x y u v r (suc t) hf hx hy hu hv h =
       let n′ = n + eitherSpan r in
       let rest = lastOf n′ (f + sideSpan r) (x + stride r) (y + stride r) n (n + suc r) r t in
       let e = suc-mul t (stride r) in
       let e′ = suc-mul t (sideSpan r) in
-      let c = cut2 W n (either f x y u v r) rest n′ (omega (arith, either-block n f x y u v r (omega arith) (omega arith) (omega arith) hu hv .long)) h in
+      let c = cut2 W n (either f x y u v r) rest n′
+      (omega (arith, either-block n f x y u v r (omega arith) (omega arith) (omega arith) hu hv .long)) h in
       let left = ap (spelled r) (left-next n u r t) in
       let right = ap (spelled r) (right-next n v r t) in
       let F : (i : ℕ) → flagAt (f + sideSpan r) r i ≡ flagAt f r (suc i) = λ i. ap W (next-place f (sideSpan r) i) in
@@ -203,7 +224,12 @@ module _ (W : ℕ → ℕ) (b : Binary W) where
       (λ (a : Absent (flagAt (f + sideSpan r) r) t (spelled r n) (spelled r (n + suc r)) (spelled r (leftEnd n′ n r t)) (spelled r (rightEnd n′ (n + suc r) r t))).
       ⊎-elim
       (λ (z : W f ≡ 0). let k = either-zero n f x y u v r (c .0) z in
-      inl (record { none = zeros f r t (first-flag ∙ z) (λ i l. sym (F i) ∙ a .none i l); stays-left = sym left ∙ a .stays-left ∙ k .0; stays-right = sym right ∙ a .stays-right ∙ k .1 }))
+      inl (record {
+        none = zeros f r t (first-flag ∙ z) (λ i l. sym (F i) ∙ a .none i l);
+        stays-left = sym left
+            ∙ a .stays-left ∙ k .0;
+        stays-right = sym right ∙ a .stays-right ∙ k .1;
+      }))
       (λ (z : W f ≡ 1). let k = either-one n f x y u v r (c .0) z in
       inr (record {
         place = 0;
@@ -223,7 +249,8 @@ module _ (W : ℕ → ℕ) (b : Binary W) where
         is-left = sym left ∙ a .is-left ∙ ap (spelled r) (next-place x (stride r) (a .place));
         is-right = sym right ∙ a .is-right ∙ ap (spelled r) (next-place y (stride r) (a .place));
       }))
-      (last-of-law n′ (f + sideSpan r) (x + stride r) (y + stride r) n (n + suc r) r t (omega arith) (omega arith) (omega arith) (omega arith) (omega arith) (c .1))
+      (last-of-law n′ (f + sideSpan r) (x + stride r) (y + stride r) n (n + suc r) r t (omega arith) (omega arith)
+      (omega arith) (omega arith) (omega arith) (c .1))
     where
       zeros : (f r t : ℕ) → flagAt f r 0 ≡ 0 → ((i : ℕ) → i < t → flagAt f r (suc i) ≡ 0) → (i : ℕ) → i < suc t → flagAt f r i ≡ 0
       zeros f r t z q zero l = z
@@ -237,12 +264,14 @@ module _ (W : ℕ → ℕ) (b : Binary W) where
       beyond f r t at q zero k l = absurd (omega arith)
       beyond f r t at q (suc i) k l = q i (omega arith) (omega arith)
 
-  pub first-of-law : (n f x y u v r t : ℕ) → f + t * sideSpan r < n + sideSpan r → x + t * stride r ≤ n → y + t * stride r ≤ n → u + suc r ≤ n → v + suc r ≤ n
+  pub first-of-law : (n f x y u v r t : ℕ) → f + t * sideSpan r < n + sideSpan r → x + t * stride r ≤ n → y + t
+      * stride r ≤ n → u + suc r ≤ n → v + suc r ≤ n
       → Holds W n (firstOf n f x y u v r t)
       → Absent (flagAt f r) t (spelled r u) (spelled r v) (spelled r (leftEnd n u r t)) (spelled r (rightEnd n v r t))
       ⊎ FirstAt (flagAt f r) (wordOf x r) (wordOf y r) t (spelled r (leftEnd n u r t)) (spelled r (rightEnd n v r t))
   unfolding firstOf
-  first-of-law n f x y u v r zero hf hx hy hu hv h = unfold leftEnd rightEnd in (inl (record { none = λ i l. absurd (omega arith); stays-left = refl; stays-right = refl }))
+  first-of-law n f x y u v r zero hf hx hy hu hv h = unfold leftEnd rightEnd in
+      (inl (record { none = λ i l. absurd (omega arith); stays-left = refl; stays-right = refl }))
   first-of-law n f x y u v r (suc t) hf hx hy hu hv h =
       let n′ = n + eitherSpan r in
       let g = f + t * sideSpan r in
@@ -251,7 +280,8 @@ module _ (W : ℕ → ℕ) (b : Binary W) where
       let rest = firstOf n′ f x y n (n + suc r) r t in
       let e = suc-mul t (stride r) in
       let e′ = suc-mul t (sideSpan r) in
-      let c = cut2 W n (either g xt yt u v r) rest n′ (omega (arith, either-block n g xt yt u v r (omega arith) (omega arith) (omega arith) hu hv .long)) h in
+      let c = cut2 W n (either g xt yt u v r) rest n′
+      (omega (arith, either-block n g xt yt u v r (omega arith) (omega arith) (omega arith) hu hv .long)) h in
       let left = ap (spelled r) (left-next n u r t) in
       let right = ap (spelled r) (right-next n v r t) in
       ⊎-elim
@@ -260,8 +290,23 @@ module _ (W : ℕ → ℕ) (b : Binary W) where
       (λ (z : W g ≡ 0). let k = either-zero n g xt yt u v r (c .0) z in
       inl (record { none = λ i l. ⊎-elim (λ (m : i < t). a .none i m) (λ (m : t ≤ i). let q : i ≡ t = omega arith in ap (flagAt f r) q ∙ z) (below-or-not i t); stays-left = sym left ∙ a .stays-left ∙ k .0; stays-right = sym right ∙ a .stays-right ∙ k .1 }))
       (λ (z : W g ≡ 1). let k = either-one n g xt yt u v r (c .0) z in
-      inr (record { place = t; inside = omega arith; found = z; earlier = a .none; is-left = sym left ∙ a .stays-left ∙ k .0; is-right = sym right ∙ a .stays-right ∙ k .1 }))
+      inr (record {
+        place = t;
+        inside = omega arith;
+        found = z;
+        earlier = a .none;
+        is-left = sym left
+            ∙ a .stays-left ∙ k .0;
+        is-right = sym right ∙ a .stays-right ∙ k .1;
+      }))
       (bit-cases (W g) (b g)))
       (λ (a : FirstAt (flagAt f r) (wordOf x r) (wordOf y r) t (spelled r (leftEnd n′ n r t)) (spelled r (rightEnd n′ (n + suc r) r t))).
-      inr (record { place = a .place; inside = omega (arith, a .inside); found = a .found; earlier = a .earlier; is-left = sym left ∙ a .is-left; is-right = sym right ∙ a .is-right }))
+      inr (record {
+        place = a .place;
+        inside = omega (arith, a .inside);
+        found = a .found;
+        earlier = a .earlier;
+        is-left = sym left ∙ a .is-left;
+        is-right = sym right ∙ a .is-right;
+      }))
       (first-of-law n′ f x y n (n + suc r) r t (omega arith) (omega arith) (omega arith) (omega arith) (omega arith) (c .1))

@@ -27,13 +27,15 @@ unfolding ownList
 circuit-list s e = rw (ne-eqb (s .candidates) 1 e)
 
 -- what holds for the length of both the circuit and a single gate holds for the own list's
-either : (s : Shape) (bound : ℕ) → gradedLimits s ≡ true → 1 ≤ bound → (1 < s .candidates → length (circuit (planOf s)) ≤ bound) → length (ownList s) ≤ bound
+either : (s : Shape) (bound : ℕ) → gradedLimits s ≡ true → 1 ≤ bound
+    → (1 < s .candidates → length (circuit (planOf s)) ≤ bound) → length (ownList s) ≤ bound
 either s bound e one all = ⊎-elim
     (λ (l : 1 < s .candidates). subst (λ (gs : List Gate). length gs ≤ bound) (sym (circuit-list s (λ q. omega arith))) (all l))
     (λ (l : s .candidates ≤ 1). subst (λ (gs : List Gate). length gs ≤ bound) (sym (own-single s (omega (arith, within s e .k-least)))) one)
     (below-or-not 1 (s .candidates))
 
-circuit-bound : (s : Shape) → gradedLimits s ≡ true → 1 < s .candidates → length (circuit (planOf s)) ≤ boundOf (s .candidates) (s .grades) (s .ballots) (suc (widthOf (s .ballots) - 1))
+circuit-bound : (s : Shape) → gradedLimits s ≡ true → 1 < s .candidates → length (circuit (planOf s))
+    ≤ boundOf (s .candidates) (s .grades) (s .ballots) (suc (widthOf (s .ballots) - 1))
 unfolding planOf
 circuit-bound s e l = gates-most (planOf s) (planned s e) l
 
@@ -50,7 +52,9 @@ pub own-list-keeps-the-bound : (s : Shape) → gradedLimits s ≡ true → lengt
 own-list-keeps-the-bound s e = either s (gateBound s) e (least-bound s) bound
   where
     bound : 1 < s .candidates → length (circuit (planOf s)) ≤ gateBound s
-    bound l = unfold gateBound in (subst (λ (w : ℕ). length (circuit (planOf s)) ≤ boundOf (s .candidates) (s .grades) (s .ballots) w) (top-width (s .ballots) (within s e .n-least)) (circuit-bound s e l))
+    bound l = unfold gateBound in
+        (subst (λ (w : ℕ). length (circuit (planOf s)) ≤ boundOf (s .candidates) (s .grades) (s .ballots) w)
+        (top-width (s .ballots) (within s e .n-least)) (circuit-bound s e l))
 
 -- no list of that length is too long for the tester
 pub own-list-short : (s : Shape) → gradedLimits s ≡ true → length (ownList s) ≤ 1048576

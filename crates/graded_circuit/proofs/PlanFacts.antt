@@ -29,9 +29,11 @@ module _ (p : Plan) (f : Planned p) where
   pub first-countable : Countable (p .ballots) (p .offset) (p .digits)
   first-countable =
       let e = pow-succ' 2 (p .digits) in
-      countable (p .ballots) (p .offset) (p .digits) (omega (arith, f .offset-is, f .n-least)) (omega (arith, f .offset-is, f .high)) (omega (arith, f .offset-is, f .n-least))
+      countable (p .ballots) (p .offset) (p .digits) (omega (arith, f .offset-is, f .n-least))
+      (omega (arith, f .offset-is, f .high)) (omega (arith, f .offset-is, f .n-least))
 
   pub worst-countable : Countable (p .ballots) (p .worst) (p .digits)
   worst-countable =
       let e = pow-succ' 2 (p .digits) in
-      countable (p .ballots) (p .worst) (p .digits) (omega (arith, f .worst-is, f .n-least)) (omega (arith, f .worst-is, f .high)) (omega (arith, f .worst-is))
+      countable (p .ballots) (p .worst) (p .digits) (omega (arith, f .worst-is, f .n-least))
+      (omega (arith, f .worst-is, f .high)) (omega (arith, f .worst-is))

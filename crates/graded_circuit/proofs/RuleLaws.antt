@@ -53,7 +53,13 @@ module _ (n d : ℕ) (some : 0 < d) (a c : List ℕ) (ra : Row n d a) (rc : Row 
       above zero l m = absurd (omega arith)
       above (suc j) l m = ⊎-elim
           (λ (k : j < d - 1). h .decides .worse-later j k (omega arith) m)
-          (λ (k : d - 1 ≤ j). absurd (omega (arith, running-whole a (suc j) (omega (arith, ra .long)), running-whole c (suc j) (omega (arith, rc .long)), ra .total, rc .total)))
+          (λ (k : d - 1 ≤ j). absurd (omega (
+            arith,
+            running-whole a (suc j) (omega (arith, ra .long)),
+            running-whole c (suc j) (omega (arith, rc .long)),
+            ra .total,
+            rc .total,
+          )))
           (below-or-not j (d - 1))
 
       below : (t : ℕ) → t < suc (h .grade) → running a t < running c t → running c t + running c (suc (h .grade)) < n
@@ -62,13 +68,20 @@ module _ (n d : ℕ) (some : 0 < d) (a c : List ℕ) (ra : Row n d a) (rc : Row 
 
   -- rows with the same sums are the same
   pub same-row : ((g : ℕ) → g < d - 1 → upTo a g ≡ upTo c g) → a ≡ c
-  same-row same = ext-getD 0 a c (ra .long ∙ sym (rc .long)) (λ g l. omega (arith, running-next a g, running-next c g, equal g, equal (suc g)))
+  same-row same = ext-getD 0 a c (ra .long ∙ sym (rc .long))
+      (λ g l. omega (arith, running-next a g, running-next c g, equal g, equal (suc g)))
     where
       equal : (t : ℕ) → running a t ≡ running c t
       equal zero = running-start a ∙ sym (running-start c)
       equal (suc g) = ⊎-elim
           (λ (k : g < d - 1). same g k)
-          (λ (k : d - 1 ≤ g). omega (arith, running-whole a (suc g) (omega (arith, ra .long)), running-whole c (suc g) (omega (arith, rc .long)), ra .total, rc .total))
+          (λ (k : d - 1 ≤ g). omega (
+            arith,
+            running-whole a (suc g) (omega (arith, ra .long)),
+            running-whole c (suc g) (omega (arith, rc .long)),
+            ra .total,
+            rc .total,
+          ))
           (below-or-not g (d - 1))
 
 module _ (n d k : ℕ) (some : 0 < d) (rows : ℕ → List ℕ) (row-is : (c : ℕ) → c < k → Row n d (rows c)) where
@@ -80,6 +93,7 @@ module _ (n d k : ℕ) (some : 0 < d) (rows : ℕ → List ℕ) (row-is : (c : �
       record {
         ahead = λ i j hi hj h. ahead-precedes n d some (rows i) (rows j) (row-is i hi) (row-is j hj) h;
         chained = λ h i j hh hi hj x y. precedes-trans (sequenceOf (rows h)) (sequenceOf (rows i)) (sequenceOf (rows j)) x y;
-        same-first = λ h i j hh hi hj s x. subst (λ (q : List ℕ). precedes q (sequenceOf (rows j)) ≡ true) (sym (same-sequence h i hh hi s)) x;
+        same-first = λ h i j hh hi hj s x. subst (λ (q : List ℕ). precedes q (sequenceOf (rows j)) ≡ true)
+            (sym (same-sequence h i hh hi s)) x;
         same-second = λ h i j hh hi hj x s. subst (λ (q : List ℕ). precedes (sequenceOf (rows h)) q ≡ true) (same-sequence i j hi hj s) x;
       }

@@ -80,14 +80,16 @@ module _ (W : ℕ → ℕ) (b : Binary W) (p : Plan) (f : Planned p) where
       }
 
   -- one by one: the levels of each grade, and its word of the key
-  levels-parts : (n m c g t : ℕ) → p .inputs ≤ n → c < p .candidates → n + g * p .ballots ≤ m → Holds W (levelsFrom p m g) (allLevels p n m c g (suc t))
+  levels-parts : (n m c g t : ℕ) → p .inputs ≤ n → c < p .candidates → n + g * p .ballots ≤ m
+      → Holds W (levelsFrom p m g) (allLevels p n m c g (suc t))
       → Holds W (levelsFrom p m g) (sumLevels p n m c g) × Holds W (levelsFrom p m (suc g)) (allLevels p n m c (suc g) t)
   unfolding allLevels
   levels-parts n m c g t h hc hm w =
       cut2 W (levelsFrom p m g) (sumLevels p n m c g) (allLevels p n m c (suc g) t) (levelsFrom p m (suc g))
       (omega (arith, sum-block p f n m c g h hc hm .long, suc-mul g (sumSize p))) w
 
-  each-levels : (n m c g t i : ℕ) → p .inputs ≤ n → c < p .candidates → RowsBefore p n m (g + t) → i < t → Holds W (levelsFrom p m g) (allLevels p n m c g t)
+  each-levels : (n m c g t i : ℕ) → p .inputs ≤ n → c < p .candidates → RowsBefore p n m (g + t) → i < t
+      → Holds W (levelsFrom p m g) (allLevels p n m c g t)
       → Holds W (levelsFrom p m (g + i)) (sumLevels p n m c (g + i))
   each-levels n m c g zero i h hc hm l w = absurd (omega arith)
   each-levels n m c g (suc t) zero h hc hm l w =
@@ -98,7 +100,8 @@ module _ (W : ℕ → ℕ) (b : Binary W) (p : Plan) (f : Planned p) where
       subst (λ (k : ℕ). Holds W (levelsFrom p m k) (sumLevels p n m c k)) e
       (each-levels n m c (suc g) t i h hc (λ j k. hm j (omega arith)) (omega arith) (levels-parts n m c g t h hc (hm g (omega arith)) w .1))
 
-  words-parts : (q n m c g t : ℕ) → p .inputs ≤ n → c < p .candidates → n + g * p .ballots ≤ m → levelsFrom p m (suc g + t) ≤ q → Holds W q (keyWords p n m c g (suc t))
+  words-parts : (q n m c g t : ℕ) → p .inputs ≤ n → c < p .candidates → n + g * p .ballots ≤ m
+      → levelsFrom p m (suc g + t) ≤ q → Holds W q (keyWords p n m c g (suc t))
       → Holds W q (keyWord p n m c g) × Holds W (q + wordSpan p) (keyWords p n m c (suc g) t)
   unfolding keyWords
   words-parts q n m c g t h hc hm hq w =
@@ -109,7 +112,8 @@ module _ (W : ℕ → ℕ) (b : Binary W) (p : Plan) (f : Planned p) where
   later-end : (m g t q : ℕ) → levelsFrom p m (g + suc t) ≤ q → levelsFrom p m (suc g + t) ≤ q
   later-end m g t q h = let e : g + suc t ≡ suc g + t = omega arith in subst (λ (k : ℕ). levelsFrom p m k ≤ q) e h
 
-  each-word : (q n m c g t i : ℕ) → p .inputs ≤ n → c < p .candidates → RowsBefore p n m (g + t) → levelsFrom p m (g + t) ≤ q → i < t → Holds W q (keyWords p n m c g t)
+  each-word : (q n m c g t i : ℕ) → p .inputs ≤ n → c < p .candidates → RowsBefore p n m (g + t)
+      → levelsFrom p m (g + t) ≤ q → i < t → Holds W q (keyWords p n m c g t)
       → Holds W (q + i * wordSpan p) (keyWord p n m c (g + i))
   each-word q n m c g zero i h hc hm hq l w = absurd (omega arith)
   each-word q n m c g (suc t) zero h hc hm hq l w =
@@ -123,14 +127,17 @@ module _ (W : ℕ → ℕ) (b : Binary W) (p : Plan) (f : Planned p) where
       let end = later-end m g t q hq in
       subst (λ (k : ℕ). Holds W k (keyWord p n m c (g + suc i))) at
       (subst (λ (k : ℕ). Holds W (q + wordSpan p + i * wordSpan p) (keyWord p n m c k)) e
-      (each-word (q + wordSpan p) n m c (suc g) t i h hc (λ j k. hm j (omega arith)) (omega arith) (omega arith) (words-parts q n m c g t h hc (hm g (omega arith)) end w .1)))
+      (each-word (q + wordSpan p) n m c (suc g) t i h hc (λ j k. hm j (omega arith)) (omega arith) (omega arith)
+      (words-parts q n m c g t h hc (hm g (omega arith)) end w .1)))
 
   module _ (S : ℕ → ℕ) (median : ℕ) (s : Sums (p .ballots) (p .grades) S median) (c : ℕ) (hc : c < p .candidates)
-      (first : ones W (bitsAt p c 0) (apart p) (p .ballots) ≡ S 0) (next : (g : ℕ) → suc g < p .grades → S g + ones W (bitsAt p c (suc g)) (apart p) (p .ballots) ≡ S (suc g))
+      (first : ones W (bitsAt p c 0) (apart p) (p .ballots) ≡ S 0)
+      (next : (g : ℕ) → suc g < p .grades → S g + ones W (bitsAt p c (suc g)) (apart p) (p .ballots) ≡ S (suc g))
       (single : (i : ℕ) → i < p .ballots → sum (tabulate (p .grades) (λ g. W (bitsAt p c g + i * apart p))) ≡ 1) where
     -- what the sum of grade g counts: whether a ballot gives this grade or a better one, so there are as many ones as the sum
     record Counted (n g : ℕ) : Type 0 where
-      pub given : (i : ℕ) → i < p .ballots → W (rowAt p n c g + i * rowApart p g) ≡ sum (tabulate (suc g) (λ h. W (bitsAt p c h + i * apart p)))
+      pub given : (i : ℕ) → i < p .ballots → W (rowAt p n c g + i * rowApart p g)
+          ≡ sum (tabulate (suc g) (λ h. W (bitsAt p c h + i * apart p)))
       pub count : ones W (rowAt p n c g) (rowApart p g) (p .ballots) ≡ S g
 
     first-row : (n : ℕ) → Counted n 0
@@ -141,16 +148,25 @@ module _ (W : ℕ → ℕ) (b : Binary W) (p : Plan) (f : Planned p) where
           count = first;
         }
 
-    next-row : (n g : ℕ) → suc g < p .grades → Counted n g → Holds W (n + g * p .ballots) (xorRows (rowAt p n c g) (rowApart p g) (bitsAt p c (suc g)) (apart p) (p .ballots)) → Counted n (suc g)
+    next-row : (n g : ℕ) → suc g < p .grades → Counted n g
+        → Holds W (n + g * p .ballots)
+        (xorRows (rowAt p n c g) (rowApart p g) (bitsAt p c (suc g)) (apart p) (p .ballots)) → Counted n (suc g)
     unfolding rowAt rowApart
     next-row n g hg a h =
         record {
           given = λ i l. omega (arith, bit i l, a .given i l, sum-last (suc g) (λ k. W (bitsAt p c k + i * apart p)));
-          count = omega (arith, ones-both W b (n + g * p .ballots) (rowAt p n c g) (rowApart p g) (bitsAt p c (suc g)) (apart p) (p .ballots) bit, a .count, next g hg);
+          count = omega (
+            arith,
+            ones-both W b (n + g * p .ballots) (rowAt p n c g) (rowApart p g)
+                (bitsAt p c (suc g)) (apart p) (p .ballots) bit,
+            a .count,
+            next g hg,
+          );
         }
       where
         -- no ballot gives two grades
-        bit : (i : ℕ) → i < p .ballots → W (n + g * p .ballots + i * 1) ≡ W (rowAt p n c g + i * rowApart p g) + W (bitsAt p c (suc g) + i * apart p)
+        bit : (i : ℕ) → i < p .ballots → W (n + g * p .ballots + i * 1) ≡ W (rowAt p n c g + i * rowApart p g)
+            + W (bitsAt p c (suc g) + i * apart p)
         bit i l =
             let at : n + g * p .ballots + i * 1 ≡ n + g * p .ballots + i = omega (arith, mul-one i) in
             let given : ℕ → ℕ = λ k. W (bitsAt p c k + i * apart p) in
@@ -165,34 +181,44 @@ module _ (W : ℕ → ℕ) (b : Binary W) (p : Plan) (f : Planned p) where
             )
 
     -- each of t rows after that of grade g
-    each-row : (n g t i : ℕ) → p .inputs ≤ n → g + t < p .grades → Counted n g → i ≤ t → Holds W (n + g * p .ballots) (rows p n c g t) → Counted n (g + i)
+    each-row : (n g t i : ℕ) → p .inputs ≤ n → g + t < p .grades → Counted n g → i ≤ t
+        → Holds W (n + g * p .ballots) (rows p n c g t) → Counted n (g + i)
     unfolding rows
     each-row n g t zero h hg a l w = let e : g ≡ g + 0 = omega arith in subst (Counted n) e a
     each-row n g zero (suc i) h hg a l w = absurd (omega arith)
     each-row n g (suc t) (suc i) h hg a l w =
         let m = n + g * p .ballots in
         let row = xorRows (rowAt p n c g) (rowApart p g) (bitsAt p c (suc g)) (apart p) (p .ballots) in
-        let block = rows-block m (rowAt p n c g) (rowApart p g) (bitsAt p c (suc g)) (apart p) (p .ballots) (counted-below p f n m c g h hc (omega arith)) (bits-below p f m c (suc g) (omega arith) hc (omega arith)) in
+        let block = rows-block m (rowAt p n c g) (rowApart p g) (bitsAt p c (suc g)) (apart p) (p .ballots)
+        (counted-below p f n m c g h hc (omega arith))
+        (bits-below p f m c (suc g) (omega arith) hc (omega arith)) in
         let q = cut2 W m row (rows p n c (suc g) t) (n + suc g * p .ballots) (omega (arith, block .long, suc-mul g (p .ballots))) w in
         let e : suc g + i ≡ g + suc i = omega arith in
         subst (Counted n) e (each-row n (suc g) t i h (omega arith) (next-row n g (omega arith) a (q .0)) (omega arith) (q .1))
 
-    sum-word : (q n m g : ℕ) → Counted n g → Holds W (levelsFrom p m g) (sumLevels p n m c g) → Holds W q (keyWord p n m c g) → Word (p .digits) q (S g)
+    sum-word : (q n m g : ℕ) → Counted n g → Holds W (levelsFrom p m g) (sumLevels p n m c g)
+        → Holds W q (keyWord p n m c g) → Word (p .digits) q (S g)
     unfolding sumLevels keyWord
     sum-word q n m g a lev dig =
-        let told = copied-law W b (levelsFrom p m g) (rowAt p n c g) (rowApart p g) (p .ballots) (p .offset) (p .digits) q (first-countable p f) lev dig in
+        let told = copied-law W b (levelsFrom p m g) (rowAt p n c g) (rowApart p g) (p .ballots) (p .offset)
+        (p .digits) q (first-countable p f) lev dig in
         let e : ones W (rowAt p n c g) (rowApart p g) (p .ballots) + p .offset ≡ p .offset + S g = omega (arith, a .count) in
         told-word q (S g) (subst (Told W b q (p .digits)) e told)
 
     -- the worst grade but one, by the count of the worst
-    last-word : (q m g : ℕ) → suc (suc g) ≡ p .grades → Holds W m (worstLevels p m c) → Holds W q (worstWord p m c) → Word (p .digits) q (S g)
+    last-word : (q m g : ℕ) → suc (suc g) ≡ p .grades → Holds W m (worstLevels p m c) → Holds W q (worstWord p m c)
+        → Word (p .digits) q (S g)
     unfolding worstLevels worstWord
     last-word q m g e lev dig =
         let last : p .grades - 1 ≡ suc g = omega arith in
         let bits = bitsAt p c (p .grades - 1) in
-        let rest : S g + ones W bits (apart p) (p .ballots) ≡ p .ballots = ap (λ (k : ℕ). S g + ones W (bitsAt p c k) (apart p) (p .ballots)) last ∙ next g (omega arith) ∙ ap S (sym last) ∙ s .whole in
-        let total : p .offset + S g + 1 + (ones W bits (apart p) (p .ballots) + p .worst) ≡ 2 ^ suc (p .digits) = omega (arith, f .offset-is, f .worst-is, pow-succ' 2 (p .digits)) in
-        told-word q (S g) (complemented-law W b m bits (apart p) (p .ballots) (p .worst) (p .digits) q (p .offset + S g) (worst-countable p f) total lev dig)
+        let rest : S g + ones W bits (apart p) (p .ballots) ≡ p .ballots =
+        ap (λ (k : ℕ). S g + ones W (bitsAt p c k) (apart p) (p .ballots)) last ∙ next g (omega arith)
+        ∙ ap S (sym last) ∙ s .whole in
+        let total : p .offset + S g + 1 + (ones W bits (apart p) (p .ballots) + p .worst) ≡ 2 ^ suc (p .digits) =
+        omega (arith, f .offset-is, f .worst-is, pow-succ' 2 (p .digits)) in
+        told-word q (S g) (complemented-law W b m bits (apart p) (p .ballots) (p .worst) (p .digits) q
+        (p .offset + S g) (worst-countable p f) total lev dig)
 
     -- the key of candidate c, whose circuit starts at wire n, describes its sums
     pub candidate-law : (n : ℕ) → p .inputs ≤ n → Holds W n (candidate p n c) → Spells (keyOf p n) S
@@ -211,15 +237,28 @@ module _ (W : ℕ → ℕ) (b : Binary W) (p : Plan) (f : Planned p) where
         let counted = worst-levels-block p f k c (omega arith) hc in
         let worded = key-words-block p f x n m c 0 t h hc before (omega arith) in
         let first-four = rows p n c 0 (p .grades - 3) ++ allLevels p n m c 0 t ++ worstLevels p k c ++ keyWords p n m c 0 t in
-        let o = cut2 W n first-four (worstWord p k c) (x + t * wordSpan p) (omega (arith, four (rows p n c 0 (p .grades - 3)) (allLevels p n m c 0 t) (worstLevels p k c) (keyWords p n m c 0 t), rowed .long, levelled .long, counted .long, worded .long)) w in
+        let o = cut2 W n first-four (worstWord p k c) (x + t * wordSpan p)
+        (omega (
+          arith,
+          four (rows p n c 0 (p .grades - 3)) (allLevels p n m c 0 t) (worstLevels p k c)
+              (keyWords p n m c 0 t),
+          rowed .long,
+          levelled .long,
+          counted .long,
+          worded .long,
+        )) w in
         let q = cut4 W n (rows p n c 0 (p .grades - 3)) (allLevels p n m c 0 t) (worstLevels p k c) (keyWords p n m c 0 t) m k x
         (omega (arith, rowed .long)) (omega (arith, levelled .long)) (omega (arith, counted .long)) (o .0) in
         ⊎-elim
         (λ (u : g < t).
         let e : 0 + g ≡ g = omega arith in
-        let row = subst (Counted n) e (each-row n 0 (p .grades - 3) g h (omega arith) (first-row n) (omega arith) (subst (λ (i : ℕ). Holds W i (rows p n c 0 (p .grades - 3))) (sym start) (q .0))) in
-        let lev = subst (λ (i : ℕ). Holds W (levelsFrom p m i) (sumLevels p n m c i)) e (each-levels n m c 0 t g h hc before u (subst (λ (i : ℕ). Holds W i (allLevels p n m c 0 t)) (sym origin) (q .1))) in
-        let dig = subst (λ (i : ℕ). Holds W (x + g * wordSpan p) (keyWord p n m c i)) e (each-word x n m c 0 t g h hc before (omega arith) u (q .3)) in
+        let row = subst (Counted n) e (each-row n 0 (p .grades - 3) g h (omega arith) (first-row n) (omega arith)
+        (subst (λ (i : ℕ). Holds W i (rows p n c 0 (p .grades - 3))) (sym start) (q .0))) in
+        let lev = subst (λ (i : ℕ). Holds W (levelsFrom p m i) (sumLevels p n m c i)) e
+        (each-levels n m c 0 t g h hc before u (subst (λ (i : ℕ). Holds W i (allLevels p n m c 0 t))
+        (sym origin) (q .1))) in
+        let dig = subst (λ (i : ℕ). Holds W (x + g * wordSpan p) (keyWord p n m c i)) e
+        (each-word x n m c 0 t g h hc before (omega arith) u (q .3)) in
         sum-word (lowAt p x g) n m g row lev dig)
         (λ (u : t ≤ g).
         let e : t ≡ g = omega arith in

@@ -30,8 +30,10 @@ nearest-block n x y r h t hr hx hy =
     let e = suc-mul (suc t) (stride r) in
     let e′ = suc-mul t (stride r) in
     both-block (both-block (sides-block n (x + stride r) (y + stride r) r h t hr (omega arith) (omega arith)) refl
-    (last-of-block (downAt n r t) (belowAt n r) (x + stride r) (y + stride r) x y r t (omega arith) (omega arith) (omega arith) (omega arith) (omega arith))) (omega arith)
-    (first-of-block (upAt n r t) (fromAt n r) (x + stride r) (y + stride r) (farAt x r t) (farAt y r t) r t (omega arith) (omega arith) (omega arith) (omega arith) (omega arith))
+    (last-of-block (downAt n r t) (belowAt n r) (x + stride r) (y + stride r) x y r t (omega arith) (omega arith)
+    (omega arith) (omega arith) (omega arith))) (omega arith)
+    (first-of-block (upAt n r t) (fromAt n r) (x + stride r) (y + stride r) (farAt x r t) (farAt y r t) r t
+    (omega arith) (omega arith) (omega arith) (omega arith) (omega arith))
 
 pub compare-and-reach-block : (n a c u v e r h : ℕ) → h ≤ r → a + suc r ≤ n → c + suc r ≤ n → u + suc r ≤ n → v + suc r ≤ n
     → Block n (compareAndReach n a c u v e r h) (compareAndReachSpan r)
@@ -93,10 +95,12 @@ module _ (n x y r t : ℕ) (hx : x + suc (suc t) * stride r ≤ n) (hy : y + suc
   down-right-below = let e = suc-mul (suc t) (stride r) in right-below (downAt n r t) y r t (nearestEnd n r t) (omega arith) (omega arith)
 
   pub up-left-below : upLeft n x r t + suc r ≤ nearestEnd n r t
-  up-left-below = let e = suc-mul (suc t) (stride r) in left-below (upAt n r t) (farAt x r t) r t (nearestEnd n r t) (omega arith) (omega arith)
+  up-left-below = let e = suc-mul (suc t) (stride r) in
+      left-below (upAt n r t) (farAt x r t) r t (nearestEnd n r t) (omega arith) (omega arith)
 
   pub up-right-below : upRight n y r t + suc r ≤ nearestEnd n r t
-  up-right-below = let e = suc-mul (suc t) (stride r) in right-below (upAt n r t) (farAt y r t) r t (nearestEnd n r t) (omega arith) (omega arith)
+  up-right-below = let e = suc-mul (suc t) (stride r) in
+      right-below (upAt n r t) (farAt y r t) r t (nearestEnd n r t) (omega arith) (omega arith)
 
   pub tie-break-block : (bit h e s : ℕ) → h ≤ r → e < n → s < n → Block n (tieBreak bit n x y e s r h t) (tieBreakSpan r t)
   unfolding tieBreak
@@ -110,8 +114,10 @@ module _ (n x y r t : ℕ) (hx : x + suc (suc t) * stride r ≤ n) (hy : y + suc
       let ul = up-left-below in
       let ur = up-right-below in
       both-block (both-block (nearest-block n x y r h t hr hx hy) (omega arith)
-      (compare-and-reach-block m (downLeft n x r t) (downRight n y r t) (upLeft n x r t) (upRight n y r t) bit r (chosenHigh r h t) (chosen-high r h t hr) dl dr ul ur)) (omega arith)
-      (resolve-block q e s (unequalAt m r) (aboveAt m (downLeft n x r t) r) (unequalAt m′ r) (aboveAt m′ (upLeft n x r t) r) (leftCarry m r) (rightCarry m r) (x + suc r) (farAt x r t + suc r)
+      (compare-and-reach-block m (downLeft n x r t) (downRight n y r t) (upLeft n x r t) (upRight n y r t) bit r
+      (chosenHigh r h t) (chosen-high r h t hr) dl dr ul ur)) (omega arith)
+      (resolve-block q e s (unequalAt m r) (aboveAt m (downLeft n x r t) r) (unequalAt m′ r)
+      (aboveAt m′ (upLeft n x r t) r) (leftCarry m r) (rightCarry m r) (x + suc r) (farAt x r t + suc r)
       (omega arith) (omega arith)
       (chain-below (m + suc r) m r q (omega arith) (omega arith))
       (chain-below (m + unequalSpan r) (downLeft n x r t) r q (omega arith) (omega arith))

@@ -15,14 +15,16 @@ use Rattle.graded_circuit.specs.Contest.{tieBreakBelow, tieBreakBelowSpan}
 use Rattle.graded_circuit.specs.Nearest.{stride, sideFlags, sideSpan, sides, either, eitherSpan, lastOf, firstOf, leftEnd, rightEnd}
 use Rattle.basics.proofs.Arithmetic.{count-down, one-less}
 
-pub sides-step : (n x y r k t : ℕ) → 0 < t → sides n x y r k t ≡ sideFlags n x y r k ++ sides (n + sideSpan r) (x + stride r) (y + stride r) r k (t - 1)
+pub sides-step : (n x y r k t : ℕ) → 0 < t → sides n x y r k t ≡ sideFlags n x y r k
+    ++ sides (n + sideSpan r) (x + stride r) (y + stride r) r k (t - 1)
 sides-step n x y r k t h = ap (sides n x y r k) (count-down t h) ∙ (unfold sides in refl)
 
 pub sides-none : (n x y r k t : ℕ) → t ≤ 0 → sides n x y r k t ≡ []
 unfolding sides
 sides-none n x y r k t h = let e : t ≡ 0 = omega arith in rw e
 
-pub last-step : (n f x y u v r t : ℕ) → 0 < t → lastOf n f x y u v r t ≡ either f x y u v r ++ lastOf (n + eitherSpan r) (f + sideSpan r) (x + stride r) (y + stride r) n (n + suc r) r (t - 1)
+pub last-step : (n f x y u v r t : ℕ) → 0 < t → lastOf n f x y u v r t ≡ either f x y u v r
+    ++ lastOf (n + eitherSpan r) (f + sideSpan r) (x + stride r) (y + stride r) n (n + suc r) r (t - 1)
 last-step n f x y u v r t h = ap (lastOf n f x y u v r) (count-down t h) ∙ (unfold lastOf in refl)
 
 pub last-none : (n f x y u v r t : ℕ) → t ≤ 0 → lastOf n f x y u v r t ≡ []
@@ -30,7 +32,8 @@ unfolding lastOf
 last-none n f x y u v r t h = let e : t ≡ 0 = omega arith in rw e
 
 pub first-step : (n f x y u v r t : ℕ) → 0 < t
-    → firstOf n f x y u v r t ≡ either (f + (t - 1) * sideSpan r) (x + (t - 1) * stride r) (y + (t - 1) * stride r) u v r ++ firstOf (n + eitherSpan r) f x y n (n + suc r) r (t - 1)
+    → firstOf n f x y u v r t ≡ either (f + (t - 1) * sideSpan r) (x + (t - 1) * stride r) (y + (t - 1) * stride r)
+    u v r ++ firstOf (n + eitherSpan r) f x y n (n + suc r) r (t - 1)
 first-step n f x y u v r t h = ap (firstOf n f x y u v r) (count-down t h) ∙ (unfold firstOf in refl)
 
 pub first-none : (n f x y u v r t : ℕ) → t ≤ 0 → firstOf n f x y u v r t ≡ []
@@ -39,7 +42,8 @@ first-none n f x y u v r t h = let e : t ≡ 0 = omega arith in rw e
 
 -- one digit more of a comparison of medians, and those above it
 pub later-step : (n x y d m e s w : ℕ) → 0 < w
-    → laterDigits n x y d m e s w ≡ nextDigit n x y d m e s ++ laterDigits (differAt n m + 3) (x + d) (y + d) (d + d) (m / 2) (differAt n m + 1) (differAt n m + 2) (w - 1)
+    → laterDigits n x y d m e s w ≡ nextDigit n x y d m e s
+    ++ laterDigits (differAt n m + 3) (x + d) (y + d) (d + d) (m / 2) (differAt n m + 1) (differAt n m + 2) (w - 1)
 later-step n x y d m e s w h = ap (laterDigits n x y d m e s) (count-down w h) ∙ (unfold laterDigits in refl)
 
 pub later-none : (n x y d m e s w : ℕ) → w ≤ 0 → laterDigits n x y d m e s w ≡ []
@@ -108,15 +112,22 @@ module _ (p : Plan) (n x y e s digits h t : ℕ) where
   unfolding tieBreakBelow
   tie-break-below-zero q = rw q
 
-  pub tie-break-below-one : 0 < digits → t ≡ 0 → compareCut n x y (digits - 1) h ++ (orOf e (unequalAt n (digits - 1)) ∷ muxOf e s (aboveAt n x (digits - 1)) ∷ []) ≡ tieBreakBelow p n x y e s digits h t
-  tie-break-below-one k q = sym (ap (λ (d : ℕ). tieBreakBelow p n x y e s d h t) (count-down digits k) ∙ ap (tieBreakBelow p n x y e s (suc (digits - 1)) h) q ∙ (unfold tieBreakBelow in refl))
+  pub tie-break-below-one : 0 < digits → t ≡ 0 → compareCut n x y (digits - 1) h
+      ++ (orOf e (unequalAt n (digits - 1)) ∷ muxOf e s (aboveAt n x (digits - 1)) ∷ [])
+      ≡ tieBreakBelow p n x y e s digits h t
+  tie-break-below-one k q = sym (ap (λ (d : ℕ). tieBreakBelow p n x y e s d h t) (count-down digits k)
+      ∙ ap (tieBreakBelow p n x y e s (suc (digits - 1)) h) q ∙ (unfold tieBreakBelow in refl))
 
-  pub tie-break-below-more : 0 < digits → 0 < t → tieBreak (p .ballots % 2) n x y e s (digits - 1) h (t - 1) ≡ tieBreakBelow p n x y e s digits h t
-  tie-break-below-more k q = sym (ap (λ (d : ℕ). tieBreakBelow p n x y e s d h t) (count-down digits k) ∙ ap (tieBreakBelow p n x y e s (suc (digits - 1)) h) (count-down t q) ∙ (unfold tieBreakBelow in refl))
+  pub tie-break-below-more : 0 < digits → 0 < t → tieBreak (p .ballots % 2) n x y e s (digits - 1) h (t - 1)
+      ≡ tieBreakBelow p n x y e s digits h t
+  tie-break-below-more k q = sym (ap (λ (d : ℕ). tieBreakBelow p n x y e s d h t) (count-down digits k)
+      ∙ ap (tieBreakBelow p n x y e s (suc (digits - 1)) h) (count-down t q) ∙ (unfold tieBreakBelow in refl))
 
 module _ (digits t : ℕ) where
   pub tie-break-below-span-one : 0 < digits → t ≡ 0 → tieBreakBelowSpan digits t ≡ compareSpan (digits - 1)
-  tie-break-below-span-one h e = ap (λ (d : ℕ). tieBreakBelowSpan d t) (count-down digits h) ∙ ap (tieBreakBelowSpan (suc (digits - 1))) e ∙ (unfold tieBreakBelowSpan in refl)
+  tie-break-below-span-one h e = ap (λ (d : ℕ). tieBreakBelowSpan d t) (count-down digits h)
+      ∙ ap (tieBreakBelowSpan (suc (digits - 1))) e ∙ (unfold tieBreakBelowSpan in refl)
 
   pub tie-break-below-span-more : 0 < digits → 0 < t → tieBreakBelowSpan digits t ≡ resolveAt 0 (digits - 1) (t - 1) + 14
-  tie-break-below-span-more h k = ap (λ (d : ℕ). tieBreakBelowSpan d t) (count-down digits h) ∙ ap (tieBreakBelowSpan (suc (digits - 1))) (count-down t k) ∙ (unfold tieBreakBelowSpan in refl)
+  tie-break-below-span-more h k = ap (λ (d : ℕ). tieBreakBelowSpan d t) (count-down digits h)
+      ∙ ap (tieBreakBelowSpan (suc (digits - 1))) (count-down t k) ∙ (unfold tieBreakBelowSpan in refl)

@@ -31,12 +31,21 @@ tie-break-below-single zero t h e = absurd (h refl)
 tie-break-below-single (suc r) zero h e = omega arith
 tie-break-below-single (suc r) (suc t) h e = absurd (omega arith)
 
-pub tie-break-below-more : (r t : ℕ) → (r ≡ 0 → ⊥) → 0 < t → tieBreakBelowSpan r t ≡ (t - 1) * (6 * r + 1) + 6 * r + 2 * reachSpan (r - 1) + 10
+pub tie-break-below-more : (r t : ℕ) → (r ≡ 0 → ⊥) → 0 < t → tieBreakBelowSpan r t ≡ (t - 1) * (6 * r + 1) + 6 * r
+    + 2 * reachSpan (r - 1) + 10
 tie-break-below-more zero t h z = absurd (h refl)
 tie-break-below-more (suc r) zero h z = absurd (omega arith)
 tie-break-below-more (suc r) (suc t) h z =
     let e : sideSpan r + eitherSpan r + eitherSpan r ≡ 6 * suc r + 1 = omega arith in
-    omega (arith, span, ap reachSpan {x = suc r - 1} {y = r} (omega arith), ap (λ (x : ℕ). t * x) e, mul-add t (sideSpan r + eitherSpan r) (eitherSpan r), mul-add t (sideSpan r) (eitherSpan r), ap (λ (x : ℕ). x * (6 * suc r + 1)) {x = suc t - 1} {y = t} (omega arith))
+    omega (
+      arith,
+      span,
+      ap reachSpan {x = suc r - 1} {y = r} (omega arith),
+      ap (λ (x : ℕ). t * x) e,
+      mul-add t (sideSpan r + eitherSpan r) (eitherSpan r),
+      mul-add t (sideSpan r) (eitherSpan r),
+      ap (λ (x : ℕ). x * (6 * suc r + 1)) {x = suc t - 1} {y = t} (omega arith),
+    )
   where
     span : tieBreakBelowSpan (suc r) (suc t) ≡ t * sideSpan r + t * eitherSpan r + t * eitherSpan r + (6 * r + 2 + 2 * reachSpan r) + 14
     span = unfold tieBreakBelowSpan in (omega arith)
@@ -70,7 +79,8 @@ module _ (p : Plan) where
   pub four-one : (m : ℕ) → m ≤ 1 → levelsSpan p 2 m ≡ 0
   four-one m h = span-one p 1 m h
 
-  pub four-more : (m : ℕ) → 1 < m → levelsSpan p 2 m ≡ levelsSpan p 1 (m / 2) + levelsSpan p 1 (m - m / 2) + contestSpan p + 4 + m + keySpan p
+  pub four-more : (m : ℕ) → 1 < m → levelsSpan p 2 m ≡ levelsSpan p 1 (m / 2) + levelsSpan p 1 (m - m / 2)
+      + contestSpan p + 4 + m + keySpan p
   four-more m h = omega (arith, span-more p 1 m h)
 
   module _ (f : Planned p) where

@@ -44,8 +44,11 @@ later-apart p (suc g) h = refl
 -- one turn: a grade, and the grades left
 module _ (p : Plan) (n c : ℕ) where
   pub rows-turn : (g : ℕ) → g + 3 < p .grades
-      → rows p n c g (p .grades - 3 - g) ≡ xorRows (rowAt p n c g) (rowApart p g) (bitsAt p c (suc g)) (apart p) (p .ballots) ++ rows p n c (g + 1) (p .grades - 3 - (g + 1))
-  rows-turn g h = ap (rows p n c g) (left-one g (p .grades - 3) (omega arith)) ∙ first (p .grades - 3 - (g + 1)) ∙ ap (λ (k : ℕ). row ++ rows p n c k (p .grades - 3 - (g + 1))) (sym (add-one g))
+      → rows p n c g (p .grades - 3 - g)
+      ≡ xorRows (rowAt p n c g) (rowApart p g) (bitsAt p c (suc g)) (apart p) (p .ballots)
+      ++ rows p n c (g + 1) (p .grades - 3 - (g + 1))
+  rows-turn g h = ap (rows p n c g) (left-one g (p .grades - 3) (omega arith)) ∙ first (p .grades - 3 - (g + 1))
+      ∙ ap (λ (k : ℕ). row ++ rows p n c k (p .grades - 3 - (g + 1))) (sym (add-one g))
     where
       row : List Gate
       row = xorRows (rowAt p n c g) (rowApart p g) (bitsAt p c (suc g)) (apart p) (p .ballots)
@@ -59,13 +62,19 @@ module _ (p : Plan) (n c : ℕ) where
 
   module _ (m : ℕ) where
     pub levels-turn : (g q : ℕ) → g + 2 < p .grades → q ≡ levelsFrom p m g
-        → allLevels p n m c g (p .grades - 2 - g) ≡ countLevels q (rowAt p n c g) (rowApart p g) (p .ballots) (p .offset) (p .digits) ++ allLevels p n m c (g + 1) (p .grades - 2 - (g + 1))
+        → allLevels p n m c g (p .grades - 2 - g)
+        ≡ countLevels q (rowAt p n c g) (rowApart p g) (p .ballots) (p .offset) (p .digits)
+        ++ allLevels p n m c (g + 1) (p .grades - 2 - (g + 1))
     levels-turn g q h e =
         ap (allLevels p n m c g) (left-one g (p .grades - 2) (omega arith)) ∙ first (p .grades - 2 - (g + 1))
-        ∙ ap (λ (k : ℕ). countLevels k (rowAt p n c g) (rowApart p g) (p .ballots) (p .offset) (p .digits) ++ allLevels p n m c (suc g) (p .grades - 2 - (g + 1))) (sym e)
-        ∙ ap (λ (k : ℕ). countLevels q (rowAt p n c g) (rowApart p g) (p .ballots) (p .offset) (p .digits) ++ allLevels p n m c k (p .grades - 2 - (g + 1))) (sym (add-one g))
+        ∙ ap (λ (k : ℕ). countLevels k (rowAt p n c g) (rowApart p g) (p .ballots) (p .offset) (p .digits)
+        ++ allLevels p n m c (suc g) (p .grades - 2 - (g + 1))) (sym e)
+        ∙ ap (λ (k : ℕ). countLevels q (rowAt p n c g) (rowApart p g) (p .ballots) (p .offset) (p .digits)
+        ++ allLevels p n m c k (p .grades - 2 - (g + 1))) (sym (add-one g))
       where
-        first : (t : ℕ) → allLevels p n m c g (suc t) ≡ countLevels (levelsFrom p m g) (rowAt p n c g) (rowApart p g) (p .ballots) (p .offset) (p .digits) ++ allLevels p n m c (suc g) t
+        first : (t : ℕ) → allLevels p n m c g (suc t)
+            ≡ countLevels (levelsFrom p m g) (rowAt p n c g) (rowApart p g) (p .ballots) (p .offset) (p .digits)
+            ++ allLevels p n m c (suc g) t
         first t = unfold allLevels sumLevels in refl
 
     pub levels-end : (g t : ℕ) → t ≤ g → allLevels p n m c g (t - g) ≡ []
@@ -73,13 +82,19 @@ module _ (p : Plan) (n c : ℕ) where
     levels-end g t h = let e : t - g ≡ 0 = omega arith in rw e
 
     pub words-turn : (g q : ℕ) → g + 2 < p .grades → q ≡ levelsFrom p m g
-        → keyWords p n m c g (p .grades - 2 - g) ≡ countDigitsAs 2 3 q (rowAt p n c g) (p .ballots) (p .offset) (p .digits) ++ keyWords p n m c (g + 1) (p .grades - 2 - (g + 1))
+        → keyWords p n m c g (p .grades - 2 - g)
+        ≡ countDigitsAs 2 3 q (rowAt p n c g) (p .ballots) (p .offset) (p .digits)
+        ++ keyWords p n m c (g + 1) (p .grades - 2 - (g + 1))
     words-turn g q h e =
         ap (keyWords p n m c g) (left-one g (p .grades - 2) (omega arith)) ∙ first (p .grades - 2 - (g + 1))
-        ∙ ap (λ (k : ℕ). countDigitsAs 2 3 k (rowAt p n c g) (p .ballots) (p .offset) (p .digits) ++ keyWords p n m c (suc g) (p .grades - 2 - (g + 1))) (sym e)
-        ∙ ap (λ (k : ℕ). countDigitsAs 2 3 q (rowAt p n c g) (p .ballots) (p .offset) (p .digits) ++ keyWords p n m c k (p .grades - 2 - (g + 1))) (sym (add-one g))
+        ∙ ap (λ (k : ℕ). countDigitsAs 2 3 k (rowAt p n c g) (p .ballots) (p .offset) (p .digits)
+        ++ keyWords p n m c (suc g) (p .grades - 2 - (g + 1))) (sym e)
+        ∙ ap (λ (k : ℕ). countDigitsAs 2 3 q (rowAt p n c g) (p .ballots) (p .offset) (p .digits)
+        ++ keyWords p n m c k (p .grades - 2 - (g + 1))) (sym (add-one g))
       where
-        first : (t : ℕ) → keyWords p n m c g (suc t) ≡ countDigitsAs 2 3 (levelsFrom p m g) (rowAt p n c g) (p .ballots) (p .offset) (p .digits) ++ keyWords p n m c (suc g) t
+        first : (t : ℕ) → keyWords p n m c g (suc t)
+            ≡ countDigitsAs 2 3 (levelsFrom p m g) (rowAt p n c g) (p .ballots) (p .offset) (p .digits)
+            ++ keyWords p n m c (suc g) t
         first t = unfold keyWords keyWord in refl
 
     pub words-end : (g t : ℕ) → t ≤ g → keyWords p n m c g (t - g) ≡ []

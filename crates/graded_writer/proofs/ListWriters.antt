@@ -61,14 +61,17 @@ pub circuit-long : (p : Plan) → Planned p → 1 < p .candidates → length (ci
 circuit-long p f h = omega (arith, circuit-block p f h .long)
 
 -- before the first gate of the own list
-pub first-writer : (s : Shape) (p : Plan) (w : Writer) → p ≡ planOf s → w ≡ record { gate = 0; wire = p .inputs; conditional = 0 } → w ≡ record { gate = 0; wire = ballotBytes s; conditional = 0 }
+pub first-writer : (s : Shape) (p : Plan) (w : Writer) → p ≡ planOf s → w
+    ≡ record { gate = 0; wire = p .inputs; conditional = 0 } → w
+    ≡ record { gate = 0; wire = ballotBytes s; conditional = 0 }
 unfolding planOf
 first-writer s p w ep ew = ew ∙ ap (λ (q : Plan). start (q .inputs)) ep
   where
     start : ℕ → Writer
     start n = record { gate = 0; wire = n; conditional = 0 }
 
-pub first-room : (s : Shape) (w : Writer) (n : ℕ) → T (gradedLimits s) → w ≡ record { gate = 0; wire = ballotBytes s; conditional = 0 } → n ≤ 1048576 → Room w n
+pub first-room : (s : Shape) (w : Writer) (n : ℕ) → T (gradedLimits s) → w
+    ≡ record { gate = 0; wire = ballotBytes s; conditional = 0 } → n ≤ 1048576 → Room w n
 first-room s w n l e k =
     record {
       few = omega (arith, ap (λ (v : Writer). v .gate) e);
@@ -77,7 +80,11 @@ first-room s w n l e k =
     }
 
 pub circuit-short : (s : Shape) (p : Plan) → T (gradedLimits s) → p ≡ planOf s → (s .candidates ≡ 1 → ⊥) → length (circuit p) ≤ 1048576
-circuit-short s p l e h = omega (arith, ap (λ (gs : List Gate). length gs) (own-more s p e h), own-list-short s (within-back s (within-T s l)))
+circuit-short s p l e h = omega (
+  arith,
+  ap (λ (gs : List Gate). length gs) (own-more s p e h),
+  own-list-short s (within-back s (within-T s l)),
+)
 
 pub plan-planned : (s : Shape) (p : Plan) → T (gradedLimits s) → p ≡ planOf s → Planned p
 plan-planned s p l e = subst Planned (sym e) (planned s (within-back s (within-T s l)))
@@ -86,10 +93,12 @@ pub plan-many : (s : Shape) (p : Plan) → T (gradedLimits s) → p ≡ planOf s
 plan-many s p l e h = subst (λ (q : Plan). 1 < q .candidates) (sym e) (two s (within-T s l .k-least) h)
   where
     two : (s : Shape) → 1 ≤ s .candidates → (s .candidates ≡ 1 → ⊥) → 1 < planOf s .candidates
-    two s k h = unfold planOf in (⊎-elim (λ (z : 1 < s .candidates). z) (λ (z : s .candidates ≤ 1). absurd (h (omega arith))) (below-or-not 1 (s .candidates)))
+    two s k h = unfold planOf in (⊎-elim (λ (z : 1 < s .candidates). z)
+        (λ (z : s .candidates ≤ 1). absurd (h (omega arith))) (below-or-not 1 (s .candidates)))
 
 -- one wire, or many
-pub both-step : (at stays i m : ℕ) → i < m → andAll (at + i) stays (m - i) ≡ (andOf (at + i) stays ∷ []) ++ andAll (at + (i + 1)) stays (m - (i + 1))
+pub both-step : (at stays i m : ℕ) → i < m → andAll (at + i) stays (m - i) ≡ (andOf (at + i) stays ∷ [])
+    ++ andAll (at + (i + 1)) stays (m - (i + 1))
 both-step at stays i m h =
     let e : m - i ≡ suc (m - (i + 1)) = omega arith in
     let p : at + i + 1 ≡ at + (i + 1) = omega arith in
@@ -112,7 +121,8 @@ won-many at stays (suc zero) h = absurd (omega arith)
 won-many at stays (suc (suc m)) h = unfold keepWinners in refl
 
 -- the candidates that are left
-pub candidates-step : (p : Plan) (n c k : ℕ) → c < k → candidates p n c (k - c) ≡ candidate p n c ++ candidates p (n + candidateSpan p) (c + 1) (k - (c + 1))
+pub candidates-step : (p : Plan) (n c k : ℕ) → c < k → candidates p n c (k - c) ≡ candidate p n c
+    ++ candidates p (n + candidateSpan p) (c + 1) (k - (c + 1))
 candidates-step p n c k h = let e : k - c ≡ suc (k - (c + 1)) = omega arith in ap (candidates p n c) e ∙ (unfold candidates in refl)
 
 pub candidates-none : (p : Plan) (n c k : ℕ) → k ≤ c → candidates p n c (k - c) ≡ []
@@ -124,9 +134,11 @@ module _ (p : Plan) (r n m : ℕ) where
   pub key-is : (c : ℕ) → bestKey p (suc r) n c m ≡ cond (leb m 1) (keyAt p c) (n + levelsSpan p (suc r) m - keySpan p)
   key-is c = ⊎-elim
       (λ (l : 1 < m).
-      let e : n + levelsSpan p r (m / 2) + levelsSpan p r (m - m / 2) + mergeSpan p (m / 2) (m - m / 2) ≡ n + levelsSpan p (suc r) m - keySpan p = omega (arith, span-more p r m l) in
+      let e : n + levelsSpan p r (m / 2) + levelsSpan p r (m - m / 2) + mergeSpan p (m / 2) (m - m / 2) ≡ n
+      + levelsSpan p (suc r) m - keySpan p = omega (arith, span-more p r m l) in
       key-more p r m n c l ∙ e ∙ sym (ap (λ (t : Bool). cond t (keyAt p c) (n + levelsSpan p (suc r) m - keySpan p)) (lt-leb m 1 l)))
-      (λ (l : m ≤ 1). key-one p r m n c l ∙ sym (ap (λ (t : Bool). cond t (keyAt p c) (n + levelsSpan p (suc r) m - keySpan p)) (le-leb m 1 l)))
+      (λ (l : m ≤ 1). key-one p r m n c l
+      ∙ sym (ap (λ (t : Bool). cond t (keyAt p c) (n + levelsSpan p (suc r) m - keySpan p)) (le-leb m 1 l)))
       (below-or-not 1 m)
 
   pub won-is : winnerFlags p (suc r) n m ≡ cond (leb m 1) 0 (n + levelsSpan p (suc r) m - keySpan p - m)
@@ -141,8 +153,10 @@ module _ (p : Plan) (r n m : ℕ) where
       none l = unfold winnerFlags in (rw (le-leb m 1 l))
 
 -- two candidates: no merge before theirs
-pair-parts : (p : Plan) (n c : ℕ) → levels p 0 n c 1 ++ levels p 0 (otherAt p 0 n 2) (c + 1) 1 ++ halvesMerge p 0 n c 2 ++ halvesBetter p 0 n c 2
-    ≡ merge p (n + 0 + 0) (keyAt p c) (keyAt p (c + 1)) 0 0 1 1 ++ choose (resultAt p (n + 0 + 0) + 1) (keyAt p c) (keyAt p (c + 1)) (keySpan p)
+pair-parts : (p : Plan) (n c : ℕ) → levels p 0 n c 1 ++ levels p 0 (otherAt p 0 n 2) (c + 1) 1
+    ++ halvesMerge p 0 n c 2 ++ halvesBetter p 0 n c 2
+    ≡ merge p (n + 0 + 0) (keyAt p c) (keyAt p (c + 1)) 0 0 1 1
+    ++ choose (resultAt p (n + 0 + 0) + 1) (keyAt p c) (keyAt p (c + 1)) (keySpan p)
 unfolding levels halvesMerge halvesBetter bestKey winnerFlags levelsSpan better
 pair-parts p n c = refl
 
@@ -151,7 +165,8 @@ pub pair-is : (p : Plan) (n c : ℕ) → levels p 1 n c 2
 pair-is p n c =
     let e : n + 0 + 0 ≡ n = omega arith in
     levels-more p 0 2 n c (omega arith) ∙ pair-parts p n c
-    ∙ ap (λ (k : ℕ). merge p k (keyAt p c) (keyAt p (c + 1)) 0 0 1 1 ++ choose (resultAt p k + 1) (keyAt p c) (keyAt p (c + 1)) (keySpan p)) e
+    ∙ ap (λ (k : ℕ). merge p k (keyAt p c) (keyAt p (c + 1)) 0 0 1 1
+    ++ choose (resultAt p k + 1) (keyAt p c) (keyAt p (c + 1)) (keySpan p)) e
 
 pub pair-span : (p : Plan) → levelsSpan p 1 2 ≡ mergeSpan p 1 1 + keySpan p
 pair-span p = span-more p 0 2 (omega arith) ∙ (unfold levelsSpan in (omega arith))
@@ -179,10 +194,13 @@ merge-same p r n c m k mid end ek em ee =
     ∙ ap (λ (i : ℕ). merge p q i (keyBy p (c + l) h q) (wonBy p l o) (wonBy p h q) l h) (sym (key-is p r n l c))
     ∙ ap (λ (i : ℕ). merge p q (bestKey p (suc r) n c l) i (wonBy p l o) (wonBy p h q) l h) (sym (key-is p r o h (c + l)))
     ∙ ap (λ (i : ℕ). merge p q (bestKey p (suc r) n c l) (bestKey p (suc r) o (c + l) h) i (wonBy p h q) l h) (sym (won-is p r n l))
-    ∙ ap (λ (i : ℕ). merge p q (bestKey p (suc r) n c l) (bestKey p (suc r) o (c + l) h) (winnerFlags p (suc r) n l) i l h) (sym (won-is p r o h))
+    ∙ ap (λ (i : ℕ). merge p q (bestKey p (suc r) n c l) (bestKey p (suc r) o (c + l) h) (winnerFlags p (suc r) n l)
+    i l h) (sym (won-is p r o h))
 
-pub better-same : (p : Plan) (r n c m q mid end : ℕ) → q ≡ resultAt p (mergeAt p (suc r) n m) + 1 → mid ≡ otherAt p (suc r) n m → end ≡ mergeAt p (suc r) n m
-    → choose q (cond (leb (m / 2) 1) (keyAt p c) (mid - keySpan p)) (cond (leb (m - m / 2) 1) (keyAt p (c + m / 2)) (end - keySpan p)) (keySpan p)
+pub better-same : (p : Plan) (r n c m q mid end : ℕ) → q ≡ resultAt p (mergeAt p (suc r) n m) + 1 → mid
+    ≡ otherAt p (suc r) n m → end ≡ mergeAt p (suc r) n m
+    → choose q (cond (leb (m / 2) 1) (keyAt p c) (mid - keySpan p))
+    (cond (leb (m - m / 2) 1) (keyAt p (c + m / 2)) (end - keySpan p)) (keySpan p)
     ≡ halvesBetter p (suc r) n c m
 unfolding halvesBetter better
 better-same p r n c m q mid end eq em ee =
@@ -211,14 +229,21 @@ length-both at stays (suc m) = ap suc (length-both (at + 1) stays m)
 -- the place of a candidate's key, counted from its circuit's end
 pub key-from : (p : Plan) (c span : ℕ) → span ≡ candidateSpan p → p .inputs + (c + 1) * span ≡ keyAt p c + keySpan p
 key-from p c span e =
-    omega (arith, ap (λ (k : ℕ). (c + 1) * k) e, ap (λ (k : ℕ). k * candidateSpan p) (add-one c), suc-mul c (candidateSpan p), key-of p (p .inputs + c * candidateSpan p))
+    omega (
+      arith,
+      ap (λ (k : ℕ). (c + 1) * k) e,
+      ap (λ (k : ℕ). k * candidateSpan p) (add-one c),
+      suc-mul c (candidateSpan p),
+      key-of p (p .inputs + c * candidateSpan p),
+    )
 
 -- a group of more than one has its wires and its key
 pub span-least : (p : Plan) (r m : ℕ) → 1 < m → m + keySpan p ≤ levelsSpan p (suc r) m
 span-least p r m h = omega (arith, span-more p r m h)
 
 module _ (p : Plan) (f : Planned p) where
-  pub key-below : (c l end n : ℕ) → c < p .candidates → levelsAt p ≤ n → end ≤ n → (1 < l → keySpan p ≤ end) → cond (leb l 1) (keyAt p c) (end - keySpan p) + keySpan p ≤ n
+  pub key-below : (c l end n : ℕ) → c < p .candidates → levelsAt p ≤ n → end ≤ n → (1 < l → keySpan p ≤ end)
+      → cond (leb l 1) (keyAt p c) (end - keySpan p) + keySpan p ≤ n
   key-below c l end n hc h he k = ⊎-elim
       (λ (z : 1 < l). let q = k z in omega (arith, large-case l (keyAt p c) (end - keySpan p) z))
       (λ (z : l ≤ 1). omega (arith, small-case l (keyAt p c) (end - keySpan p) z, key-before p f c hc))

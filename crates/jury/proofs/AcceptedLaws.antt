@@ -47,7 +47,8 @@ unfolding foundAt firstOf
 row-passed (At r) e = let z : _≡_ {A = ℕ} 0 1 = cc in absurd (omega arith)
 row-passed Nowhere e = refl
 
-ranks-passed : (clash notWeakOrder : Place) → firstOf (foundAt 11 clash ∷ foundAt 12 notWeakOrder ∷ []) ≡ none → (clash ≡ Nowhere) × (notWeakOrder ≡ Nowhere)
+ranks-passed : (clash notWeakOrder : Place) → firstOf (foundAt 11 clash ∷ foundAt 12 notWeakOrder ∷ []) ≡ none
+    → (clash ≡ Nowhere) × (notWeakOrder ≡ Nowhere)
 unfolding foundAt firstOf
 ranks-passed (At i) notWeakOrder e = let z : _≡_ {A = ℕ} 0 1 = cc in absurd (omega arith)
 ranks-passed Nowhere (At b) e = let z : _≡_ {A = ℕ} 0 1 = cc in absurd (omega arith)
@@ -66,7 +67,8 @@ pub row-next : (d j : ℕ) (xs : List ℕ) → drop (j * d) (drop d xs) ≡ drop
 row-next d j xs = drop-drop (j * d) d xs ∙ ap (λ (m : ℕ). drop m xs) (add-comm d (j * d) ∙ sym (suc-mul j d))
 
 -- if no bad row is found, every row holds one 1
-pub all-rows : (d r : ℕ) (xs : List ℕ) (n : ℕ) → firstBadRow n (rowsOf d r xs) ≡ Nowhere → (j : ℕ) → j < r → ones (take d (drop (j * d) xs)) ≡ 1
+pub all-rows : (d r : ℕ) (xs : List ℕ) (n : ℕ) → firstBadRow n (rowsOf d r xs) ≡ Nowhere → (j : ℕ) → j < r
+    → ones (take d (drop (j * d) xs)) ≡ 1
 unfolding firstBadRow rowsOf
 all-rows d zero xs n e j h = absurd (omega arith)
 all-rows d (suc r) xs n e zero h =
@@ -74,9 +76,11 @@ all-rows d (suc r) xs n e zero h =
     ∙ eqb-true (ones (take d xs)) 1 (passed-over (eqb (ones (take d xs)) 1) n (firstBadRow (suc n) (rowsOf d r (drop d xs))) e .0)
 all-rows d (suc r) xs n e (suc j) h =
     ap (λ (l : List ℕ). ones (take d l)) (sym (row-next d j xs))
-    ∙ all-rows d r (drop d xs) (suc n) (passed-over (eqb (ones (take d xs)) 1) n (firstBadRow (suc n) (rowsOf d r (drop d xs))) e .1) j (omega arith)
+    ∙ all-rows d r (drop d xs) (suc n)
+    (passed-over (eqb (ones (take d xs)) 1) n (firstBadRow (suc n) (rowsOf d r (drop d xs))) e .1) j (omega arith)
 
-pub all-rows-back : (d r : ℕ) (xs : List ℕ) (n : ℕ) → ((j : ℕ) → j < r → ones (take d (drop (j * d) xs)) ≡ 1) → firstBadRow n (rowsOf d r xs) ≡ Nowhere
+pub all-rows-back : (d r : ℕ) (xs : List ℕ) (n : ℕ) → ((j : ℕ) → j < r → ones (take d (drop (j * d) xs)) ≡ 1)
+    → firstBadRow n (rowsOf d r xs) ≡ Nowhere
 unfolding firstBadRow rowsOf
 all-rows-back d zero xs n h = refl
 all-rows-back d (suc r) xs n h =
@@ -104,22 +108,27 @@ module _ (s : Shape) (xs : List ℕ) where
   size-of e = size-passed size-test byte-test (kindReason s xs) (outcome e)
 
   byte-of : firstOf (ballotReasons s xs) ≡ none → byte-test ≡ Nowhere
-  byte-of e = byte-passed byte-test (kindReason s xs) (ap (λ (t : Bool). judged t byte-test (kindReason s xs)) (sym (size-of e)) ∙ outcome e)
+  byte-of e = byte-passed byte-test (kindReason s xs)
+      (ap (λ (t : Bool). judged t byte-test (kindReason s xs)) (sym (size-of e)) ∙ outcome e)
 
   kind-of : firstOf (ballotReasons s xs) ≡ none → kindReason s xs ≡ none
   kind-of e =
       kind-passed (kindReason s xs)
-      (ap (λ (p : Place). judged true p (kindReason s xs)) (sym (byte-of e)) ∙ ap (λ (t : Bool). judged t byte-test (kindReason s xs)) (sym (size-of e)) ∙ outcome e)
+      (ap (λ (p : Place). judged true p (kindReason s xs)) (sym (byte-of e))
+      ∙ ap (λ (t : Bool). judged t byte-test (kindReason s xs)) (sym (size-of e)) ∙ outcome e)
 
-  rows-of : firstOf (ballotReasons s xs) ≡ none → isRanking s ≡ false → (r : ℕ) → r < s .ballots * s .candidates → ones (take (s .grades) (drop (r * s .grades) xs)) ≡ 1
+  rows-of : firstOf (ballotReasons s xs) ≡ none → isRanking s ≡ false → (r : ℕ) → r < s .ballots * s .candidates
+      → ones (take (s .grades) (drop (r * s .grades) xs)) ≡ 1
   unfolding gradedReasons row-test
   rows-of e f = all-rows (s .grades) (s .ballots * s .candidates) xs 0 (row-passed row-test (sym (graded-reason s xs f) ∙ kind-of e))
 
-  orders-of : firstOf (ballotReasons s xs) ≡ none → isRanking s ≡ true → (b : ℕ) → b < s .ballots → StrictWeakOrder (s .candidates) (before (s .candidates) xs b)
+  orders-of : firstOf (ballotReasons s xs) ≡ none → isRanking s ≡ true → (b : ℕ) → b < s .ballots
+      → StrictWeakOrder (s .candidates) (before (s .candidates) xs b)
   unfolding rankedReasons
   orders-of e f =
       passes-orders (s .candidates) (s .ballots) xs .0
-      (ranks-passed (firstNotAsymmetric (s .candidates) (s .ballots) xs) (firstNotWeakOrder (s .candidates) (s .ballots) xs) (sym (ranked-reason s xs f) ∙ kind-of e))
+      (ranks-passed (firstNotAsymmetric (s .candidates) (s .ballots) xs)
+      (firstNotWeakOrder (s .candidates) (s .ballots) xs) (sym (ranked-reason s xs f) ∙ kind-of e))
 
   -- what the tests of a shape and its ballots establish
   pub accepted : withinLimits s ≡ true → firstOf (ballotReasons s xs) ≡ none → AcceptedBallots s xs
@@ -135,7 +144,8 @@ module _ (s : Shape) (xs : List ℕ) where
   no-kind-reason : AcceptedBallots s xs → (t : Bool) → isRanking s ≡ t → kindReason s xs ≡ none
   unfolding gradedReasons rankedReasons foundAt firstOf
   no-kind-reason a false e =
-      graded-reason s xs e ∙ ap (λ (p : Place). firstOf (foundAt 6 p ∷ [])) (all-rows-back (s .grades) (s .ballots * s .candidates) xs 0 (a .rows e))
+      graded-reason s xs e ∙ ap (λ (p : Place). firstOf (foundAt 6 p ∷ []))
+      (all-rows-back (s .grades) (s .ballots * s .candidates) xs 0 (a .rows e))
   no-kind-reason a true e =
       let p = passes-orders (s .candidates) (s .ballots) xs .1 (a .orders e) in
       ranked-reason s xs e
@@ -146,7 +156,8 @@ module _ (s : Shape) (xs : List ℕ) where
   pub accepted-back : AcceptedBallots s xs → firstOf (ballotReasons s xs) ≡ none
   unfolding judged unless foundAt firstOf
   accepted-back a =
-      judged-by s xs true Nowhere none (eq-eqb (length xs) (ballotBytes s) (a .size)) (none-above 0 xs (a .bits)) (no-kind-reason a (isRanking s) refl)
+      judged-by s xs true Nowhere none (eq-eqb (length xs) (ballotBytes s) (a .size)) (none-above 0 xs (a .bits))
+      (no-kind-reason a (isRanking s) refl)
 
   -- graded ballots among them
   pub graded : AcceptedBallots s xs → gradedLimits s ≡ true → GradedBallots s xs

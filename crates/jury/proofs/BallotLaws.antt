@@ -21,15 +21,18 @@ use Rattle.jury.specs.Ballots.{ones, rowsOf, firstBadRow, gradedReasons,
 use Rattle.basics.proofs.Cases.{below-or-not}
 
 -- the ones from place i on: byte i first
-ones-step : (xs : List ℕ) (i : ℕ) → i < length xs → ones (drop i xs) ≡ cond (eqb (getD xs i 0) 1) (suc (ones (drop (suc i) xs))) (ones (drop (suc i) xs))
+ones-step : (xs : List ℕ) (i : ℕ) → i < length xs → ones (drop i xs)
+    ≡ cond (eqb (getD xs i 0) 1) (suc (ones (drop (suc i) xs))) (ones (drop (suc i) xs))
 unfolding ones
 ones-step xs i h = rw (drop-cons xs i 0)
 
 pub ones-here : (xs : List ℕ) (i : ℕ) → i < length xs → getD xs i 0 ≡ 1 → ones (drop i xs) ≡ suc (ones (drop (suc i) xs))
-ones-here xs i h e = ones-step xs i h ∙ ap (λ (t : Bool). cond t (suc (ones (drop (suc i) xs))) (ones (drop (suc i) xs))) (eq-eqb (getD xs i 0) 1 e)
+ones-here xs i h e = ones-step xs i h
+    ∙ ap (λ (t : Bool). cond t (suc (ones (drop (suc i) xs))) (ones (drop (suc i) xs))) (eq-eqb (getD xs i 0) 1 e)
 
 pub ones-later : (xs : List ℕ) (i : ℕ) → i < length xs → (getD xs i 0 ≡ 1 → ⊥) → ones (drop i xs) ≡ ones (drop (suc i) xs)
-ones-later xs i h e = ones-step xs i h ∙ ap (λ (t : Bool). cond t (suc (ones (drop (suc i) xs))) (ones (drop (suc i) xs))) (ne-eqb (getD xs i 0) 1 e)
+ones-later xs i h e = ones-step xs i h
+    ∙ ap (λ (t : Bool). cond t (suc (ones (drop (suc i) xs))) (ones (drop (suc i) xs))) (ne-eqb (getD xs i 0) 1 e)
 
 -- for a bit, both cases in one
 pub ones-bit : (xs : List ℕ) (i : ℕ) → i < length xs → getD xs i 0 ≤ 1 → ones (drop i xs) ≡ getD xs i 0 + ones (drop (suc i) xs)
@@ -39,7 +42,8 @@ ones-bit xs i h b = ⊎-elim
     (below-or-not 0 (getD xs i 0))
 
 -- the bits of a part
-pub part-bits : (xs : List ℕ) (from n i : ℕ) → ((j : ℕ) → getD xs j 0 ≤ 1) → i < length (take n (drop from xs)) → getD (take n (drop from xs)) i 0 ≤ 1
+pub part-bits : (xs : List ℕ) (from n i : ℕ) → ((j : ℕ) → getD xs j 0 ≤ 1) → i < length (take n (drop from xs))
+    → getD (take n (drop from xs)) i 0 ≤ 1
 part-bits xs from n i b l =
     let short : i < n = omega (arith, length-take n (drop from xs)) in
     omega (arith, getD-take n (drop from xs) i 0 short, getD-drop from xs i 0, b (from + i))
@@ -55,7 +59,8 @@ bad-step : (d row rows : ℕ) (xs : List ℕ) → row < rows →
 unfolding firstBadRow
 bad-step d row rows xs h = ap (firstBadRow row) (rows-step d row rows xs h)
 
-pub bad-here : (d row rows : ℕ) (xs : List ℕ) → row < rows → (ones (take d xs) ≡ 1 → ⊥) → firstBadRow row (rowsOf d (rows - row) xs) ≡ At row
+pub bad-here : (d row rows : ℕ) (xs : List ℕ) → row < rows → (ones (take d xs) ≡ 1 → ⊥)
+    → firstBadRow row (rowsOf d (rows - row) xs) ≡ At row
 bad-here d row rows xs h e =
     bad-step d row rows xs h
     ∙ ap (λ (t : Bool). cond t (firstBadRow (suc row) (rowsOf d (rows - suc row) (drop d xs))) (At row)) (ne-eqb (ones (take d xs)) 1 e)
@@ -94,7 +99,8 @@ pub judged-by : (s : Shape) (xs : List ℕ) (size : Bool) (byte : Place) (kind :
     firstOf (ballotReasons s xs) ≡ judged size byte kind
 unfolding judged ballotReasons kindReason
 judged-by s xs size byte kind e₁ e₂ e₃ =
-    first-both (unless (eqb (length xs) (ballotBytes s)) 4) (foundAt 5 (firstAboveOne 0 xs)) (cond (isRanking s) (rankedReasons s xs) (gradedReasons s xs))
+    first-both (unless (eqb (length xs) (ballotBytes s)) 4) (foundAt 5 (firstAboveOne 0 xs))
+    (cond (isRanking s) (rankedReasons s xs) (gradedReasons s xs))
     ∙ ap (λ (t : Bool). judged t (firstAboveOne 0 xs) (kindReason s xs)) e₁
     ∙ ap (λ (p : Place). judged size p (kindReason s xs)) e₂
     ∙ ap (λ (o : Option Reason). judged size byte o) e₃

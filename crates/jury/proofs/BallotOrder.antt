@@ -49,7 +49,8 @@ unfolding countOf
 count-ballots s xs c g hc hg =
     column-addends s xs (s .ballots) c g
     ∙ ap sum
-    (tabulate-cong (s .ballots) (λ b. addend (byteOf s xs b c g)) (λ b. added (ballot b)) (λ b h. ap addend (sym (ballot-byte s xs b c g hc hg)))
+    (tabulate-cong (s .ballots) (λ b. addend (byteOf s xs b c g)) (λ b. added (ballot b))
+    (λ b h. ap addend (sym (ballot-byte s xs b c g hc hg)))
     ∙ sym (ap (map added) (rows-table (s .candidates * s .grades) (s .ballots) xs) ∙ map-tabulate added (s .ballots) ballot))
   where
     added : List ℕ → ℕ

@@ -31,7 +31,8 @@ pub counts-row : (s : Shape) (xs : List ℕ) (c : ℕ) → c < s .candidates →
 unfolding countsOf
 counts-row s xs c h = getD-tabulate (s .candidates) c (λ c. tabulate (s .grades) (countOf s xs c)) [] h
 
-pub counts-at : (s : Shape) (xs : List ℕ) (c g : ℕ) → c < s .candidates → g < s .grades → getD (getD (countsOf s xs) c []) g 0 ≡ countOf s xs c g
+pub counts-at : (s : Shape) (xs : List ℕ) (c g : ℕ) → c < s .candidates → g < s .grades
+    → getD (getD (countsOf s xs) c []) g 0 ≡ countOf s xs c g
 counts-at s xs c g hc hg = ap (λ (r : List ℕ). getD r g 0) (counts-row s xs c hc) ∙ getD-tabulate (s .grades) g (countOf s xs c) 0 hg
 
 -- a count is the number of ones in its column
@@ -41,7 +42,8 @@ column-addends s xs zero c g = refl
 column-addends s xs (suc b) c g = omega (arith, column-addends s xs b c g, sum-last b (λ i. addend (byteOf s xs i c g)))
 
 -- so for accepted ballots it is the sum of the bytes in its column
-pub column-sum : (s : Shape) (xs : List ℕ) → GradedBallots s xs → (b c g : ℕ) → countUpTo s xs b c g ≡ sum (tabulate b (λ i. byteOf s xs i c g))
+pub column-sum : (s : Shape) (xs : List ℕ) → GradedBallots s xs → (b c g : ℕ) → countUpTo s xs b c g
+    ≡ sum (tabulate b (λ i. byteOf s xs i c g))
 unfolding addend byteOf
 column-sum s xs a b c g =
     column-addends s xs b c g
@@ -56,14 +58,16 @@ unfolding countOf byteOf
 column-bytes s xs a c g = column-sum s xs a (s .ballots) c g
 
 -- each byte that is counted is a ballot byte
-pub byte-within : (s : Shape) (b c g : ℕ) → b < s .ballots → c < s .candidates → g < s .grades → (b * s .candidates + c) * s .grades + g < ballotBytes s
+pub byte-within : (s : Shape) (b c g : ℕ) → b < s .ballots → c < s .candidates → g < s .grades
+    → (b * s .candidates + c) * s .grades + g < ballotBytes s
 byte-within s b c g hb hc hg =
     let inside = grades-columns s (unfold isRanking in (ne-eqb (s .grades) 0 (λ e. absurd (omega arith)))) in
     let row : b * s .candidates + c < s .ballots * s .candidates = omega (arith, row-within b (s .ballots) (s .candidates) hb) in
     omega (arith, row-within (b * s .candidates + c) (s .ballots * s .candidates) (s .grades) row)
 
 -- counts depend only on the bytes of their columns
-counts-same : (s : Shape) (xs ys : List ℕ) (n c g : ℕ) → ((b : ℕ) → b < n → byteOf s xs b c g ≡ byteOf s ys b c g) → countUpTo s xs n c g ≡ countUpTo s ys n c g
+counts-same : (s : Shape) (xs ys : List ℕ) (n c g : ℕ) → ((b : ℕ) → b < n → byteOf s xs b c g ≡ byteOf s ys b c g)
+    → countUpTo s xs n c g ≡ countUpTo s ys n c g
 counts-same s xs ys n c g h =
     column-addends s xs n c g
     ∙ ap sum (tabulate-cong n (λ b. addend (byteOf s xs b c g)) (λ b. addend (byteOf s ys b c g)) (λ b l. ap addend (h b l)))
@@ -84,7 +88,8 @@ reads-ballots s xs ys e =
         ∙ getD-take (ballotBytes s) ys ((b * s .candidates + c) * s .grades + g) 0 h
 
 -- one row of a ballot adds 1 in all
-one-addend : (s : Shape) (xs : List ℕ) → GradedBallots s xs → (c b : ℕ) → c < s .candidates → b < s .ballots → sum (tabulate (s .grades) (λ g. addend (byteOf s xs b c g))) ≡ 1
+one-addend : (s : Shape) (xs : List ℕ) → GradedBallots s xs → (c b : ℕ) → c < s .candidates → b < s .ballots
+    → sum (tabulate (s .grades) (λ g. addend (byteOf s xs b c g))) ≡ 1
 unfolding byteOf
 one-addend s xs a c b hc hb =
     ap sum
@@ -97,16 +102,19 @@ one-addend s xs a c b hc hb =
     row = b * s .candidates + c
 
 -- a candidate's counts add up to the number of ballots counted
-sum-up-to : (s : Shape) (xs : List ℕ) → GradedBallots s xs → (c : ℕ) → c < s .candidates → (b : ℕ) → b ≤ s .ballots → sum (tabulate (s .grades) (countUpTo s xs b c)) ≡ b
+sum-up-to : (s : Shape) (xs : List ℕ) → GradedBallots s xs → (c : ℕ) → c < s .candidates → (b : ℕ) → b ≤ s .ballots
+    → sum (tabulate (s .grades) (countUpTo s xs b c)) ≡ b
 unfolding countUpTo addend
 sum-up-to s xs a c hc zero h = sum-zero (s .grades)
 sum-up-to s xs a c hc (suc b) h =
-    sum-add (s .grades) (countUpTo s xs b c) (λ g. addend (byteOf s xs b c g)) ∙ omega (arith, sum-up-to s xs a c hc b (omega arith), one-addend s xs a c b hc (omega arith))
+    sum-add (s .grades) (countUpTo s xs b c) (λ g. addend (byteOf s xs b c g))
+    ∙ omega (arith, sum-up-to s xs a c hc b (omega arith), one-addend s xs a c b hc (omega arith))
 
 pub counts-sum : (s : Shape) (xs : List ℕ) → GradedBallots s xs → (c : ℕ) → c < s .candidates → sum (getD (countsOf s xs) c []) ≡ s .ballots
 unfolding countOf
 counts-sum s xs a c h = ap sum (counts-row s xs c h) ∙ sum-up-to s xs a c h (s .ballots) (omega arith)
 
 -- and so do those in the program's array
-pub array-sum : (s : Shape) (xs : List ℕ) → GradedBallots s xs → (c : ℕ) → c < s .candidates → sum (getD (rowsIn (s .candidates) (s .grades) (countArray s xs)) c []) ≡ s .ballots
+pub array-sum : (s : Shape) (xs : List ℕ) → GradedBallots s xs → (c : ℕ) → c < s .candidates
+    → sum (getD (rowsIn (s .candidates) (s .grades) (countArray s xs)) c []) ≡ s .ballots
 array-sum s xs a c h = ap (λ (m : List (List ℕ)). sum (getD m c [])) (array-rows s xs (within s (a .within))) ∙ counts-sum s xs a c h

@@ -80,14 +80,19 @@ module _ (s : Shape) (xs : List ℕ) where
       read-row : getD (tabulate 7 (entryAfter s xs b c)) g 0 ≤ b
       read-row =
           ⊎-elim (λ l. rw (getD-tabulate 7 g (entryAfter s xs b c) 0 l) (entry-most b c g))
-          (λ l. omega (arith, List·getD-eq-default (tabulate 7 (entryAfter s xs b c)) 0 {n = g} (omega (arith, length-tabulate 7 (entryAfter s xs b c)))))
+          (λ l. omega (
+            arith,
+            List·getD-eq-default (tabulate 7 (entryAfter s xs b c)) 0 {n = g}
+                (omega (arith, length-tabulate 7 (entryAfter s xs b c))),
+          ))
           (below-or-not g 7)
 
       inside : c < 8 → getD (getD (tabulate 8 (rowAfter s xs b)) c []) g 0 ≤ b
       inside l = rw (getD-tabulate 8 c (rowAfter s xs b) [] l) read-row
 
       outside : 8 ≤ c → getD (getD (tabulate 8 (rowAfter s xs b)) c []) g 0 ≤ b
-      outside l = rw (List·getD-eq-default (tabulate 8 (rowAfter s xs b)) [] {n = c} (omega (arith, length-tabulate 8 (rowAfter s xs b)))) (omega arith)
+      outside l = rw (List·getD-eq-default (tabulate 8 (rowAfter s xs b)) [] {n = c}
+          (omega (arith, length-tabulate 8 (rowAfter s xs b)))) (omega arith)
 
   -- the array is eight by seven, and has room for one ballot more
   pub array-eight-by-seven : (b : ℕ) → b < 256 → EightBySeven (arrayAfter s xs b)
@@ -135,22 +140,31 @@ module _ (s : Shape) (xs : List ℕ) where
   -- and in that row of it
   pub byte-at : (b c g : ℕ) → c < s .candidates → g < s .grades → getD (ballotRow b c) g 0 ≡ byteOf s xs b c g
   byte-at b c g hc hg =
-      getD-take (s .grades) (drop (c * s .grades) (ballotAt b)) g 0 hg ∙ getD-drop (c * s .grades) (ballotAt b) g 0 ∙ ballot-byte b c g hc hg
+      getD-take (s .grades) (drop (c * s .grades) (ballotAt b)) g 0 hg ∙ getD-drop (c * s .grades) (ballotAt b) g 0
+      ∙ ballot-byte b c g hc hg
 
   module _ (bits : (i : ℕ) → getD xs i 0 ≤ 1) where
     -- a ballot adds its byte to the count of its candidate and grade
     pub count-step : (b c g : ℕ) → countUpTo s xs (suc b) c g ≡ countUpTo s xs b c g + byteOf s xs b c g
     unfolding countUpTo byteOf
-    count-step b c g = ap (λ (x : ℕ). countUpTo s xs b c g + x) (bit-added (byteOf s xs b c g) (bits ((b * s .candidates + c) * s .grades + g)))
+    count-step b c g = ap (λ (x : ℕ). countUpTo s xs b c g + x)
+        (bit-added (byteOf s xs b c g) (bits ((b * s .candidates + c) * s .grades + g)))
 
-    entry-step : (b c g : ℕ) → c < s .candidates → g < 7 → getD (rowAfter s xs b c) g 0 + getD (ballotRow b c) g 0 ≡ entryAfter s xs (suc b) c g
+    entry-step : (b c g : ℕ) → c < s .candidates → g < 7 → getD (rowAfter s xs b c) g 0 + getD (ballotRow b c) g 0
+        ≡ entryAfter s xs (suc b) c g
     unfolding rowAfter
     entry-step b c g hc h = ⊎-elim inside beside (below-or-not g (s .grades))
       where
         inside : g < s .grades → getD (tabulate 7 (entryAfter s xs b c)) g 0 + getD (ballotRow b c) g 0 ≡ entryAfter s xs (suc b) c g
         inside hg =
-            omega
-            (arith, getD-tabulate 7 g (entryAfter s xs b c) 0 h, entry-inside b c g hc hg, entry-inside (suc b) c g hc hg, byte-at b c g hc hg, count-step b c g)
+            omega (
+              arith,
+              getD-tabulate 7 g (entryAfter s xs b c) 0 h,
+              entry-inside b c g hc hg,
+              entry-inside (suc b) c g hc hg,
+              byte-at b c g hc hg,
+              count-step b c g,
+            )
 
         beside : s .grades ≤ g → getD (tabulate 7 (entryAfter s xs b c)) g 0 + getD (ballotRow b c) g 0 ≡ entryAfter s xs (suc b) c g
         beside hg =
@@ -170,20 +184,28 @@ module _ (s : Shape) (xs : List ℕ) where
 
     row-kept : (b c : ℕ) → s .candidates ≤ c → rowAfter s xs b c ≡ rowAfter s xs (suc b) c
     unfolding rowAfter
-    row-kept b c hc = tabulate-cong 7 (entryAfter s xs b c) (entryAfter s xs (suc b) c) (λ g h. entry-below b c g hc ∙ sym (entry-below (suc b) c g hc))
+    row-kept b c hc = tabulate-cong 7 (entryAfter s xs b c) (entryAfter s xs (suc b) c)
+        (λ g h. entry-below b c g hc ∙ sym (entry-below (suc b) c g hc))
 
     -- adding ballot b leads from the array after b ballots to the array after one more
     pub array-step : (b : ℕ) → plusBallot (s .candidates) (s .grades) (arrayAfter s xs b) (ballotAt b) ≡ arrayAfter s xs (suc b)
     unfolding plusBallot arrayAfter
     array-step b =
         tabulate-cong 8 step (rowAfter s xs (suc b))
-        (λ c h. ap (λ (r : List ℕ). cond (ltb c (s .candidates)) (plusRow r (ballotRow b c)) r) (getD-tabulate 8 c (rowAfter s xs b) [] h) ∙ ⊎-elim (added c) (kept c) (below-or-not c (s .candidates)))
+        (λ c h. ap (λ (r : List ℕ). cond (ltb c (s .candidates)) (plusRow r (ballotRow b c)) r)
+        (getD-tabulate 8 c (rowAfter s xs b) [] h) ∙ ⊎-elim (added c) (kept c) (below-or-not c (s .candidates)))
       where
         step : ℕ → List ℕ
         step c = cond (ltb c (s .candidates)) (plusRow (getD (arrayAfter s xs b) c []) (ballotRow b c)) (getD (arrayAfter s xs b) c [])
 
-        added : (c : ℕ) → c < s .candidates → cond (ltb c (s .candidates)) (plusRow (rowAfter s xs b c) (ballotRow b c)) (rowAfter s xs b c) ≡ rowAfter s xs (suc b) c
-        added c l = ap (λ (t : Bool). cond t (plusRow (rowAfter s xs b c) (ballotRow b c)) (rowAfter s xs b c)) (lt-ltb c (s .candidates) l) ∙ row-step b c l
+        added : (c : ℕ) → c < s .candidates
+            → cond (ltb c (s .candidates)) (plusRow (rowAfter s xs b c) (ballotRow b c)) (rowAfter s xs b c)
+            ≡ rowAfter s xs (suc b) c
+        added c l = ap (λ (t : Bool). cond t (plusRow (rowAfter s xs b c) (ballotRow b c)) (rowAfter s xs b c))
+            (lt-ltb c (s .candidates) l) ∙ row-step b c l
 
-        kept : (c : ℕ) → s .candidates ≤ c → cond (ltb c (s .candidates)) (plusRow (rowAfter s xs b c) (ballotRow b c)) (rowAfter s xs b c) ≡ rowAfter s xs (suc b) c
-        kept c l = ap (λ (t : Bool). cond t (plusRow (rowAfter s xs b c) (ballotRow b c)) (rowAfter s xs b c)) (le-ltb c (s .candidates) l) ∙ row-kept b c l
+        kept : (c : ℕ) → s .candidates ≤ c
+            → cond (ltb c (s .candidates)) (plusRow (rowAfter s xs b c) (ballotRow b c)) (rowAfter s xs b c)
+            ≡ rowAfter s xs (suc b) c
+        kept c l = ap (λ (t : Bool). cond t (plusRow (rowAfter s xs b c) (ballotRow b c)) (rowAfter s xs b c))
+            (le-ltb c (s .candidates) l) ∙ row-kept b c l

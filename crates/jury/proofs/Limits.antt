@@ -25,7 +25,8 @@ pub record Within (s : Shape) : Type 0 where
 pub within : (s : Shape) → gradedLimits s ≡ true → Within s
 unfolding gradedLimits
 within s e =
-    let e₅ = and-first (leb 1 (s .candidates) && leb (s .candidates) 8 && leb 2 (s .grades) && leb (s .grades) 7 && leb 1 (s .ballots)) (leb (s .ballots) 255) e in
+    let e₅ = and-first (leb 1 (s .candidates) && leb (s .candidates) 8 && leb 2 (s .grades) && leb (s .grades) 7 &&
+    leb 1 (s .ballots)) (leb (s .ballots) 255) e in
     let e₄ = and-first (leb 1 (s .candidates) && leb (s .candidates) 8 && leb 2 (s .grades) && leb (s .grades) 7) (leb 1 (s .ballots)) e₅ in
     let e₃ = and-first (leb 1 (s .candidates) && leb (s .candidates) 8 && leb 2 (s .grades)) (leb (s .grades) 7) e₄ in
     let e₂ = and-first (leb 1 (s .candidates) && leb (s .candidates) 8) (leb 2 (s .grades)) e₃ in
@@ -33,9 +34,14 @@ within s e =
       k-least = leb-true 1 (s .candidates) (and-first (leb 1 (s .candidates)) (leb (s .candidates) 8) e₂);
       k-most = leb-true (s .candidates) 8 (and-second (leb 1 (s .candidates)) (leb (s .candidates) 8) e₂);
       d-least = leb-true 2 (s .grades) (and-second (leb 1 (s .candidates) && leb (s .candidates) 8) (leb 2 (s .grades)) e₃);
-      d-most = leb-true (s .grades) 7 (and-second (leb 1 (s .candidates) && leb (s .candidates) 8 && leb 2 (s .grades)) (leb (s .grades) 7) e₄);
-      n-least = leb-true 1 (s .ballots) (and-second (leb 1 (s .candidates) && leb (s .candidates) 8 && leb 2 (s .grades) && leb (s .grades) 7) (leb 1 (s .ballots)) e₅);
-      n-most = leb-true (s .ballots) 255 (and-second (leb 1 (s .candidates) && leb (s .candidates) 8 && leb 2 (s .grades) && leb (s .grades) 7 && leb 1 (s .ballots)) (leb (s .ballots) 255) e);
+      d-most = leb-true (s .grades) 7
+          (and-second (leb 1 (s .candidates) && leb (s .candidates) 8 && leb 2 (s .grades)) (leb (s .grades) 7) e₄);
+      n-least = leb-true 1 (s .ballots)
+          (and-second (leb 1 (s .candidates) && leb (s .candidates) 8 && leb 2 (s .grades) && leb (s .grades) 7)
+          (leb 1 (s .ballots)) e₅);
+      n-most = leb-true (s .ballots) 255
+          (and-second (leb 1 (s .candidates) && leb (s .candidates) 8 && leb 2 (s .grades) && leb (s .grades) 7 &&
+          leb 1 (s .ballots)) (leb (s .ballots) 255) e);
     }
 
 pub within-T : (s : Shape) → T (gradedLimits s) → Within s
@@ -45,7 +51,14 @@ within-T s h = within s (T-true (gradedLimits s) h)
 pub within-back : (s : Shape) → Within s → gradedLimits s ≡ true
 unfolding gradedLimits
 within-back s w =
-    simp (le-leb _ _ (w .k-least), le-leb _ _ (w .k-most), le-leb _ _ (w .d-least), le-leb _ _ (w .d-most), le-leb _ _ (w .n-least), le-leb _ _ (w .n-most))
+    simp (
+      le-leb _ _ (w .k-least),
+      le-leb _ _ (w .k-most),
+      le-leb _ _ (w .d-least),
+      le-leb _ _ (w .d-most),
+      le-leb _ _ (w .n-least),
+      le-leb _ _ (w .n-most),
+    )
 
 -- there are few rows in all ballots, and few ballot bytes
 pub rows-bound : (s : Shape) → Within s → s .ballots * s .candidates ≤ 2040
@@ -84,8 +97,11 @@ ranked s e =
       k-least = leb-true 1 (s .candidates) (and-first (leb 1 (s .candidates)) (leb (s .candidates) 8) e₂);
       k-most = leb-true (s .candidates) 8 (and-second (leb 1 (s .candidates)) (leb (s .candidates) 8) e₂);
       ranking = and-second (leb 1 (s .candidates) && leb (s .candidates) 8) (isRanking s) e₃;
-      n-least = leb-true 1 (s .ballots) (and-second (leb 1 (s .candidates) && leb (s .candidates) 8 && isRanking s) (leb 1 (s .ballots)) e₄);
-      n-most = leb-true (s .ballots) 255 (and-second (leb 1 (s .candidates) && leb (s .candidates) 8 && isRanking s && leb 1 (s .ballots)) (leb (s .ballots) 255) e);
+      n-least = leb-true 1 (s .ballots)
+          (and-second (leb 1 (s .candidates) && leb (s .candidates) 8 && isRanking s) (leb 1 (s .ballots)) e₄);
+      n-most = leb-true (s .ballots) 255
+          (and-second (leb 1 (s .candidates) && leb (s .candidates) 8 && isRanking s && leb 1 (s .ballots))
+          (leb (s .ballots) 255) e);
     }
 
 pub ranked-bytes : (s : Shape) → isRanking s ≡ true → ballotBytes s ≡ s .ballots * s .candidates * s .candidates
@@ -125,7 +141,8 @@ bounds s e = ⊎-elim graded rank (kinds s e)
     graded : gradedLimits s ≡ true → Bounds s
     graded g =
         let w = within s g in
-        let few : columns s ≤ 8 = subst (λ (t : Bool). cond t (s .candidates) (s .grades) ≤ 8) (sym (graded-is s w)) (omega (arith, w .d-most)) in
+        let few : columns s ≤ 8 = subst (λ (t : Bool). cond t (s .candidates) (s .grades) ≤ 8) (sym (graded-is s w))
+        (omega (arith, w .d-most)) in
         record { k-least = w .k-least; k-most = w .k-most; c-most = few; n-least = w .n-least; n-most = w .n-most }
 
     rank : rankedLimits s ≡ true → Bounds s

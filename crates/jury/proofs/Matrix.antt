@@ -40,4 +40,6 @@ array-rows s xs w =
 -- every row of the array has seven counts
 pub array-columns : (s : Shape) (xs : List ℕ) (i : ℕ) → i < 8 → length (getD (countArray s xs) i []) ≡ 7
 unfolding countArray
-array-columns s xs i l = rw (getD-tabulate 8 i (λ c. tabulate 7 (λ g. cond (ltb c (s .candidates) && ltb g (s .grades)) (countOf s xs c g) 0)) [] l) (length-tabulate 7 (λ g. cond (ltb i (s .candidates) && ltb g (s .grades)) (countOf s xs i g) 0))
+array-columns s xs i l = rw (getD-tabulate 8 i
+    (λ c. tabulate 7 (λ g. cond (ltb c (s .candidates) && ltb g (s .grades)) (countOf s xs c g) 0)) [] l)
+    (length-tabulate 7 (λ g. cond (ltb i (s .candidates) && ltb g (s .grades)) (countOf s xs i g) 0))

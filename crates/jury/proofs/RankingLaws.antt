@@ -24,7 +24,8 @@ module _ (k : ℕ) (xs : List ℕ) (b : ℕ) where
   clash-free e i j hi hj f =
       either (before k xs b j i)
       (λ g.
-      let here : notAsymmetricAt k xs b i j ≡ Nowhere = none-first (notAsymmetricAt k xs b i) k (none-first (notAsymmetricInRow k xs b) k e i hi) j hj in
+      let here : notAsymmetricAt k xs b i j ≡ Nowhere =
+      none-first (notAsymmetricAt k xs b i) k (none-first (notAsymmetricInRow k xs b) k e i hi) j hj in
       let found = clash-here k xs b i j f g in
       let z : _≡_ {A = ℕ} 0 1 = cc in absurd (omega arith))
       (λ g. g)
@@ -48,7 +49,9 @@ module _ (k : ℕ) (xs : List ℕ) (b : ℕ) where
       (λ h.
       absurd
       (true≢false
-      (sym (and-both (before k xs b i j) (neitherAfterNorBefore k xs b i j) h (some-here (λ m. not (before k xs b i m) && not (before k xs b m j)) k l hl (and-both (not (before k xs b i l)) (not (before k xs b l j)) (ap not f) (ap not g))))
+      (sym (and-both (before k xs b i j) (neitherAfterNorBefore k xs b i j) h
+      (some-here (λ m. not (before k xs b i m) && not (before k xs b m j)) k l hl
+      (and-both (not (before k xs b i l)) (not (before k xs b l j)) (ap not f) (ap not g))))
       ∙ none-some (λ j. before k xs b i j && neitherAfterNorBefore k xs b i j) k (none-some (notWeakOrderAfter k xs b) k e i hi) j hj)))
       (λ h. h)
 
@@ -59,7 +62,8 @@ module _ (k : ℕ) (xs : List ℕ) (b : ℕ) where
       (λ i hi.
       some-none (λ j. before k xs b i j && neitherAfterNorBefore k xs b i j) k
       (λ j hj.
-      either (before k xs b i j) (λ f. and-second-fails (before k xs b i j) (neitherAfterNorBefore k xs b i j) (none-apart i j hi hj f)) (and-first-fails (before k xs b i j) (neitherAfterNorBefore k xs b i j))))
+      either (before k xs b i j) (λ f. and-second-fails (before k xs b i j) (neitherAfterNorBefore k xs b i j)
+      (none-apart i j hi hj f)) (and-first-fails (before k xs b i j) (neitherAfterNorBefore k xs b i j))))
     where
       none-apart : (i j : ℕ) → i < k → j < k → before k xs b i j ≡ true → neitherAfterNorBefore k xs b i j ≡ false
       none-apart i j hi hj f =

@@ -22,7 +22,8 @@ unfolding firstOver orElse
 first-later found i none here = ap (λ (m : ℕ). firstOver m found) (add-one i) ∙ ap (λ (r : Place). orElse r (found i)) none ∙ here
 
 -- what is found at the first place that finds anything
-pub first-here : (found : ℕ → Place) (m i place : ℕ) → i < m → firstOver i found ≡ Nowhere → found i ≡ At place → firstOver m found ≡ At place
+pub first-here : (found : ℕ → Place) (m i place : ℕ) → i < m → firstOver i found ≡ Nowhere → found i ≡ At place
+    → firstOver m found ≡ At place
 unfolding firstOver orElse
 first-here found zero i place h none here = absurd (omega arith)
 first-here found (suc m) i place h none here =
@@ -101,10 +102,12 @@ rank-known k b i j hi hj = (rank-within k b i j hi hj, row-below k (b * k + i) (
 
 -- a ballot lies within the ballots
 pub ballot-within : (k n b : ℕ) → b < n → (b + 1) * k * k ≤ n * k * k
-ballot-within k n b h = mul-le-mul {n₁ = (b + 1) * k} {m₁ = k} {n₂ = n * k} {m₂ = k} (mul-le-mul {n₁ = b + 1} {m₁ = k} {n₂ = n} {m₂ = k} (omega arith) (omega arith)) (omega arith)
+ballot-within k n b h = mul-le-mul {n₁ = (b + 1) * k} {m₁ = k} {n₂ = n * k} {m₂ = k}
+    (mul-le-mul {n₁ = b + 1} {m₁ = k} {n₂ = n} {m₂ = k} (omega arith) (omega arith)) (omega arith)
 
 -- a byte that is 1 with its opposite, and one that is not
-pub clash-here : (k : ℕ) (xs : List ℕ) (b i j : ℕ) → before k xs b i j ≡ true → before k xs b j i ≡ true → notAsymmetricAt k xs b i j ≡ At (rankPlace k b i j)
+pub clash-here : (k : ℕ) (xs : List ℕ) (b i j : ℕ) → before k xs b i j ≡ true → before k xs b j i ≡ true
+    → notAsymmetricAt k xs b i j ≡ At (rankPlace k b i j)
 unfolding notAsymmetricAt
 clash-here k xs b i j e f = rw (e, f)
 
@@ -112,6 +115,7 @@ pub clash-not-forth : (k : ℕ) (xs : List ℕ) (b i j : ℕ) → before k xs b 
 unfolding notAsymmetricAt
 clash-not-forth k xs b i j e = rw e
 
-pub clash-not-back : (k : ℕ) (xs : List ℕ) (b i j : ℕ) → before k xs b i j ≡ true → before k xs b j i ≡ false → notAsymmetricAt k xs b i j ≡ Nowhere
+pub clash-not-back : (k : ℕ) (xs : List ℕ) (b i j : ℕ) → before k xs b i j ≡ true → before k xs b j i ≡ false
+    → notAsymmetricAt k xs b i j ≡ Nowhere
 unfolding notAsymmetricAt
 clash-not-back k xs b i j e f = rw (e, f)

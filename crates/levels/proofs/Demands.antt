@@ -41,26 +41,32 @@ all-numbers : (s : Shape) (table levels : List ℕ) → All numbers (levelsReaso
 unfolding All levelsReasons hasNumberIn reasonAt numbers
 all-numbers s table levels = both numbers (testReasons s table) _ (test-numbers s table) (unless-fine numbers _ 200 tt, tt)
 
-pub levels-number : (s : Shape) (table levels : List ℕ) (r : Reason) → levelsOutcome s table levels ≡ refused r → T (hasNumberIn (1 ∷ 2 ∷ 3 ∷ 200 ∷ []) r)
+pub levels-number : (s : Shape) (table levels : List ℕ) (r : Reason) → levelsOutcome s table levels ≡ refused r
+    → T (hasNumberIn (1 ∷ 2 ∷ 3 ∷ 200 ∷ []) r)
 unfolding levelsOutcome numbers
 levels-number s table levels r e =
-    refused-fine numbers (levelsOutcome s table levels) r (outcome-fine numbers _ _ (first-fine numbers (levelsReasons s table levels) (all-numbers s table levels))) e
+    refused-fine numbers (levelsOutcome s table levels) r
+    (outcome-fine numbers _ _ (first-fine numbers (levelsReasons s table levels) (all-numbers s table levels))) e
 
 -- what is known of the reasons, from the answer
-refused-by : (s : Shape) (table levels : List ℕ) (r : Reason) → levelsOutcome s table levels ≡ refused r → firstOf (levelsReasons s table levels) ≡ some r
+refused-by : (s : Shape) (table levels : List ℕ) (r : Reason) → levelsOutcome s table levels ≡ refused r
+    → firstOf (levelsReasons s table levels) ≡ some r
 unfolding levelsOutcome
 refused-by s table levels r e = outcome-refused (firstOf (levelsReasons s table levels)) (depthsOf (ballotBytes s) (gatesOf table)) r e
 
-accepted-by : (s : Shape) (table levels : List ℕ) (depths : Depths) → levelsOutcome s table levels ≡ accepted depths → (firstOf (levelsReasons s table levels) ≡ none) × (depthsOf (ballotBytes s) (gatesOf table) ≡ depths)
+accepted-by : (s : Shape) (table levels : List ℕ) (depths : Depths) → levelsOutcome s table levels ≡ accepted depths
+    → (firstOf (levelsReasons s table levels) ≡ none) × (depthsOf (ballotBytes s) (gatesOf table) ≡ depths)
 unfolding levelsOutcome
-accepted-by s table levels depths e = accepted-values (firstOf (levelsReasons s table levels)) (depthsOf (ballotBytes s) (gatesOf table)) depths e
+accepted-by s table levels depths e =
+    accepted-values (firstOf (levelsReasons s table levels)) (depthsOf (ballotBytes s) (gatesOf table)) depths e
 
 written-length : (s : Shape) (table levels : List ℕ) → length (levelsWritten s table levels) ≡ length levels
 written-length s table levels = go (firstOf (levelsReasons s table levels)) refl
   where
     go : (o : Option Reason) → firstOf (levelsReasons s table levels) ≡ o → length (levelsWritten s table levels) ≡ length levels
     go (some r) e = ap (λ (q : LevelsResult). length (q .levels)) (sym (call-refused s table levels r e))
-    go none e = ap (λ (q : LevelsResult). length (q .levels)) (sym (call-accepted s table levels e)) ∙ length-levels (ballotBytes s) (gatesOf table) ∙ sym (both-passed s table levels e .1)
+    go none e = ap (λ (q : LevelsResult). length (q .levels)) (sym (call-accepted s table levels e))
+        ∙ length-levels (ballotBytes s) (gatesOf table) ∙ sym (both-passed s table levels e .1)
 
 pub memory : Memory
 unfolding Each
@@ -73,7 +79,8 @@ memory s table levels =
     }
 
 -- gate g's level is that of its operands
-level-at : (inputs : ℕ) (ls : List ℕ) (n : ℕ) (gs : List Gate) → Leveled inputs ls n gs → (g : ℕ) (x : Gate) (rest : List Gate) → drop g gs ≡ x ∷ rest → getD ls (n + g) 0 ≡ gateLevel inputs ls x
+level-at : (inputs : ℕ) (ls : List ℕ) (n : ℕ) (gs : List Gate) → Leveled inputs ls n gs
+    → (g : ℕ) (x : Gate) (rest : List Gate) → drop g gs ≡ x ∷ rest → getD ls (n + g) 0 ≡ gateLevel inputs ls x
 level-at inputs ls n [] l zero x rest e = let z : _≡_ {A = ℕ} 0 1 = cc in absurd (omega arith)
 level-at inputs ls n [] l (suc g) x rest e = let z : _≡_ {A = ℕ} 0 1 = cc in absurd (omega arith)
 level-at inputs ls n (y ∷ gs) l zero x rest e =
@@ -98,7 +105,10 @@ module _ (s : Shape) (table levels : List ℕ) (depths : Depths) (e : levelsOutc
 
   facts : ListFacts s table (length (gatesOf table)) (sizeOf (gatesOf table) .conditional)
   unfolding sizeOf
-  facts = list-facts s table _ _ (test-passed s table (sizeOf (gatesOf table)) (unfold testOutcome in ap (λ (o : Option Reason). outcome o (sizeOf (gatesOf table))) (both-passed s table levels is-none .0) ∙ accepts))
+  facts = list-facts s table _ _
+      (test-passed s table (sizeOf (gatesOf table))
+      (unfold testOutcome in ap (λ (o : Option Reason). outcome o (sizeOf (gatesOf table)))
+      (both-passed s table levels is-none .0) ∙ accepts))
     where
       accepts : outcome none (sizeOf (gatesOf table)) ≡ accepted (sizeOf (gatesOf table))
       accepts = unfold outcome in refl
@@ -106,34 +116,47 @@ module _ (s : Shape) (table levels : List ℕ) (depths : Depths) (e : levelsOutc
   leveled : Leveled (ballotBytes s) (levelsWritten s table levels) 0 (gatesOf table)
   leveled =
       subst (λ (ls : List ℕ). Leveled (ballotBytes s) ls 0 (gatesOf table)) (sym written)
-      (levels-leveled (ballotBytes s) (gatesOf table) (facts .some-input) (subst (λ (n : ℕ). AllGood n (gatesOf table)) (add-zero (ballotBytes s)) (all-good (ballotBytes s) 0 (gatesOf table) (facts .good))))
+      (levels-leveled (ballotBytes s) (gatesOf table) (facts .some-input)
+      (subst (λ (n : ℕ). AllGood n (gatesOf table)) (add-zero (ballotBytes s))
+      (all-good (ballotBytes s) 0 (gatesOf table) (facts .good))))
 
   gates-own : depths .gates ≡ length (gatesOf table)
   unfolding depthsOf
   gates-own = ap (λ (d : Depths). d .gates) own
 
-  at : (g : ℕ) → g < depths .gates → getD (levelsWritten s table levels) g 0 ≡ gateLevel (ballotBytes s) (levelsWritten s table levels) (gateAt table g)
+  at : (g : ℕ) → g < depths .gates → getD (levelsWritten s table levels) g 0
+      ≡ gateLevel (ballotBytes s) (levelsWritten s table levels) (gateAt table g)
   at g h =
       let i : g ≡ 0 + g = omega arith in
       ap (λ (n : ℕ). getD (levelsWritten s table levels) n 0) i
-      ∙ level-at (ballotBytes s) (levelsWritten s table levels) 0 (gatesOf table) leveled g (gateAt table g) (drop (suc g) (gatesOf table)) (gates-from table g (omega (arith, gates-own)))
+      ∙ level-at (ballotBytes s) (levelsWritten s table levels) 0 (gatesOf table) leveled g (gateAt table g)
+      (drop (suc g) (gatesOf table)) (gates-from table g (omega (arith, gates-own)))
 
   -- an operand with its bound
-  operand : (g x : ℕ) → g < depths .gates → wireLevel (ballotBytes s) (levelsWritten s table levels) x + cond (conditionalOf (gateAt table g .kind)) 1 0 ≤ gateLevel (ballotBytes s) (levelsWritten s table levels) (gateAt table g) → OperandBelow s table levels g x
+  operand : (g x : ℕ) → g < depths .gates → wireLevel (ballotBytes s) (levelsWritten s table levels) x
+      + cond (conditionalOf (gateAt table g .kind)) 1 0
+      ≤ gateLevel (ballotBytes s) (levelsWritten s table levels) (gateAt table g) → OperandBelow s table levels g x
   operand g x h b =
       let l = at g h in
       record {
         most = omega arith;
-        below = λ is. let m : cond {A = ℕ} (conditionalOf (gateAt table g .kind)) 1 0 ≡ 1 = ap (λ (c : Bool). cond {A = ℕ} c 1 0) is in omega arith;
+        below = λ is. let m : cond {A = ℕ} (conditionalOf (gateAt table g .kind)) 1 0 ≡ 1 =
+            ap (λ (c : Bool). cond {A = ℕ} c 1 0) is in omega arith;
       }
 
   pub depth : Depth s table levels depths
   unfolding depthsOf
   depth =
-      let bounds : (g : ℕ) → OperandLevels (ballotBytes s) (levelsWritten s table levels) (gateAt table g) = λ g. operand-levels (ballotBytes s) (levelsWritten s table levels) (gateAt table g) in
+      let bounds : (g : ℕ) → OperandLevels (ballotBytes s) (levelsWritten s table levels) (gateAt table g) =
+      λ g. operand-levels (ballotBytes s) (levelsWritten s table levels) (gateAt table g) in
       record {
         own = own;
-        few = omega (arith, ap (λ (d : Depths). d .rounds) own, ap (λ (d : Depths). d .conditional) own, rounds-most (ballotBytes s) (gatesOf table));
+        few = omega (
+          arith,
+          ap (λ (d : Depths). d .rounds) own,
+          ap (λ (d : Depths). d .conditional) own,
+          rounds-most (ballotBytes s) (gatesOf table),
+        );
         level = λ g. omega (arith, ap (λ (d : Depths). d .rounds) own, ap (λ (l : List ℕ). getD l g 0) written, most g);
         a-operand = λ g h. operand g (gateAt table g .a) h (bounds g .a-level);
         b-operand = λ g h. operand g (gateAt table g .b) h (bounds g .b-level);

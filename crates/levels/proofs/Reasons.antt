@@ -37,7 +37,8 @@ pub record ListFacts (s : Shape) (table : List ℕ) (gates conditional : ℕ) : 
   pub gates-are : gates ≡ length (gatesOf table)
   pub conditional-are : conditional ≡ conditionalCount (gatesOf table)
 
-pub list-facts : (s : Shape) (table : List ℕ) (gates conditional : ℕ) → TestPassed s table (record { gates = gates; conditional = conditional }) → ListFacts s table gates conditional
+pub list-facts : (s : Shape) (table : List ℕ) (gates conditional : ℕ)
+    → TestPassed s table (record { gates = gates; conditional = conditional }) → ListFacts s table gates conditional
 list-facts s table gates conditional p =
     let f = accepted-list (ballotBytes s) (s .candidates) table gates conditional (p .tests) in
     record {
@@ -64,30 +65,40 @@ module _ (s : Shape) (table levels : List ℕ) where
   unfolding testOutcome orElse
   of-list r e = by (some r) _ (outcome-refused (firstOf (testReasons s table)) (sizeOf (gatesOf table)) r e) refl
 
-  pub other-length : firstOf (testReasons s table) ≡ none → (length levels ≡ length (gatesOf table) → ⊥) → firstOf (levelsReasons s table levels) ≡ some (reasonAt 200 0)
+  pub other-length : firstOf (testReasons s table) ≡ none → (length levels ≡ length (gatesOf table) → ⊥)
+      → firstOf (levelsReasons s table levels) ≡ some (reasonAt 200 0)
   unfolding orElse unless firstOf
   other-length e h = by none false e (ne-eqb (length levels) (length (gatesOf table)) h)
 
-  pub all-pass : firstOf (testReasons s table) ≡ none → length levels ≡ length (gatesOf table) → firstOf (levelsReasons s table levels) ≡ none
+  pub all-pass : firstOf (testReasons s table) ≡ none → length levels ≡ length (gatesOf table)
+      → firstOf (levelsReasons s table levels) ≡ none
   unfolding orElse unless firstOf
   all-pass e h = by none true e (eq-eqb (length levels) (length (gatesOf table)) h)
 
   -- and back: which tests an accepted call has passed
-  pub both-passed : firstOf (levelsReasons s table levels) ≡ none → (firstOf (testReasons s table) ≡ none) × (length levels ≡ length (gatesOf table))
+  pub both-passed : firstOf (levelsReasons s table levels) ≡ none → (firstOf (testReasons s table) ≡ none)
+      × (length levels ≡ length (gatesOf table))
   unfolding orElse unless firstOf
   both-passed e = go (firstOf (testReasons s table)) (eqb (length levels) (length (gatesOf table))) refl refl
     where
-      go : (o : Option Reason) (b : Bool) → firstOf (testReasons s table) ≡ o → eqb (length levels) (length (gatesOf table)) ≡ b → (firstOf (testReasons s table) ≡ none) × (length levels ≡ length (gatesOf table))
+      go : (o : Option Reason) (b : Bool) → firstOf (testReasons s table) ≡ o
+          → eqb (length levels) (length (gatesOf table)) ≡ b → (firstOf (testReasons s table) ≡ none)
+          × (length levels ≡ length (gatesOf table))
       go (some r) b f g = let q = sym (by (some r) b f g) ∙ e in let z : _≡_ {A = ℕ} 0 1 = cc in absurd (omega arith)
       go none false f g = let q = sym (by none false f g) ∙ e in let z : _≡_ {A = ℕ} 0 1 = cc in absurd (omega arith)
       go none true f g = (f, eqb-true (length levels) (length (gatesOf table)) g)
 
-  pub call-refused : (r : Reason) → firstOf (levelsReasons s table levels) ≡ some r → _≡_ {A = LevelsResult} (record { answer = refused r; levels = levels }) (levelsResult s table levels)
+  pub call-refused : (r : Reason) → firstOf (levelsReasons s table levels) ≡ some r
+      → _≡_ {A = LevelsResult} (record { answer = refused r; levels = levels }) (levelsResult s table levels)
   unfolding levelsOutcome levelsWritten outcome afterwards
   call-refused r e = rw e
 
   pub call-accepted : firstOf (levelsReasons s table levels) ≡ none
-      → _≡_ {A = LevelsResult} (record { answer = accepted (depthsOf (ballotBytes s) (gatesOf table)); levels = levelsOf (ballotBytes s) (gatesOf table) }) (levelsResult s table levels)
+      → _≡_ {A = LevelsResult} (record {
+        answer = accepted (depthsOf (ballotBytes s) (gatesOf table));
+        levels =
+            levelsOf (ballotBytes s) (gatesOf table);
+      }) (levelsResult s table levels)
   unfolding levelsOutcome levelsWritten outcome afterwards
   call-accepted e = rw e
 
@@ -98,7 +109,8 @@ same-result {answer} {answer′} {levels} e f =
     ap (λ (z : Outcome Depths). record { answer = z; levels = levels }) e ∙ ap (λ (z : List ℕ). record { answer = answer′; levels = z }) f
 
 -- the answer of an accepted call
-pub depths-are : (inputs : ℕ) (table : List ℕ) (g c r : ℕ) → g ≡ length (gatesOf table) → c ≡ conditionalCount (gatesOf table) → r ≡ roundsOf inputs (gatesOf table)
+pub depths-are : (inputs : ℕ) (table : List ℕ) (g c r : ℕ) → g ≡ length (gatesOf table) → c
+    ≡ conditionalCount (gatesOf table) → r ≡ roundsOf inputs (gatesOf table)
     → record { gates = g; conditional = c; rounds = r } ≡ depthsOf inputs (gatesOf table)
 unfolding depthsOf
 depths-are inputs table g c r eg ec er =

@@ -62,7 +62,8 @@ module _ (beats : ℕ → ℕ → ℕ) (r n : ℕ) where
   unfolding loserRows
   rows-good below =
       blocks-good n (loserRow beats r) k
-      (λ i l. row-good beats r (startOf n (loserRow beats r) i) i (λ s q. let h = below (other i s) i (other-low i s r q) l (other-apart i s) in omega arith))
+      (λ i l. row-good beats r (startOf n (loserRow beats r) i) i
+      (λ s q. let h = below (other i s) i (other-low i s r q) l (other-apart i s) in omega arith))
 
   pub outputs-good : WiresBelow k beats n → AllGood (n + k * r) (outputGates beats r n k)
   unfolding outputGates
@@ -72,13 +73,15 @@ module _ (beats : ℕ → ℕ → ℕ) (r n : ℕ) where
       let rows : i * r + r ≤ k * r = row-fits i l in
       let wire = startOf (n + k * r) output i in
       let low : joined beats (suc r) (n + i * r) i (2 * r) < wire =
-      item-before beats r (n + i * r) i wire r (2 * r) (omega arith) (omega arith) (λ s q. let h = below (other i s) i (other-low i s r q) l (other-apart i s) in omega arith) in
+      item-before beats r (n + i * r) i wire r (2 * r) (omega arith) (omega arith)
+      (λ s q. let h = below (other i s) i (other-low i s r q) l (other-apart i s) in omega arith) in
       (good-one wire 3 (joined beats (suc r) (n + i * r) i (2 * r)) (omega arith) (operand-counts .3) low, tt))
     where
       row-fits : (i : ℕ) → i < k → i * r + r ≤ k * r
       row-fits i l = omega (arith, row-within i k r l)
 
-  module _ (W : ℕ → ℕ) (b : Binary W) (v : ℕ → ℕ → ℕ) (rows : Holds W n (loserRows beats r n k)) (outputs : Holds W (n + k * r) (outputGates beats r n k))
+  module _ (W : ℕ → ℕ) (b : Binary W) (v : ℕ → ℕ → ℕ) (rows : Holds W n (loserRows beats r n k))
+      (outputs : Holds W (n + k * r) (outputGates beats r n k))
       (i : ℕ) (hi : i < k)
       (winner-unbeaten : wins v k i ≡ true → (j : ℕ) → j < k → j ≢ i → W (beats j i) ≡ 0)
       (unbeaten-winner : ((j : ℕ) → j < k → j ≢ i → W (beats j i) ≡ 0) → wins v k i ≡ true) where
@@ -91,7 +94,8 @@ module _ (beats : ℕ → ℕ → ℕ) (r n : ℕ) where
 
     winner-unlost : wins v k i ≡ true → W lost ≡ 0
     unfolding lost
-    winner-unlost e = lost-zero beats r (n + i * r) i W b row-holds (λ s q. winner-unbeaten e (other i s) (other-low i s r q) (other-apart i s))
+    winner-unlost e = lost-zero beats r (n + i * r) i W b row-holds
+        (λ s q. winner-unbeaten e (other i s) (other-low i s r q) (other-apart i s))
 
     unlost-winner : W lost ≡ 0 → wins v k i ≡ true
     unfolding lost
@@ -107,12 +111,14 @@ module _ (beats : ℕ → ℕ → ℕ) (r n : ℕ) where
 
     output-is : W (n + k * r + i) ≡ 1 - W lost
     unfolding outputGates lost
-    output-is = ap W (sym (output-start i)) ∙ block-holds (n + k * r) output W k i hi outputs .0 ∙ not-is W b (joined beats (suc r) (n + i * r) i (2 * r))
+    output-is = ap W (sym (output-start i)) ∙ block-holds (n + k * r) output W k i hi outputs .0
+        ∙ not-is W b (joined beats (suc r) (n + i * r) i (2 * r))
 
     -- output gate i says whether i wins
     pub output-law : W (n + k * r + i) ≡ cond (wins v k i) 1 0
     output-law =
-        ⊎-elim (λ (z : W lost ≡ 0). let one : W (n + k * r + i) ≡ 1 = omega (arith, output-is) in one ∙ sym (ap (λ (c : Bool). cond {A = ℕ} c 1 0) (unlost-winner z)))
+        ⊎-elim (λ (z : W lost ≡ 0). let one : W (n + k * r + i) ≡ 1 = omega (arith, output-is) in one
+        ∙ sym (ap (λ (c : Bool). cond {A = ℕ} c 1 0) (unlost-winner z)))
         (λ (z : W lost ≡ 1).
         let none : W (n + k * r + i) ≡ 0 = omega (arith, output-is) in
         none ∙ sym (ap (λ (c : Bool). cond {A = ℕ} c 1 0) (never-true (wins v k i) (λ e. let y = winner-unlost e in omega arith))))
@@ -155,12 +161,23 @@ module _ (r n w : ℕ) where
 
   rows-end : n * k₂ * k₂ + length (pathGates ++ duelGates ++ meetingGates ++ rowGates) ≡ losersFrom k₂ n w + k₂ * suc r
   unfolding rowGates
-  rows-end = omega (arith, length-append (pathGates ++ duelGates ++ meetingGates) rowGates, meetings-end, rows-length (beatsAt k₂ n w) (suc r) (losersFrom k₂ n w))
+  rows-end = omega (
+    arith,
+    length-append (pathGates ++ duelGates ++ meetingGates) rowGates,
+    meetings-end,
+    rows-length (beatsAt k₂ n w) (suc r) (losersFrom k₂ n w),
+  )
 
   -- the output gates are the last k
   several-end : n * k₂ * k₂ + length (rankedList (suc (suc (suc r))) n w) ≡ losersFrom k₂ n w + k₂ * suc r + k₂
   unfolding lastGates
-  several-end = omega (arith, ap length list-is, length-append (pathGates ++ duelGates ++ meetingGates ++ rowGates) lastGates, rows-end, outputs-length (beatsAt k₂ n w) (suc r) (losersFrom k₂ n w))
+  several-end = omega (
+    arith,
+    ap length list-is,
+    length-append (pathGates ++ duelGates ++ meetingGates ++ rowGates) lastGates,
+    rows-end,
+    outputs-length (beatsAt k₂ n w) (suc r) (losersFrom k₂ n w),
+  )
 
   -- the paths' words, and the last candidate
   abbrev words₂ : ℕ → ℕ → ℕ
@@ -181,10 +198,12 @@ module _ (r n w : ℕ) where
   beats-below i j hi hj ne =
       ⊎-elim
       (λ (q : max i j < l₂).
-      subst (λ (c : Bool). cond c (meetingAt k₂ n w i j) (duelAt k₂ n w i j) < meetingsFrom k₂ n w + length (meetings k₂ n w)) (sym (lt-ltb (max i j) l₂ q))
+      subst (λ (c : Bool). cond c (meetingAt k₂ n w i j) (duelAt k₂ n w i j) < meetingsFrom k₂ n w
+      + length (meetings k₂ n w)) (sym (lt-ltb (max i j) l₂ q))
       (unfold meetingAt meetings in (meetings-below l₂ words₂ (duelAt k₂ n w) w (meetingsFrom k₂ n w) k₂ i j hi hj ne q)))
       (λ (q : l₂ ≤ max i j).
-      subst (λ (c : Bool). cond c (meetingAt k₂ n w i j) (duelAt k₂ n w i j) < meetingsFrom k₂ n w + length (meetings k₂ n w)) (sym (le-ltb (max i j) l₂ q))
+      subst (λ (c : Bool). cond c (meetingAt k₂ n w i j) (duelAt k₂ n w i j) < meetingsFrom k₂ n w
+      + length (meetings k₂ n w)) (sym (le-ltb (max i j) l₂ q))
       (omega (arith, duel-below i j hi hj ne q)))
       (below-or-not (max i j) l₂)
 
@@ -221,11 +240,13 @@ module _ (r n w : ℕ) where
       outputs = unfold lastGates in (outputs-good (beatsAt k₂ n w) (suc r) (losersFrom k₂ n w) beats-below)
 
   module _ (W : ℕ → ℕ) (b : Binary W) (v : ℕ → ℕ → ℕ) (countable : Countable n 0 w)
-      (counted : (i j : ℕ) → i < k₂ → j < k₂ → i ≢ j → ones W (i * k₂ + j) (k₂ * k₂) n ≡ v i j) (h : Holds W (n * k₂ * k₂) (rankedList (suc (suc (suc r))) n w)) where
+      (counted : (i j : ℕ) → i < k₂ → j < k₂ → i ≢ j → ones W (i * k₂ + j) (k₂ * k₂) n ≡ v i j)
+      (h : Holds W (n * k₂ * k₂) (rankedList (suc (suc (suc r))) n w)) where
     whole : Holds W (n * k₂ * k₂) (pathGates ++ duelGates ++ meetingGates ++ rowGates ++ lastGates)
     whole = subst (λ (gs : List Gate). Holds W (n * k₂ * k₂) gs) list-is h
 
-    before-outputs : Holds W (n * k₂ * k₂) (pathGates ++ duelGates ++ meetingGates ++ rowGates) × Holds W (losersFrom k₂ n w + k₂ * suc r) lastGates
+    before-outputs : Holds W (n * k₂ * k₂) (pathGates ++ duelGates ++ meetingGates ++ rowGates)
+        × Holds W (losersFrom k₂ n w + k₂ * suc r) lastGates
     before-outputs =
         let p = holds-append W (n * k₂ * k₂) (pathGates ++ duelGates ++ meetingGates ++ rowGates) lastGates whole in
         (p .0, subst (λ (l : ℕ). Holds W l lastGates) rows-end (p .1))
@@ -257,7 +278,8 @@ module _ (r n w : ℕ) where
 
     spelled : (i j : ℕ) → i < k₂ → j < k₂ → i ≢ j → spelt i j ≡ part i j
     unfolding pathGates
-    spelled i j hi hj ne = paths-spelled k₂ n w W b v countable counted k₂ (omega arith) (before-duels .0) i j hi hj ne ∙ after-detours v (suc r) i j
+    spelled i j hi hj ne = paths-spelled k₂ n w W b v countable counted k₂ (omega arith) (before-duels .0) i j hi hj
+        ne ∙ after-detours v (suc r) i j
 
     -- whether one of two beats the other, if one is the last
     duel-told : (i j : ℕ) → i < k₂ → j < k₂ → i ≢ j → l₂ ≤ max i j → Above (W (duelAt k₂ n w i j)) (spelt i j) (spelt j i)
@@ -281,34 +303,41 @@ module _ (r n w : ℕ) where
         let ji : j ≢ i = λ e. ne (sym e) in
         let here = spelled i j hi hj ne ∙ part-all i j hi hj ne row in
         let back = spelled j i hj hi ji ∙ part-all j i hj hi ji (omega arith) in
-        subst (λ (c : Bool). Above (W (cond c (meetingAt k₂ n w i j) (duelAt k₂ n w i j))) (all i j) (all j i)) (sym (le-ltb (max i j) l₂ row))
+        subst (λ (c : Bool). Above (W (cond c (meetingAt k₂ n w i j) (duelAt k₂ n w i j))) (all i j) (all j i))
+        (sym (le-ltb (max i j) l₂ row))
         ((λ q. t .0 (omega arith)), (λ q. t .1 (omega arith)))
 
     -- whether i beats j, if neither is the last
     abbrev L : ℕ
     L = suc (suc r)
 
-    other-told : (i j : ℕ) → i < L → j < L → i ≢ j → TellsSix (W (beatsAt k₂ n w i j)) (part j i) (part i j) (part L j) (part i L) (part L i)
+    other-told : (i j : ℕ) → i < L → j < L → i ≢ j
+        → TellsSix (W (beatsAt k₂ n w i j)) (part j i) (part i j) (part L j) (part i L) (part L i)
     other-told i j hi hj ne =
         let ji : j ≢ i = λ e. ne (sym e) in
-        let from : (x : ℕ) → x < L → spelt l₂ x ≡ part L x = λ x hx. spelled l₂ x (omega arith) (omega arith) (λ z. omega arith) ∙ ap (λ (y : ℕ). part y x) last-is in
+        let from : (x : ℕ) → x < L → spelt l₂ x ≡ part L x =
+        λ x hx. spelled l₂ x (omega arith) (omega arith) (λ z. omega arith) ∙ ap (λ (y : ℕ). part y x) last-is in
         let to : spelt i l₂ ≡ part i L = spelled i l₂ (omega arith) (omega arith) (λ z. omega arith) ∙ ap (part i) last-is in
-        same-six (W (beatsAt k₂ n w i j)) (spelt j i) (spelt i j) (spelt l₂ j) (spelt i l₂) (spelt l₂ i) (part j i) (part i j) (part L j) (part i L) (part L i)
+        same-six (W (beatsAt k₂ n w i j)) (spelt j i) (spelt i j) (spelt l₂ j) (spelt i l₂) (spelt l₂ i) (part j i)
+        (part i j) (part L j) (part i L) (part L i)
         (spelled j i (omega arith) (omega arith) ji) (spelled i j (omega arith) (omega arith) ne) (from j hj) to (from i hi) tells
       where
         met : TellsSix (W (meetingAt k₂ n w i j)) (spelt j i) (spelt i j) (spelt l₂ j) (spelt i l₂) (spelt l₂ i)
         met =
             unfold meetingGates meetings meetingAt in
             (meeting-told l₂ words₂ (duelAt k₂ n w) w (meetingsFrom k₂ n w) k₂ W b (before-meetings .1)
-            (λ x hx. duel-told x l₂ (omega arith) (omega arith) (λ z. omega arith) (omega arith)) i j (omega arith) (omega arith) ne (omega arith))
+            (λ x hx. duel-told x l₂ (omega arith) (omega arith) (λ z. omega arith) (omega arith)) i j (omega arith)
+            (omega arith) ne (omega arith))
 
         tells : TellsSix (W (beatsAt k₂ n w i j)) (spelt j i) (spelt i j) (spelt l₂ j) (spelt i l₂) (spelt l₂ i)
         tells =
             unfold beatsAt in
-            (subst (λ (c : Bool). TellsSix (W (cond c (meetingAt k₂ n w i j) (duelAt k₂ n w i j))) (spelt j i) (spelt i j) (spelt l₂ j) (spelt i l₂) (spelt l₂ i)) (sym (lt-ltb (max i j) l₂ (omega arith))) met)
+            (subst (λ (c : Bool). TellsSix (W (cond c (meetingAt k₂ n w i j) (duelAt k₂ n w i j))) (spelt j i)
+            (spelt i j) (spelt l₂ j) (spelt i l₂) (spelt l₂ i)) (sym (lt-ltb (max i j) l₂ (omega arith))) met)
 
     -- who is not beaten by the last candidate is beaten by another exactly as six strengths say
-    by-six : (i j : ℕ) → i < L → j < L → i ≢ j → all L i ≤ all i L → (all i j < all j i) ↔ BeatsBySix (part i j) (part j i) (part L i) (part j L) (part L j)
+    by-six : (i j : ℕ) → i < L → j < L → i ≢ j → all L i ≤ all i L
+        → (all i j < all j i) ↔ BeatsBySix (part i j) (part j i) (part L i) (part j L) (part L j)
     by-six i j hi hj ne u = beats-by-six (link v) L i j hi hj ne (omega (arith, last-to (link v) L i hi, last-from (link v) L i hi))
 
     -- nobody beats a winner
@@ -321,7 +350,9 @@ module _ (r n w : ℕ) where
         other : max j i < L → W (beatsAt k₂ n w j i) ≡ 0
         other q =
             let u = wins-unbeaten v k₂ i e L (omega arith) (λ z. omega arith) in
-            other-told j i (omega arith) (omega arith) ne .1 (λ six. let l = by-six i j (omega arith) (omega arith) (λ z. ne (sym z)) u .1 six in omega (arith, unbeaten))
+            other-told j i (omega arith) (omega arith) ne .1
+            (λ six. let l = by-six i j (omega arith) (omega arith) (λ z. ne (sym z)) u .1 six in
+            omega (arith, unbeaten))
 
         last : L ≤ max j i → W (beatsAt k₂ n w j i) ≡ 0
         last q = last-told j i hj hi ne (omega arith) .1 unbeaten
@@ -332,7 +363,9 @@ module _ (r n w : ℕ) where
       where
         last : (j : ℕ) → j < k₂ → j ≢ i → L ≤ max j i → all j i ≤ all i j
         last j hj ne q =
-            ⊎-elim (λ (l : all i j < all j i). absurd (omega (arith, last-told j i hj hi ne (omega arith) .0 l, none j hj ne))) (λ (l : all j i ≤ all i j). l) (below-or-not (all i j) (all j i))
+            ⊎-elim (λ (l : all i j < all j i).
+            absurd (omega (arith, last-told j i hj hi ne (omega arith) .0 l, none j hj ne)))
+            (λ (l : all j i ≤ all i j). l) (below-or-not (all i j) (all j i))
 
         other : (j : ℕ) → j < k₂ → j ≢ i → max j i < L → all j i ≤ all i j
         other j hj ne q =
@@ -347,7 +380,8 @@ module _ (r n w : ℕ) where
     several-closing : (i : ℕ) → i < k₂ → W (losersFrom k₂ n w + k₂ * suc r + i) ≡ cond (wins v k₂ i) 1 0
     unfolding rowGates lastGates
     several-closing i hi =
-        output-law (beatsAt k₂ n w) (suc r) (losersFrom k₂ n w) W b v (before-rows .1) (before-outputs .1) i hi (winner i hi) (unbeaten-wins-here i hi)
+        output-law (beatsAt k₂ n w) (suc r) (losersFrom k₂ n w) W b v (before-rows .1) (before-outputs .1) i hi
+        (winner i hi) (unbeaten-wins-here i hi)
 
 -- two candidates: of each the strongest path is its link
 one-link : (s : ℕ → ℕ → ℕ) (i j : ℕ) → i < 2 → j < 2 → i ≢ j → strongest s 2 i j ≡ s i j
@@ -379,22 +413,34 @@ module _ (n w : ℕ) where
   links-end = omega arith
 
   pair-end : n * 2 * 2 + length (rankedList 2 n w) ≡ pairFrom n w + 2 * 0 + 2
-  pair-end = omega (arith, ap length pair-is, length-append (pathsTo 2 n w 0 .gates) (outputGates (linkWire 2 n w) 0 (pairFrom n w) 2), links-end, outputs-length (linkWire 2 n w) 0 (pairFrom n w))
+  pair-end = omega (
+    arith,
+    ap length pair-is,
+    length-append (pathsTo 2 n w 0 .gates) (outputGates (linkWire 2 n w) 0 (pairFrom n w) 2),
+    links-end,
+    outputs-length (linkWire 2 n w) 0 (pairFrom n w),
+  )
 
   pair-good : Countable n 0 w → AllGood (n * 2 * 2) (rankedList 2 n w)
   pair-good c =
       subst (λ (gs : List Gate). AllGood (n * 2 * 2) gs) (sym pair-is)
-      (good-append (n * 2 * 2) (pathsTo 2 n w 0 .gates) (outputGates (linkWire 2 n w) 0 (pairFrom n w) 2) (paths-good 2 n w c 0 (omega arith))
-      (subst (λ (l : ℕ). AllGood l (outputGates (linkWire 2 n w) 0 (pairFrom n w) 2)) (sym links-end) (outputs-good (linkWire 2 n w) 0 (pairFrom n w) below)))
+      (good-append (n * 2 * 2) (pathsTo 2 n w 0 .gates) (outputGates (linkWire 2 n w) 0 (pairFrom n w) 2)
+      (paths-good 2 n w c 0 (omega arith))
+      (subst (λ (l : ℕ). AllGood l (outputGates (linkWire 2 n w) 0 (pairFrom n w) 2)) (sym links-end)
+      (outputs-good (linkWire 2 n w) 0 (pairFrom n w) below)))
     where
       below : WiresBelow 2 (linkWire 2 n w) (pairFrom n w)
       below = unfold pairFrom in (link-below 2 n w 0)
 
   module _ (W : ℕ → ℕ) (b : Binary W) (v : ℕ → ℕ → ℕ) (countable : Countable n 0 w)
-      (counted : (i j : ℕ) → i < 2 → j < 2 → i ≢ j → ones W (i * 2 + j) (2 * 2) n ≡ v i j) (h : Holds W (n * 2 * 2) (rankedList 2 n w)) where
-    pair-holds : Holds W (n * 2 * 2) (pathsTo 2 n w 0 .gates) × Holds W (pairFrom n w + 2 * 0) (outputGates (linkWire 2 n w) 0 (pairFrom n w) 2)
+      (counted : (i j : ℕ) → i < 2 → j < 2 → i ≢ j → ones W (i * 2 + j) (2 * 2) n ≡ v i j)
+      (h : Holds W (n * 2 * 2) (rankedList 2 n w)) where
+    pair-holds : Holds W (n * 2 * 2) (pathsTo 2 n w 0 .gates)
+        × Holds W (pairFrom n w + 2 * 0) (outputGates (linkWire 2 n w) 0 (pairFrom n w) 2)
     pair-holds =
-        let p = holds-append W (n * 2 * 2) (pathsTo 2 n w 0 .gates) (outputGates (linkWire 2 n w) 0 (pairFrom n w) 2) (subst (λ (gs : List Gate). Holds W (n * 2 * 2) gs) pair-is h) in
+        let p = holds-append W (n * 2 * 2) (pathsTo 2 n w 0 .gates)
+        (outputGates (linkWire 2 n w) 0 (pairFrom n w) 2)
+        (subst (λ (gs : List Gate). Holds W (n * 2 * 2) gs) pair-is h) in
         (p .0, subst (λ (l : ℕ). Holds W l (outputGates (linkWire 2 n w) 0 (pairFrom n w) 2)) links-end (p .1))
 
     no-rows : Holds W (pairFrom n w) (loserRows (linkWire 2 n w) 0 (pairFrom n w) 2)
@@ -412,7 +458,14 @@ module _ (n w : ℕ) where
             ⊎-elim
             (λ (l : v i j < v j i).
             let u = wins-unbeaten v 2 i e j hj ne in
-            absurd (omega (arith, u, one-link (link v) j i hj hi ne, one-link (link v) i j hi hj (λ z. ne (sym z)), link-won v j i l, link-lost v i j (omega arith))))
+            absurd (omega (
+              arith,
+              u,
+              one-link (link v) j i hj hi ne,
+              one-link (link v) i j hi hj (λ z. ne (sym z)),
+              link-won v j i l,
+              link-lost v i j (omega arith),
+            )))
             (λ (l : v j i ≤ v i j). told j hj ne .1 l) (below-or-not (v i j) (v j i))
 
         loser : ((j : ℕ) → j < 2 → j ≢ i → W (linkWire 2 n w j i) ≡ 0) → wins v 2 i ≡ true
@@ -443,7 +496,8 @@ circuit-good (suc r) n w c = several-good r n w c
 
 pub closing-law : (r n w : ℕ) (W : ℕ → ℕ) → Binary W → (v : ℕ → ℕ → ℕ) → Countable n 0 w
     → ((i j : ℕ) → i < suc (suc r) → j < suc (suc r) → i ≢ j → ones W (i * suc (suc r) + j) (suc (suc r) * suc (suc r)) n ≡ v i j)
-    → Holds W (n * suc (suc r) * suc (suc r)) (rankedList (suc (suc r)) n w) → (i : ℕ) → i < suc (suc r) → W (outputsFrom r n w + i) ≡ cond (wins v (suc (suc r)) i) 1 0
+    → Holds W (n * suc (suc r) * suc (suc r)) (rankedList (suc (suc r)) n w) → (i : ℕ) → i < suc (suc r)
+    → W (outputsFrom r n w + i) ≡ cond (wins v (suc (suc r)) i) 1 0
 unfolding outputsFrom
 closing-law zero n w W b v c counted h i hi = pair-closing n w W b v c counted h i hi
 closing-law (suc r) n w W b v c counted h i hi = several-closing r n w W b v c counted h i hi

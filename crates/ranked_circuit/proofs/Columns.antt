@@ -23,7 +23,8 @@ ones-last W at d (suc m) =
     omega (arith, ones-more W at d (suc m), ones-more W at d m, ones-last W (at + d) d m, ap W e)
 
 -- the first wires being the ballots
-pub column : (W : ℕ → ℕ) (xs : List ℕ) (k n i j : ℕ) → i < k → j < k → ((p : ℕ) → getD xs p 0 ≤ 1) → ((p : ℕ) → p < n * k * k → W p ≡ getD xs p 0) → ones W (i * k + j) (k * k) n ≡ votes k n xs i j
+pub column : (W : ℕ → ℕ) (xs : List ℕ) (k n i j : ℕ) → i < k → j < k → ((p : ℕ) → getD xs p 0 ≤ 1)
+    → ((p : ℕ) → p < n * k * k → W p ≡ getD xs p 0) → ones W (i * k + j) (k * k) n ≡ votes k n xs i j
 unfolding votes before rankPlace
 column W xs k zero i j hi hj bits first = ones-none W (i * k + j) (k * k)
 column W xs k (suc b) i j hi hj bits first =

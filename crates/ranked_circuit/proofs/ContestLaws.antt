@@ -36,7 +36,8 @@ Above bit x y = (y < x → bit ≡ 1) × (x ≤ y → bit ≡ 0)
 abbrev pub TellsSix : ℕ → ℕ → ℕ → ℕ → ℕ → ℕ → Type 0
 TellsSix bit a b β α′ β′ = (BeatsBySix a b β α′ β′ → bit ≡ 1) × ((BeatsBySix a b β α′ β′ → ⊥) → bit ≡ 0)
 
-pub same-six : (bit a b β α′ β′ a₁ b₁ β₁ α₁ β₂ : ℕ) → a ≡ a₁ → b ≡ b₁ → β ≡ β₁ → α′ ≡ α₁ → β′ ≡ β₂ → TellsSix bit a b β α′ β′ → TellsSix bit a₁ b₁ β₁ α₁ β₂
+pub same-six : (bit a b β α′ β′ a₁ b₁ β₁ α₁ β₂ : ℕ) → a ≡ a₁ → b ≡ b₁ → β ≡ β₁ → α′ ≡ α₁ → β′ ≡ β₂
+    → TellsSix bit a b β α′ β′ → TellsSix bit a₁ b₁ β₁ α₁ β₂
 same-six bit a b β α′ β′ a₁ b₁ β₁ α₁ β₂ ea eb eβ eα eβ′ t =
     subst (λ (x : ℕ). TellsSix bit a₁ b₁ β₁ α₁ x) eβ′
     (subst (λ (x : ℕ). TellsSix bit a₁ b₁ β₁ x β′) eα
@@ -44,7 +45,8 @@ same-six bit a b β α′ β′ a₁ b₁ β₁ α₁ β₂ ea eb eβ eα eβ′
     (subst (λ (x : ℕ). TellsSix bit a₁ x β α′ β′) eb (subst (λ (x : ℕ). TellsSix bit x b β α′ β′) ea t))))
 
 -- one way: the last gates are an AND and a choice
-choice-law : (a b β α′ β′ near met back far both bit : ℕ) → Above near β β′ → Above met α′ β′ → Above back b a → Above far b β → both ≡ min back far
+choice-law : (a b β α′ β′ near met back far both bit : ℕ) → Above near β β′ → Above met α′ β′ → Above back b a
+    → Above far b β → both ≡ min back far
     → (near ≡ 1 → bit ≡ met) → (near ≡ 0 → bit ≡ both) → TellsSix bit a b β α′ β′
 choice-law a b β α′ β′ near met back far both bit n m k f e one zero = (beaten, unbeaten)
   where
@@ -56,7 +58,8 @@ choice-law a b β α′ β′ near met back far both bit n m k f e one zero = (b
     farther : (BeatsBySix a b β α′ β′ → ⊥) → β ≤ β′ → both ≡ 0
     farther none l =
         ⊎-elim
-        (λ (p : a < b). ⊎-elim (λ (q : β < b). absurd (none (inr (l, p, q)))) (λ (q : b ≤ β). e ∙ (let y = f .1 q in omega arith)) (below-or-not β b))
+        (λ (p : a < b). ⊎-elim (λ (q : β < b). absurd (none (inr (l, p, q))))
+        (λ (q : b ≤ β). e ∙ (let y = f .1 q in omega arith)) (below-or-not β b))
         (λ (p : b ≤ a). e ∙ (let x = k .1 p in omega arith)) (below-or-not a b)
 
     unbeaten : (BeatsBySix a b β α′ β′ → ⊥) → bit ≡ 0
@@ -110,7 +113,8 @@ module _ (li lj ij ji mi mj w at : ℕ) where
   pub length-meeting : length (meeting li lj ij ji mi mj w at) ≡ c + c + s + s + 4
   length-meeting = ap length meeting-is ∙ omega (arith, length-append (first ++ second ++ third ++ fourth) ends, four-long)
 
-  module _ (bli : li + suc w ≤ at) (blj : lj + suc w ≤ at) (bij : ij + suc w ≤ at) (bji : ji + suc w ≤ at) (bmi : mi < at) (bmj : mj < at) where
+  module _ (bli : li + suc w ≤ at) (blj : lj + suc w ≤ at) (bij : ij + suc w ≤ at) (bji : ji + suc w ≤ at)
+      (bmi : mi < at) (bmj : mj < at) where
     ends-good : AllGood e ends
     ends-good = (
       good-two e 4 (at + c + c - 2) (at + c + c + s - 1) (omega arith) (operand-counts .4) (omega arith) (omega arith),
@@ -132,7 +136,8 @@ module _ (li lj ij ji mi mj w at : ℕ) where
         (behind at (c + c + s + s) (first ++ second ++ third ++ fourth) ends four-long
         (behind at (c + c + s) (first ++ second ++ third) fourth three-long
         (behind at (c + c) (first ++ second) third two-long
-        (behind at c first second (length-whole at li lj w) (whole-good at li lj w bli blj) (whole-good (at + c) ij ji w (omega arith) (omega arith)))
+        (behind at c first second (length-whole at li lj w) (whole-good at li lj w bli blj)
+        (whole-good (at + c) ij ji w (omega arith) (omega arith)))
         (subst (λ (x : ℕ). AllGood x third) (sym place₂) (strictly-good (at + c + c) ij lj w (omega arith) (omega arith))))
         (subst (λ (x : ℕ). AllGood x fourth) (sym place₃) (strictly-good (at + c + c + s) ji li w (omega arith) (omega arith))))
         (subst (λ (x : ℕ). AllGood x ends) (sym place₄) ends-good))
@@ -175,7 +180,8 @@ module _ (li lj ij ji mi mj w at : ℕ) where
     second-up = subst (λ (x : ℕ). Above (W x) (spelt ij) (spelt ji)) (up-last (at + c) w) (compare-up W bin (at + c) ij ji w (cut₁ .1))
 
     second-down : Above (W (at + c + c - 1)) (spelt ji) (spelt ij)
-    second-down = subst (λ (x : ℕ). Above (W x) (spelt ji) (spelt ij)) (down-last (at + c) w) (compare-down W bin (at + c) ij ji w (cut₁ .1))
+    second-down = subst (λ (x : ℕ). Above (W x) (spelt ji) (spelt ij)) (down-last (at + c) w)
+        (compare-down W bin (at + c) ij ji w (cut₁ .1))
 
     third-tells : Above (W (at + c + c + s - 1)) (spelt ij) (spelt lj)
     third-tells =
@@ -188,7 +194,8 @@ module _ (li lj ij ji mi mj w at : ℕ) where
         subst (λ (x : ℕ). Above (W x) (spelt ji) (spelt li)) place (strictly-law W bin (at + c + c + s) ji li w (cut₃ .1))
 
     forth-is : W e ≡ min (W (at + c + c - 2)) (W (at + c + c + s - 1))
-    forth-is = holds-first W e (andOf (at + c + c - 2) (at + c + c + s - 1)) (andOf (at + c + c - 1) (e - 1) ∷ lasts) (cut₄ .1) ∙ and-is W bin (at + c + c - 2) (at + c + c + s - 1)
+    forth-is = holds-first W e (andOf (at + c + c - 2) (at + c + c + s - 1))
+        (andOf (at + c + c - 1) (e - 1) ∷ lasts) (cut₄ .1) ∙ and-is W bin (at + c + c - 2) (at + c + c + s - 1)
 
     behind-forth : Holds W (e + 1) (andOf (at + c + c - 1) (e - 1) ∷ lasts)
     behind-forth = holds-rest W e (andOf (at + c + c - 2) (at + c + c + s - 1)) (andOf (at + c + c - 1) (e - 1) ∷ lasts) (cut₄ .1)
@@ -205,8 +212,10 @@ module _ (li lj ij ji mi mj w at : ℕ) where
         let g = holds-first W (e + 1 + 1) (muxOf (at + c - 1) mi e) (muxOf (at + c - 2) mj (e + 1) ∷ []) choices in
         let place : e + 1 + 1 ≡ e + 2 = omega arith in
         subst (λ (x : ℕ). TellsSix (W x) (spelt ji) (spelt ij) (spelt lj) il (spelt li)) place
-        (choice-law (spelt ji) (spelt ij) (spelt lj) il (spelt li) (W (at + c - 1)) (W mi) (W (at + c + c - 2)) (W (at + c + c + s - 1)) (W e) (W (e + 1 + 1))
-        first-down m second-up third-tells forth-is (λ z. g ∙ mux-one (W (at + c - 1)) (W mi) (W e) z) (λ z. g ∙ mux-zero (W (at + c - 1)) (W mi) (W e) z))
+        (choice-law (spelt ji) (spelt ij) (spelt lj) il (spelt li) (W (at + c - 1)) (W mi) (W (at + c + c - 2))
+        (W (at + c + c + s - 1)) (W e) (W (e + 1 + 1))
+        first-down m second-up third-tells forth-is (λ z. g ∙ mux-one (W (at + c - 1)) (W mi) (W e) z)
+        (λ z. g ∙ mux-zero (W (at + c - 1)) (W mi) (W e) z))
 
     pub meeting-down : (jl : ℕ) → Above (W mj) jl (spelt lj) → TellsSix (W (e + 3)) (spelt ij) (spelt ji) (spelt li) jl (spelt lj)
     meeting-down jl m =
@@ -214,8 +223,10 @@ module _ (li lj ij ji mi mj w at : ℕ) where
         let g = holds-first W (e + 1 + 1 + 1) (muxOf (at + c - 2) mj (e + 1)) [] rest in
         let place : e + 1 + 1 + 1 ≡ e + 3 = omega arith in
         subst (λ (x : ℕ). TellsSix (W x) (spelt ij) (spelt ji) (spelt li) jl (spelt lj)) place
-        (choice-law (spelt ij) (spelt ji) (spelt li) jl (spelt lj) (W (at + c - 2)) (W mj) (W (at + c + c - 1)) (W (e - 1)) (W (e + 1)) (W (e + 1 + 1 + 1))
-        first-up m second-down fourth-tells back-is (λ z. g ∙ mux-one (W (at + c - 2)) (W mj) (W (e + 1)) z) (λ z. g ∙ mux-zero (W (at + c - 2)) (W mj) (W (e + 1)) z))
+        (choice-law (spelt ij) (spelt ji) (spelt li) jl (spelt lj) (W (at + c - 2)) (W mj) (W (at + c + c - 1))
+        (W (e - 1)) (W (e + 1)) (W (e + 1 + 1 + 1))
+        first-up m second-down fourth-tells back-is (λ z. g ∙ mux-one (W (at + c - 2)) (W mj) (W (e + 1)) z)
+        (λ z. g ∙ mux-zero (W (at + c - 2)) (W mj) (W (e + 1)) z))
 
 -- the table of the meetings
 module _ (l : ℕ) (words met : ℕ → ℕ → ℕ) (w n k : ℕ) where
@@ -230,18 +241,28 @@ module _ (l : ℕ) (words met : ℕ → ℕ → ℕ) (w n k : ℕ) where
   meetings-good low below met-below =
       rw meetings-are (later-good before (meetingOf l words met w) n k each)
     where
-      each : (i j : ℕ) → i < k → j < k → j < i → ltb i l ≡ true → AllGood (entryStart n k (laterOf before (meetingOf l words met w)) i j) (meetingOf l words met w (entryStart n k (laterOf before (meetingOf l words met w)) i j) i j)
+      each : (i j : ℕ) → i < k → j < k → j < i → ltb i l ≡ true
+          → AllGood (entryStart n k (laterOf before (meetingOf l words met w)) i j)
+          (meetingOf l words met w (entryStart n k (laterOf before (meetingOf l words met w)) i j) i j)
       each i j hi hj q row =
           let r : i < l = ltb-true i l row in
           let mi = met-below i r in
           let mj = met-below j (omega arith) in
-          meeting-good (words l i) (words l j) (words i j) (words j i) (met i l) (met j l) w (entryStart n k (laterOf before (meetingOf l words met w)) i j)
+          meeting-good (words l i) (words l j) (words i j) (words j i) (met i l) (met j l) w
+          (entryStart n k (laterOf before (meetingOf l words met w)) i j)
           (omega (arith, below l i low hi (λ z. omega arith))) (omega (arith, below l j low hj (λ z. omega arith)))
-          (omega (arith, below i j hi hj (λ z. omega arith))) (omega (arith, below j i hj hi (λ z. omega arith))) (omega arith) (omega arith)
+          (omega (arith, below i j hi hj (λ z. omega arith))) (omega (arith, below j i hj hi (λ z. omega arith)))
+          (omega arith) (omega arith)
 
-  pub meetings-below : (i j : ℕ) → i < k → j < k → i ≢ j → max i j < l → linkAt n k (meetingsBlock l words met w) i j < n + length (table n k (meetingsBlock l words met w))
+  pub meetings-below : (i j : ℕ) → i < k → j < k → i ≢ j → max i j < l
+      → linkAt n k (meetingsBlock l words met w) i j < n + length (table n k (meetingsBlock l words met w))
   meetings-below i j hi hj ne row =
-      rw meetings-are (later-below before (meetingOf l words met w) n k (λ at i j q. omega (arith, length-meeting (words l i) (words l j) (words i j) (words j i) (met i l) (met j l) w at)) i j hi hj ne (lt-ltb (max i j) l row))
+      rw meetings-are (later-below before (meetingOf l words met w) n k
+      (λ at i j q. omega (
+        arith,
+        length-meeting (words l i) (words l j) (words i j) (words j i) (met i l) (met j l)
+            w at,
+      )) i j hi hj ne (lt-ltb (max i j) l row))
 
   module _ (W : ℕ → ℕ) (bin : Binary W) (h : Holds W n (table n k (meetingsBlock l words met w)))
       (told : (i : ℕ) → i < l → Above (W (met i l)) (number W (words i l) 1 (suc w)) (number W (words l i) 1 (suc w))) where
@@ -254,20 +275,31 @@ module _ (l : ℕ) (words met : ℕ → ℕ → ℕ) (w n k : ℕ) where
     held : Holds W n (table n k (laterOf before (meetingOf l words met w)))
     held = rw meetings-are at h
 
-    later : (i j : ℕ) → i < k → j < k → j < i → i < l → Says (linkAt n k (laterOf before (meetingOf l words met w)) i j) i j × Says (linkAt n k (laterOf before (meetingOf l words met w)) j i) j i
+    later : (i j : ℕ) → i < k → j < k → j < i → i < l
+        → Says (linkAt n k (laterOf before (meetingOf l words met w)) i j) i j
+        × Says (linkAt n k (laterOf before (meetingOf l words met w)) j i) j i
     later i j hi hj q r =
         let row = lt-ltb i l r in
         let at = laterStart before (meetingOf l words met w) n k i j hi hj q row in
         let long = length-meeting (words l i) (words l j) (words i j) (words j i) (met i l) (met j l) w at in
         let g = later-holds before (meetingOf l words met w) n k i j hi hj q row W held in
-        let up : linkAt n k (laterOf before (meetingOf l words met w)) i j ≡ at + (3 + 3 * w) + (3 + 3 * w) + (2 + 2 * w) + (2 + 2 * w) + 2 = up-at before (meetingOf l words met w) n k i j hi hj q row ∙ omega arith in
-        let down : linkAt n k (laterOf before (meetingOf l words met w)) j i ≡ at + (3 + 3 * w) + (3 + 3 * w) + (2 + 2 * w) + (2 + 2 * w) + 3 = down-at before (meetingOf l words met w) n k i j hi hj q row ∙ omega arith in (
-          subst (λ (x : ℕ). Says x i j) (sym up) (meeting-up (words l i) (words l j) (words i j) (words j i) (met i l) (met j l) w at W bin g (spells i l) (told i r)),
-          subst (λ (x : ℕ). Says x j i) (sym down) (meeting-down (words l i) (words l j) (words i j) (words j i) (met i l) (met j l) w at W bin g (spells j l) (told j (omega arith))),
+        let up : linkAt n k (laterOf before (meetingOf l words met w)) i j ≡ at + (3 + 3 * w) + (3 + 3 * w)
+        + (2 + 2 * w) + (2 + 2 * w) + 2 = up-at before (meetingOf l words met w) n k i j hi hj q row
+        ∙ omega arith in
+        let down : linkAt n k (laterOf before (meetingOf l words met w)) j i ≡ at + (3 + 3 * w) + (3 + 3 * w)
+        + (2 + 2 * w) + (2 + 2 * w) + 3 = down-at before (meetingOf l words met w) n k i j hi hj q row
+        ∙ omega arith in (
+          subst (λ (x : ℕ). Says x i j) (sym up)
+              (meeting-up (words l i) (words l j) (words i j) (words j i) (met i l) (met j l) w at W bin g
+              (spells i l) (told i r)),
+          subst (λ (x : ℕ). Says x j i) (sym down)
+              (meeting-down (words l i) (words l j) (words i j) (words j i) (met i l) (met j l) w at W bin g
+              (spells j l) (told j (omega arith))),
         )
 
     -- whether i beats j
     pub meeting-told : (i j : ℕ) → i < k → j < k → i ≢ j → max i j < l → Says (linkAt n k (meetingsBlock l words met w) i j) i j
     meeting-told i j hi hj ne row =
         rw meetings-are
-        (⊎-elim (λ (q : j < i). later i j hi hj q (omega arith) .0) (λ (q : i ≤ j). later j i hj hi (omega arith) (omega arith) .1) (below-or-not j i))
+        (⊎-elim (λ (q : j < i). later i j hi hj q (omega arith) .0)
+        (λ (q : i ≤ j). later j i hj hi (omega arith) (omega arith) .1) (below-or-not j i))

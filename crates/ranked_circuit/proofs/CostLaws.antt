@@ -23,10 +23,12 @@ use Rattle.ranked_circuit.proofs.Figures.{Each, moreOf, figure-is}
 
 -- a gate that counts, and one that does not
 marked : (g : Gate) (gs : List Gate) → conditionalOf (g .kind) ≡ true → conditionalCount (g ∷ gs) ≡ suc (conditionalCount gs)
-marked g gs e = let m : cond {A = ℕ} (conditionalOf (g .kind)) 1 0 ≡ 1 = ap (λ (t : Bool). cond {A = ℕ} t 1 0) e in omega (arith, count-cons g gs)
+marked g gs e = let m : cond {A = ℕ} (conditionalOf (g .kind)) 1 0 ≡ 1 = ap (λ (t : Bool). cond {A = ℕ} t 1 0) e in
+    omega (arith, count-cons g gs)
 
 free : (g : Gate) (gs : List Gate) → conditionalOf (g .kind) ≡ false → conditionalCount (g ∷ gs) ≡ conditionalCount gs
-free g gs e = let m : cond {A = ℕ} (conditionalOf (g .kind)) 1 0 ≡ 0 = ap (λ (t : Bool). cond {A = ℕ} t 1 0) e in omega (arith, count-cons g gs)
+free g gs e = let m : cond {A = ℕ} (conditionalOf (g .kind)) 1 0 ≡ 0 = ap (λ (t : Bool). cond {A = ℕ} t 1 0) e in
+    omega (arith, count-cons g gs)
 
 -- the blocks of words
 choose-cost : (f x y w : ℕ) → conditionalCount (choose f x y w) ≡ w
@@ -47,7 +49,8 @@ differences-cost x y (suc w) = free (xorOf x y) (differences (x + 1) (y + 1) w) 
 above-cost : (n f x s w : ℕ) → conditionalCount (above n f x s w) ≡ w
 unfolding above
 above-cost n f x s zero = count-nil
-above-cost n f x s (suc w) = marked (muxOf f x s) (above (n + 1) (f + 1) (x + 1) n w) (marks .7) ∙ ap suc (above-cost (n + 1) (f + 1) (x + 1) n w)
+above-cost n f x s (suc w) = marked (muxOf f x s) (above (n + 1) (f + 1) (x + 1) n w) (marks .7)
+    ∙ ap suc (above-cost (n + 1) (f + 1) (x + 1) n w)
 
 compare-words-cost : (n x y up down w : ℕ) → conditionalCount (compareWords n x y up down w) ≡ 2 * w
 unfolding compareWords
@@ -89,30 +92,51 @@ unfolding level adders
 level-cost n s at d zero = count-nil
 level-cost n s at d (suc zero) = half-cost n s at
 level-cost n s at d (suc (suc m)) =
-    omega (arith, count-append (fullAdder n s at (at + d)) (level (n + 3) (n + 1) (at + d + d) d 0 m), full-cost n s at (at + d), level-cost (n + 3) (n + 1) (at + d + d) d m)
+    omega (
+      arith,
+      count-append (fullAdder n s at (at + d)) (level (n + 3) (n + 1) (at + d + d) d 0 m),
+      full-cost n s at (at + d),
+      level-cost (n + 3) (n + 1) (at + d + d) d m,
+    )
 
 levels-cost : (n at d m r : ℕ) → 3 * conditionalCount (countLevels n at d m 0 r) ≡ countSize m 0 r
 unfolding countLevels countSize
 levels-cost n at d m zero = omega (arith, count-nil)
 levels-cost n at d m (suc r) =
     let t = adders (m - 1) 0 in
-    omega (arith, count-append (level n at (at + d) d 0 (m - 1)) (countLevels (n + 3 * t) (n + 2) 3 t 0 r), level-cost n at (at + d) d (m - 1), levels-cost (n + 3 * t) (n + 2) 3 t r)
+    omega (
+      arith,
+      count-append (level n at (at + d) d 0 (m - 1)) (countLevels (n + 3 * t) (n + 2) 3 t 0 r),
+      level-cost n at (at + d) d (m - 1),
+      levels-cost (n + 3 * t) (n + 2) 3 t r,
+    )
 
 digits-cost : (n at m r : ℕ) → conditionalCount (countDigits n at m 0 r) ≡ 0
 unfolding countDigitsAs
 digits-cost n at m zero = free (copyOf at) [] (marks .2) ∙ count-nil
 digits-cost n at m (suc r) =
-    free (copyOf (levelSum n at (m - 1) 0)) (countDigits (n + 3 * adders (m - 1) 0) (n + 2) (adders (m - 1) 0) 0 r) (marks .2) ∙ digits-cost (n + 3 * adders (m - 1) 0) (n + 2) (adders (m - 1) 0) r
+    free (copyOf (levelSum n at (m - 1) 0)) (countDigits (n + 3 * adders (m - 1) 0) (n + 2) (adders (m - 1) 0) 0 r)
+    (marks .2) ∙ digits-cost (n + 3 * adders (m - 1) 0) (n + 2) (adders (m - 1) 0) r
 
 pub counter-cost : (n at d m r : ℕ) → 3 * conditionalCount (counter n at d m 0 r) ≡ countSize m 0 r
 unfolding counter
-counter-cost n at d m r = omega (arith, count-append (countLevels n at d m 0 r) (countDigits n at m 0 r), levels-cost n at d m r, digits-cost n at m r)
+counter-cost n at d m r = omega (
+  arith,
+  count-append (countLevels n at d m 0 r) (countDigits n at m 0 r),
+  levels-cost n at d m r,
+  digits-cost n at m r,
+)
 
 -- two words
 whole-cost : (n x y w : ℕ) → conditionalCount (compare n x y w) ≡ 2 * w + 1
 unfolding compare
 whole-cost n x y w =
-    omega (arith, count-append (firstDigit n x y) (compareWords (n + 3) (x + 1) (y + 1) (n + 1) (n + 2) w), first-digit-cost n x y, compare-words-cost (n + 3) (x + 1) (y + 1) (n + 1) (n + 2) w)
+    omega (
+      arith,
+      count-append (firstDigit n x y) (compareWords (n + 3) (x + 1) (y + 1) (n + 1) (n + 2) w),
+      first-digit-cost n x y,
+      compare-words-cost (n + 3) (x + 1) (y + 1) (n + 1) (n + 2) w,
+    )
 
 strictly-cost : (n x y w : ℕ) → conditionalCount (strictly n x y w) ≡ suc w
 unfolding strictly
@@ -120,11 +144,23 @@ strictly-cost n x y w =
     let rest = differences (x + 1) (y + 1) w ++ above (n + 2 + w) (n + 2) (x + 1) (n + 1) w in
     let a = free (xorOf x y) (andOf x n ∷ rest) (marks .6) in
     let b = marked (andOf x n) rest (marks .4) in
-    omega (arith, a, b, count-append (differences (x + 1) (y + 1) w) (above (n + 2 + w) (n + 2) (x + 1) (n + 1) w), differences-cost (x + 1) (y + 1) w, above-cost (n + 2 + w) (n + 2) (x + 1) (n + 1) w)
+    omega (
+      arith,
+      a,
+      b,
+      count-append (differences (x + 1) (y + 1) w) (above (n + 2 + w) (n + 2) (x + 1) (n + 1) w),
+      differences-cost (x + 1) (y + 1) w,
+      above-cost (n + 2 + w) (n + 2) (x + 1) (n + 1) w,
+    )
 
 order-cost : (n x y w : ℕ) → conditionalCount (order n x y w) ≡ w
 unfolding order
-order-cost n x y w = omega (arith, count-append (differences (x + 1) (y + 1) w) (above (n + w) n (x + 1) x w), differences-cost (x + 1) (y + 1) w, above-cost (n + w) n (x + 1) x w)
+order-cost n x y w = omega (
+  arith,
+  count-append (differences (x + 1) (y + 1) w) (above (n + w) n (x + 1) x w),
+  differences-cost (x + 1) (y + 1) w,
+  above-cost (n + w) n (x + 1) x w,
+)
 
 chain-cost : (n s at d m : ℕ) → conditionalCount (chain 5 n s at d m) ≡ m
 unfolding chain
@@ -157,15 +193,33 @@ cut-cost n x y w (suc h) q =
     let low = order n x y l in
     let part = compareHalves high (x + suc l) (y + suc l) h 0 in
     let last = muxOf (unequalAt high h) (aboveAt high (x + suc l) h) (orderEnd n x l) in
-    omega (arith, count-append (low ++ part) (last ∷ []), count-append low part, order-cost n x y l, tells-cost high (x + suc l) (y + suc l) h, marked last [] (marks .7), count-nil)
+    omega (
+      arith,
+      count-append (low ++ part) (last ∷ []),
+      count-append low part,
+      order-cost n x y l,
+      tells-cost high (x + suc l) (y + suc l) h,
+      marked last [] (marks .7),
+      count-nil,
+    )
 
 smaller-cost : (n x y w h : ℕ) → h ≤ w → conditionalCount (smaller n x y w h) ≡ 2 * w + 1 + (h - 1)
 unfolding smaller
-smaller-cost n x y w h q = omega (arith, count-append (orderCut n x y w h) (choose (cutEnd n x w h) y x (suc w)), cut-cost n x y w h q, choose-cost (cutEnd n x w h) y x (suc w))
+smaller-cost n x y w h q = omega (
+  arith,
+  count-append (orderCut n x y w h) (choose (cutEnd n x w h) y x (suc w)),
+  cut-cost n x y w h q,
+  choose-cost (cutEnd n x w h) y x (suc w),
+)
 
 larger-cost : (n x y w h : ℕ) → h ≤ w → conditionalCount (larger n x y w h) ≡ 2 * w + 1 + (h - 1)
 unfolding larger
-larger-cost n x y w h q = omega (arith, count-append (orderCut n x y w h) (choose (cutEnd n x w h) x y (suc w)), cut-cost n x y w h q, choose-cost (cutEnd n x w h) x y (suc w))
+larger-cost n x y w h q = omega (
+  arith,
+  count-append (orderCut n x y w h) (choose (cutEnd n x w h) x y (suc w)),
+  cut-cost n x y w h q,
+  choose-cost (cutEnd n x w h) x y (suc w),
+)
 
 larger-if-cost : (n f x y w h : ℕ) → h ≤ w → conditionalCount (largerIf n f x y w h) ≡ 2 * w + 2 + (h - 1)
 unfolding largerIf
@@ -217,8 +271,20 @@ costs n w =
       counters = λ at from step. omega (arith, counter-cost at from step n w);
       compares = λ at a b. whole-cost at a b w;
       strengths = λ l a. masked-cost l a (suc w);
-      firsts = λ h at a b at′ l a′ b′ q. omega (arith, count-append (smaller at a b w h) (largerIf at′ l a′ b′ w h), smaller-cost at a b w h q, larger-if-cost at′ l a′ b′ w h q);
-      detours = λ h at a b at′ a′ b′ q. omega (arith, count-append (smaller at a b w h) (larger at′ a′ b′ w h), smaller-cost at a b w h q, larger-cost at′ a′ b′ w h q);
+      firsts = λ h at a b at′ l a′ b′ q.
+          omega (
+            arith,
+            count-append (smaller at a b w h) (largerIf at′ l a′ b′ w h),
+            smaller-cost at a b w h q,
+            larger-if-cost at′ l a′ b′ w h q,
+          );
+      detours = λ h at a b at′ a′ b′ q.
+          omega (
+            arith,
+            count-append (smaller at a b w h) (larger at′ a′ b′ w h),
+            smaller-cost at a b w h q,
+            larger-cost at′ a′ b′ w h q,
+          );
       meets = λ li lj ij ji mi mj at. meeting-cost li lj ij ji mi mj w at;
       joins = λ a b. marked (orOf a b) [] (marks .5) ∙ ap suc count-nil;
       lasts = λ a. free (notOf a) [] (marks .3) ∙ count-nil;
@@ -226,8 +292,10 @@ costs n w =
 
 -- C: each counter has a third of its adders' gates, each two candidates are compared both ways, and so on
 pub conditional-are : (r n w : ℕ) → r ≤ 5 → conditionalCount (rankedList (suc (suc (suc r))) n w) ≡
-    suc (suc (suc r)) * suc (suc r) * (countSize n 0 w / 3) + suc (suc (suc r)) * suc (suc r) / 2 * (2 * w + 1) + 2 * suc (suc r) * suc w + suc (suc r) * suc r * (4 * w + 3) + suc r * (suc (suc r) * suc r) * (4 * w + 2)
+    suc (suc (suc r)) * suc (suc r) * (countSize n 0 w / 3) + suc (suc (suc r)) * suc (suc r) / 2 * (2 * w + 1) + 2
+    * suc (suc r) * suc w + suc (suc r) * suc r * (4 * w + 3) + suc r * (suc (suc r) * suc r) * (4 * w + 2)
     + suc (suc r) * (2 * w + 1) + suc (suc r) * suc r / 2 * (6 * w + 8) + 2 * suc r * suc r * moreOf w + suc (suc (suc r)) * suc r
 conditional-are r n w h =
-    let total = figure-is conditionalCount (record { none = count-nil; both = count-append }) n w (countSize n 0 w / 3) (2 * w + 1) (suc w) (4 * w + 3) (4 * w + 2) (6 * w + 8) 1 0 (costs n w) r h in
+    let total = figure-is conditionalCount (record { none = count-nil; both = count-append }) n w
+    (countSize n 0 w / 3) (2 * w + 1) (suc w) (4 * w + 3) (4 * w + 2) (6 * w + 8) 1 0 (costs n w) r h in
     omega arith

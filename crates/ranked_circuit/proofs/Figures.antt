@@ -81,23 +81,35 @@ module _ (f : List Gate → ℕ) (g : Figure f) where
   either-figure true gs hs a b e h = e
   either-figure false gs hs a b e h = h
 
-  blocks-figure : (block : ℕ → ℕ → List Gate) (x : ℕ → ℕ) → ((at e : ℕ) → f (block at e) ≡ x e) → (n m : ℕ) → f (blocks n block m) ≡ sumBelow x m
+  blocks-figure : (block : ℕ → ℕ → List Gate) (x : ℕ → ℕ) → ((at e : ℕ) → f (block at e) ≡ x e) → (n m : ℕ)
+      → f (blocks n block m) ≡ sumBelow x m
   unfolding blocks sumBelow
   blocks-figure block x h n zero = g .none
-  blocks-figure block x h n (suc m) = omega (arith, g .both (blocks n block m) (block (startOf n block m) m), blocks-figure block x h n m, h (startOf n block m) m)
+  blocks-figure block x h n (suc m) =
+      omega (
+        arith,
+        g .both (blocks n block m) (block (startOf n block m) m),
+        blocks-figure block x h n m,
+        h (startOf n block m) m,
+      )
 
-  table-figure : (k : ℕ) (block : ℕ → ℕ → ℕ → List Gate) (x : ℕ → ℕ → ℕ) → ((at i j : ℕ) → f (block at i j) ≡ x i j) → (n : ℕ) → f (table n k block) ≡ tableSum x k
+  table-figure : (k : ℕ) (block : ℕ → ℕ → ℕ → List Gate) (x : ℕ → ℕ → ℕ) → ((at i j : ℕ) → f (block at i j) ≡ x i j)
+      → (n : ℕ) → f (table n k block) ≡ tableSum x k
   unfolding table entries tableSum
-  table-figure k block x h n = blocks-figure (λ at e. block at (e / k) (e % k)) (λ e. x (e / k) (e % k)) (λ at e. h at (e / k) (e % k)) n (k * k)
+  table-figure k block x h n = blocks-figure (λ at e. block at (e / k) (e % k)) (λ e. x (e / k) (e % k))
+      (λ at e. h at (e / k) (e % k)) n (k * k)
 
   module _ (n w c p s d e q o x : ℕ) (a : Each f n w c p s d e q o x) where
     votes-figure : (k at i j : ℕ) → f (votesBlock k n w at i j) ≡ apartOf c i j
     unfolding votesBlock apartOf
-    votes-figure k at i j = either-figure (eqb i j) [] (counter at (i * k + j) (k * k) n 0 w) 0 c (g .none) (a .counters at (i * k + j) (k * k))
+    votes-figure k at i j = either-figure (eqb i j) [] (counter at (i * k + j) (k * k) n 0 w) 0 c (g .none)
+        (a .counters at (i * k + j) (k * k))
 
     links-figure : (first : ℕ) (words : ℕ → ℕ → ℕ) (at i j : ℕ) → f (linksBlock first words w at i j) ≡ laterOnes (leb first) p i j
     unfolding linksBlock laterOf laterOnes
-    links-figure first words at i j = either-figure (ltb j i && leb first i) (compare at (words i j) (words j i) w) [] p 0 (a .compares at (words i j) (words j i)) (g .none)
+    links-figure first words at i j =
+        either-figure (ltb j i && leb first i) (compare at (words i j) (words j i) w) [] p 0
+        (a .compares at (words i j) (words j i)) (g .none)
 
     meetings-figure : (l : ℕ) (words met : ℕ → ℕ → ℕ) (at i j : ℕ) → f (meetingsBlock l words met w at i j) ≡ laterOnes (λ y. ltb y l) q i j
     unfolding meetingsBlock laterOf laterOnes
@@ -105,11 +117,16 @@ module _ (f : List Gate → ℕ) (g : Figure f) where
         either-figure (ltb j i && ltb i l) (meeting (words l i) (words l j) (words i j) (words j i) (met i l) (met j l) w at) [] q 0
         (a .meets (words l i) (words l j) (words i j) (words j i) (met i l) (met j l) at) (g .none)
 
-    new-figure : (links words : ℕ → ℕ → ℕ) (h m at i j : ℕ) → h ≤ w → f (newWord links words w h m at i j) ≡ stageFigure s d e (2 * (h - 1)) m
+    new-figure : (links words : ℕ → ℕ → ℕ) (h m at i j : ℕ) → h ≤ w → f (newWord links words w h m at i j)
+        ≡ stageFigure s d e (2 * (h - 1)) m
     unfolding newWord stageFigure
     new-figure links words h zero at i j hw = a .strengths (links i j) (words i j)
-    new-figure links words h (suc zero) at i j hw = a .firsts h at (words i 0) (words 0 j) (at + orderSize w h + suc w) (links i j) (words i j) (at + orderSize w h) hw
-    new-figure links words h (suc (suc l)) at i j hw = a .detours h at (words i (suc l)) (words (suc l) j) (at + orderSize w h + suc w) (words i j) (at + orderSize w h) hw
+    new-figure links words h (suc zero) at i j hw =
+        a .firsts h at (words i 0) (words 0 j) (at + orderSize w h + suc w) (links i j) (words i j)
+        (at + orderSize w h) hw
+    new-figure links words h (suc (suc l)) at i j hw =
+        a .detours h at (words i (suc l)) (words (suc l) j) (at + orderSize w h + suc w) (words i j)
+        (at + orderSize w h) hw
 
     more-is : (k m i j : ℕ) → 2 * (cutAt k w m i j - 1) ≡ cond (ltb m (k - 1) && (eqb i m || eqb j m)) (moreOf w) 0
     unfolding cutAt
@@ -119,13 +136,16 @@ module _ (f : List Gate → ℕ) (g : Figure f) where
         either true = refl
         either false = omega arith
 
-    stage-figure : (k : ℕ) (links words : ℕ → ℕ → ℕ) (m at i j : ℕ) → f (pathBlock k links words w m at i j) ≡ stageOf k s d e (moreOf w) m i j
+    stage-figure : (k : ℕ) (links words : ℕ → ℕ → ℕ) (m at i j : ℕ) → f (pathBlock k links words w m at i j)
+        ≡ stageOf k s d e (moreOf w) m i j
     unfolding pathBlock stageOf
     stage-figure k links words m at i j =
-        either-figure (stays m i j) [] (newWord links words w (cutAt k w m i j) m at i j) 0 (stageFigure s d e (cond (ltb m (k - 1) && (eqb i m || eqb j m)) (moreOf w) 0) m) (g .none)
+        either-figure (stays m i j) [] (newWord links words w (cutAt k w m i j) m at i j) 0
+        (stageFigure s d e (cond (ltb m (k - 1) && (eqb i m || eqb j m)) (moreOf w) 0) m) (g .none)
         (new-figure links words (cutAt k w m i j) m at i j (cut-most k w m i j) ∙ ap (λ (z : ℕ). stageFigure s d e z m) (more-is k m i j))
 
-    paths-figure : (k m : ℕ) → f (pathsTo k n w m .gates) ≡ tableSum (apartOf c) k + tableSum (laterOnes (leb 0) p) k + sumBelow (λ l. tableSum (stageOf k s d e (moreOf w) l) k) m
+    paths-figure : (k m : ℕ) → f (pathsTo k n w m .gates) ≡ tableSum (apartOf c) k
+        + tableSum (laterOnes (leb 0) p) k + sumBelow (λ l. tableSum (stageOf k s d e (moreOf w) l) k) m
     unfolding pathsTo nextPaths sumBelow votesTable linksTable
     paths-figure k zero =
         omega (
@@ -138,24 +158,37 @@ module _ (f : List Gate → ℕ) (g : Figure f) where
         let t = pathsTo k n w m in
         let start = n * k * k + length (t .gates) in
         let block = pathBlock k (linkWire k n w) (t .words) w m in
-        omega (arith, g .both (t .gates) (table start k block), paths-figure k m, table-figure k block (stageOf k s d e (moreOf w) m) (stage-figure k (linkWire k n w) (t .words) m) start)
+        omega (
+          arith,
+          g .both (t .gates) (table start k block),
+          paths-figure k m,
+          table-figure k block (stageOf k s d e (moreOf w) m) (stage-figure k (linkWire k n w) (t .words) m) start,
+        )
 
     rows-figure : (beats : ℕ → ℕ → ℕ) (r from k : ℕ) → f (loserRows beats r from k) ≡ k * (r * o)
     unfolding loserRows
     rows-figure beats r from k = blocks-figure (loserRow beats r) (λ i. r * o) row from k ∙ same-sum (r * o) k
       where
         row : (at i : ℕ) → f (loserRow beats r at i) ≡ r * o
-        row at i = unfold loserRow in (blocks-figure (λ wire t. orOf (joined beats (suc r) at i (2 * t)) (joined beats (suc r) at i (2 * t + 1)) ∷ []) (λ t. o) (λ wire t. a .joins (joined beats (suc r) at i (2 * t)) (joined beats (suc r) at i (2 * t + 1))) at r ∙ same-sum o r)
+        row at i = unfold loserRow in (blocks-figure
+            (λ wire t. orOf (joined beats (suc r) at i (2 * t)) (joined beats (suc r) at i (2 * t + 1)) ∷ [])
+            (λ t. o) (λ wire t. a .joins (joined beats (suc r) at i (2 * t))
+            (joined beats (suc r) at i (2 * t + 1))) at r ∙ same-sum o r)
 
     outputs-figure : (beats : ℕ → ℕ → ℕ) (r from k : ℕ) → f (outputGates beats r from k) ≡ k * x
     unfolding outputGates
     outputs-figure beats r from k =
-        blocks-figure (λ wire i. notOf (joined beats (suc r) (from + i * r) i (2 * r)) ∷ []) (λ i. x) (λ wire i. a .lasts (joined beats (suc r) (from + i * r) i (2 * r))) (from + k * r) k ∙ same-sum x k
+        blocks-figure (λ wire i. notOf (joined beats (suc r) (from + i * r) i (2 * r)) ∷ []) (λ i. x)
+        (λ wire i. a .lasts (joined beats (suc r) (from + i * r) i (2 * r))) (from + k * r) k ∙ same-sum x k
 
     -- all of the list
     pub by-tables : (r : ℕ) → f (rankedList (suc (suc (suc r))) n w) ≡
-        tableSum (apartOf c) (suc (suc (suc r))) + tableSum (laterOnes (leb 0) p) (suc (suc (suc r))) + sumBelow (λ l. tableSum (stageOf (suc (suc (suc r))) s d e (moreOf w) l) (suc (suc (suc r)))) (suc (suc (suc r)))
-        + tableSum (laterOnes (leb (suc (suc (suc r)) - 1)) p) (suc (suc (suc r))) + tableSum (laterOnes (λ y. ltb y (suc (suc (suc r)) - 1)) q) (suc (suc (suc r))) + suc (suc (suc r)) * (suc r * o) + suc (suc (suc r)) * x
+        tableSum (apartOf c) (suc (suc (suc r))) + tableSum (laterOnes (leb 0) p) (suc (suc (suc r)))
+        + sumBelow (λ l. tableSum (stageOf (suc (suc (suc r))) s d e (moreOf w) l) (suc (suc (suc r))))
+        (suc (suc (suc r)))
+        + tableSum (laterOnes (leb (suc (suc (suc r)) - 1)) p) (suc (suc (suc r)))
+        + tableSum (laterOnes (λ y. ltb y (suc (suc (suc r)) - 1)) q) (suc (suc (suc r))) + suc (suc (suc r))
+        * (suc r * o) + suc (suc (suc r)) * x
     unfolding pathGates duelGates duels meetingGates meetings rowGates lastGates
     by-tables r =
         let k = suc (suc (suc r)) in
@@ -169,7 +202,8 @@ module _ (f : List Gate → ℕ) (g : Figure f) where
           g .both (pathGates r n w) (duelGates r n w),
           paths-figure k k,
           table-figure k (linksBlock (k - 1) words w) (laterOnes (leb (k - 1)) p) (links-figure (k - 1) words) (duelsFrom k n w),
-          table-figure k (meetingsBlock (k - 1) words (duelAt k n w) w) (laterOnes (λ y. ltb y (k - 1)) q) (meetings-figure (k - 1) words (duelAt k n w)) (meetingsFrom k n w),
+          table-figure k (meetingsBlock (k - 1) words (duelAt k n w) w) (laterOnes (λ y. ltb y (k - 1)) q)
+              (meetings-figure (k - 1) words (duelAt k n w)) (meetingsFrom k n w),
           rows-figure (beatsAt k n w) (suc r) (losersFrom k n w) k,
           outputs-figure (beatsAt k n w) (suc r) (losersFrom k n w) k,
         )
@@ -189,9 +223,13 @@ module _ (f : List Gate → ℕ) (g : Figure f) where
 -- the sums of the tables of r + 3 candidates
 abbrev Sums : ℕ → ℕ → ℕ → ℕ → ℕ → ℕ → ℕ → ℕ → Type 0
 Sums r c p s d e q y =
-    tableSum (apartOf c) (suc (suc (suc r))) + tableSum (laterOnes (leb 0) p) (suc (suc (suc r))) + sumBelow (λ l. tableSum (stageOf (suc (suc (suc r))) s d e y l) (suc (suc (suc r)))) (suc (suc (suc r)))
-    + tableSum (laterOnes (leb (suc (suc (suc r)) - 1)) p) (suc (suc (suc r))) + tableSum (laterOnes (λ y. ltb y (suc (suc (suc r)) - 1)) q) (suc (suc (suc r)))
-    ≡ suc (suc (suc r)) * suc (suc r) * c + suc (suc (suc r)) * suc (suc r) / 2 * p + 2 * suc (suc r) * s + suc (suc r) * suc r * d + suc r * (suc (suc r) * suc r) * e + suc (suc r) * p + suc (suc r) * suc r / 2 * q + 2 * suc r * suc r * y
+    tableSum (apartOf c) (suc (suc (suc r))) + tableSum (laterOnes (leb 0) p) (suc (suc (suc r)))
+    + sumBelow (λ l. tableSum (stageOf (suc (suc (suc r))) s d e y l) (suc (suc (suc r)))) (suc (suc (suc r)))
+    + tableSum (laterOnes (leb (suc (suc (suc r)) - 1)) p) (suc (suc (suc r)))
+    + tableSum (laterOnes (λ y. ltb y (suc (suc (suc r)) - 1)) q) (suc (suc (suc r)))
+    ≡ suc (suc (suc r)) * suc (suc r) * c + suc (suc (suc r)) * suc (suc r) / 2 * p + 2 * suc (suc r) * s
+    + suc (suc r) * suc r * d + suc r * (suc (suc r) * suc r) * e + suc (suc r) * p + suc (suc r) * suc r / 2 * q
+    + 2 * suc r * suc r * y
 
 sums-three : (c p s d e q y : ℕ) → Sums 0 c p s d e q y
 unfolding tableSum sumBelow apartOf laterOnes stageOf stageFigure stays
@@ -227,11 +265,15 @@ sums (suc (suc (suc (suc (suc zero))))) c p s d e q y h = sums-eight c p s d e q
 sums (suc (suc (suc (suc (suc (suc r)))))) c p s d e q y h = absurd (omega arith)
 
 -- what is counted of the list of r + 3 candidates, and of two
-pub figure-is : (f : List Gate → ℕ) → Figure f → (n w c p s d e q o x : ℕ) → Each f n w c p s d e q o x → (r : ℕ) → r ≤ 5 → f (rankedList (suc (suc (suc r))) n w) ≡
-    suc (suc (suc r)) * suc (suc r) * c + suc (suc (suc r)) * suc (suc r) / 2 * p + 2 * suc (suc r) * s + suc (suc r) * suc r * d + suc r * (suc (suc r) * suc r) * e + suc (suc r) * p + suc (suc r) * suc r / 2 * q + 2 * suc r * suc r * moreOf w
+pub figure-is : (f : List Gate → ℕ) → Figure f → (n w c p s d e q o x : ℕ) → Each f n w c p s d e q o x → (r : ℕ)
+    → r ≤ 5 → f (rankedList (suc (suc (suc r))) n w) ≡
+    suc (suc (suc r)) * suc (suc r) * c + suc (suc (suc r)) * suc (suc r) / 2 * p + 2 * suc (suc r) * s
+    + suc (suc r) * suc r * d + suc r * (suc (suc r) * suc r) * e + suc (suc r) * p + suc (suc r) * suc r / 2 * q
+    + 2 * suc r * suc r * moreOf w
     + suc (suc (suc r)) * (suc r * o) + suc (suc (suc r)) * x
 figure-is f g n w c p s d e q o x a r h = omega (arith, by-tables f g n w c p s d e q o x a r, sums r c p s d e q (moreOf w) h)
 
-pub pair-figure-is : (f : List Gate → ℕ) → Figure f → (n w c p s d e q o x : ℕ) → Each f n w c p s d e q o x → f (rankedList 2 n w) ≡ 2 * c + p + 2 * x
+pub pair-figure-is : (f : List Gate → ℕ) → Figure f → (n w c p s d e q o x : ℕ) → Each f n w c p s d e q o x
+    → f (rankedList 2 n w) ≡ 2 * c + p + 2 * x
 unfolding tableSum sumBelow apartOf laterOnes
 pair-figure-is f g n w c p s d e q o x a = pair-figure f g n w c p s d e q o x a ∙ omega arith

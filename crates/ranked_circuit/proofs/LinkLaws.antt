@@ -34,14 +34,18 @@ module _ (rows : ℕ → Bool) (block : ℕ → ℕ → ℕ → List Gate) where
   later-moves at i j l row = ap (λ (c : Bool). cond c (block at i j) []) (and-both (ltb j i) (rows i) (lt-ltb j i l) row)
 
   module _ (n k : ℕ) where
-    pub later-good : ((i j : ℕ) → i < k → j < k → j < i → rows i ≡ true → AllGood (entryStart n k (laterOf rows block) i j) (block (entryStart n k (laterOf rows block) i j) i j))
+    pub later-good : ((i j : ℕ) → i < k → j < k → j < i → rows i ≡ true
+        → AllGood (entryStart n k (laterOf rows block) i j) (block (entryStart n k (laterOf rows block) i j) i j))
         → AllGood n (table n k (laterOf rows block))
     later-good good = table-good n k (laterOf rows block) each
       where
-        each : (i j : ℕ) → i < k → j < k → AllGood (entryStart n k (laterOf rows block) i j) (laterOf rows block (entryStart n k (laterOf rows block) i j) i j)
+        each : (i j : ℕ) → i < k → j < k
+            → AllGood (entryStart n k (laterOf rows block) i j)
+            (laterOf rows block (entryStart n k (laterOf rows block) i j) i j)
         each i j hi hj =
             let at = entryStart n k (laterOf rows block) i j in
-            unfold laterOf in (chosen-good at (ltb j i && rows i) (block at i j) (λ t. good i j hi hj (ltb-true j i (and-first (ltb j i) (rows i) t)) (and-second (ltb j i) (rows i) t)))
+            unfold laterOf in (chosen-good at (ltb j i && rows i) (block at i j)
+            (λ t. good i j hi hj (ltb-true j i (and-first (ltb j i) (rows i) t)) (and-second (ltb j i) (rows i) t)))
 
     module _ (i j : ℕ) (hi : i < k) (hj : j < k) (l : j < i) (row : rows i ≡ true) where
       -- where the block of i and j starts
@@ -49,25 +53,30 @@ module _ (rows : ℕ → Bool) (block : ℕ → ℕ → ℕ → List Gate) where
       laterStart = entryStart n k (laterOf rows block) i j
 
       pub later-end : entryEnd n k (laterOf rows block) i j ≡ laterStart + length (block laterStart i j)
-      later-end = entry-end n k (laterOf rows block) i j hj ∙ ap (λ (gs : List Gate). laterStart + length gs) (later-moves laterStart i j l row)
+      later-end = entry-end n k (laterOf rows block) i j hj
+          ∙ ap (λ (gs : List Gate). laterStart + length gs) (later-moves laterStart i j l row)
 
       pub later-holds : (W : ℕ → ℕ) → Holds W n (table n k (laterOf rows block)) → Holds W laterStart (block laterStart i j)
-      later-holds W h = subst (λ (gs : List Gate). Holds W laterStart gs) (later-moves laterStart i j l row) (entry-holds n k (laterOf rows block) i j hj W hi h)
+      later-holds W h = subst (λ (gs : List Gate). Holds W laterStart gs) (later-moves laterStart i j l row)
+          (entry-holds n k (laterOf rows block) i j hj W hi h)
 
       pub up-at : linkAt n k (laterOf rows block) i j ≡ laterStart + length (block laterStart i j) - 2
       unfolding linkAt
       up-at =
-          ap (λ (c : Bool). cond {A = ℕ} c (entryEnd n k (laterOf rows block) i j - 2) (entryEnd n k (laterOf rows block) j i - 1)) (lt-ltb j i l)
+          ap (λ (c : Bool). cond {A = ℕ} c (entryEnd n k (laterOf rows block) i j - 2)
+          (entryEnd n k (laterOf rows block) j i - 1)) (lt-ltb j i l)
           ∙ ap (λ (x : ℕ). x - 2) later-end
 
       pub down-at : linkAt n k (laterOf rows block) j i ≡ laterStart + length (block laterStart i j) - 1
       unfolding linkAt
       down-at =
-          ap (λ (c : Bool). cond {A = ℕ} c (entryEnd n k (laterOf rows block) j i - 2) (entryEnd n k (laterOf rows block) i j - 1)) (le-ltb i j (omega arith))
+          ap (λ (c : Bool). cond {A = ℕ} c (entryEnd n k (laterOf rows block) j i - 2)
+          (entryEnd n k (laterOf rows block) i j - 1)) (le-ltb i j (omega arith))
           ∙ ap (λ (x : ℕ). x - 1) later-end
 
       within : 2 ≤ length (block laterStart i j)
-          → (linkAt n k (laterOf rows block) i j < n + length (table n k (laterOf rows block))) × (linkAt n k (laterOf rows block) j i < n + length (table n k (laterOf rows block)))
+          → (linkAt n k (laterOf rows block) i j < n + length (table n k (laterOf rows block)))
+          × (linkAt n k (laterOf rows block) j i < n + length (table n k (laterOf rows block)))
       within long =
           let e = later-end in
           let f = end-within n k (laterOf rows block) i j hj hi in

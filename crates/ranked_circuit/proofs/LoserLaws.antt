@@ -27,14 +27,18 @@ unfolding other
 other-above i s h = ap (λ (t : Bool). cond t s (suc s)) (le-ltb s i h)
 
 pub other-apart : (i s : ℕ) → other i s ≢ i
-other-apart i s e = ⊎-elim (λ (l : s < i). omega (arith, other-below i s l)) (λ (l : i ≤ s). omega (arith, other-above i s l)) (below-or-not s i)
+other-apart i s e = ⊎-elim (λ (l : s < i). omega (arith, other-below i s l))
+    (λ (l : i ≤ s). omega (arith, other-above i s l)) (below-or-not s i)
 
 pub other-low : (i s m : ℕ) → s ≤ m → other i s < suc (suc m)
-other-low i s m h = ⊎-elim (λ (l : s < i). omega (arith, other-below i s l)) (λ (l : i ≤ s). omega (arith, other-above i s l)) (below-or-not s i)
+other-low i s m h = ⊎-elim (λ (l : s < i). omega (arith, other-below i s l))
+    (λ (l : i ≤ s). omega (arith, other-above i s l)) (below-or-not s i)
 
 pub other-found : (i j m : ℕ) → i < suc (suc m) → j < suc (suc m) → j ≢ i → (s : ℕ) × (s ≤ m) × (other i s ≡ j)
 other-found i j m hi hj ne =
-    ⊎-elim (λ (l : j < i). (j, omega arith, other-below i j l)) (λ (l : i ≤ j). (j - 1, omega arith, (let e = other-above i (j - 1) (omega arith) in omega arith))) (below-or-not j i)
+    ⊎-elim (λ (l : j < i). (j, omega arith, other-below i j l))
+    (λ (l : i ≤ j). (j - 1, omega arith, (let e = other-above i (j - 1) (omega arith) in omega arith)))
+    (below-or-not j i)
 
 module _ (beats : ℕ → ℕ → ℕ) (r at i : ℕ) where
   -- number s of what the row joins
@@ -47,7 +51,8 @@ module _ (beats : ℕ → ℕ → ℕ) (r at i : ℕ) where
 
   item-own : (t : ℕ) → item (suc r + t) ≡ at + t
   unfolding joined
-  item-own t = ap (λ (c : Bool). cond c (beats (other i (suc r + t)) i) (at + (suc r + t - suc r))) (le-ltb (suc r + t) (suc r) (omega arith)) ∙ omega arith
+  item-own t = ap (λ (c : Bool). cond c (beats (other i (suc r + t)) i) (at + (suc r + t - suc r)))
+      (le-ltb (suc r + t) (suc r) (omega arith)) ∙ omega arith
 
   abbrev rowGate : ℕ → ℕ → List Gate
   rowGate wire t = orOf (item (2 * t)) (item (2 * t + 1)) ∷ []
@@ -63,7 +68,8 @@ module _ (beats : ℕ → ℕ → ℕ) (r at i : ℕ) where
   pub item-before : (wire t s : ℕ) → s < suc r + t → at + t ≤ wire → ((s : ℕ) → s ≤ r → beats (other i s) i < wire) → item s < wire
   item-before wire t s h l below =
       ⊎-elim (λ (q : s < suc r). omega (arith, item-other s (omega arith), below s (omega arith)))
-      (λ (q : suc r ≤ s). let own = item-own (s - suc r) in let e : suc r + (s - suc r) ≡ s = omega arith in omega (arith, ap item e)) (below-or-not s (suc r))
+      (λ (q : suc r ≤ s). let own = item-own (s - suc r) in let e : suc r + (s - suc r) ≡ s = omega arith in
+      omega (arith, ap item e)) (below-or-not s (suc r))
 
   pub row-good : ((s : ℕ) → s ≤ r → beats (other i s) i < at) → AllGood at (loserRow beats r at i)
   unfolding loserRow
@@ -72,8 +78,12 @@ module _ (beats : ℕ → ℕ → ℕ) (r at i : ℕ) where
       (λ t l.
       let start = row-start t in
       let wire = startOf at rowGate t in
-      let low : (s : ℕ) → s ≤ r → beats (other i s) i < wire = λ s q. omega (arith, below s q) in
-      (good-two wire 5 (item (2 * t)) (item (2 * t + 1)) (omega arith) (operand-counts .5) (item-before wire t (2 * t) (omega arith) (omega arith) low) (item-before wire t (2 * t + 1) (omega arith) (omega arith) low), tt))
+      let low : (s : ℕ) → s ≤ r → beats (other i s) i < wire = λ s q. omega (arith, below s q) in (
+        good-two wire 5 (item (2 * t)) (item (2 * t + 1)) (omega arith) (operand-counts .5)
+            (item-before wire t (2 * t) (omega arith) (omega arith) low)
+            (item-before wire t (2 * t + 1) (omega arith) (omega arith) low),
+        tt,
+      ))
 
   module _ (W : ℕ → ℕ) (b : Binary W) (h : Holds W at (loserRow beats r at i)) where
     gate-is : (t : ℕ) → t < r → W (item (suc r + t)) ≡ max (W (item (2 * t))) (W (item (2 * t + 1)))
@@ -90,7 +100,13 @@ module _ (beats : ℕ → ℕ → ℕ) (r at i : ℕ) where
         let t = s - suc r in
         let e : suc r + t ≡ s = omega arith in
         let g = gate-is t (omega arith) in
-        sym (ap (λ (x : ℕ). W (item x)) e) ∙ omega (arith, g, none-joined none fuel (2 * t) (omega arith) (omega arith), none-joined none fuel (2 * t + 1) (omega arith) (omega arith)))
+        sym (ap (λ (x : ℕ). W (item x)) e)
+        ∙ omega (
+          arith,
+          g,
+          none-joined none fuel (2 * t) (omega arith) (omega arith),
+          none-joined none fuel (2 * t + 1) (omega arith) (omega arith),
+        ))
         (below-or-not s (suc r))
 
     pub lost-zero : ((s : ℕ) → s ≤ r → W (beats (other i s) i) ≡ 0) → W (item (2 * r)) ≡ 0
@@ -103,7 +119,11 @@ module _ (beats : ℕ → ℕ → ℕ) (r at i : ℕ) where
         ⊎-elim (λ (q : s < 2 * r).
         let t = s / 2 in
         let g = gate-is t (omega arith) in
-        some-joined fuel (suc r + t) (omega arith) (omega arith) (⊎-elim (λ (p : s % 2 < 1). let x : s ≡ 2 * t = omega arith in omega (arith, g, b (item (2 * t + 1)), ap (λ (y : ℕ). W (item y)) x)) (λ (p : 1 ≤ s % 2). let x : s ≡ 2 * t + 1 = omega arith in omega (arith, g, b (item (2 * t)), ap (λ (y : ℕ). W (item y)) x)) (below-or-not (s % 2) 1)))
+        some-joined fuel (suc r + t) (omega arith) (omega arith)
+        (⊎-elim (λ (p : s % 2 < 1). let x : s ≡ 2 * t = omega arith in
+        omega (arith, g, b (item (2 * t + 1)), ap (λ (y : ℕ). W (item y)) x))
+        (λ (p : 1 ≤ s % 2). let x : s ≡ 2 * t + 1 = omega arith in
+        omega (arith, g, b (item (2 * t)), ap (λ (y : ℕ). W (item y)) x)) (below-or-not (s % 2) 1)))
         (λ (q : 2 * r ≤ s). let q : s ≡ 2 * r = omega arith in ap (λ (x : ℕ). W (item x)) (sym q) ∙ e) (below-or-not s (2 * r))
 
     pub lost-one : (s : ℕ) → s ≤ r → W (beats (other i s) i) ≡ 1 → W (item (2 * r)) ≡ 1

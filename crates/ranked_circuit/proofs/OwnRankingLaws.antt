@@ -62,7 +62,8 @@ single : (n : ℕ) (xs : List ℕ) → ((p : ℕ) → getD xs p 0 ≤ 1) → out
 single n xs bits =
     let gs = constant 1 ∷ [] in
     let good : AllGood (length xs) gs = (good-constant (length xs) 1, tt) in
-    let w = holds-first (wire (wiresOf xs gs)) (length xs) (constant 1) [] (wires-hold xs gs good) ∙ constant-is (wire (wiresOf xs gs)) (bits-of xs gs bits good) 1 in
+    let w = holds-first (wire (wiresOf xs gs)) (length xs) (constant 1) [] (wires-hold xs gs good)
+    ∙ constant-is (wire (wiresOf xs gs)) (bits-of xs gs bits good) 1 in
     closing-from 1 n xs gs (omega arith)
     (λ i h.
     let at : length xs + 1 - 1 + i ≡ length xs = omega arith in
@@ -81,7 +82,8 @@ several m n w xs count size bits =
     let good : AllGood (length xs) gs = subst (λ (l : ℕ). AllGood l gs) (sym size) (circuit-good m n w count) in
     let W = wire (wiresOf xs gs) in
     let holds : Holds W (n * k * k) gs = subst (λ (l : ℕ). Holds W l gs) size (wires-hold xs gs good) in
-    let counted : (i j : ℕ) → i < k → j < k → i ≢ j → ones W (i * k + j) (k * k) n ≡ votes k n xs i j = λ i j hi hj ne. column W xs k n i j hi hj bits (λ p l. wires-start xs gs p (omega arith)) in
+    let counted : (i j : ℕ) → i < k → j < k → i ≢ j → ones W (i * k + j) (k * k) n ≡ votes k n xs i j =
+    λ i j hi hj ne. column W xs k n i j hi hj bits (λ p l. wires-start xs gs p (omega arith)) in
     let end = list-end m n w in
     closing-from k n xs gs (outputs-in m n w)
     (λ i h.
@@ -104,9 +106,12 @@ several-holds m n hk ln hn =
     let w = widthOf n - 1 in
     let count = ranking-countable n ln in
     let top : suc w ≡ widthOf n = omega (arith, width-half n ln) in
-    let few : length (rankedList (suc (suc m)) n w) ≤ rankingBound k n (widthOf n) = subst (λ (v : ℕ). length (rankedList (suc (suc m)) n w) ≤ rankingBound k n v) top (gates-most n w ln m (omega arith)) in
+    let few : length (rankedList (suc (suc m)) n w) ≤ rankingBound k n (widthOf n) =
+    subst (λ (v : ℕ). length (rankedList (suc (suc m)) n w) ≤ rankingBound k n v) top
+    (gates-most n w ln m (omega arith)) in
     record {
-      passes = good-list-accepted (n * k * k) k (rankedList (suc (suc m)) n w) (circuit-good m n w count) (outputs-in m n w) (omega (arith, few, bound-small k n (widthOf n) hk hn (width-most n hn)));
+      passes = good-list-accepted (n * k * k) k (rankedList (suc (suc m)) n w) (circuit-good m n w count)
+          (outputs-in m n w) (omega (arith, few, bound-small k n (widthOf n) hk hn (width-most n hn)));
       bounded = few;
       closing = λ xs size bits. several m n w xs count size bits;
     }

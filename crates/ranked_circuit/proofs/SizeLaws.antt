@@ -32,8 +32,20 @@ sizes n w =
       counters = λ at from step. omega (arith, length-counter at from step n 0 w);
       compares = λ at a b. length-whole at a b w;
       strengths = λ l a. length-masked l a (suc w);
-      firsts = λ h at a b at′ l a′ b′ q. omega (arith, length-append (smaller at a b w h) (largerIf at′ l a′ b′ w h), length-smaller at a b w h q, length-larger-if at′ l a′ b′ w h q);
-      detours = λ h at a b at′ a′ b′ q. omega (arith, length-append (smaller at a b w h) (larger at′ a′ b′ w h), length-smaller at a b w h q, length-larger at′ a′ b′ w h q);
+      firsts = λ h at a b at′ l a′ b′ q.
+          omega (
+            arith,
+            length-append (smaller at a b w h) (largerIf at′ l a′ b′ w h),
+            length-smaller at a b w h q,
+            length-larger-if at′ l a′ b′ w h q,
+          );
+      detours = λ h at a b at′ a′ b′ q.
+          omega (
+            arith,
+            length-append (smaller at a b w h) (larger at′ a′ b′ w h),
+            length-smaller at a b w h q,
+            length-larger at′ a′ b′ w h q,
+          );
       meets = λ li lj ij ji mi mj at. omega (arith, length-meeting li lj ij ji mi mj w at);
       joins = λ a b. refl;
       lasts = λ a. refl;
@@ -41,15 +53,18 @@ sizes n w =
 
 -- G: a counter for each two candidates either way, a comparison for both, a word for each link to or from the first, and so on
 pub gates-are : (r n w : ℕ) → r ≤ 5 → length (rankedList (suc (suc (suc r))) n w) ≡
-    suc (suc (suc r)) * suc (suc r) * (countSize n 0 w + suc w) + suc (suc (suc r)) * suc (suc r) / 2 * (3 + 3 * w) + 2 * suc (suc r) * suc w + suc (suc r) * suc r * (6 * w + 3) + suc r * (suc (suc r) * suc r) * (6 * w + 2)
+    suc (suc (suc r)) * suc (suc r) * (countSize n 0 w + suc w) + suc (suc (suc r)) * suc (suc r) / 2 * (3 + 3 * w)
+    + 2 * suc (suc r) * suc w + suc (suc r) * suc r * (6 * w + 3) + suc r * (suc (suc r) * suc r) * (6 * w + 2)
     + suc (suc r) * (3 + 3 * w) + suc (suc r) * suc r / 2 * (10 * w + 14) + 2 * suc r * suc r * moreOf w + suc (suc (suc r)) * suc (suc r)
 gates-are r n w h =
-    let total = figure-is length (record { none = refl; both = length-append }) n w (countSize n 0 w + suc w) (3 + 3 * w) (suc w) (6 * w + 3) (6 * w + 2) (10 * w + 14) 1 1 (sizes n w) r h in
+    let total = figure-is length (record { none = refl; both = length-append }) n w (countSize n 0 w + suc w)
+    (3 + 3 * w) (suc w) (6 * w + 3) (6 * w + 2) (10 * w + 14) 1 1 (sizes n w) r h in
     omega arith
 
 pub pair-gates-are : (n w : ℕ) → length (rankedList 2 n w) ≡ 2 * (countSize n 0 w + suc w) + (3 + 3 * w) + 2
 pair-gates-are n w =
-    let total = pair-figure-is length (record { none = refl; both = length-append }) n w (countSize n 0 w + suc w) (3 + 3 * w) (suc w) (6 * w + 3) (6 * w + 2) (10 * w + 14) 1 1 (sizes n w) in
+    let total = pair-figure-is length (record { none = refl; both = length-append }) n w (countSize n 0 w + suc w)
+    (3 + 3 * w) (suc w) (6 * w + 3) (6 * w + 2) (10 * w + 14) 1 1 (sizes n w) in
     omega arith
 
 module _ (n w : ℕ) (h : 0 < n) where

@@ -43,7 +43,8 @@ pub apart-zero : (i j : ℕ) → stays 0 i j ≡ false → i ≢ j
 unfolding stays
 apart-zero i j e = eqb-false i j (neither (not (eqb i 0 || eqb j 0)) (eqb i j) e .1)
 
-pub stage-moves : (k : ℕ) (links words : ℕ → ℕ → ℕ) (w m at i j : ℕ) → stays m i j ≡ false → pathBlock k links words w m at i j ≡ newWord links words w (cutAt k w m i j) m at i j
+pub stage-moves : (k : ℕ) (links words : ℕ → ℕ → ℕ) (w m at i j : ℕ) → stays m i j ≡ false
+    → pathBlock k links words w m at i j ≡ newWord links words w (cutAt k w m i j) m at i j
 unfolding pathBlock
 stage-moves k links words w m at i j e = ap (λ (c : Bool). cond c [] (newWord links words w (cutAt k w m i j) m at i j)) e
 
@@ -73,12 +74,22 @@ stage-length links words w h (suc zero) at i j q =
     let to = at + orderSize w h in
     let way = smaller at (words i 0) (words 0 j) w h in
     let more = largerIf (to + suc w) (links i j) (words i j) to w h in
-    omega (arith, length-append way more, length-smaller at (words i 0) (words 0 j) w h q, length-larger-if (to + suc w) (links i j) (words i j) to w h q)
+    omega (
+      arith,
+      length-append way more,
+      length-smaller at (words i 0) (words 0 j) w h q,
+      length-larger-if (to + suc w) (links i j) (words i j) to w h q,
+    )
 stage-length links words w h (suc (suc l)) at i j q =
     let to = at + orderSize w h in
     let way = smaller at (words i (suc l)) (words (suc l) j) w h in
     let more = larger (to + suc w) (words i j) to w h in
-    omega (arith, length-append way more, length-smaller at (words i (suc l)) (words (suc l) j) w h q, length-larger (to + suc w) (words i j) to w h q)
+    omega (
+      arith,
+      length-append way more,
+      length-smaller at (words i (suc l)) (words (suc l) j) w h q,
+      length-larger (to + suc w) (words i j) to w h q,
+    )
 
 -- a counter's block
 pub votes-moves : (k n w at i j : ℕ) → i ≢ j → votesBlock k n w at i j ≡ counter at (i * k + j) (k * k) n 0 w
@@ -109,23 +120,28 @@ down-last at (suc w) = omega arith
 
 module _ (W : ℕ → ℕ) (b : Binary W) where
   -- a smaller word, and what comes after it
-  behind-smaller : (at x y w h : ℕ) (gs : List Gate) → h ≤ w → Holds W at (smaller at x y w h ++ gs) → Holds W at (smaller at x y w h) × Holds W (at + orderSize w h + suc w) gs
+  behind-smaller : (at x y w h : ℕ) (gs : List Gate) → h ≤ w → Holds W at (smaller at x y w h ++ gs)
+      → Holds W at (smaller at x y w h) × Holds W (at + orderSize w h + suc w) gs
   behind-smaller at x y w h gs q g =
       let p = holds-append W at (smaller at x y w h) gs g in
       let place : at + length (smaller at x y w h) ≡ at + orderSize w h + suc w = omega (arith, length-smaller at x y w h q) in
       (p .0, subst (λ (l : ℕ). Holds W l gs) place (p .1))
 
   -- the number of the ballots whose byte is 1
-  pub votes-law : (k n w at i j : ℕ) → i ≢ j → Countable n 0 w → Holds W at (votesBlock k n w at i j) → number W (at + countSize n 0 w) 1 (suc w) ≡ ones W (i * k + j) (k * k) n
+  pub votes-law : (k n w at i j : ℕ) → i ≢ j → Countable n 0 w → Holds W at (votesBlock k n w at i j)
+      → number W (at + countSize n 0 w) 1 (suc w) ≡ ones W (i * k + j) (k * k) n
   votes-law k n w at i j ne c h =
-      counter-law W b at (i * k + j) (k * k) n 0 w c (subst (λ (gs : List Gate). Holds W at gs) (votes-moves k n w at i j ne) h) ∙ add-zero (ones W (i * k + j) (k * k) n)
+      counter-law W b at (i * k + j) (k * k) n 0 w c
+      (subst (λ (gs : List Gate). Holds W at gs) (votes-moves k n w at i j ne) h)
+      ∙ add-zero (ones W (i * k + j) (k * k) n)
 
   -- words that are compared; a wire says whether one is larger
   module _ (words t : ℕ → ℕ → ℕ) (k w : ℕ) (spelled : (i j : ℕ) → i < k → j < k → i ≢ j → number W (words i j) 1 (suc w) ≡ t i j) where
     abbrev pub Tells : (ℕ → ℕ → ℕ) → ℕ → ℕ → Type 0
     Tells wires i j = (t j i < t i j → W (wires i j) ≡ 1) × (t i j ≤ t j i → W (wires i j) ≡ 0)
 
-    module _ (first n : ℕ) (h : Holds W n (table n k (laterOf (leb first) (comparing words w)))) (i j : ℕ) (hi : i < k) (hj : j < k) (l : j < i) (row : leb first i ≡ true) where
+    module _ (first n : ℕ) (h : Holds W n (table n k (laterOf (leb first) (comparing words w)))) (i j : ℕ)
+        (hi : i < k) (hj : j < k) (l : j < i) (row : leb first i ≡ true) where
       at : ℕ
       at = laterStart (leb first) (comparing words w) n k i j hi hj l row
 
@@ -137,33 +153,58 @@ module _ (W : ℕ → ℕ) (b : Binary W) where
       unfolding at
       later =
           let r = compare-up W b at (words i j) (words j i) w held in
-          let e : linkAt n k (laterOf (leb first) (comparing words w)) i j ≡ upEnd (at + 3) (at + 1) w = up-at (leb first) (comparing words w) n k i j hi hj l row ∙ omega (arith, length-whole at (words i j) (words j i) w, up-last at w) in
-          rw e ((λ q. r .0 (omega (arith, spelled i j hi hj (λ e. omega arith), spelled j i hj hi (λ e. omega arith)))), (λ q. r .1 (omega (arith, spelled i j hi hj (λ e. omega arith), spelled j i hj hi (λ e. omega arith)))))
+          let e : linkAt n k (laterOf (leb first) (comparing words w)) i j ≡ upEnd (at + 3) (at + 1) w =
+          up-at (leb first) (comparing words w) n k i j hi hj l row
+          ∙ omega (arith, length-whole at (words i j) (words j i) w, up-last at w) in
+          rw e (
+            (λ q. r .0 (omega (
+              arith,
+              spelled i j hi hj (λ e. omega arith),
+              spelled j i hj hi (λ e. omega arith),
+            ))),
+            (λ q. r .1 (omega (arith, spelled i j hi hj (λ e. omega arith), spelled j i hj hi (λ e. omega arith)))),
+          )
 
       earlier : Tells (linkAt n k (laterOf (leb first) (comparing words w))) j i
       unfolding at
       earlier =
           let r = compare-down W b at (words i j) (words j i) w held in
-          let e : linkAt n k (laterOf (leb first) (comparing words w)) j i ≡ downEnd (at + 3) (at + 2) w = down-at (leb first) (comparing words w) n k i j hi hj l row ∙ omega (arith, length-whole at (words i j) (words j i) w, down-last at w) in
-          rw e ((λ q. r .0 (omega (arith, spelled i j hi hj (λ e. omega arith), spelled j i hj hi (λ e. omega arith)))), (λ q. r .1 (omega (arith, spelled i j hi hj (λ e. omega arith), spelled j i hj hi (λ e. omega arith)))))
+          let e : linkAt n k (laterOf (leb first) (comparing words w)) j i ≡ downEnd (at + 3) (at + 2) w =
+          down-at (leb first) (comparing words w) n k i j hi hj l row
+          ∙ omega (arith, length-whole at (words i j) (words j i) w, down-last at w) in
+          rw e (
+            (λ q. r .0 (omega (
+              arith,
+              spelled i j hi hj (λ e. omega arith),
+              spelled j i hj hi (λ e. omega arith),
+            ))),
+            (λ q. r .1 (omega (arith, spelled i j hi hj (λ e. omega arith), spelled j i hj hi (λ e. omega arith)))),
+          )
 
-    pub link-told : (first n : ℕ) → Holds W n (table n k (linksBlock first words w)) → (i j : ℕ) → i < k → j < k → i ≢ j → first ≤ max i j → Tells (linkAt n k (linksBlock first words w)) i j
+    pub link-told : (first n : ℕ) → Holds W n (table n k (linksBlock first words w)) → (i j : ℕ) → i < k → j < k
+        → i ≢ j → first ≤ max i j → Tells (linkAt n k (linksBlock first words w)) i j
     link-told first n h i j hi hj ne f =
         rw (links-are first words w)
-        (⊎-elim (λ (l : j < i). later first n held i j hi hj l (le-leb first i (omega arith))) (λ (l : i ≤ j). earlier first n held j i hj hi (omega arith) (le-leb first j (omega arith))) (below-or-not j i))
+        (⊎-elim (λ (l : j < i). later first n held i j hi hj l (le-leb first i (omega arith)))
+        (λ (l : i ≤ j). earlier first n held j i hj hi (omega arith) (le-leb first j (omega arith)))
+        (below-or-not j i))
       where
         held : Holds W n (table n k (laterOf (leb first) (comparing words w)))
         held = rw (links-are first words w) at h
 
   -- a link's strength: the number of ballots if there is a link
-  pub strength-law : (f x w at v v′ : ℕ) → number W x 1 (suc w) ≡ v → (v′ < v → W f ≡ 1) × (v ≤ v′ → W f ≡ 0) → Holds W at (masked f x (suc w))
+  pub strength-law : (f x w at v v′ : ℕ) → number W x 1 (suc w) ≡ v → (v′ < v → W f ≡ 1) × (v ≤ v′ → W f ≡ 0)
+      → Holds W at (masked f x (suc w))
       → (v′ < v → number W (at + 0) 1 (suc w) ≡ v) × (v ≤ v′ → number W (at + 0) 1 (suc w) ≡ 0)
   strength-law f x w at v v′ e told h =
       rw (add-zero at) ((λ l. masked-one W b at f x (suc w) (told .0 l) h ∙ e), (λ l. masked-zero W b at f x (suc w) (told .1 l) h))
 
   -- the stronger of the path so far and a way
-  pub way-law : (words : ℕ → ℕ → ℕ) (w h l at i j a c d : ℕ) → h ≤ w → number W (words i j) 1 (suc w) ≡ a → number W (words i (suc l)) 1 (suc w) ≡ c → number W (words (suc l) j) 1 (suc w) ≡ d →
-      Holds W at (smaller at (words i (suc l)) (words (suc l) j) w h ++ larger (at + orderSize w h + suc w) (words i j) (at + orderSize w h) w h) → number W (at + (orderSize w h + suc w + orderSize w h)) 1 (suc w) ≡ max a (min c d)
+  pub way-law : (words : ℕ → ℕ → ℕ) (w h l at i j a c d : ℕ) → h ≤ w → number W (words i j) 1 (suc w) ≡ a
+      → number W (words i (suc l)) 1 (suc w) ≡ c → number W (words (suc l) j) 1 (suc w) ≡ d →
+      Holds W at (smaller at (words i (suc l)) (words (suc l) j) w h
+      ++ larger (at + orderSize w h + suc w) (words i j) (at + orderSize w h) w h)
+      → number W (at + (orderSize w h + suc w + orderSize w h)) 1 (suc w) ≡ max a (min c d)
   way-law words w h l at i j a c d q ea ec ed g =
       let to = at + orderSize w h in
       let p = behind-smaller at (words i (suc l)) (words (suc l) j) w h (larger (to + suc w) (words i j) to w h) q g in
@@ -173,9 +214,11 @@ module _ (W : ℕ → ℕ) (b : Binary W) where
       sym (ap (λ (m : ℕ). number W m 1 (suc w)) e) ∙ omega (arith, r, s)
 
   -- the same if the path so far counts only if there is a link
-  pub first-way-law : (links words v : ℕ → ℕ → ℕ) (w h at i j c d : ℕ) → h ≤ w → number W (words i j) 1 (suc w) ≡ v i j → (v j i < v i j → W (links i j) ≡ 1) × (v i j ≤ v j i → W (links i j) ≡ 0) →
+  pub first-way-law : (links words v : ℕ → ℕ → ℕ) (w h at i j c d : ℕ) → h ≤ w → number W (words i j) 1 (suc w)
+      ≡ v i j → (v j i < v i j → W (links i j) ≡ 1) × (v i j ≤ v j i → W (links i j) ≡ 0) →
       number W (words i 0) 1 (suc w) ≡ c → number W (words 0 j) 1 (suc w) ≡ d →
-      Holds W at (smaller at (words i 0) (words 0 j) w h ++ largerIf (at + orderSize w h + suc w) (links i j) (words i j) (at + orderSize w h) w h)
+      Holds W at (smaller at (words i 0) (words 0 j) w h
+      ++ largerIf (at + orderSize w h + suc w) (links i j) (words i j) (at + orderSize w h) w h)
       → number W (at + (orderSize w h + suc w + (orderSize w h + 1))) 1 (suc w) ≡ max (link v i j) (min c d)
   first-way-law links words v w h at i j c d q ea told ec ed g =
       let to = at + orderSize w h in

@@ -43,7 +43,8 @@ module _ (n : ℕ) (block : ℕ → ℕ → List Gate) where
   block-holds W (suc m) e l h =
       let p = holds-append W n (blocks n block m) (block (startOf n block m) m) h in
       ⊎-elim (λ (b : e < m). block-holds W m e b (p .0))
-      (λ (b : m ≤ e). subst (λ (j : ℕ). Holds W (startOf n block j) (block (startOf n block j) j)) {x = m} {y = e} (omega arith) (p .1)) (below-or-not e m)
+      (λ (b : m ≤ e). subst (λ (j : ℕ). Holds W (startOf n block j) (block (startOf n block j) j)) {x = m} {y = e}
+      (omega arith) (p .1)) (below-or-not e m)
 
   pub blocks-good : (m : ℕ) → ((e : ℕ) → e < m → AllGood (startOf n block e) (block (startOf n block e) e)) → AllGood n (blocks n block m)
   unfolding blocks
@@ -87,10 +88,12 @@ module _ (n k : ℕ) (block : ℕ → ℕ → ℕ → List Gate) where
 
     pub entry-end : entryEnd n k block i j ≡ entryStart n k block i j + length (block (entryStart n k block i j) i j)
     unfolding entryEnd entries
-    entry-end = start-next n numbered (i * k + j) ∙ ap (λ (gs : List Gate). startOf n numbered (i * k + j) + length gs) (here (startOf n numbered (i * k + j)))
+    entry-end = start-next n numbered (i * k + j)
+        ∙ ap (λ (gs : List Gate). startOf n numbered (i * k + j) + length gs) (here (startOf n numbered (i * k + j)))
 
     -- the gates of row i and column j are at their place
-    pub entry-holds : (W : ℕ → ℕ) → i < k → Holds W n (table n k block) → Holds W (entryStart n k block i j) (block (entryStart n k block i j) i j)
+    pub entry-holds : (W : ℕ → ℕ) → i < k → Holds W n (table n k block)
+        → Holds W (entryStart n k block i j) (block (entryStart n k block i j) i j)
     unfolding table entries
     entry-holds W hi h =
         let at = startOf n numbered (i * k + j) in
@@ -101,7 +104,8 @@ module _ (n k : ℕ) (block : ℕ → ℕ → ℕ → List Gate) where
     end-within hi = start-grows n numbered (k * k) (suc (i * k + j)) (number-low k i j hi hj)
 
   -- a table is well-formed if each of its blocks is
-  pub table-good : ((i j : ℕ) → i < k → j < k → AllGood (entryStart n k block i j) (block (entryStart n k block i j) i j)) → AllGood n (table n k block)
+  pub table-good : ((i j : ℕ) → i < k → j < k
+      → AllGood (entryStart n k block i j) (block (entryStart n k block i j) i j)) → AllGood n (table n k block)
   unfolding table entries
   table-good good =
       blocks-good n numbered (k * k)

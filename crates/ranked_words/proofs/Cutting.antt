@@ -17,7 +17,9 @@ module _ (n x y w : ℕ) where
   cut-zero cut e = rw e refl
 
   pub cut-some : (cut l h : ℕ) → cut ≡ suc h → l ≡ w - cut
-      → order n x y l ++ compareHalves (n + 2 * l) (x + suc l) (y + suc l) h 0 ++ (muxOf (unequalAt (n + 2 * l) h) (aboveAt (n + 2 * l) (x + suc l) h) (orderEnd n x l) ∷ []) ≡ orderCut n x y w cut
+      → order n x y l ++ compareHalves (n + 2 * l) (x + suc l) (y + suc l) h 0
+      ++ (muxOf (unequalAt (n + 2 * l) h) (aboveAt (n + 2 * l) (x + suc l) h) (orderEnd n x l) ∷ [])
+      ≡ orderCut n x y w cut
   unfolding orderCut
   cut-some cut l h e q = rw (q, e) refl
 

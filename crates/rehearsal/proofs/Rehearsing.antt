@@ -45,7 +45,8 @@ bits-take (suc n) (x ∷ xs) b (suc i) = bits-take n xs (λ (j : ℕ). b (suc j)
 pub cut-long : (n : ℕ) (xs : List ℕ) → n ≤ length xs → n ≡ length (take n xs)
 cut-long n xs h = omega (arith, length-take n xs)
 
-module _ (s : Shape) (list : List ℕ) (gates conditional : ℕ) (tape wires board : List ℕ) (u : Cut s list gates conditional tape wires board) where
+module _ (s : Shape) (list : List ℕ) (gates conditional : ℕ) (tape wires board : List ℕ)
+    (u : Cut s list gates conditional tape wires board) where
   fewer : conditional ≤ gates
   fewer = omega (arith, u .gates-are, u .conditional-are, count-most (ownList s))
 
@@ -92,12 +93,15 @@ module _ (s : Shape) (list : List ℕ) (gates conditional : ℕ) (tape wires boa
         ap (λ (l : List ℕ). runResult s l ballots tape′ wires′ board′ .answer) (u .list-is)
         ∙ own-answer s (T-true (withinLimits s) (u .within)) ballots tape′ wires′ board′ mask wires-long board-long
 
-    pub refusal-outcome : (reason : Refusal) → outcomeOf (answer.Refused reason) ≡ runResult s list ballots (take conditional tape) (take (inputs + gates) wires) (take (conditional + s .candidates) board) .answer
+    pub refusal-outcome : (reason : Refusal) → outcomeOf (answer.Refused reason)
+        ≡ runResult s list ballots (take conditional tape) (take (inputs + gates) wires)
+        (take (conditional + s .candidates) board) .answer
         → refused (reasonOf reason) ≡ runOutcome s ballots
     unfolding outcomeOf runOutcome outcome tape′ wires′ board′
     refusal-outcome reason e =
         let o = firstOf (ballotReasons s ballots) in
-        sym (ap (λ (o : Option Reason). outcome o (printedOf s ballots)) (outcome-refused o (sizeOf (ownList s)) (reasonOf reason) (sym (e ∙ answers))))
+        sym (ap (λ (o : Option Reason). outcome o (printedOf s ballots))
+        (outcome-refused o (sizeOf (ownList s)) (reasonOf reason) (sym (e ∙ answers))))
 
     -- the closing bytes on the board, whatever follows
     placed : (b rest : List ℕ) → b ≡ runResult s list ballots tape′ wires′ board′ .board → firstOf (ballotReasons s ballots) ≡ none
@@ -105,42 +109,55 @@ module _ (s : Shape) (list : List ℕ) (gates conditional : ℕ) (tape wires boa
     placed b rest e none-applies =
         let n = conditionalCount (ownList s) in
         let p = own-closing s (T-true (withinLimits s) (u .within)) ballots tape′ wires′ board′ mask wires-long board-long none-applies in
-        let f : b ≡ runResult s (numbersOf (ownList s)) ballots tape′ wires′ board′ .board = e ∙ ap (λ (l : List ℕ). runResult s l ballots tape′ wires′ board′ .board) (u .list-is) in
+        let f : b ≡ runResult s (numbersOf (ownList s)) ballots tape′ wires′ board′ .board = e
+        ∙ ap (λ (l : List ℕ). runResult s l ballots tape′ wires′ board′ .board) (u .list-is) in
         let closing = closingFor s ballots in
         let long : length b ≡ n + s .candidates = ap length f ∙ p .0 in
-        ap (take (s .candidates)) (drop-append-le n b rest (omega arith) ∙ ap (λ (l : List ℕ). drop n l ++ rest) f ∙ ap (λ (l : List ℕ). l ++ rest) (p .1))
+        ap (take (s .candidates)) (drop-append-le n b rest (omega arith) ∙ ap (λ (l : List ℕ). drop n l ++ rest) f
+        ∙ ap (λ (l : List ℕ). l ++ rest) (p .1))
         ∙ take-at closing rest (s .candidates) (closing-length s ballots)
 
-    pub winners-outcome : (g c : ℕ) (b rest : List ℕ) → outcomeOf (answer.Accepted g c) ≡ runResult s list ballots (take conditional tape) (take (inputs + gates) wires) (take (conditional + s .candidates) board) .answer
-        → b ≡ runResult s list ballots (take conditional tape) (take (inputs + gates) wires) (take (conditional + s .candidates) board) .board
+    pub winners-outcome : (g c : ℕ) (b rest : List ℕ) → outcomeOf (answer.Accepted g c)
+        ≡ runResult s list ballots (take conditional tape) (take (inputs + gates) wires)
+        (take (conditional + s .candidates) board) .answer
+        → b ≡ runResult s list ballots (take conditional tape) (take (inputs + gates) wires)
+        (take (conditional + s .candidates) board) .board
         → accepted (record { jury = s; winners = take (s .candidates) (drop c (b ++ rest)) }) ≡ runOutcome s ballots
     unfolding printedOf outcomeOf runOutcome outcome sizeOf tape′ wires′ board′
     winners-outcome g c b rest e f =
         let o = firstOf (ballotReasons s ballots) in
         let h = outcome-accepted o (sizeOf (ownList s)) (record { gates = g; conditional = c }) (sym (e ∙ answers)) in
-        let same : accepted (record { gates = g; conditional = c }) ≡ accepted (sizeOf (ownList s)) = e ∙ answers ∙ ap (λ (o : Option Reason). outcome o (sizeOf (ownList s))) h in
+        let same : accepted (record { gates = g; conditional = c }) ≡ accepted (sizeOf (ownList s)) = e ∙ answers
+        ∙ ap (λ (o : Option Reason). outcome o (sizeOf (ownList s))) h in
         let size : record { gates = g; conditional = c } ≡ sizeOf (ownList s) = cc in
         let n : c ≡ conditionalCount (ownList s) = ap (λ (z : Size). z .conditional) size in
-        ap (λ (l : List ℕ). accepted (record { jury = s; winners = l })) (ap (λ (m : ℕ). take (s .candidates) (drop m (b ++ rest))) n ∙ placed b rest f h)
+        ap (λ (l : List ℕ). accepted (record { jury = s; winners = l }))
+        (ap (λ (m : ℕ). take (s .candidates) (drop m (b ++ rest))) n ∙ placed b rest f h)
         ∙ sym (ap (λ (o : Option Reason). outcome o (printedOf s ballots)) h)
 
     -- they lie on the board
-    pub winners-end : (g c : ℕ) (b rest : List ℕ) → outcomeOf (answer.Accepted g c) ≡ runResult s list ballots (take conditional tape) (take (inputs + gates) wires) (take (conditional + s .candidates) board) .answer
-        → b ≡ runResult s list ballots (take conditional tape) (take (inputs + gates) wires) (take (conditional + s .candidates) board) .board
+    pub winners-end : (g c : ℕ) (b rest : List ℕ) → outcomeOf (answer.Accepted g c)
+        ≡ runResult s list ballots (take conditional tape) (take (inputs + gates) wires)
+        (take (conditional + s .candidates) board) .answer
+        → b ≡ runResult s list ballots (take conditional tape) (take (inputs + gates) wires)
+        (take (conditional + s .candidates) board) .board
         → c + s .candidates ≤ length (b ++ rest)
     unfolding outcomeOf sizeOf outcome tape′ wires′ board′
     winners-end g c b rest e f =
         let o = firstOf (ballotReasons s ballots) in
         let h = outcome-accepted o (sizeOf (ownList s)) (record { gates = g; conditional = c }) (sym (e ∙ answers)) in
-        let same : accepted (record { gates = g; conditional = c }) ≡ accepted (sizeOf (ownList s)) = e ∙ answers ∙ ap (λ (o : Option Reason). outcome o (sizeOf (ownList s))) h in
+        let same : accepted (record { gates = g; conditional = c }) ≡ accepted (sizeOf (ownList s)) = e ∙ answers
+        ∙ ap (λ (o : Option Reason). outcome o (sizeOf (ownList s))) h in
         let size : record { gates = g; conditional = c } ≡ sizeOf (ownList s) = cc in
         let n : c ≡ conditionalCount (ownList s) = ap (λ (z : Size). z .conditional) size in
         let p = own-closing s (T-true (withinLimits s) (u .within)) ballots tape′ wires′ board′ mask wires-long board-long h in
-        let long : length b ≡ conditionalCount (ownList s) + s .candidates = ap length (f ∙ ap (λ (l : List ℕ). runResult s l ballots tape′ wires′ board′ .board) (u .list-is)) ∙ p .0 in
+        let long : length b ≡ conditionalCount (ownList s) + s .candidates =
+        ap length (f ∙ ap (λ (l : List ℕ). runResult s l ballots tape′ wires′ board′ .board) (u .list-is)) ∙ p .0 in
         omega (arith, length-append b rest)
 
 -- after an accepted write, the list and the buffers are what the run asks for
-module _ (s : Shape) (table tape wires board : List ℕ) (l : Buffers table tape wires board) (g c : ℕ) (e : outcomeOf (answer.Accepted g c) ≡ writeOutcome s table) where
+module _ (s : Shape) (table tape wires board : List ℕ) (l : Buffers table tape wires board) (g c : ℕ)
+    (e : outcomeOf (answer.Accepted g c) ≡ writeOutcome s table) where
   passed : WritePassed s table (record { gates = g; conditional = c })
   passed = unfold outcomeOf in (write-passed s table (record { gates = g; conditional = c }) (sym e))
 
@@ -176,21 +193,29 @@ module _ (s : Shape) (table tape wires board : List ℕ) (l : Buffers table tape
       let ballots = ballotReasons (shapeIn input) (ballotsIn input) in
       let none-applies = ap (λ (z : Shape). firstOf (writeReasons z table)) (sym f) ∙ passed .reasons in
       ap (λ (z : Shape). runOutcome z (ballotsIn input)) f
-      ∙ sym (ap (λ (o : Option Reason). outcome o (printedOf (shapeIn input) (ballotsIn input))) (first-append (writeReasons (shapeIn input) table) ballots ∙ ap (λ (o : Option Reason). orElse o (firstOf ballots)) none-applies))
+      ∙ sym (ap (λ (o : Option Reason). outcome o (printedOf (shapeIn input) (ballotsIn input)))
+      (first-append (writeReasons (shapeIn input) table) ballots
+      ∙ ap (λ (o : Option Reason). orElse o (firstOf ballots)) none-applies))
 
 -- a refused write decides
-pub by-the-write : (input table : List ℕ) (s : Shape) (reason : Refusal) → s ≡ shapeIn input → outcomeOf (answer.Refused reason) ≡ writeOutcome s table → refused (reasonOf reason) ≡ rehearsalOutcome input table
+pub by-the-write : (input table : List ℕ) (s : Shape) (reason : Refusal) → s ≡ shapeIn input
+    → outcomeOf (answer.Refused reason) ≡ writeOutcome s table → refused (reasonOf reason)
+    ≡ rehearsalOutcome input table
 unfolding outcomeOf writeOutcome outcome rehearsalOutcome rehearsalReasons orElse
 by-the-write input table s reason f e =
     let ballots = ballotReasons (shapeIn input) (ballotsIn input) in
     let r = outcome-refused (firstOf (writeReasons s table)) (sizeOf (ownList s)) (reasonOf reason) (sym e) in
     let applies = ap (λ (z : Shape). firstOf (writeReasons z table)) (sym f) ∙ r in
-    sym (ap (λ (o : Option Reason). outcome o (printedOf (shapeIn input) (ballotsIn input))) (first-append (writeReasons (shapeIn input) table) ballots ∙ ap (λ (o : Option Reason). orElse o (firstOf ballots)) applies))
+    sym (ap (λ (o : Option Reason). outcome o (printedOf (shapeIn input) (ballotsIn input)))
+    (first-append (writeReasons (shapeIn input) table) ballots
+    ∙ ap (λ (o : Option Reason). orElse o (firstOf ballots)) applies))
 
 -- a shape outside the limits is refused as its write would be
-pub by-the-limits : (input table : List ℕ) → withinLimits (shapeIn input) ≡ false → refused (reasonOf refusal.Shape) ≡ rehearsalOutcome input table
+pub by-the-limits : (input table : List ℕ) → withinLimits (shapeIn input) ≡ false → refused (reasonOf refusal.Shape)
+    ≡ rehearsalOutcome input table
 unfolding outcomeOf reasonOf
-by-the-limits input table w = by-the-write input table (shapeIn input) refusal.Shape refl (sym (write-refused (shapeIn input) table (reasonAt 1 0) (outside (shapeIn input) table w) .0))
+by-the-limits input table w = by-the-write input table (shapeIn input) refusal.Shape refl
+    (sym (write-refused (shapeIn input) table (reasonAt 1 0) (outside (shapeIn input) table w) .0))
 
 -- the ballots after the first three bytes
 pub no-ballots : (input : List ℕ) → length input < 3 → ballotsIn input ≡ []

@@ -78,10 +78,14 @@ module _ (n : ℕ) (a b : List ℕ) (al : Alike n a b) where
         let hl : running b low < running a low = omega (arith, l .first, l .second) in
         ⊎-elim
         (λ k. sym (first-smaller n lower upper h k) ∙ ⊎-elim
-        (λ m. lt-leb n (lower .a + upper .a) m ∙ sym (is-later (forth .upper-wins hl (omega (arith, u .first, u .second)) (omega (arith, l .first, u .first)))))
-        (λ m. le-leb n (lower .a + upper .a) m ∙ sym (forth .lower-wins hl (omega (arith, u .first, u .second)) (omega (arith, l .first, u .first))))
+        (λ m. lt-leb n (lower .a + upper .a) m
+        ∙ sym (is-later (forth .upper-wins hl (omega (arith, u .first, u .second))
+        (omega (arith, l .first, u .first)))))
+        (λ m. le-leb n (lower .a + upper .a) m
+        ∙ sym (forth .lower-wins hl (omega (arith, u .first, u .second)) (omega (arith, l .first, u .first))))
         (below-or-not (lower .a + upper .a) n))
-        (λ k. sym (first-not-smaller n lower upper h k) ∙ le-leb (upper .b) (upper .a) k ∙ sym (forth .at-lower hl (omega (arith, u .first, u .second))))
+        (λ k. sym (first-not-smaller n lower upper h k) ∙ le-leb (upper .b) (upper .a) k
+        ∙ sym (forth .at-lower hl (omega (arith, u .first, u .second))))
         (below-or-not (upper .a) (upper .b))
 
     second-larger : lower .a < lower .b → decidedBy n lower upper ≡ before
@@ -89,10 +93,14 @@ module _ (n : ℕ) (a b : List ℕ) (al : Alike n a b) where
         let hl : running a low < running b low = omega (arith, l .first, l .second) in
         ⊎-elim
         (λ k. sym (second-smaller n lower upper h k) ∙ ⊎-elim
-        (λ m. lt-ltb (lower .b + upper .b) n m ∙ sym (back .upper-wins hl (omega (arith, u .first, u .second)) (omega (arith, l .second, u .second))))
-        (λ m. le-ltb (lower .b + upper .b) n m ∙ sym (is-later (back .lower-wins hl (omega (arith, u .first, u .second)) (omega (arith, l .second, u .second)))))
+        (λ m. lt-ltb (lower .b + upper .b) n m
+        ∙ sym (back .upper-wins hl (omega (arith, u .first, u .second)) (omega (arith, l .second, u .second))))
+        (λ m. le-ltb (lower .b + upper .b) n m
+        ∙ sym (is-later (back .lower-wins hl (omega (arith, u .first, u .second))
+        (omega (arith, l .second, u .second)))))
         (below-or-not (lower .b + upper .b) n))
-        (λ k. sym (second-not-smaller n lower upper h k) ∙ le-ltb (upper .b) (upper .a) k ∙ sym (is-later (back .at-lower hl (omega (arith, u .first, u .second)))))
+        (λ k. sym (second-not-smaller n lower upper h k) ∙ le-ltb (upper .b) (upper .a) k
+        ∙ sym (is-later (back .at-lower hl (omega (arith, u .first, u .second)))))
         (below-or-not (upper .b) (upper .a))
 
     none-larger : lower .a ≤ lower .b → lower .b ≤ lower .a → decidedBy n lower upper ≡ before
@@ -107,4 +115,6 @@ module _ (n : ℕ) (a b : List ℕ) (al : Alike n a b) where
 
     -- the answer is whether a comes before b
     pub decided-right : decidedBy n lower upper ≡ before
-    decided-right = ⊎-elim first-larger (λ h. ⊎-elim second-larger (λ k. none-larger h k) (below-or-not (lower .a) (lower .b))) (below-or-not (lower .b) (lower .a))
+    decided-right = ⊎-elim first-larger
+        (λ h. ⊎-elim second-larger (λ k. none-larger h k) (below-or-not (lower .a) (lower .b)))
+        (below-or-not (lower .b) (lower .a))

@@ -24,10 +24,12 @@ down-each zero f g e m z l = absurd (omega arith)
 down-each (suc n) f g e m z l =
     let here : f (suc n) ≡ g (suc n) = cc in
     let rest : down n f ≡ down n g = cc in
-    ⊎-elim (λ h. down-each n f g rest m z (omega arith)) (λ h. subst (λ (x : ℕ). f x ≡ g x) {x = suc n} {y = m} (omega arith) here) (below-or-not m (suc n))
+    ⊎-elim (λ h. down-each n f g rest m z (omega arith))
+    (λ h. subst (λ (x : ℕ). f x ≡ g x) {x = suc n} {y = m} (omega arith) here) (below-or-not m (suc n))
 
 -- equal grades at all positions give equal running sums
-not-more : (n : ℕ) (a b : List ℕ) → sum a ≡ n → sum b ≡ n → ((p : ℕ) → 0 < p → p ≤ n → gradeAt a p ≡ gradeAt b p) → (t : ℕ) → running b t ≤ running a t
+not-more : (n : ℕ) (a b : List ℕ) → sum a ≡ n → sum b ≡ n → ((p : ℕ) → 0 < p → p ≤ n → gradeAt a p ≡ gradeAt b p)
+    → (t : ℕ) → running b t ≤ running a t
 not-more n a b ea eb same t = ⊎-elim more (λ l. l) (below-or-not (running a t) (running b t))
   where
     p : ℕ
@@ -36,7 +38,12 @@ not-more n a b ea eb same t = ⊎-elim more (λ l. l) (below-or-not (running a t
     more : running a t < running b t → running b t ≤ running a t
     more l =
         let h : running b t ≤ sum b = running-most b t in
-        absurd (omega (arith, grade-below b p (omega arith) h t (omega arith), grade-not-below a p (omega arith) (omega arith) t l, same p (omega arith) (omega arith)))
+        absurd (omega (
+          arith,
+          grade-below b p (omega arith) h t (omega arith),
+          grade-not-below a p (omega arith) (omega arith) t l,
+          same p (omega arith) (omega arith),
+        ))
 
 same-rows : (a b : List ℕ) → length a ≡ length b → sum a ≡ sum b → sequenceOf a ≡ sequenceOf b → a ≡ b
 same-rows a b el es e = ext-getD 0 a b el (λ g l. omega (arith, equal g, equal (suc g), running-next a g, running-next b g))

@@ -65,7 +65,8 @@ module _ (n : ℕ) (a b : List ℕ) (al : Alike n a b) (some : 0 < n) where
   beaten-later (better-median l) =
       let ma = median-at a (omega (arith, al .sum-a)) in
       let mb = median-at b (omega (arith, al .sum-b)) in
-      half-rule n a b al (suc (medianOf a)) (omega (arith, ma .reached, al .sum-a)) (omega (arith, mb .passed, al .sum-b, running-grows b (suc (medianOf a)) (medianOf b) l))
+      half-rule n a b al (suc (medianOf a)) (omega (arith, ma .reached, al .sum-a))
+      (omega (arith, mb .passed, al .sum-b, running-grows b (suc (medianOf a)) (medianOf b) l))
   beaten-later (stronger-median m l₁ l₂) =
       let ha = halves a (al .sum-a) in
       let hb = halves-at m in
@@ -80,7 +81,8 @@ module _ (n : ℕ) (rows : List (List ℕ)) (some : 1 ≤ n) (each : EachGets n 
   row-at : i < length rows
   row-at =
       ⊎-elim (λ l. l)
-      (λ l. let z : getD (closingOf rows) i 0 ≡ 0 = List·getD-eq-default (closingOf rows) 0 {n = i} (omega (arith, closing-length rows)) in absurd (omega arith))
+      (λ l. let z : getD (closingOf rows) i 0 ≡ 0 =
+      List·getD-eq-default (closingOf rows) 0 {n = i} (omega (arith, closing-length rows)) in absurd (omega arith))
       (below-or-not i (length rows))
 
   -- the winner's sequence comes before each other one
@@ -90,7 +92,9 @@ module _ (n : ℕ) (rows : List (List ℕ)) (some : 1 ≤ n) (each : EachGets n 
       (closing-one rows i row-at .0 wins j l ne)
 
   pub winner-wins : getD (judgmentOf rows) i 0 ≡ 1
-  winner-wins = byte-one rows i row-at (λ j l. ⊎-elim (λ e. same j e) (λ ne. precedes-one-way own (sequenceOf (getD rows j [])) (winner-first j l ne)) (same-or-not j i))
+  winner-wins = byte-one rows i row-at
+      (λ j l. ⊎-elim (λ e. same j e)
+      (λ ne. precedes-one-way own (sequenceOf (getD rows j [])) (winner-first j l ne)) (same-or-not j i))
     where
       own : List ℕ
       own = sequenceOf (getD rows i [])

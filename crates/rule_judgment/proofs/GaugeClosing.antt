@@ -66,12 +66,14 @@ module _ (rows : List (List ℕ)) (i : ℕ) (h : i < length rows) where
   wins-not j l ne e = ⊎-elim earlier later (below-or-not j i)
     where
       earlier : j < i → beatsAll (getD rows i []) (others rows i) ≡ false
-      earlier b = one-unbeaten (getD rows i []) (others rows i) j (omega (arith, others-length)) (ap (beats (getD rows i [])) (other-before j b) ∙ e)
+      earlier b = one-unbeaten (getD rows i []) (others rows i) j (omega (arith, others-length))
+          (ap (beats (getD rows i [])) (other-before j b) ∙ e)
 
       later : i ≤ j → beatsAll (getD rows i []) (others rows i) ≡ false
       later b =
           one-unbeaten (getD rows i []) (others rows i) (j - 1) (omega (arith, others-length))
-          (ap (beats (getD rows i [])) (other-after (j - 1) (omega arith) ∙ ap (λ (m : ℕ). getD rows m []) {x = suc (j - 1)} {y = j} (omega arith)) ∙ e)
+          (ap (beats (getD rows i [])) (other-after (j - 1) (omega arith)
+          ∙ ap (λ (m : ℕ). getD rows m []) {x = suc (j - 1)} {y = j} (omega arith)) ∙ e)
 
 -- there are as many closing bytes as rows
 closing-from-length : (earlier rows : List (List ℕ)) → length (closingFrom earlier rows) ≡ length rows
@@ -84,12 +86,15 @@ unfolding closingOf
 closing-length rows = closing-from-length [] rows
 
 -- the row after the earlier ones
-first-wins : (earlier : List (List ℕ)) (a : List ℕ) (later : List (List ℕ)) → beatsAll a (earlier ++ later) ≡ winsIn (earlier ++ a ∷ later) (length earlier)
+first-wins : (earlier : List (List ℕ)) (a : List ℕ) (later : List (List ℕ)) → beatsAll a (earlier ++ later)
+    ≡ winsIn (earlier ++ a ∷ later) (length earlier)
 unfolding winsIn
 first-wins earlier a later =
     ap (λ (r : List ℕ). beatsAll r (earlier ++ later)) (sym (getD-append-seam earlier a later []))
     ∙ ap (λ (l : List (List ℕ)). beatsAll (getD rows n []) (l ++ later)) (sym (take-append-seam earlier (a ∷ later)))
-    ∙ ap (λ (l : List (List ℕ)). beatsAll (getD rows n []) (take n rows ++ l)) (sym (ap (λ (j : ℕ). drop j rows) {x = suc n} {y = n + 1} (omega arith) ∙ drop-append-add earlier (a ∷ later) 1))
+    ∙ ap (λ (l : List (List ℕ)). beatsAll (getD rows n []) (take n rows ++ l))
+    (sym (ap (λ (j : ℕ). drop j rows) {x = suc n} {y = n + 1} (omega arith)
+    ∙ drop-append-add earlier (a ∷ later) 1))
   where
     rows : List (List ℕ)
     rows = earlier ++ a ∷ later
@@ -97,7 +102,8 @@ first-wins earlier a later =
     n : ℕ
     n = length earlier
 
-closing-from-at : (earlier rows : List (List ℕ)) (i : ℕ) → i < length rows → getD (closingFrom earlier rows) i 0 ≡ cond (winsIn (earlier ++ rows) (length earlier + i)) 1 0
+closing-from-at : (earlier rows : List (List ℕ)) (i : ℕ) → i < length rows → getD (closingFrom earlier rows) i 0
+    ≡ cond (winsIn (earlier ++ rows) (length earlier + i)) 1 0
 unfolding closingFrom
 closing-from-at earlier [] i h = absurd (omega arith)
 closing-from-at earlier (a ∷ rows) zero h =
@@ -106,7 +112,8 @@ closing-from-at earlier (a ∷ rows) zero h =
 closing-from-at earlier (a ∷ rows) (suc i) h =
     closing-from-at (earlier ++ (a ∷ [])) rows i (omega arith)
     ∙ ap (λ (l : List (List ℕ)). cond {A = ℕ} (winsIn l (length (earlier ++ (a ∷ [])) + i)) 1 0) (append-snoc earlier a rows)
-    ∙ ap (λ (n : ℕ). cond {A = ℕ} (winsIn (earlier ++ a ∷ rows) n) 1 0) {x = length (earlier ++ (a ∷ [])) + i} {y = length earlier + suc i} (omega (arith, length-append earlier (a ∷ [])))
+    ∙ ap (λ (n : ℕ). cond {A = ℕ} (winsIn (earlier ++ a ∷ rows) n) 1 0) {x = length (earlier ++ (a ∷ [])) + i}
+    {y = length earlier + suc i} (omega (arith, length-append earlier (a ∷ [])))
 
 -- closing byte i is 1 if row i wins, else 0
 pub closing-at : (rows : List (List ℕ)) (i : ℕ) → i < length rows → getD (closingOf rows) i 0 ≡ cond (winsIn rows i) 1 0
@@ -137,7 +144,8 @@ module _ (rows : List (List ℕ)) (i : ℕ) (h : i < length rows) where
 one-at-row : (rows : List (List ℕ)) (i : ℕ) → getD (closingOf rows) i 0 ≡ 1 → i < length rows
 one-at-row rows i e =
     ⊎-elim (λ l. l)
-    (λ l. let z : getD (closingOf rows) i 0 ≡ 0 = List·getD-eq-default (closingOf rows) 0 {n = i} (omega (arith, closing-length rows)) in absurd (omega arith))
+    (λ l. let z : getD (closingOf rows) i 0 ≡ 0 =
+    List·getD-eq-default (closingOf rows) 0 {n = i} (omega (arith, closing-length rows)) in absurd (omega arith))
     (below-or-not i (length rows))
 
 -- at most one closing byte is 1

@@ -83,7 +83,8 @@ module _ (a b : List ℕ) where
   beats-passes (stronger-median m l₁ l₂) =
       or-first (betterMedian a b || strongerMedian a b || largerP a b) (smallerQ a b)
       (or-first (betterMedian a b || strongerMedian a b) (largerP a b)
-      (or-second (betterMedian a b) (strongerMedian a b) (simp (eq-eqb (medianOf a) (medianOf b) m, lt-ltb (qOf a) (pOf a) l₁, lt-ltb (pOf b) (qOf b) l₂))))
+      (or-second (betterMedian a b) (strongerMedian a b)
+      (simp (eq-eqb (medianOf a) (medianOf b) m, lt-ltb (qOf a) (pOf a) l₁, lt-ltb (pOf b) (qOf b) l₂))))
   beats-passes (larger-p m l₁ l₂ l₃) =
       or-first (betterMedian a b || strongerMedian a b || largerP a b) (smallerQ a b)
       (or-second (betterMedian a b || strongerMedian a b) (largerP a b)

@@ -30,13 +30,15 @@ module _ (row better : List ℕ) (up : Improved row better) where
   pub grade-no-worse : (p : ℕ) → 0 < p → p ≤ sum row → gradeAt better p ≤ gradeAt row p
   grade-no-worse p z l =
       let g = grade-at row p z l in
-      let b = grade-below better p z (omega (arith, up .sums)) (suc (gradeAt row p)) (omega (arith, g .reached, up .more (suc (gradeAt row p)))) in
+      let b = grade-below better p z (omega (arith, up .sums)) (suc (gradeAt row p))
+      (omega (arith, g .reached, up .more (suc (gradeAt row p)))) in
       omega arith
 
   -- the sequence comes earlier, or stays
   pub sequence-no-later : (precedes (sequenceOf better) (sequenceOf row) ≡ true) ⊎ (sequenceOf better ≡ sequenceOf row)
   sequence-no-later =
-      subst₂ (λ (xs ys : List ℕ). (precedes xs ys ≡ true) ⊎ (xs ≡ ys)) (sym (outward-of (sum row) better (up .sums))) (sym (outward-of (sum row) row refl))
+      subst₂ (λ (xs ys : List ℕ). (precedes xs ys ≡ true) ⊎ (xs ≡ ys))
+      (sym (outward-of (sum row) better (up .sums))) (sym (outward-of (sum row) row refl))
       (never-worse (sum row) (struckGrade (sum row) better) (struckGrade (sum row) row)
       (λ m z l. let w = position-within (sum row) m z l in grade-no-worse (position (sum row) m) (w .0) (w .1)))
 
@@ -72,7 +74,10 @@ module _ (old new : List (List ℕ)) (i : ℕ) (up : OneImproved old new i) (win
       ∙ one-byte old i (up .candidate) wins j l)
 
   pub still-wins : getD (judgmentOf new) i 0 ≡ 1
-  still-wins = byte-one new i (omega (arith, up .size, up .candidate)) (λ j l. ⊎-elim (λ e. same j e) (λ ne. never-true (precedes (sequenceIn new j) (sequenceIn new i)) (preceded-before j (omega (arith, up .size)) ne)) (same-or-not j i))
+  still-wins = byte-one new i (omega (arith, up .size, up .candidate))
+      (λ j l. ⊎-elim (λ e. same j e)
+      (λ ne. never-true (precedes (sequenceIn new j) (sequenceIn new i))
+      (preceded-before j (omega (arith, up .size)) ne)) (same-or-not j i))
     where
       same : (j : ℕ) → j ≡ i → precedes (sequenceIn new j) (sequenceIn new i) ≡ false
       same j e = rw e (never-true (precedes (sequenceIn new i) (sequenceIn new i)) (precedes-self (sequenceIn new i)))

@@ -42,7 +42,9 @@ module _ (rows : List (List ℕ)) where
   -- row c precedes the row that led
   pub leads-next : (i c : ℕ) → Leads rows i c → precedes (sequenceIn rows c) (sequenceIn rows i) ≡ true → Leads rows c (c + 1)
   leads-next i c leads p =
-      below-more _ c (λ j l. never-true (precedes (sequenceIn rows j) (sequenceIn rows c)) (λ q. true≢false (sym (precedes-trans (sequenceIn rows j) (sequenceIn rows c) (sequenceIn rows i) q p) ∙ leads j l)))
+      below-more _ c (λ j l. never-true (precedes (sequenceIn rows j) (sequenceIn rows c))
+      (λ q. true≢false (sym (precedes-trans (sequenceIn rows j) (sequenceIn rows c) (sequenceIn rows i) q p)
+      ∙ leads j l)))
       (itself c)
 
   -- row c does not
@@ -50,13 +52,16 @@ module _ (rows : List (List ℕ)) where
   leads-still i c leads p = below-more _ c leads p
 
 -- rows of n grades each, and a winner among them: exactly those with the winner's counts win
-module _ (n : ℕ) (rows : List (List ℕ)) (each : EachGets n rows) (w : ℕ) (inside : w < length rows) (wins : getD (judgmentOf rows) w 0 ≡ 1) where
+module _ (n : ℕ) (rows : List (List ℕ)) (each : EachGets n rows) (w : ℕ) (inside : w < length rows)
+    (wins : getD (judgmentOf rows) w 0 ≡ 1) where
   pub same-wins : (c : ℕ) → c < length rows → sameCounts (getD rows c []) (getD rows w []) ≡ true → getD (judgmentOf rows) c 0 ≡ 1
   same-wins c l e =
       byte-one rows c l
-      (λ j k. subst (λ (row : List ℕ). precedes (sequenceIn rows j) (sequenceOf row) ≡ false) (sym (same-holds (getD rows c []) (getD rows w []) e)) (one-byte rows w inside wins j k))
+      (λ j k. subst (λ (row : List ℕ). precedes (sequenceIn rows j) (sequenceOf row) ≡ false)
+      (sym (same-holds (getD rows c []) (getD rows w []) e)) (one-byte rows w inside wins j k))
 
-  pub other-loses : (c : ℕ) → c < length rows → length (getD rows c []) ≡ length (getD rows w []) → sameCounts (getD rows c []) (getD rows w []) ≡ false → getD (judgmentOf rows) c 0 ≡ 0
+  pub other-loses : (c : ℕ) → c < length rows → length (getD rows c []) ≡ length (getD rows w [])
+      → sameCounts (getD rows c []) (getD rows w []) ≡ false → getD (judgmentOf rows) c 0 ≡ 0
   other-loses c l size e = go (compared (sequenceIn rows w) (sequenceIn rows c))
     where
       go : Compared (sequenceIn rows w) (sequenceIn rows c) → getD (judgmentOf rows) c 0 ≡ 0
@@ -67,7 +72,8 @@ module _ (n : ℕ) (rows : List (List ℕ)) (each : EachGets n rows) (w : ℕ) (
       go (second p) = absurd (true≢false (sym p ∙ one-byte rows w inside wins c l))
 
 -- the eight bytes: below k the closing bytes, then 0
-pub eight-judged : (rows : List (List ℕ)) → tabulate 8 (upTo (length rows) (λ j. getD (judgmentOf rows) j 0) (λ j. 0)) ≡ eightBytes (judgmentOf rows)
+pub eight-judged : (rows : List (List ℕ))
+    → tabulate 8 (upTo (length rows) (λ j. getD (judgmentOf rows) j 0) (λ j. 0)) ≡ eightBytes (judgmentOf rows)
 eight-judged rows =
     ext-getD 0 (tabulate 8 closing) (eightBytes (judgmentOf rows)) (length-tabulate 8 closing ∙ sym (eight-length (judgmentOf rows)))
     (λ j l. at j (omega (arith, length-tabulate 8 closing)))
@@ -78,7 +84,9 @@ eight-judged rows =
     entry : (j : ℕ) → closing j ≡ getD (judgmentOf rows) j 0
     entry j =
         ⊎-elim (λ l. upTo-new (length rows) j (λ i. getD (judgmentOf rows) i 0) (λ m. 0) l)
-        (λ l. upTo-old (length rows) j (λ i. getD (judgmentOf rows) i 0) (λ m. 0) l ∙ sym (List·getD-eq-default (judgmentOf rows) 0 {n = j} (omega (arith, judgment-length rows)))) (below-or-not j (length rows))
+        (λ l. upTo-old (length rows) j (λ i. getD (judgmentOf rows) i 0) (λ m. 0) l
+        ∙ sym (List·getD-eq-default (judgmentOf rows) 0 {n = j} (omega (arith, judgment-length rows))))
+        (below-or-not j (length rows))
 
     at : (j : ℕ) → j < 8 → getD (tabulate 8 closing) j 0 ≡ getD (eightBytes (judgmentOf rows)) j 0
     at j l = getD-tabulate 8 j closing 0 l ∙ entry j ∙ sym (eight-at (judgmentOf rows) j l)

@@ -23,7 +23,8 @@ passed-from (x ∷ xs) n before zero h = go (leb n (2 * (before + x))) refl h
     go false e l = omega (arith, leb-false n (2 * (before + x)) e)
 passed-from (x ∷ xs) n before (suc g) h = go (leb n (2 * (before + x))) h (passed-from xs n (before + x) g)
   where
-    go : (t : Bool) → suc g < cond t 0 (suc (medianFrom n (before + x) xs)) → (g < medianFrom n (before + x) xs → 2 * (before + x + sum (take (suc g) xs)) < n) →
+    go : (t : Bool) → suc g < cond t 0 (suc (medianFrom n (before + x) xs))
+        → (g < medianFrom n (before + x) xs → 2 * (before + x + sum (take (suc g) xs)) < n) →
         2 * (before + (x + sum (take (suc g) xs))) < n
     go true l ih = absurd (omega arith)
     go false l ih = omega (arith, ih (omega arith))
@@ -44,7 +45,8 @@ reached-from (x ∷ []) n before h l = go (leb n (2 * (before + x))) refl
     go : (t : Bool) → leb n (2 * (before + x)) ≡ t → Reached n before (x ∷ []) (cond t 0 (suc 0))
     go true e = (omega arith, omega arith)
     go false e = absurd (omega (arith, leb-false n (2 * (before + x)) e))
-reached-from (x ∷ y ∷ ys) n before h l = go (leb n (2 * (before + x))) refl (reached-from (y ∷ ys) n (before + x) (omega arith) (omega arith))
+reached-from (x ∷ y ∷ ys) n before h l =
+    go (leb n (2 * (before + x))) refl (reached-from (y ∷ ys) n (before + x) (omega arith) (omega arith))
   where
     go : (t : Bool) → leb n (2 * (before + x)) ≡ t → Reached n (before + x) (y ∷ ys) (medianFrom n (before + x) (y ∷ ys)) →
         Reached n before (x ∷ y ∷ ys) (cond t 0 (suc (medianFrom n (before + x) (y ∷ ys))))

@@ -28,7 +28,8 @@ precedes-later x y xs ys e h = or-second (ltb x y) (eqb x y && precedes xs ys) (
 pub precedes-cases : (x y : ℕ) (xs ys : List ℕ) → precedes (x ∷ xs) (y ∷ ys) ≡ true → (x < y) ⊎ ((x ≡ y) × (precedes xs ys ≡ true))
 unfolding precedes
 precedes-cases x y xs ys h =
-    ⊎-elim (λ l. inl (ltb-true x y l)) (λ e. inr (eqb-true x y (and-first (eqb x y) (precedes xs ys) e), and-second (eqb x y) (precedes xs ys) e))
+    ⊎-elim (λ l. inl (ltb-true x y l))
+    (λ e. inr (eqb-true x y (and-first (eqb x y) (precedes xs ys) e), and-second (eqb x y) (precedes xs ys) e))
     (or-either (ltb x y) (eqb x y && precedes xs ys) h)
 
 -- no sequence precedes itself
@@ -50,7 +51,8 @@ precedes-trans (x ∷ xs) [] zs h k = absurd-flag h
 precedes-trans (x ∷ xs) (y ∷ ys) [] h k = absurd-flag k
 precedes-trans (x ∷ xs) (y ∷ ys) (z ∷ zs) h k = go (precedes-cases x y xs ys h) (precedes-cases y z ys zs k) (precedes-trans xs ys zs)
   where
-    go : (x < y) ⊎ ((x ≡ y) × (precedes xs ys ≡ true)) → (y < z) ⊎ ((y ≡ z) × (precedes ys zs ≡ true)) → (precedes xs ys ≡ true → precedes ys zs ≡ true → precedes xs zs ≡ true) →
+    go : (x < y) ⊎ ((x ≡ y) × (precedes xs ys ≡ true)) → (y < z) ⊎ ((y ≡ z) × (precedes ys zs ≡ true))
+        → (precedes xs ys ≡ true → precedes ys zs ≡ true → precedes xs zs ≡ true) →
         precedes (x ∷ xs) (z ∷ zs) ≡ true
     go (inl l) (inl m) ih = precedes-here x z xs zs (omega arith)
     go (inl l) (inr m) ih = precedes-here x z xs zs (omega (arith, m .0))
@@ -72,7 +74,9 @@ unfolding precedes
 compared [] [] = equal refl
 compared [] (y ∷ ys) = first refl
 compared (x ∷ xs) [] = second refl
-compared (x ∷ xs) (y ∷ ys) = ⊎-elim (λ l. first (precedes-here x y xs ys l)) (λ l. ⊎-elim (λ m. second (precedes-here y x ys xs m)) (λ m. go (omega arith) (compared xs ys)) (below-or-not y x)) (below-or-not x y)
+compared (x ∷ xs) (y ∷ ys) = ⊎-elim (λ l. first (precedes-here x y xs ys l))
+    (λ l. ⊎-elim (λ m. second (precedes-here y x ys xs m)) (λ m. go (omega arith) (compared xs ys))
+    (below-or-not y x)) (below-or-not x y)
   where
     go : x ≡ y → Compared xs ys → Compared (x ∷ xs) (y ∷ ys)
     go e (first h) = first (precedes-later x y xs ys e h)
@@ -87,20 +91,28 @@ pub record Ahead (f g : ℕ → ℕ) (m n : ℕ) : Type 0 where
   pub better : f at < g at
 
 ahead-sooner : (f g : ℕ → ℕ) (m n : ℕ) → f (suc n) ≡ g (suc n) → Ahead f g m (suc n) → Ahead f g m n
-ahead-sooner f g m n e a = record { at = a .at; past = a .past; within = ⊎-elim same (λ ne. omega (arith, a .within)) (same-or-not (a .at) (suc n)); better = a .better }
+ahead-sooner f g m n e a = record {
+  at = a .at;
+  past = a .past;
+  within =
+      ⊎-elim same (λ ne. omega (arith, a .within)) (same-or-not (a .at) (suc n));
+  better = a .better;
+}
   where
     same : a .at ≡ suc n → a .at ≤ n
     same s = let l : f (suc n) < g (suc n) = subst (λ (i : ℕ). f i < g i) s (a .better) in absurd (omega arith)
 
 -- f comes first if it is better at some strike, and wherever it is worse, it was better at an earlier one
-pub first-better : (n : ℕ) (f g : ℕ → ℕ) → Ahead f g 0 n → ((m : ℕ) → 0 < m → m ≤ n → g m < f m → Ahead f g m n) → precedes (down n f) (down n g) ≡ true
+pub first-better : (n : ℕ) (f g : ℕ → ℕ) → Ahead f g 0 n → ((m : ℕ) → 0 < m → m ≤ n → g m < f m → Ahead f g m n)
+    → precedes (down n f) (down n g) ≡ true
 unfolding down
 first-better zero f g a h = absurd (omega (arith, a .past, a .within))
 first-better (suc n) f g a h =
     ⊎-elim (λ l. precedes-here (f (suc n)) (g (suc n)) (down n f) (down n g) l)
     (λ l. ⊎-elim (λ m. let b = h (suc n) (omega arith) (omega arith) m in absurd (omega (arith, b .past, b .within)))
     (λ m. let e : f (suc n) ≡ g (suc n) = omega arith in
-    precedes-later (f (suc n)) (g (suc n)) (down n f) (down n g) e (first-better n f g (ahead-sooner f g 0 n e a) (λ i p q r. ahead-sooner f g i n e (h i p (omega arith) r))))
+    precedes-later (f (suc n)) (g (suc n)) (down n f) (down n g) e
+    (first-better n f g (ahead-sooner f g 0 n e a) (λ i p q r. ahead-sooner f g i n e (h i p (omega arith) r))))
     (below-or-not (g (suc n)) (f (suc n)))) (below-or-not (f (suc n)) (g (suc n)))
 
 -- the same at every strike
@@ -110,13 +122,15 @@ down-same zero f g h = refl
 down-same (suc n) f g h = cc (h (suc n) (omega arith) (omega arith), down-same n f g (λ m l p. h m l (omega arith)))
 
 -- never worse: equal, or first
-pub never-worse : (n : ℕ) (f g : ℕ → ℕ) → ((m : ℕ) → 0 < m → m ≤ n → f m ≤ g m) → (precedes (down n f) (down n g) ≡ true) ⊎ (down n f ≡ down n g)
+pub never-worse : (n : ℕ) (f g : ℕ → ℕ) → ((m : ℕ) → 0 < m → m ≤ n → f m ≤ g m)
+    → (precedes (down n f) (down n g) ≡ true) ⊎ (down n f ≡ down n g)
 unfolding down
 never-worse zero f g h = inr refl
 never-worse (suc n) f g h =
     ⊎-elim (λ l. inl (precedes-here (f (suc n)) (g (suc n)) (down n f) (down n g) l))
     (λ l. let e : f (suc n) ≡ g (suc n) = omega (arith, h (suc n) (omega arith) (omega arith)) in
-    ⊎-elim (λ p. inl (precedes-later (f (suc n)) (g (suc n)) (down n f) (down n g) e p)) (λ p. inr (cc)) (never-worse n f g (λ m z p. h m z (omega arith)))) (below-or-not (f (suc n)) (g (suc n)))
+    ⊎-elim (λ p. inl (precedes-later (f (suc n)) (g (suc n)) (down n f) (down n g) e p)) (λ p. inr (cc))
+    (never-worse n f g (λ m z p. h m z (omega arith)))) (below-or-not (f (suc n)) (g (suc n)))
 
 -- the first strike at which f and g differ, where f is better
 pub record FirstBetter (f g : ℕ → ℕ) (n : ℕ) : Type 0 where

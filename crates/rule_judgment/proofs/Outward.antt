@@ -82,12 +82,19 @@ struck row p low high low′ high′ rest r some l h grade o w under over = reco
 
     each : (t : ℕ) → running (strike m rest) t ≡ min (running row t) low′ + (running row t - high′)
     each t =
-        ⊎-elim (λ b. omega (arith, strike-after rest m t b (omega (arith, med .passed, med .reached, running-next rest m)), r .sums t, over (running row t) (omega (arith, grade .reached, running-grows row (suc m) t b))))
+        ⊎-elim (λ b. omega (
+          arith,
+          strike-after rest m t b
+              (omega (arith, med .passed, med .reached, running-next rest m)),
+          r .sums t,
+          over (running row t) (omega (arith, grade .reached, running-grows row (suc m) t b)),
+        ))
         (λ b. strike-before rest m t b ∙ r .sums t ∙ under (running row t) (omega (arith, grade .passed, running-grows row t m b)))
         (below-or-not m t)
 
 -- the halves are equal: the lower half's last is struck
-low-struck : (row : List ℕ) (low high : ℕ) (rest : List ℕ) → Remains row (suc low) high rest → sum row ≡ suc low + high → Struck row (suc low) low high rest
+low-struck : (row : List ℕ) (low high : ℕ) (rest : List ℕ) → Remains row (suc low) high rest → sum row ≡ suc low
+    + high → Struck row (suc low) low high rest
 low-struck row low high rest r e =
     let size = remains-sum row (suc low) high rest r in
     let med = median-at rest (omega (arith, r .within)) in
@@ -99,7 +106,8 @@ low-struck row low high rest r e =
     (omega (arith, r .ordered)) (r .within) (λ s l. omega arith) (λ s l. omega arith)
 
 -- the upper half has one more: its first is struck
-high-struck : (row : List ℕ) (low high : ℕ) (rest : List ℕ) → Remains row low high rest → sum row ≡ suc (low + high) → Struck row (suc high) low (suc high) rest
+high-struck : (row : List ℕ) (low high : ℕ) (rest : List ℕ) → Remains row low high rest → sum row ≡ suc (low + high)
+    → Struck row (suc high) low (suc high) rest
 high-struck row low high rest r e =
     let size = remains-sum row low high rest r in
     let med = median-at rest (omega (arith, r .within)) in
@@ -118,7 +126,8 @@ abbrev highOf : ℕ → ℕ → ℕ
 highOf n left = n - (left - left / 2)
 
 -- every strike is at its position
-strike-at : (row : List ℕ) (left : ℕ) (rest : List ℕ) → suc left ≤ sum row → Remains row (lowOf (suc left)) (highOf (sum row) (suc left)) rest
+strike-at : (row : List ℕ) (left : ℕ) (rest : List ℕ) → suc left ≤ sum row
+    → Remains row (lowOf (suc left)) (highOf (sum row) (suc left)) rest
     → Struck row (position (sum row) (suc left)) (lowOf left) (highOf (sum row) left) rest
 unfolding position
 strike-at row left rest h r = go (eqb (suc left % 2) 0) refl
@@ -139,7 +148,8 @@ strike-at row left rest h r = go (eqb (suc left % 2) 0) refl
         let highs : suc (highOf n (suc left)) ≡ highOf n left = omega arith in
         let place : suc (highOf n (suc left)) ≡ n - suc left / 2 = omega arith in
         subst₂ (λ (p b : ℕ). Struck row p (lowOf left) b rest) place highs
-        (high-struck row (lowOf left) (highOf n (suc left)) rest (subst (λ (a : ℕ). Remains row a (highOf n (suc left)) rest) lows r) (omega arith))
+        (high-struck row (lowOf left) (highOf n (suc left)) rest
+        (subst (λ (a : ℕ). Remains row a (highOf n (suc left)) rest) lows r) (omega arith))
 
 strikes-outward : (left : ℕ) (row rest : List ℕ) → left ≤ sum row → Remains row (lowOf left) (highOf (sum row) left) rest
     → strikes left rest ≡ down left (λ l. gradeAt row (position (sum row) l))
@@ -164,7 +174,9 @@ turn-cases : (n p : ℕ) → ((2 * p ≤ n) × (turn n p ≡ 2 * p)) ⊎ ((n < 2
 unfolding turn
 turn-cases n p = go (leb (2 * p) n) refl
   where
-    go : (t : Bool) → leb (2 * p) n ≡ t → ((2 * p ≤ n) × (cond t (2 * p) (suc (2 * (n - p))) ≡ 2 * p)) ⊎ ((n < 2 * p) × (cond t (2 * p) (suc (2 * (n - p))) ≡ suc (2 * (n - p))))
+    go : (t : Bool) → leb (2 * p) n ≡ t
+        → ((2 * p ≤ n) × (cond t (2 * p) (suc (2 * (n - p))) ≡ 2 * p)) ⊎
+        ((n < 2 * p) × (cond t (2 * p) (suc (2 * (n - p))) ≡ suc (2 * (n - p))))
     go true e = inl (leb-true (2 * p) n e, refl)
     go false e = inr (leb-false (2 * p) n e, refl)
 
@@ -172,7 +184,9 @@ position-cases : (n left : ℕ) → ((left % 2 ≡ 0) × (position n left ≡ le
 unfolding position
 position-cases n left = go (eqb (left % 2) 0) refl
   where
-    go : (t : Bool) → eqb (left % 2) 0 ≡ t → ((left % 2 ≡ 0) × (cond t (left / 2) (n - left / 2) ≡ left / 2)) ⊎ ((left % 2 ≡ 1) × (cond t (left / 2) (n - left / 2) ≡ n - left / 2))
+    go : (t : Bool) → eqb (left % 2) 0 ≡ t
+        → ((left % 2 ≡ 0) × (cond t (left / 2) (n - left / 2) ≡ left / 2)) ⊎
+        ((left % 2 ≡ 1) × (cond t (left / 2) (n - left / 2) ≡ n - left / 2))
     go true e = inl (eqb-true (left % 2) 0 e, refl)
     go false e = let odd : ¬ (left % 2 ≡ 0) = eqb-false (left % 2) 0 e in inr (omega arith, refl)
 
@@ -196,7 +210,9 @@ module _ (n p : ℕ) (l : 0 < p) (h : p ≤ n) where
 
 -- the lower of two positions is struck first if they add up to more than n, else the higher
 pub lower-first : (n p q : ℕ) → p < q → q ≤ n → n < p + q → turn n q < turn n p
-lower-first n p q l h s = ⊎-elim (λ t. ⊎-elim (λ u. omega arith) (λ u. omega arith) (turn-cases n q)) (λ t. ⊎-elim (λ u. omega arith) (λ u. omega arith) (turn-cases n q)) (turn-cases n p)
+lower-first n p q l h s = ⊎-elim (λ t. ⊎-elim (λ u. omega arith) (λ u. omega arith) (turn-cases n q))
+    (λ t. ⊎-elim (λ u. omega arith) (λ u. omega arith) (turn-cases n q)) (turn-cases n p)
 
 pub higher-first : (n p q : ℕ) → 0 < p → p < q → q ≤ n → p + q ≤ n → turn n p < turn n q
-higher-first n p q z l h s = ⊎-elim (λ t. ⊎-elim (λ u. omega arith) (λ u. omega arith) (turn-cases n q)) (λ t. ⊎-elim (λ u. omega arith) (λ u. omega arith) (turn-cases n q)) (turn-cases n p)
+higher-first n p q z l h s = ⊎-elim (λ t. ⊎-elim (λ u. omega arith) (λ u. omega arith) (turn-cases n q))
+    (λ t. ⊎-elim (λ u. omega arith) (λ u. omega arith) (turn-cases n q)) (turn-cases n p)

@@ -31,7 +31,8 @@ unfolding gradeAt sum
 grade-at [] p l h = absurd (omega arith)
 grade-at (x ∷ xs) p l h = go (leb p x) refl (grade-at xs (p - x))
   where
-    go : (t : Bool) → leb p x ≡ t → (0 < p - x → p - x ≤ sum xs → Grade xs (p - x) (gradeAt xs (p - x))) → Grade (x ∷ xs) p (cond t 0 (suc (gradeAt xs (p - x))))
+    go : (t : Bool) → leb p x ≡ t → (0 < p - x → p - x ≤ sum xs → Grade xs (p - x) (gradeAt xs (p - x)))
+        → Grade (x ∷ xs) p (cond t 0 (suc (gradeAt xs (p - x))))
     go true e ih = record { passed = omega arith; reached = omega (arith, leb-true p x e) }
     go false e ih =
         let l : x < p = leb-false p x e in
@@ -40,7 +41,8 @@ grade-at (x ∷ xs) p l h = go (leb p x) refl (grade-at xs (p - x))
 
 -- there is only one such grade
 pub grade-one : (row : List ℕ) (p g h : ℕ) → Grade row p g → Grade row p h → g ≡ h
-grade-one row p g h a b = ⊎-elim (λ l. absurd (apart g h a b l)) (λ l. ⊎-elim (λ m. absurd (apart h g b a m)) (λ m. omega arith) (below-or-not h g)) (below-or-not g h)
+grade-one row p g h a b = ⊎-elim (λ l. absurd (apart g h a b l))
+    (λ l. ⊎-elim (λ m. absurd (apart h g b a m)) (λ m. omega arith) (below-or-not h g)) (below-or-not g h)
   where
     apart : (x y : ℕ) → Grade row p x → Grade row p y → x < y → ⊥
     apart x y u v l = omega (arith, u .reached, v .passed, running-grows row (suc x) y l)

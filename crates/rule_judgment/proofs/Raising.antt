@@ -29,7 +29,8 @@ sum-grows : (t u : ℕ) (f : ℕ → ℕ) → t ≤ u → sum (tabulate t f) ≤
 sum-grows t u f l = omega (arith, running-most (tabulate u f) t, ap sum (take-tabulate t u f l))
 
 -- moving a single 1 to an earlier entry makes no sum of first entries smaller
-earlier-one : (d from to : ℕ) (f h : ℕ → ℕ) → to < from → from < d → f from ≡ 1 → h to ≡ 1 → sum (tabulate d f) ≡ 1 → (t : ℕ) → t ≤ d → sum (tabulate t f) ≤ sum (tabulate t h)
+earlier-one : (d from to : ℕ) (f h : ℕ → ℕ) → to < from → from < d → f from ≡ 1 → h to ≡ 1 → sum (tabulate d f) ≡ 1
+    → (t : ℕ) → t ≤ d → sum (tabulate t f) ≤ sum (tabulate t h)
 earlier-one d from to f h l m ef eh e t p = ⊎-elim past before (below-or-not from t)
   where
     past : from < t → sum (tabulate t f) ≤ sum (tabulate t h)
@@ -39,7 +40,8 @@ earlier-one d from to f h l m ef eh e t p = ⊎-elim past before (below-or-not f
     before q = omega (arith, sum-grows t from f q, sum-grows (suc from) d f m, sum-last from f)
 
 -- a row of an accepted ballot holds one 1
-one-in-row : (s : Shape) (xs : List ℕ) → GradedBallots s xs → (b c : ℕ) → b < s .ballots → c < s .candidates → sum (tabulate (s .grades) (λ g. byteOf s xs b c g)) ≡ 1
+one-in-row : (s : Shape) (xs : List ℕ) → GradedBallots s xs → (b c : ℕ) → b < s .ballots → c < s .candidates
+    → sum (tabulate (s .grades) (λ g. byteOf s xs b c g)) ≡ 1
 unfolding byteOf addend
 one-in-row s xs a b c hb hc =
     ap sum
@@ -65,11 +67,18 @@ module _ (s : Shape) (candidate : ℕ) (old new : List ℕ) (r : Raised s candid
   new-step = count-step s new (r .new-accepted .bits)
 
   -- ballots that agree have the same count
-  same-count : (c g : ℕ) → c < s .candidates → g < s .grades → (b : ℕ) → b ≤ s .ballots → ((i : ℕ) → i < b → (i ≢ r .ballot) ⊎ (c ≢ candidate)) → countUpTo s new b c g ≡ countUpTo s old b c g
+  same-count : (c g : ℕ) → c < s .candidates → g < s .grades → (b : ℕ) → b ≤ s .ballots
+      → ((i : ℕ) → i < b → (i ≢ r .ballot) ⊎ (c ≢ candidate)) → countUpTo s new b c g ≡ countUpTo s old b c g
   unfolding countUpTo
   same-count c g hc hg zero h apart = refl
   same-count c g hc hg (suc b) h apart =
-      omega (arith, old-step b c g, new-step b c g, same-count c g hc hg b (omega arith) (λ i l. apart i (omega arith)), r .others b c g (omega arith) hc hg (apart b (omega arith)))
+      omega (
+        arith,
+        old-step b c g,
+        new-step b c g,
+        same-count c g hc hg b (omega arith) (λ i l. apart i (omega arith)),
+        r .others b c g (omega arith) hc hg (apart b (omega arith)),
+      )
 
   -- the raised candidate's counts differ by the bytes of the one row
   raised-count : (g : ℕ) → g < s .grades → (b : ℕ) → r .ballot < b → b ≤ s .ballots
@@ -77,12 +86,24 @@ module _ (s : Shape) (candidate : ℕ) (old new : List ℕ) (r : Raised s candid
   raised-count g hg zero l h = absurd (omega arith)
   raised-count g hg (suc b) l h =
       ⊎-elim
-      (λ m. omega (arith, old-step b candidate g, new-step b candidate g, raised-count g hg b m (omega arith), r .others b candidate g (omega arith) (r .a-candidate) hg (inl (λ e. omega arith))))
+      (λ m. omega (
+        arith,
+        old-step b candidate g,
+        new-step b candidate g,
+        raised-count g hg b m (omega arith),
+        r .others b candidate g (omega arith) (r .a-candidate) hg (inl (λ e. omega arith)),
+      ))
       (λ m. last (omega arith))
       (below-or-not (r .ballot) b)
     where
-      last : b ≡ r .ballot → countUpTo s new (suc b) candidate g + oldByte (r .ballot) candidate g ≡ countUpTo s old (suc b) candidate g + newByte (r .ballot) candidate g
-      last e = rw (← e) (omega (arith, old-step b candidate g, new-step b candidate g, same-count candidate g (r .a-candidate) hg b (omega arith) (λ i k. inl (λ f. omega arith))))
+      last : b ≡ r .ballot → countUpTo s new (suc b) candidate g + oldByte (r .ballot) candidate g
+          ≡ countUpTo s old (suc b) candidate g + newByte (r .ballot) candidate g
+      last e = rw (← e) (omega (
+        arith,
+        old-step b candidate g,
+        new-step b candidate g,
+        same-count candidate g (r .a-candidate) hg b (omega arith) (λ i k. inl (λ f. omega arith)),
+      ))
 
   abbrev n : ℕ
   n = s .ballots
@@ -97,11 +118,13 @@ module _ (s : Shape) (candidate : ℕ) (old new : List ℕ) (r : Raised s candid
       omega (
         arith,
         ap sum
-            (tabulate-cong t (λ g. countUpTo s new n candidate g + oldByte (r .ballot) candidate g) (λ g. countUpTo s old n candidate g + newByte (r .ballot) candidate g)
+            (tabulate-cong t (λ g. countUpTo s new n candidate g + oldByte (r .ballot) candidate g)
+            (λ g. countUpTo s old n candidate g + newByte (r .ballot) candidate g)
             (λ g l. raised-count g (omega arith) n (r .a-ballot) (omega arith))),
         sum-add t (countUpTo s new n candidate) (λ g. oldByte (r .ballot) candidate g),
         sum-add t (countUpTo s old n candidate) (λ g. newByte (r .ballot) candidate g),
-        earlier-one d (r .from) (r .to) (λ g. oldByte (r .ballot) candidate g) (λ g. newByte (r .ballot) candidate g) (r .better) (r .a-grade) (r .old-grade) (r .new-grade)
+        earlier-one d (r .from) (r .to) (λ g. oldByte (r .ballot) candidate g)
+            (λ g. newByte (r .ballot) candidate g) (r .better) (r .a-grade) (r .old-grade) (r .new-grade)
             (one-in-row s old (r .old-accepted) (r .ballot) candidate (r .a-ballot) (r .a-candidate)) t h,
       )
 
@@ -119,10 +142,12 @@ module _ (s : Shape) (candidate : ℕ) (old new : List ℕ) (r : Raised s candid
   row-improved = record { sums = sums; more = λ t. ⊎-elim (within t) (past t) (below-or-not t d) }
     where
       sums : sum newRow ≡ sum oldRow
-      sums = counts-sum s new (r .new-accepted) candidate (r .a-candidate) ∙ sym (counts-sum s old (r .old-accepted) candidate (r .a-candidate))
+      sums = counts-sum s new (r .new-accepted) candidate (r .a-candidate)
+          ∙ sym (counts-sum s old (r .old-accepted) candidate (r .a-candidate))
 
       first : (xs : List ℕ) (t : ℕ) → t ≤ d → running (getD (countsOf s xs) candidate []) t ≡ sum (tabulate t (countOf s xs candidate))
-      first xs t l = ap (λ (row : List ℕ). running row t) (counts-row s xs candidate (r .a-candidate)) ∙ ap sum (take-tabulate t d (countOf s xs candidate) l)
+      first xs t l = ap (λ (row : List ℕ). running row t) (counts-row s xs candidate (r .a-candidate))
+          ∙ ap sum (take-tabulate t d (countOf s xs candidate) l)
 
       size : (xs : List ℕ) → length (getD (countsOf s xs) candidate []) ≡ d
       size xs = ap length (counts-row s xs candidate (r .a-candidate)) ∙ length-tabulate d (countOf s xs candidate)
@@ -150,7 +175,9 @@ module _ (s : Shape) (candidate : ℕ) (old new : List ℕ) (r : Raised s candid
   raised-once : byteFor s old candidate ≡ 1 → NothingLost s candidate old new
   raised-once wins = record {
     still-wins = winner;
-    no-new-winner = λ c l loses. ⊎-elim (λ e. absurd (same c e loses)) (λ ne. still-loses (countsOf s old) (countsOf s new) candidate one-improved wins c (omega (arith, counts-length s old)) ne loses) (same-or-not c candidate);
+    no-new-winner = λ c l loses. ⊎-elim (λ e. absurd (same c e loses))
+        (λ ne. still-loses (countsOf s old) (countsOf s new) candidate one-improved wins c
+        (omega (arith, counts-length s old)) ne loses) (same-or-not c candidate);
   }
     where
       winner : byteFor s new candidate ≡ 1

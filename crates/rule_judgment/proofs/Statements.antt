@@ -40,8 +40,10 @@ HalfRule = (n : ℕ) (a b : List ℕ) → Alike n a b → (t : ℕ) → n ≤ 2 
 -- there too and one of them is below half there; above the upper one likewise
 pub record Bracket (n : ℕ) (a b : List ℕ) (lower upper : ℕ) : Type 0 where
   pub between : (t : ℕ) → lower < t → t < upper → running a t ≡ running b t
-  pub lower-half : (t : ℕ) → t < lower → running a t ≢ running b t → ((2 * running a lower < n) ⊎ (2 * running b lower < n)) × (running a lower ≢ running b lower)
-  pub upper-half : (t : ℕ) → upper < t → running a t ≢ running b t → ((n ≤ 2 * running a upper) ⊎ (n ≤ 2 * running b upper)) × (running a upper ≢ running b upper)
+  pub lower-half : (t : ℕ) → t < lower → running a t ≢ running b t
+      → ((2 * running a lower < n) ⊎ (2 * running b lower < n)) × (running a lower ≢ running b lower)
+  pub upper-half : (t : ℕ) → upper < t → running a t ≢ running b t
+      → ((n ≤ 2 * running a upper) ⊎ (n ≤ 2 * running b upper)) × (running a upper ≢ running b upper)
 
 -- what two such thresholds decide
 pub record TwoDecide (n : ℕ) (a b : List ℕ) (lower upper : ℕ) : Type 0 where
@@ -51,5 +53,7 @@ pub record TwoDecide (n : ℕ) (a b : List ℕ) (lower upper : ℕ) : Type 0 whe
   pub at-lower : running b lower < running a lower → running b upper ≤ running a upper → Precedes a b
   pub at-upper : running b upper < running a upper → running b lower ≤ running a lower → Precedes a b
   -- each larger at one threshold, a at the lower one: the sum of a's two running sums decides
-  pub lower-wins : running b lower < running a lower → running a upper < running b upper → n ≤ running a lower + running a upper → Precedes a b
-  pub upper-wins : running b lower < running a lower → running a upper < running b upper → running a lower + running a upper < n → Precedes b a
+  pub lower-wins : running b lower < running a lower → running a upper < running b upper → n ≤ running a lower
+      + running a upper → Precedes a b
+  pub upper-wins : running b lower < running a lower → running a upper < running b upper → running a lower
+      + running a upper < n → Precedes b a

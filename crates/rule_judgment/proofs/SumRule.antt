@@ -31,7 +31,11 @@ module _ (n : ℕ) (a b : List ℕ) (al : Alike n a b) where
   better-at : (i q : ℕ) → running b i < q → q ≤ running a i → gradeAt a q < gradeAt b q
   better-at i q l h =
       let inside : q ≤ n = omega (arith, running-most a i, al .sum-a) in
-      omega (arith, grade-below a q (omega arith) (omega (arith, al .sum-a)) i h, grade-not-below b q (omega arith) (omega (arith, al .sum-b)) i l)
+      omega (
+        arith,
+        grade-below a q (omega arith) (omega (arith, al .sum-a)) i h,
+        grade-not-below b q (omega arith) (omega (arith, al .sum-b)) i l,
+      )
 
   -- so it is ahead after every strike before that position's
   ahead-at : (i q m : ℕ) → running b i < q → q ≤ running a i → m < turn n q → Ahead (struckGrade n a) (struckGrade n b) m n
@@ -45,7 +49,8 @@ module _ (n : ℕ) (a b : List ℕ) (al : Alike n a b) where
       }
 
   -- wherever b is better, at strike m, a was better at an earlier one
-  ahead-before : (i : ℕ) → Decides n a b i → (m : ℕ) → 0 < m → m ≤ n → struckGrade n b m < struckGrade n a m → Ahead (struckGrade n a) (struckGrade n b) m n
+  ahead-before : (i : ℕ) → Decides n a b i → (m : ℕ) → 0 < m → m ≤ n → struckGrade n b m < struckGrade n a m
+      → Ahead (struckGrade n a) (struckGrade n b) m n
   ahead-before i d m z h worse =
       ⊎-elim
       (λ l.
@@ -60,7 +65,8 @@ module _ (n : ℕ) (a b : List ℕ) (al : Alike n a b) where
       let larger : running b i < running a i = d .larger in
       ahead-at i (suc (running b i)) m (omega arith) larger
       (subst (λ (x : ℕ). x < turn n (suc (running b i))) (turn-position n m z h)
-      (higher-first n p (suc (running b i)) (within .0) (omega (arith, reached)) (omega arith) (omega (arith, reached, d .below j k differs)))))
+      (higher-first n p (suc (running b i)) (within .0) (omega (arith, reached)) (omega arith)
+      (omega (arith, reached, d .below j k differs)))))
       (λ k. let e : i ≡ j = omega arith in
       let larger : running b j < running a j = subst (λ (x : ℕ). running b x < running a x) e (d .larger) in
       absurd (omega (arith, differs))) (below-or-not j i)) (below-or-not i j)
@@ -91,7 +97,8 @@ sum-rule n a b al i d =
     let larger : running b i < running a i = d .larger in
     by-outward n a b al
     (first-better n (struckGrade n a) (struckGrade n b)
-    (ahead-at n a b al i (running a i) 0 larger (omega arith) (turn-within n (running a i) (omega arith) (omega (arith, running-most a i, al .sum-a)) .0))
+    (ahead-at n a b al i (running a i) 0 larger (omega arith)
+    (turn-within n (running a i) (omega arith) (omega (arith, running-most a i, al .sum-a)) .0))
     (ahead-before n a b al i d))
 
 -- the other way: the grade at the first difference gives the threshold
@@ -123,5 +130,6 @@ module _ (n : ℕ) (a b : List ℕ) (al : Alike n a b) where
   pub same-sequence : ((t : ℕ) → running a t ≡ running b t) → sequenceOf a ≡ sequenceOf b
   same-sequence h =
       outward-of n a (al .sum-a)
-      ∙ down-same n (struckGrade n a) (struckGrade n b) (λ m z l. let w = position-within n m z l in same-grade h (position n m) (w .0) (w .1))
+      ∙ down-same n (struckGrade n a) (struckGrade n b)
+      (λ m z l. let w = position-within n m z l in same-grade h (position n m) (w .0) (w .1))
       ∙ sym (outward-of n b (al .sum-b))

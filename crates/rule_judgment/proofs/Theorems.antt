@@ -32,5 +32,6 @@ pub each-gets : (s : Shape) (xs : List ℕ) → GradedBallots s xs → EachGets 
 each-gets s xs a i l = counts-sum s xs a i (omega (arith, counts-length s xs))
 
 -- the same for the array in which the program keeps their counts
-pub array-gets : (s : Shape) (xs : List ℕ) → GradedBallots s xs → EachGets (s .ballots) (rowsIn (s .candidates) (s .grades) (countArray s xs))
+pub array-gets : (s : Shape) (xs : List ℕ) → GradedBallots s xs
+    → EachGets (s .ballots) (rowsIn (s .candidates) (s .grades) (countArray s xs))
 array-gets s xs a = rw (array-rows s xs (within s (a .within))) (each-gets s xs a)

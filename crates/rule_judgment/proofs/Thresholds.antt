@@ -24,27 +24,38 @@ module _ (n : ℕ) (a b : List ℕ) (al : Alike n a b) (lower upper : ℕ) (near
   outside t ne l = ⊎-elim (λ h. absurd (ne (near .between t l h))) (λ h. h) (below-or-not t upper)
 
   -- the lower one decides if a is larger there, and b is nowhere larger above or the sum reaches n
-  lower-decides : running b lower < running a lower → ((t : ℕ) → upper ≤ t → running a t < running b t → n ≤ running a lower + running a t) → Precedes a b
+  lower-decides : running b lower < running a lower
+      → ((t : ℕ) → upper ≤ t → running a t < running b t → n ≤ running a lower + running a t) → Precedes a b
   lower-decides larger over = sum-rule n a b al lower (record {
     larger = larger;
     above = λ j l differs. over j (outside j (omega arith) l) differs;
-    below = λ j l differs. let grows = running-grows b j lower (omega arith) in ⊎-elim (λ h. omega arith) (λ h. omega arith) (near .lower-half j l (omega arith) .0);
+    below = λ j l differs. let grows = running-grows b j lower (omega arith) in
+        ⊎-elim (λ h. omega arith) (λ h. omega arith) (near .lower-half j l (omega arith) .0);
   })
 
   -- the upper one likewise
-  upper-decides : running b upper < running a upper → ((t : ℕ) → t ≤ lower → running a t < running b t → running b t + running b upper < n) → Precedes a b
+  upper-decides : running b upper < running a upper
+      → ((t : ℕ) → t ≤ lower → running a t < running b t → running b t + running b upper < n) → Precedes a b
   upper-decides larger under = sum-rule n a b al upper (record {
     larger = larger;
-    above = λ j l differs. let grows = running-grows a upper j (omega arith) in ⊎-elim (λ h. omega arith) (λ h. omega arith) (near .upper-half j l (omega arith) .0);
-    below = λ j l differs. under j (⊎-elim (λ m. absurd (omega (arith, outside j (omega arith) m))) (λ m. m) (below-or-not lower j)) differs;
+    above = λ j l differs. let grows = running-grows a upper j (omega arith) in
+        ⊎-elim (λ h. omega arith) (λ h. omega arith) (near .upper-half j l (omega arith) .0);
+    below = λ j l differs. under j
+        (⊎-elim (λ m. absurd (omega (arith, outside j (omega arith) m))) (λ m. m) (below-or-not lower j)) differs;
   })
 
   -- equal at the upper one: equal above it
   equal-above : running a upper ≡ running b upper → (t : ℕ) → upper ≤ t → running a t ≡ running b t
-  equal-above e t l = ⊎-elim (λ s. s) (λ ne. absurd (⊎-elim (λ m. near .upper-half t m ne .1 e) (λ m. ne (subst (λ (x : ℕ). running a x ≡ running b x) {x = upper} {y = t} (omega arith) e)) (below-or-not upper t))) (same-or-not (running a t) (running b t))
+  equal-above e t l = ⊎-elim (λ s. s)
+      (λ ne. absurd (⊎-elim (λ m. near .upper-half t m ne .1 e)
+      (λ m. ne (subst (λ (x : ℕ). running a x ≡ running b x) {x = upper} {y = t} (omega arith) e))
+      (below-or-not upper t))) (same-or-not (running a t) (running b t))
 
   equal-below : running a lower ≡ running b lower → (t : ℕ) → t ≤ lower → running a t ≡ running b t
-  equal-below e t l = ⊎-elim (λ s. s) (λ ne. absurd (⊎-elim (λ m. near .lower-half t m ne .1 e) (λ m. ne (subst (λ (x : ℕ). running a x ≡ running b x) {x = lower} {y = t} (omega arith) e)) (below-or-not t lower))) (same-or-not (running a t) (running b t))
+  equal-below e t l = ⊎-elim (λ s. s)
+      (λ ne. absurd (⊎-elim (λ m. near .lower-half t m ne .1 e)
+      (λ m. ne (subst (λ (x : ℕ). running a x ≡ running b x) {x = lower} {y = t} (omega arith) e))
+      (below-or-not t lower))) (same-or-not (running a t) (running b t))
 
   -- larger at both
   both-larger : running b lower < running a lower → running b upper < running a upper → Precedes a b
@@ -77,5 +88,6 @@ bracket-decides n a b al lower upper near = record {
   at-lower = at-lower-first n a b al lower upper near;
   at-upper = at-upper-first n a b al lower upper near;
   lower-wins = λ l u s. lower-decides n a b al lower upper near l (λ t m differs. omega (arith, running-grows a upper t m));
-  upper-wins = λ l u s. upper-decides n b a (alike-back n a b al) lower upper (bracket-back n a b lower upper near) u (λ t m differs. omega (arith, running-grows a t lower m));
+  upper-wins = λ l u s. upper-decides n b a (alike-back n a b al) lower upper (bracket-back n a b lower upper near)
+      u (λ t m differs. omega (arith, running-grows a t lower m));
 }

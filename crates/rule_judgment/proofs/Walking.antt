@@ -63,7 +63,9 @@ module _ (n : ℕ) (a b : List ℕ) (al : Alike n a b) where
       below-a = w .below-a;
       below-b = w .below-b;
       differs = w .differs;
-      since = λ t l h. ⊎-elim (λ k. w .since t l (omega arith)) (λ k. subst (λ (x : ℕ). running a x ≡ running b x) {x = suc g} {y = t} (omega arith) (sym (s .first) ∙ e ∙ s .second)) (below-or-not t (suc g));
+      since = λ t l h. ⊎-elim (λ k. w .since t l (omega arith))
+          (λ k. subst (λ (x : ℕ). running a x ≡ running b x) {x = suc g} {y = t} (omega arith)
+          (sym (s .first) ∙ e ∙ s .second)) (below-or-not t (suc g));
     }
 
     -- a difference below half
@@ -81,7 +83,9 @@ module _ (n : ℕ) (a b : List ℕ) (al : Alike n a b) where
     }
       where
         under : (x : ℕ) → (leb n (2 * x) ≡ true → (leb n (2 * next .a) || leb n (2 * next .b)) ≡ true) → 2 * x < n
-        under x f = leb-false n (2 * x) (never-true (leb n (2 * x)) (λ e. let z : true ≡ false = sym (f e) ∙ h in let o : _≡_ {A = ℕ} 0 1 = cc in omega arith))
+        under x f = leb-false n (2 * x)
+            (never-true (leb n (2 * x)) (λ e. let z : true ≡ false = sym (f e) ∙ h in let o : _≡_ {A = ℕ} 0 1 =
+            cc in omega arith))
 
     -- a difference at or above half decides
     pub walk-decides : next .a ≢ next .b → halfReached n next ≡ true → decidedBy n lower next ≡ precedes (sequenceOf a) (sequenceOf b)
@@ -92,11 +96,17 @@ module _ (n : ℕ) (a b : List ℕ) (al : Alike n a b) where
         near = record {
           between = λ t l k. w .since t l (omega arith);
           lower-half = λ t l d. (inl (w .below-a), w .differs (omega arith));
-          upper-half = λ t l d. (⊎-elim (λ e. inl (omega (arith, s .first, leb-true n (2 * next .a) e))) (λ e. inr (omega (arith, s .second, leb-true n (2 * next .b) e))) (or-either (leb n (2 * next .a)) (leb n (2 * next .b)) h), λ e. ne (s .first ∙ e ∙ sym (s .second)));
+          upper-half = λ t l d. (
+            ⊎-elim (λ e. inl (omega (arith, s .first, leb-true n (2 * next .a) e)))
+                (λ e. inr (omega (arith, s .second, leb-true n (2 * next .b) e)))
+                (or-either (leb n (2 * next .a)) (leb n (2 * next .b)) h),
+            λ e. ne (s .first ∙ e ∙ sym (s .second)),
+          );
         }
 
   -- if there is none, the last difference decides
-  pub walk-ends : (lower sums : Sums) (g : ℕ) → Walk n a b lower sums g → length a ≤ g → length b ≤ g → ltb (lower .b) (lower .a) ≡ precedes (sequenceOf a) (sequenceOf b)
+  pub walk-ends : (lower sums : Sums) (g : ℕ) → Walk n a b lower sums g → length a ≤ g → length b ≤ g
+      → ltb (lower .b) (lower .a) ≡ precedes (sequenceOf a) (sequenceOf b)
   walk-ends lower sums g w la lb = answer ∙ decided-right n a b al (w .low) g near lower sums (w .lower-at) (w .sums-at)
     where
       whole : (t : ℕ) → g ≤ t → running a t ≡ running b t
@@ -115,7 +125,8 @@ module _ (n : ℕ) (a b : List ℕ) (al : Alike n a b) where
       answer : ltb (lower .b) (lower .a) ≡ decidedBy n lower sums
       answer =
           ⊎-elim
-          (λ l. lt-ltb (lower .b) (lower .a) l ∙ sym (le-leb (sums .b) (sums .a) (omega (arith, same))) ∙ first-not-smaller n lower sums l (omega (arith, same)))
+          (λ l. lt-ltb (lower .b) (lower .a) l ∙ sym (le-leb (sums .b) (sums .a) (omega (arith, same)))
+          ∙ first-not-smaller n lower sums l (omega (arith, same)))
           (λ l. le-ltb (lower .b) (lower .a) l ∙ sym (le-ltb (sums .b) (sums .a) (omega (arith, same))) ∙ ⊎-elim
           (λ k. second-not-smaller n lower sums k (omega (arith, same)))
           (λ k. neither-larger n lower sums l k) (below-or-not (lower .a) (lower .b)))

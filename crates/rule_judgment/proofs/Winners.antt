@@ -25,19 +25,23 @@ getD-mapped f (x ∷ l) (suc i) d e h = getD-mapped f l i d e (omega arith)
 abbrev pub Unpreceded : List (List ℕ) → ℕ → Type 0
 Unpreceded rows i = (j : ℕ) → j < length rows → precedes (sequenceOf (getD rows j [])) (sequenceOf (getD rows i [])) ≡ false
 
-none-before : (rows : List (List ℕ)) (xs : List ℕ) → ((j : ℕ) → j < length rows → precedes (sequenceOf (getD rows j [])) xs ≡ false) → nonePrecedes (map sequenceOf rows) xs ≡ true
+none-before : (rows : List (List ℕ)) (xs : List ℕ)
+    → ((j : ℕ) → j < length rows → precedes (sequenceOf (getD rows j [])) xs ≡ false)
+    → nonePrecedes (map sequenceOf rows) xs ≡ true
 unfolding nonePrecedes
 none-before [] xs h = refl
 none-before (row ∷ rows) xs h =
     and-both (not (precedes (sequenceOf row) xs)) (nonePrecedes (map sequenceOf rows) xs) (ap not (h 0 (omega arith)))
     (none-before rows xs (λ j l. h (suc j) (omega arith)))
 
-one-before : (rows : List (List ℕ)) (xs : List ℕ) (j : ℕ) → j < length rows → precedes (sequenceOf (getD rows j [])) xs ≡ true → nonePrecedes (map sequenceOf rows) xs ≡ false
+one-before : (rows : List (List ℕ)) (xs : List ℕ) (j : ℕ) → j < length rows
+    → precedes (sequenceOf (getD rows j [])) xs ≡ true → nonePrecedes (map sequenceOf rows) xs ≡ false
 unfolding nonePrecedes
 one-before [] xs j l h = absurd (omega arith)
 one-before (row ∷ rows) xs zero l h = ap (λ (t : Bool). not t && nonePrecedes (map sequenceOf rows) xs) h
 one-before (row ∷ rows) xs (suc j) l h =
-    ap (λ (t : Bool). not (precedes (sequenceOf row) xs) && t) (one-before rows xs j (omega arith) h) ∙ and-false (not (precedes (sequenceOf row) xs))
+    ap (λ (t : Bool). not (precedes (sequenceOf row) xs) && t) (one-before rows xs j (omega arith) h)
+    ∙ and-false (not (precedes (sequenceOf row) xs))
 
 pub judgment-length : (rows : List (List ℕ)) → length (judgmentOf rows) ≡ length rows
 unfolding judgmentOf
@@ -96,7 +100,8 @@ least-row row (next ∷ rows) = go (least-row next rows)
             first zero l = never-true (precedes (sequenceOf row) (sequenceOf row)) (precedes-self (sequenceOf row))
             first (suc j) l =
                 let other = sequenceOf (getD (next ∷ rows) j []) in
-                never-true (precedes other (sequenceOf row)) (λ p. true≢false (sym (precedes-trans other (sequenceOf row) best p e) ∙ m .least j (omega arith)))
+                never-true (precedes other (sequenceOf row))
+                (λ p. true≢false (sym (precedes-trans other (sequenceOf row) best p e) ∙ m .least j (omega arith)))
         choose false e = record { at = suc (m .at); inside = omega (arith, m .inside); least = later }
           where
             later : Unpreceded (row ∷ next ∷ rows) (suc (m .at))
@@ -120,12 +125,14 @@ unfolding sequenceOf
 sequence-length row = strikes-length (sum row) row
 
 -- the order as a test and as facts
-before-from : (place : ℕ) (xs ys : List ℕ) → length xs ≡ length ys → place < length xs → ((i : ℕ) → i < place → getD xs i 0 ≡ getD ys i 0) → getD xs place 0 < getD ys place 0 → precedes xs ys ≡ true
+before-from : (place : ℕ) (xs ys : List ℕ) → length xs ≡ length ys → place < length xs
+    → ((i : ℕ) → i < place → getD xs i 0 ≡ getD ys i 0) → getD xs place 0 < getD ys place 0 → precedes xs ys ≡ true
 before-from place [] ys e l same better = absurd (omega arith)
 before-from place (x ∷ xs) [] e l same better = absurd (omega arith)
 before-from zero (x ∷ xs) (y ∷ ys) e l same better = precedes-here x y xs ys better
 before-from (suc place) (x ∷ xs) (y ∷ ys) e l same better =
-    precedes-later x y xs ys (same 0 (omega arith)) (before-from place xs ys (omega arith) (omega arith) (λ i m. same (suc i) (omega arith)) better)
+    precedes-later x y xs ys (same 0 (omega arith))
+    (before-from place xs ys (omega arith) (omega arith) (λ i m. same (suc i) (omega arith)) better)
 
 precedes-before : (xs ys : List ℕ) → length xs ≡ length ys → precedes xs ys ≡ true → Before xs ys
 unfolding precedes
@@ -157,10 +164,14 @@ module _ (n : ℕ) (rows : List (List ℕ)) (each : EachGets n rows) (i : ℕ) (
   unpreceded-wins : Unpreceded rows i → Wins rows i
   unpreceded-wins u j l b =
       true≢false
-      (sym (before-from (b .place) (sequenceOf (getD rows j [])) (sequenceOf (getD rows i [])) (same-length j l) (b .inside) (b .same) (b .better)) ∙ u j l)
+      (sym (before-from (b .place) (sequenceOf (getD rows j [])) (sequenceOf (getD rows i [])) (same-length j l)
+      (b .inside) (b .same) (b .better)) ∙ u j l)
 
   pub byte-says : ByteSays rows i
   byte-says = record {
     one = (λ e. unpreceded-wins (one-byte rows i h e), λ w. byte-one rows i h (wins-unpreceded w));
-    zero = (λ e w. let o = byte-one rows i h (wins-unpreceded w) in omega arith, λ never. byte-else rows i h (λ e. never (unpreceded-wins (one-byte rows i h e))));
+    zero = (
+      λ e w. let o = byte-one rows i h (wins-unpreceded w) in omega arith,
+      λ never. byte-else rows i h (λ e. never (unpreceded-wins (one-byte rows i h e))),
+    );
   }

@@ -31,7 +31,8 @@ every-same f g (x ∷ xs) h = cc (h x (List·Memᴰ·head refl), every-same f g 
 -- whether i is unbeaten depends only on the strengths between the k candidates
 unbeaten-same : (k : ℕ) (p q : ℕ → ℕ → ℕ) (i : ℕ) → i < k → AgreePairs k p q →
     every (λ j. eqb j i || leb (p j i) (p i j)) (candidates k) ≡ every (λ j. eqb j i || leb (q j i) (q i j)) (candidates k)
-unbeaten-same k p q i h a = every-same (λ j. eqb j i || leb (p j i) (p i j)) (λ j. eqb j i || leb (q j i) (q i j)) (candidates k) (λ j m. ⊎-elim (same j) (other j (of-candidates k m)) (same-or-not j i))
+unbeaten-same k p q i h a = every-same (λ j. eqb j i || leb (p j i) (p i j)) (λ j. eqb j i || leb (q j i) (q i j))
+    (candidates k) (λ j m. ⊎-elim (same j) (other j (of-candidates k m)) (same-or-not j i))
   where
     same : (j : ℕ) → j ≡ i → (eqb j i || leb (p j i) (p i j)) ≡ (eqb j i || leb (q j i) (q i j))
     same j e = rw (eq-eqb j i e)
@@ -53,15 +54,19 @@ pub closing-agree : (k : ℕ) (v w : ℕ → ℕ → ℕ) → ((i j : ℕ) → i
 unfolding closingBytes wins
 closing-agree k v w h =
     tabulate-cong k (λ i. cond (wins v k i) 1 0) (λ i. cond (wins w k i) 1 0)
-    (λ i l. ap (λ (t : Bool). cond {A = ℕ} t 1 0) (unbeaten-same k (strongest (link v) k) (strongest (link w) k) i l (strongest-agree k (link v) (link w) (link-agree k v w h))))
+    (λ i l. ap (λ (t : Bool). cond {A = ℕ} t 1 0)
+    (unbeaten-same k (strongest (link v) k) (strongest (link w) k) i l
+    (strongest-agree k (link v) (link w) (link-agree k v w h))))
 
 -- the table after all detours names the rule's winners
-pub table-wins : (k : ℕ) (v : ℕ → ℕ → ℕ) (links paths : List (List ℕ)) → Holds k links (link v) → HoldsPairs k paths (closure k (entry links)) → (i : ℕ) → i < k → unbeatenIn paths k i ≡ wins v k i
+pub table-wins : (k : ℕ) (v : ℕ → ℕ → ℕ) (links paths : List (List ℕ)) → Holds k links (link v)
+    → HoldsPairs k paths (closure k (entry links)) → (i : ℕ) → i < k → unbeatenIn paths k i ≡ wins v k i
 unfolding unbeatenIn wins
 table-wins k v links paths hl hp i h =
     unbeaten-same k (entry paths) (strongest (link v) k) i h
     (λ a b ha hb ne.
-    hp a b ha hb ne ∙ closure-agree k k (entry links) (link v) (omega arith) (λ c d hc hd n. hl c d hc hd) a b ha hb ne ∙ closure-strongest (link v) k a b ne)
+    hp a b ha hb ne ∙ closure-agree k k (entry links) (link v) (omega arith) (λ c d hc hd n. hl c d hc hd) a b ha hb
+    ne ∙ closure-strongest (link v) k a b ne)
 
 -- eight bytes: the first k are a table's, the others 0
 pub eight-table : (k : ℕ) (f : ℕ → ℕ) → tabulate 8 (upTo k f (λ j. 0)) ≡ eightBytes (tabulate k f)
@@ -75,7 +80,9 @@ eight-table k f =
     byte : (j : ℕ) → bytes j ≡ getD (tabulate k f) j 0
     byte j =
         ⊎-elim (λ l. upTo-new k j f (λ m. 0) l ∙ sym (getD-tabulate k j f 0 l))
-        (λ l. upTo-old k j f (λ m. 0) l ∙ sym (List·getD-eq-default (tabulate k f) 0 {n = j} (omega (arith, length-tabulate k f)))) (below-or-not j k)
+        (λ l. upTo-old k j f (λ m. 0) l
+        ∙ sym (List·getD-eq-default (tabulate k f) 0 {n = j} (omega (arith, length-tabulate k f))))
+        (below-or-not j k)
 
     at : (j : ℕ) → j < 8 → getD (tabulate 8 bytes) j 0 ≡ getD (eightBytes (tabulate k f)) j 0
     at j l = getD-tabulate 8 j bytes 0 l ∙ byte j ∙ sym (eight-at (tabulate k f) j l)

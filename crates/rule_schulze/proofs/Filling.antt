@@ -11,7 +11,8 @@ use lib.Seq.{getD-set-same, getD-set-other}
 use Rattle.basics.proofs.Cases.{same-or-not}
 use Rattle.rule_schulze.specs.inner.Tables.{entry}
 
-pub row-step : (new : ℕ → ℕ) (row : List ℕ) (i x : ℕ) → i < length row → ((m : ℕ) → m < i → getD row m 0 ≡ new m) → x ≡ new i → (m : ℕ) → m < i + 1 → getD (set row i x) m 0 ≡ new m
+pub row-step : (new : ℕ → ℕ) (row : List ℕ) (i x : ℕ) → i < length row → ((m : ℕ) → m < i → getD row m 0 ≡ new m)
+    → x ≡ new i → (m : ℕ) → m < i + 1 → getD (set row i x) m 0 ≡ new m
 row-step new row i x h below e m l = ⊎-elim same other (same-or-not m i)
   where
     same : m ≡ i → getD (set row i x) m 0 ≡ new m

@@ -83,12 +83,14 @@ module _ (s : ℕ → ℕ → ℕ) (l : ℕ) where
   pub last-to : (i : ℕ) → i < l → before i l ≡ strongest s (suc l) i l
   last-to i h =
       let il : i ≢ l = λ e. omega arith in
-      sym (detour-stays l before i l (or-first (eqb i l || eqb l l) (eqb i l) (or-second (eqb i l) (eqb l l) (eq-eqb l l refl)))) ∙ after-is i l il
+      sym (detour-stays l before i l
+      (or-first (eqb i l || eqb l l) (eqb i l) (or-second (eqb i l) (eqb l l) (eq-eqb l l refl)))) ∙ after-is i l il
 
   pub last-from : (i : ℕ) → i < l → before l i ≡ strongest s (suc l) l i
   last-from i h =
       let li : l ≢ i = λ e. omega arith in
-      sym (detour-stays l before l i (or-first (eqb l l || eqb i l) (eqb l i) (or-first (eqb l l) (eqb i l) (eq-eqb l l refl)))) ∙ after-is l i li
+      sym (detour-stays l before l i
+      (or-first (eqb l l || eqb i l) (eqb l i) (or-first (eqb l l) (eqb i l) (eq-eqb l l refl)))) ∙ after-is l i li
 
   module _ (i j : ℕ) (hi : i < l) (hj : j < l) (ne : i ≢ j) where
     over : strongest s (suc l) i j ≡ max (before i j) (min (before i l) (before l j))
@@ -114,6 +116,8 @@ module _ (s : ℕ → ℕ → ℕ) (l : ℕ) where
       let back = over j i hj hi ji in
       let a = before i j in
       let b = before j i in
-      let numbers = six-beats a b (before i l) (before l i) (before j l) (before l j) unbeaten (to-last j i hj hi ji) (from-last j i hj hi ji) (from-last i j hi hj ne) in
-      let numbers′ = beats-six a b (before i l) (before l i) (before j l) (before l j) unbeaten (to-last j i hj hi ji) (from-last j i hj hi ji) (from-last i j hi hj ne) in
+      let numbers = six-beats a b (before i l) (before l i) (before j l) (before l j) unbeaten
+      (to-last j i hj hi ji) (from-last j i hj hi ji) (from-last i j hi hj ne) in
+      let numbers′ = beats-six a b (before i l) (before l i) (before j l) (before l j) unbeaten
+      (to-last j i hj hi ji) (from-last j i hj hi ji) (from-last i j hi hj ne) in
       ((λ h. numbers′ (omega arith)), (λ h. let n = numbers h in omega arith))

@@ -32,18 +32,21 @@ module _ {A B : Type 0} (f : A → B) where
 
   pub of-map : {b : B} (l : List A) → List·Memᴰ b (map f l) → (a : A) × List·Memᴰ a l × (b ≡ f a)
   of-map [] m = absurd (List·Memᴰ·not-nil m)
-  of-map {b} (x ∷ l) m = ⊎-elim (λ e. (x, List·Memᴰ·head refl, e)) (λ n. let r = of-map l n in (r .0, List·Memᴰ·tail (r .1), r .2)) (List·Memᴰ·cases-cons m)
+  of-map {b} (x ∷ l) m = ⊎-elim (λ e. (x, List·Memᴰ·head refl, e))
+      (λ n. let r = of-map l n in (r .0, List·Memᴰ·tail (r .1), r .2)) (List·Memᴰ·cases-cons m)
 
 module _ {A B : Type 0} (f : A → List B) where
   pub in-flat : {a : A} {b : B} (l : List A) → List·Memᴰ a l → List·Memᴰ b (f a) → List·Memᴰ b (flatMap f l)
   unfolding flatMap
   in-flat [] m h = absurd (List·Memᴰ·not-nil m)
-  in-flat {a} {b} (x ∷ l) m h = ⊎-elim (λ e. Memᴰ·append-left (flatMap f l) (rw e at h)) (λ n. Memᴰ·append-right (f x) (in-flat l n h)) (List·Memᴰ·cases-cons m)
+  in-flat {a} {b} (x ∷ l) m h = ⊎-elim (λ e. Memᴰ·append-left (flatMap f l) (rw e at h))
+      (λ n. Memᴰ·append-right (f x) (in-flat l n h)) (List·Memᴰ·cases-cons m)
 
   pub of-flat : {b : B} (l : List A) → List·Memᴰ b (flatMap f l) → (a : A) × List·Memᴰ a l × List·Memᴰ b (f a)
   unfolding flatMap
   of-flat [] m = absurd (List·Memᴰ·not-nil m)
-  of-flat {b} (x ∷ l) m = ⊎-elim (λ h. (x, List·Memᴰ·head refl, h)) (λ n. let r = of-flat l n in (r .0, List·Memᴰ·tail (r .1), r .2)) (List·Memᴰ·append-cases (f x) m)
+  of-flat {b} (x ∷ l) m = ⊎-elim (λ h. (x, List·Memᴰ·head refl, h))
+      (λ n. let r = of-flat l n in (r .0, List·Memᴰ·tail (r .1), r .2)) (List·Memᴰ·append-cases (f x) m)
 
 -- a list without x has all its other members
 pub in-without : {y : ℕ} (x : ℕ) (xs : List ℕ) → On y xs → y ≢ x → On y (without x xs)
@@ -60,7 +63,8 @@ unfolding without
 of-without x [] m = absurd (List·Memᴰ·not-nil m)
 of-without {y} x (z ∷ zs) m = here (eqb x z) refl (λ h. let r = of-without x zs h in (List·Memᴰ·tail (r .0), r .1)) m
   where
-    here : (t : Bool) → eqb x z ≡ t → (On y (without x zs) → On y (z ∷ zs) × (y ≢ x)) → On y (cond t (without x zs) (z ∷ without x zs)) → On y (z ∷ zs) × (y ≢ x)
+    here : (t : Bool) → eqb x z ≡ t → (On y (without x zs) → On y (z ∷ zs) × (y ≢ x))
+        → On y (cond t (without x zs) (z ∷ without x zs)) → On y (z ∷ zs) × (y ≢ x)
     here true e later h = later h
     here false e later h = ⊎-elim (λ s. (List·Memᴰ·head s, λ d. eqb-false x z e (sym d ∙ s))) later (List·Memᴰ·cases-cons h)
 
@@ -79,7 +83,8 @@ unfolding without
 without-less x [] m = absurd (List·Memᴰ·not-nil m)
 without-less x (z ∷ zs) m = here (eqb x z) refl (without-less x zs)
   where
-    here : (t : Bool) → eqb x z ≡ t → (On x zs → length (without x zs) < length zs) → length (cond t (without x zs) (z ∷ without x zs)) < suc (length zs)
+    here : (t : Bool) → eqb x z ≡ t → (On x zs → length (without x zs) < length zs)
+        → length (cond t (without x zs) (z ∷ without x zs)) < suc (length zs)
     here true e later = omega (arith, without-most x zs)
     here false e later = ⊎-elim (λ s. absurd (eqb-false x z e s)) (λ h. let l = later h in omega arith) (List·Memᴰ·cases-cons m)
 
@@ -94,7 +99,8 @@ pub of-table : {y : ℕ} (n : ℕ) (f : ℕ → ℕ) → On y (tabulate n f) →
 unfolding tabulate
 of-table zero f m = absurd (List·Memᴰ·not-nil m)
 of-table {y} (suc n) f m =
-    ⊎-elim (λ e. (0, omega arith, e)) (λ h. let r = of-table n (λ j. f (suc j)) h in (suc (r .0), omega (arith, r .1), r .2)) (List·Memᴰ·cases-cons m)
+    ⊎-elim (λ e. (0, omega arith, e))
+    (λ h. let r = of-table n (λ j. f (suc j)) h in (suc (r .0), omega (arith, r .1), r .2)) (List·Memᴰ·cases-cons m)
 
 pub in-candidates : (k x : ℕ) → x < k → On x (candidates k)
 unfolding candidates
@@ -105,10 +111,13 @@ unfolding candidates
 of-candidates k m = let r = of-table k (λ i. i) m in omega (arith, r .1, r .2)
 
 -- a selection names some of the candidates, none of them twice
-pub of-selections : {q : List ℕ} (most : ℕ) (free : List ℕ) → List·Memᴰ q (selections most free) → Distinct q × ((x : ℕ) → On x q → On x free)
+pub of-selections : {q : List ℕ} (most : ℕ) (free : List ℕ) → List·Memᴰ q (selections most free) → Distinct q
+    × ((x : ℕ) → On x q → On x free)
 unfolding selections
 of-selections {q} zero free m = rw (List·Memᴰ·eq-of-singleton m) (tt, λ x h. absurd (List·Memᴰ·not-nil h))
-of-selections {q} (suc most) free m = ⊎-elim nothing (λ h. some (λ l rest. of-selections {q = rest} most (without l free)) (of-flat longer free h)) (List·Memᴰ·cases-cons m)
+of-selections {q} (suc most) free m =
+    ⊎-elim nothing (λ h. some (λ l rest. of-selections {q = rest} most (without l free)) (of-flat longer free h))
+    (List·Memᴰ·cases-cons m)
   where
     longer : ℕ → List (List ℕ)
     longer l = map (λ rest. l ∷ rest) (selections most (without l free))
@@ -116,20 +125,23 @@ of-selections {q} (suc most) free m = ⊎-elim nothing (λ h. some (λ l rest. o
     nothing : q ≡ [] → Distinct q × ((x : ℕ) → On x q → On x free)
     nothing e = rw e (tt, λ x h. absurd (List·Memᴰ·not-nil h))
 
-    extended : (l : ℕ) (rest : List ℕ) → On l free → Distinct rest × ((x : ℕ) → On x rest → On x (without l free)) → Distinct (l ∷ rest) × ((x : ℕ) → On x (l ∷ rest) → On x free)
+    extended : (l : ℕ) (rest : List ℕ) → On l free → Distinct rest × ((x : ℕ) → On x rest → On x (without l free))
+        → Distinct (l ∷ rest) × ((x : ℕ) → On x (l ∷ rest) → On x free)
     extended l rest m r = (
       (λ h. of-without l free (r .1 l h) .1 refl, r .0),
       λ x h. ⊎-elim (λ e. Memᴰ·cast e m) (λ g. of-without l free (r .1 x g) .0) (List·Memᴰ·cases-cons h),
     )
 
-    some : ((l : ℕ) (rest : List ℕ) → List·Memᴰ rest (selections most (without l free)) → Distinct rest × ((x : ℕ) → On x rest → On x (without l free))) →
+    some : ((l : ℕ) (rest : List ℕ) → List·Memᴰ rest (selections most (without l free)) → Distinct rest
+        × ((x : ℕ) → On x rest → On x (without l free))) →
         (l : ℕ) × On l free × List·Memᴰ q (longer l) → Distinct q × ((x : ℕ) → On x q → On x free)
     some shorter (l, m, h) =
         let r = of-map (λ rest. l ∷ rest) (selections most (without l free)) h in
         rw (r .2) (extended l (r .0) m (shorter l (r .0) (r .1)))
 
 -- and every such list is a selection
-pub in-selections : (most : ℕ) (free q : List ℕ) → length free ≤ most → Distinct q → ((x : ℕ) → On x q → On x free) → List·Memᴰ q (selections most free)
+pub in-selections : (most : ℕ) (free q : List ℕ) → length free ≤ most → Distinct q → ((x : ℕ) → On x q → On x free)
+    → List·Memᴰ q (selections most free)
 unfolding selections
 in-selections zero free [] h d m = List·Memᴰ·head refl
 in-selections zero free (l ∷ q) h d m = absurd (let s = without-less l free (m l (List·Memᴰ·head refl)) in omega arith)
@@ -151,7 +163,8 @@ maximum-one : (x : ℕ) (xs : List ℕ) → On (maximum (x ∷ xs)) (x ∷ xs)
 unfolding maximum
 maximum-one x [] = let e : max x 0 ≡ x = omega arith in List·Memᴰ·head e
 maximum-one x (y ∷ ys) =
-    ⊎-elim (λ (l : max y (maximum ys) < x). List·Memᴰ·head (max-eq-left (omega arith))) (λ l. List·Memᴰ·tail (Memᴰ·cast (max-eq-right l) (maximum-one y ys)))
+    ⊎-elim (λ (l : max y (maximum ys) < x). List·Memᴰ·head (max-eq-left (omega arith)))
+    (λ l. List·Memᴰ·tail (Memᴰ·cast (max-eq-right l) (maximum-one y ys)))
     (below-or-not (max y (maximum ys)) x)
 
 pub maximum-of : {x : ℕ} (xs : List ℕ) → On x xs → On (maximum xs) xs

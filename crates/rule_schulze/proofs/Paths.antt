@@ -54,7 +54,14 @@ module _ (s : ℕ → ℕ → ℕ) where
   after T i l (x ∷ q) j m h d = ⊎-elim here (λ g. later (after T i x q j g (h .1) (d .1))) (List·Memᴰ·cases-cons m)
     where
       here : i ≡ x → After T i (x ∷ q) j
-      here e = record { rest = q; strong = rw e (h .1); never = λ g. d .0 (Memᴰ·cast (sym e) g); once = d .1; part = λ y g. List·Memᴰ·tail g }
+      here e = record {
+        rest = q;
+        strong = rw e (h .1);
+        never = λ g. d .0 (Memᴰ·cast (sym e) g);
+        once = d .1;
+        part =
+            λ y g. List·Memᴰ·tail g;
+      }
 
       later : After T i q j → After T i (x ∷ q) j
       later a = record { rest = a .rest; strong = a .strong; never = a .never; once = a .once; part = λ y g. List·Memᴰ·tail (a .part y g) }
@@ -66,14 +73,23 @@ module _ (s : ℕ → ℕ → ℕ) where
     pub simple : SimplePath k i between j
 
   pub shorten : (T k i : ℕ) (q : List ℕ) (j : ℕ) → i ≢ j → ((x : ℕ) → On x q → x < k) → Via T i q j → Direct T k i j
-  shorten T k i [] j ne b h = record { between = []; strong = h; simple = record { below = b; once = (λ m. ne (List·Memᴰ·eq-of-singleton m), (List·Memᴰ·not-nil, tt)) } }
+  shorten T k i [] j ne b h = record {
+    between = [];
+    strong = h;
+    simple =
+        record { below = b; once = (λ m. ne (List·Memᴰ·eq-of-singleton m), (List·Memᴰ·not-nil, tt)) };
+  }
   shorten T k i (l ∷ q) j ne b h = ⊎-elim ends (λ n. go (shorten T k l q j n (λ x m. b x (List·Memᴰ·tail m)) (h .1))) (same-or-not l j)
     where
       ends : l ≡ j → Direct T k i j
       ends e = record {
         between = [];
         strong = rw (sym e) (h .0);
-        simple = record { below = λ x m. absurd (List·Memᴰ·not-nil m); once = (λ m. ne (List·Memᴰ·eq-of-singleton m), (List·Memᴰ·not-nil, tt)) };
+        simple = record {
+          below = λ x m. absurd (List·Memᴰ·not-nil m);
+          once =
+              (λ m. ne (List·Memᴰ·eq-of-singleton m), (List·Memᴰ·not-nil, tt));
+        };
       }
 
       go : Direct T k l j → Direct T k i j
@@ -150,7 +166,8 @@ module _ (s : ℕ → ℕ → ℕ) where
         once-second = c .once-second;
         part-first =
             λ y g.
-            ⊎-elim (λ e. (List·Memᴰ·head e, λ s. d .0 (Memᴰ·cast (sym e ∙ s) m))) (λ g. (List·Memᴰ·tail (c .part-first y g .0), c .part-first y g .1)) (List·Memᴰ·cases-cons g);
+            ⊎-elim (λ e. (List·Memᴰ·head e, λ s. d .0 (Memᴰ·cast (sym e ∙ s) m)))
+            (λ g. (List·Memᴰ·tail (c .part-first y g .0), c .part-first y g .1)) (List·Memᴰ·cases-cons g);
         part-second = λ y g. (List·Memᴰ·tail (c .part-second y g .0), c .part-second y g .1);
       }
 
@@ -160,7 +177,8 @@ module _ (k i j : ℕ) (ne : i ≢ j) where
   unfolding simplePaths
   listed-simple q m =
       let r = of-selections k (without i (without j (candidates k))) m in
-      let inner : (x : ℕ) → On x q → On x (without j (candidates k)) × (x ≢ i) = λ x g. of-without i (without j (candidates k)) (r .1 x g) in
+      let inner : (x : ℕ) → On x q → On x (without j (candidates k)) × (x ≢ i) =
+      λ x g. of-without i (without j (candidates k)) (r .1 x g) in
       record {
         below = λ x g. of-candidates k (of-without j (candidates k) (inner x g .0) .0);
         once = (
@@ -179,7 +197,8 @@ module _ (k i j : ℕ) (ne : i ≢ j) where
   simple-listed q p =
       in-selections k (without i (without j (candidates k))) q candidates-most (p .once .1 .1)
       (λ x g.
-      in-without i (without j (candidates k)) (in-without j (candidates k) (in-candidates k x (p .below x g)) (λ e. p .once .1 .0 (Memᴰ·cast (sym e) g)))
+      in-without i (without j (candidates k))
+      (in-without j (candidates k) (in-candidates k x (p .below x g)) (λ e. p .once .1 .0 (Memᴰ·cast (sym e) g)))
       (λ e. p .once .0 (List·Memᴰ·tail (Memᴰ·cast (sym e) g))))
 
   -- the link itself
@@ -205,8 +224,10 @@ detour-cases : (l : ℕ) (t : ℕ → ℕ → ℕ) (i j : ℕ) → (detour l t i
 unfolding detour
 detour-cases l t i j = go (eqb i l) (eqb j l) (eqb i j) refl refl
   where
-    larger : i ≢ l → j ≢ l → (max (t i j) (min (t i l) (t l j)) ≡ t i j) ⊎ ((i ≢ l) × (j ≢ l) × (max (t i j) (min (t i l) (t l j)) ≡ min (t i l) (t l j)))
-    larger a b = ⊎-elim (λ (h : t i j < min (t i l) (t l j)). inr (a, b, omega arith)) (λ h. inl (omega arith)) (below-or-not (t i j) (min (t i l) (t l j)))
+    larger : i ≢ l → j ≢ l → (max (t i j) (min (t i l) (t l j)) ≡ t i j) ⊎
+        ((i ≢ l) × (j ≢ l) × (max (t i j) (min (t i l) (t l j)) ≡ min (t i l) (t l j)))
+    larger a b = ⊎-elim (λ (h : t i j < min (t i l) (t l j)). inr (a, b, omega arith)) (λ h. inl (omega arith))
+        (below-or-not (t i j) (min (t i l) (t l j)))
 
     go : (a b c : Bool) → eqb i l ≡ a → eqb j l ≡ b →
         (cond (a || b || c) (t i j) (max (t i j) (min (t i l) (t l j))) ≡ t i j)
@@ -241,9 +262,11 @@ module _ (s : ℕ → ℕ → ℕ) where
           let il : i ≢ l = λ e. ni (Memᴰ·cast e m) in
           let jl : j ≢ l = λ e. nj (Memᴰ·cast e m) in
           let to : T ≤ t i l =
-          c T i (p .first) l il (p .to) (p .once-first) (λ g. ni (p .part-first i g .0)) (λ g. p .part-first l g .1 refl) (λ x g. lower x (p .part-first x g .0) (p .part-first x g .1)) in
+          c T i (p .first) l il (p .to) (p .once-first) (λ g. ni (p .part-first i g .0))
+          (λ g. p .part-first l g .1 refl) (λ x g. lower x (p .part-first x g .0) (p .part-first x g .1)) in
           let from : T ≤ t l j =
-          c T l (p .second) j (λ e. jl (sym e)) (p .from) (p .once-second) (λ g. p .part-second l g .1 refl) (λ g. nj (p .part-second j g .0)) (λ x g. lower x (p .part-second x g .0) (p .part-second x g .1)) in
+          c T l (p .second) j (λ e. jl (sym e)) (p .from) (p .once-second) (λ g. p .part-second l g .1 refl)
+          (λ g. nj (p .part-second j g .0)) (λ x g. lower x (p .part-second x g .0) (p .part-second x g .1)) in
           omega (arith, detour-over l t i j il jl ne)
 
   covers : (l : ℕ) → Covers l (closure l s)
@@ -262,7 +285,8 @@ module _ (s : ℕ → ℕ → ℕ) where
   attained k zero h i j ne = record { between = []; strong = omega arith; below = λ y g. absurd (List·Memᴰ·not-nil g) }
   attained k (suc l) h i j ne =
       ⊎-elim (λ e. rw e (attained k l (omega arith) i j ne))
-      (λ w. rw (w .2) (join (closure l s i l) (closure l s l j) (attained k l (omega arith) i l (w .0)) (attained k l (omega arith) l j (λ e. w .1 (sym e)))))
+      (λ w. rw (w .2) (join (closure l s i l) (closure l s l j) (attained k l (omega arith) i l (w .0))
+      (attained k l (omega arith) l j (λ e. w .1 (sym e)))))
       (detour-cases l (closure l s) i j)
     where
       join : (x y : ℕ) → Attained k i l x → Attained k l j y → Attained k i j (min x y)
@@ -273,7 +297,8 @@ module _ (s : ℕ → ℕ → ℕ) where
             (via-less s (min x y) y l (b .between) j (omega arith) (b .strong));
         below =
             λ z g.
-            ⊎-elim (a .below z) (λ g. ⊎-elim (λ e. omega arith) (b .below z) (List·Memᴰ·cases-cons g)) (List·Memᴰ·append-cases (a .between) g);
+            ⊎-elim (a .below z) (λ g. ⊎-elim (λ e. omega arith) (b .below z) (List·Memᴰ·cases-cons g))
+            (List·Memᴰ·append-cases (a .between) g);
       }
 
   module _ (k i j : ℕ) (ne : i ≢ j) where
@@ -296,7 +321,9 @@ module _ (s : ℕ → ℕ → ℕ) where
         let q = best .attained .0 in
         let p = best .attained .1 in
         let up : strongest s k i j ≤ closure k s i j =
-        covers k (strongest s k i j) i q j ne (via-strong s (strongest s k i j) i q j (omega (arith, best .attained .2))) (p .once .1 .1) (λ g. p .once .0 (List·Memᴰ·tail g)) (p .once .1 .0) (p .below) in
+        covers k (strongest s k i j) i q j ne
+        (via-strong s (strongest s k i j) i q j (omega (arith, best .attained .2))) (p .once .1 .1)
+        (λ g. p .once .0 (List·Memᴰ·tail g)) (p .once .1 .0) (p .below) in
         let a = attained k k (omega arith) i j ne in
         let d = shorten s (closure k s i j) k i (a .between) j ne (a .below) (a .strong) in
         let down : closure k s i j ≤ strongest s k i j =
@@ -304,7 +331,8 @@ module _ (s : ℕ → ℕ → ℕ) where
         omega arith
 
 -- the path over a third candidate is no stronger than the strongest
-pub through : (s : ℕ → ℕ → ℕ) (k i l j : ℕ) → l < k → i ≢ l → l ≢ j → i ≢ j → min (strongest s k i l) (strongest s k l j) ≤ strongest s k i j
+pub through : (s : ℕ → ℕ → ℕ) (k i l j : ℕ) → l < k → i ≢ l → l ≢ j → i ≢ j
+    → min (strongest s k i l) (strongest s k l j) ≤ strongest s k i j
 through s k i l j h il lj ij =
     let a = strongest-is s k i l il in
     let b = strongest-is s k l j lj in
@@ -314,6 +342,7 @@ through s k i l j h il lj ij =
     let to = via-strong s T i q l (omega (arith, a .attained .2)) in
     let from = via-strong s T l r j (omega (arith, b .attained .2)) in
     let low : (x : ℕ) → On x (q ++ l ∷ r) → x < k =
-    λ x g. ⊎-elim (a .attained .1 .below x) (λ g. ⊎-elim (λ e. omega arith) (b .attained .1 .below x) (List·Memᴰ·cases-cons g)) (List·Memᴰ·append-cases q g) in
+    λ x g. ⊎-elim (a .attained .1 .below x)
+    (λ g. ⊎-elim (λ e. omega arith) (b .attained .1 .below x) (List·Memᴰ·cases-cons g)) (List·Memᴰ·append-cases q g) in
     let d = shorten s T k i (q ++ l ∷ r) j ij low (via-join s T i q l r j to from) in
     omega (arith, strong-via s T i (d .between) j (d .strong), strongest-is s k i j ij .largest (d .between) (d .simple))

@@ -32,23 +32,30 @@ place-within k n b i j hb hi hj =
 
 -- there are few bytes
 pub few-bytes : (k n : ℕ) (xs : List ℕ) → RankedSize k n xs → (k * k ≤ 64) × (n * k * k ≤ 16320)
-few-bytes k n xs s = (mul-le-mul (s .most-candidates) (s .most-candidates), mul-le-mul (mul-le-mul (s .most-ballots) (s .most-candidates)) (s .most-candidates))
+few-bytes k n xs s = (
+  mul-le-mul (s .most-candidates) (s .most-candidates),
+  mul-le-mul (mul-le-mul (s .most-ballots) (s .most-candidates)) (s .most-candidates),
+)
 
 -- one ballot more
 votes-more : (k b : ℕ) (xs : List ℕ) (i j : ℕ) → votes k (b + 1) xs i j ≡ votes k b xs i j + cond (before k xs b i j) 1 0
 unfolding votes
 votes-more k b xs i j = ap (λ (n : ℕ). votes k n xs i j) (add-one b)
 
-pub votes-one : (k b : ℕ) (xs : List ℕ) (i j at : ℕ) → at ≡ (b * k + i) * k + j → getD xs at 0 ≡ 1 → votes k (b + 1) xs i j ≡ votes k b xs i j + 1
+pub votes-one : (k b : ℕ) (xs : List ℕ) (i j at : ℕ) → at ≡ (b * k + i) * k + j → getD xs at 0 ≡ 1
+    → votes k (b + 1) xs i j ≡ votes k b xs i j + 1
 unfolding before rankPlace
 votes-one k b xs i j at p e =
-    votes-more k b xs i j ∙ ap (λ (t : Bool). votes k b xs i j + cond t 1 0) (eq-eqb (getD xs ((b * k + i) * k + j) 0) 1 (ap (λ (m : ℕ). getD xs m 0) (sym p) ∙ e))
+    votes-more k b xs i j ∙ ap (λ (t : Bool). votes k b xs i j + cond t 1 0)
+    (eq-eqb (getD xs ((b * k + i) * k + j) 0) 1 (ap (λ (m : ℕ). getD xs m 0) (sym p) ∙ e))
 
-pub votes-none : (k b : ℕ) (xs : List ℕ) (i j at : ℕ) → at ≡ (b * k + i) * k + j → (getD xs at 0 ≡ 1 → ⊥) → votes k (b + 1) xs i j ≡ votes k b xs i j
+pub votes-none : (k b : ℕ) (xs : List ℕ) (i j at : ℕ) → at ≡ (b * k + i) * k + j → (getD xs at 0 ≡ 1 → ⊥)
+    → votes k (b + 1) xs i j ≡ votes k b xs i j
 unfolding before rankPlace
 votes-none k b xs i j at p e =
     votes-more k b xs i j
-    ∙ ap (λ (t : Bool). votes k b xs i j + cond t 1 0) (ne-eqb (getD xs ((b * k + i) * k + j) 0) 1 (λ h. e (ap (λ (m : ℕ). getD xs m 0) p ∙ h)))
+    ∙ ap (λ (t : Bool). votes k b xs i j + cond t 1 0)
+    (ne-eqb (getD xs ((b * k + i) * k + j) 0) 1 (λ h. e (ap (λ (m : ℕ). getD xs m 0) p ∙ h)))
     ∙ add-zero (votes k b xs i j)
 
 -- the test of one candidate after another
@@ -62,7 +69,8 @@ module _ (t : List (List ℕ)) (k i : ℕ) where
 
   pub unbeaten-fails : (j : ℕ) → j < k → j ≢ i → entry t i j < entry t j i → unbeatenIn t k i ≡ false
   unfolding unbeatenIn
-  unbeaten-fails j h n l = never-true (unbeatenIn t k i) (λ e. true≢false (sym (every-holds unbeatenBy (candidates k) e j (in-candidates k j h)) ∙ fails))
+  unbeaten-fails j h n l = never-true (unbeatenIn t k i)
+      (λ e. true≢false (sym (every-holds unbeatenBy (candidates k) e j (in-candidates k j h)) ∙ fails))
     where
       fails : unbeatenBy j ≡ false
       fails = rw (ne-eqb j i n, lt-leb (entry t j i) (entry t i j) l)
@@ -78,10 +86,18 @@ module _ (l : ℕ) (t : ℕ → ℕ → ℕ) (i j : ℕ) where
   detour-tried ne = ⊎-elim from (λ il. ⊎-elim to (λ jl. sym (detour-over l t i j il jl ne)) (same-or-not j l)) (same-or-not i l)
     where
       from : i ≡ l → max (t i j) (min (t i l) (t l j)) ≡ detour l t i j
-      from e = omega (arith, ap (λ (x : ℕ). t x j) e, detour-stays (or-first (eqb i l || eqb j l) (eqb i j) (or-first (eqb i l) (eqb j l) (eq-eqb i l e))))
+      from e = omega (
+        arith,
+        ap (λ (x : ℕ). t x j) e,
+        detour-stays (or-first (eqb i l || eqb j l) (eqb i j) (or-first (eqb i l) (eqb j l) (eq-eqb i l e))),
+      )
 
       to : j ≡ l → max (t i j) (min (t i l) (t l j)) ≡ detour l t i j
-      to e = omega (arith, ap (t i) e, detour-stays (or-first (eqb i l || eqb j l) (eqb i j) (or-second (eqb i l) (eqb j l) (eq-eqb j l e))))
+      to e = omega (
+        arith,
+        ap (t i) e,
+        detour-stays (or-first (eqb i l || eqb j l) (eqb i j) (or-second (eqb i l) (eqb j l) (eq-eqb j l e))),
+      )
 
 -- tables that agree for every pair of the k candidates still do after a detour
 module _ (k : ℕ) (t u : ℕ → ℕ → ℕ) where
@@ -93,7 +109,9 @@ detour-agree k l t u h a i j hi hj ne =
     sym (detour-tried l t i j ne) ∙ same ∙ detour-tried l u i j ne
   where
     same : max (t i j) (min (t i l) (t l j)) ≡ max (u i j) (min (u i l) (u l j))
-    same = ⊎-elim from (λ il. ⊎-elim to (λ jl. omega (arith, a i j hi hj ne, a i l hi h il, a l j h hj (λ e. jl (sym e)))) (same-or-not j l)) (same-or-not i l)
+    same = ⊎-elim from (λ il. ⊎-elim to
+        (λ jl. omega (arith, a i j hi hj ne, a i l hi h il, a l j h hj (λ e. jl (sym e)))) (same-or-not j l))
+        (same-or-not i l)
       where
         from : i ≡ l → max (t i j) (min (t i l) (t l j)) ≡ max (u i j) (min (u i l) (u l j))
         from e = omega (arith, a i j hi hj ne, ap (λ (x : ℕ). t x j) e, ap (λ (x : ℕ). u x j) e)

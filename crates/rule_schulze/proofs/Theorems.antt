@@ -21,7 +21,13 @@ module _ (v : ℕ → ℕ → ℕ) (k i : ℕ) (h : i < k) where
 
 only-strength : (s : ℕ → ℕ → ℕ) (k i j x y : ℕ) → Strongest s k i j x → Strongest s k i j y → x ≡ y
 only-strength s k i j x y a b =
-    omega (arith, a .attained .2, b .attained .2, a .largest (b .attained .0) (b .attained .1), b .largest (a .attained .0) (a .attained .1))
+    omega (
+      arith,
+      a .attained .2,
+      b .attained .2,
+      a .largest (b .attained .0) (b .attained .1),
+      b .largest (a .attained .0) (a .attained .1),
+    )
 
 pub schulze-holds : SchulzeHolds
 schulze-holds =

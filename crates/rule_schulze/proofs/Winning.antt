@@ -22,18 +22,26 @@ pub every-holds : (test : ℕ → Bool) (xs : List ℕ) → every test xs ≡ tr
 unfolding every
 every-holds test [] e x m = absurd (List·Memᴰ·not-nil m)
 every-holds test (y ∷ ys) e x m =
-    ⊎-elim (λ s. ap test s ∙ and-first (test y) (every test ys) e) (every-holds test ys (and-second (test y) (every test ys) e) x) (List·Memᴰ·cases-cons m)
+    ⊎-elim (λ s. ap test s ∙ and-first (test y) (every test ys) e)
+    (every-holds test ys (and-second (test y) (every test ys) e) x) (List·Memᴰ·cases-cons m)
 
 pub holds-every : (test : ℕ → Bool) (xs : List ℕ) → ((x : ℕ) → On x xs → test x ≡ true) → every test xs ≡ true
 unfolding every
 holds-every test [] h = refl
-holds-every test (y ∷ ys) h = and-both (test y) (every test ys) (h y (List·Memᴰ·head refl)) (holds-every test ys (λ x m. h x (List·Memᴰ·tail m)))
+holds-every test (y ∷ ys) h = and-both (test y) (every test ys) (h y (List·Memᴰ·head refl))
+    (holds-every test ys (λ x m. h x (List·Memᴰ·tail m)))
 
 -- there is only one greatest strength
 pub strongest-only : (s : ℕ → ℕ → ℕ) (k i j x : ℕ) → i ≢ j → Strongest s k i j x → x ≡ strongest s k i j
 strongest-only s k i j x ne a =
     let b = strongest-is s k i j ne in
-    omega (arith, a .attained .2, b .attained .2, a .largest (b .attained .0) (b .attained .1), b .largest (a .attained .0) (a .attained .1))
+    omega (
+      arith,
+      a .attained .2,
+      b .attained .2,
+      a .largest (b .attained .0) (b .attained .1),
+      b .largest (a .attained .0) (a .attained .1),
+    )
 
 module _ (v : ℕ → ℕ → ℕ) (k i : ℕ) where
   -- no candidate reaches i better than i reaches it
@@ -47,7 +55,8 @@ module _ (v : ℕ → ℕ → ℕ) (k i : ℕ) where
   unfolding wins test
   wins-unbeaten e j h n =
       ⊎-elim (λ t. absurd (n (eqb-true j i t))) (leb-true (strongest (link v) k j i) (strongest (link v) k i j))
-      (or-either (eqb j i) (leb (strongest (link v) k j i) (strongest (link v) k i j)) (every-holds test (candidates k) e j (in-candidates k j h)))
+      (or-either (eqb j i) (leb (strongest (link v) k j i) (strongest (link v) k i j))
+      (every-holds test (candidates k) e j (in-candidates k j h)))
 
   pub unbeaten-wins : Unbeaten → wins v k i ≡ true
   unfolding wins test
@@ -57,7 +66,8 @@ module _ (v : ℕ → ℕ → ℕ) (k i : ℕ) where
       same j e = or-first (eqb j i) (leb (strongest (link v) k j i) (strongest (link v) k i j)) (eq-eqb j i e)
 
       other : (j : ℕ) → j < k → j ≢ i → test j ≡ true
-      other j h n = or-second (eqb j i) (leb (strongest (link v) k j i) (strongest (link v) k i j)) (le-leb (strongest (link v) k j i) (strongest (link v) k i j) (u j h n))
+      other j h n = or-second (eqb j i) (leb (strongest (link v) k j i) (strongest (link v) k i j))
+          (le-leb (strongest (link v) k j i) (strongest (link v) k i j) (u j h n))
 
   -- if one candidate reaches i better, i does not win
   pub beaten-loses : (j : ℕ) → j < k → j ≢ i → strongest (link v) k i j < strongest (link v) k j i → wins v k i ≡ false
@@ -69,7 +79,8 @@ module _ (v : ℕ → ℕ → ℕ) (k i : ℕ) where
 
   winner-unbeaten : Winner v k i → Unbeaten
   winner-unbeaten w j h n =
-      w j (strongest (link v) k i j) (strongest (link v) k j i) h n (strongest-is (link v) k i j (λ e. n (sym e))) (strongest-is (link v) k j i n)
+      w j (strongest (link v) k i j) (strongest (link v) k j i) h n (strongest-is (link v) k i j (λ e. n (sym e)))
+      (strongest-is (link v) k j i n)
 
   pub closing-at : i < k → getD (closingBytes v k) i 0 ≡ cond (wins v k i) 1 0
   unfolding closingBytes
@@ -77,7 +88,11 @@ module _ (v : ℕ → ℕ → ℕ) (k i : ℕ) where
 
   -- closing byte i is 1 exactly if i wins
   pub closing-one : i < k → (getD (closingBytes v k) i 0 ≡ 1) ↔ Winner v k i
-  closing-one h = (λ e. unbeaten-winner (wins-unbeaten (go (wins v k i) refl e)), λ w. closing-at h ∙ ap (λ (t : Bool). cond {A = ℕ} t 1 0) (unbeaten-wins (winner-unbeaten w)))
+  closing-one h = (
+    λ e. unbeaten-winner (wins-unbeaten (go (wins v k i) refl e)),
+    λ w. closing-at h
+        ∙ ap (λ (t : Bool). cond {A = ℕ} t 1 0) (unbeaten-wins (winner-unbeaten w)),
+  )
     where
       go : (t : Bool) → wins v k i ≡ t → getD (closingBytes v k) i 0 ≡ 1 → wins v k i ≡ true
       go true e f = e
@@ -98,10 +113,12 @@ unfolding weakest
 link-strongest s k i j ne = strongest-is s k i j ne .largest [] (direct k i j ne)
 
 -- nobody reaches a candidate to which no link leads
-unreached : (s : ℕ → ℕ → ℕ) (k i T j : ℕ) (q : List ℕ) → ((x : ℕ) → x < k → x ≢ i → s x i ≡ 0) → j < k → j ≢ i → ((x : ℕ) → On x q → x < k) → (¬ On i q) → Via s T j q i → T ≡ 0
+unreached : (s : ℕ → ℕ → ℕ) (k i T j : ℕ) (q : List ℕ) → ((x : ℕ) → x < k → x ≢ i → s x i ≡ 0) → j < k → j ≢ i
+    → ((x : ℕ) → On x q → x < k) → (¬ On i q) → Via s T j q i → T ≡ 0
 unreached s k i T j [] z h n b never w = let e : s j i ≡ 0 = z j h n in omega arith
 unreached s k i T j (l ∷ q) z h n b never w =
-    unreached s k i T l q z (b l (List·Memᴰ·head refl)) (λ e. never (List·Memᴰ·head (sym e))) (λ x m. b x (List·Memᴰ·tail m)) (λ m. never (List·Memᴰ·tail m)) (w .1)
+    unreached s k i T l q z (b l (List·Memᴰ·head refl)) (λ e. never (List·Memᴰ·head (sym e)))
+    (λ x m. b x (List·Memᴰ·tail m)) (λ m. never (List·Memᴰ·tail m)) (w .1)
 
 module _ (v : ℕ → ℕ → ℕ) (k i : ℕ) (low : i < k) (preferred : (j : ℕ) → j < k → j ≢ i → v j i < v i j) where
   none-back : (j : ℕ) → j < k → j ≢ i → strongest (link v) k j i ≡ 0
@@ -109,7 +126,8 @@ module _ (v : ℕ → ℕ → ℕ) (k i : ℕ) (low : i < k) (preferred : (j : �
       let best = strongest-is (link v) k j i n in
       let q = best .attained .0 in
       let p = best .attained .1 in
-      unreached (link v) k i (strongest (link v) k j i) j q (λ x l m. link-lost v x i (let w = preferred x l m in omega arith)) h n (p .below) (p .once .1 .0)
+      unreached (link v) k i (strongest (link v) k j i) j q
+      (λ x l m. link-lost v x i (let w = preferred x l m in omega arith)) h n (p .below) (p .once .1 .0)
       (via-strong (link v) (strongest (link v) k j i) j q i (omega (arith, best .attained .2)))
 
   some-forth : (j : ℕ) → j < k → j ≢ i → 0 < strongest (link v) k i j
@@ -128,7 +146,8 @@ module _ (v : ℕ → ℕ → ℕ) (k i : ℕ) (low : i < k) (preferred : (j : �
 abbrev Beats : (ℕ → ℕ → ℕ) → ℕ → ℕ → ℕ → Type 0
 Beats s k a b = strongest s k b a < strongest s k a b
 
-pub beats-transitive : (s : ℕ → ℕ → ℕ) (k a b c : ℕ) → a < k → b < k → c < k → a ≢ b → b ≢ c → a ≢ c → Beats s k a b → Beats s k b c → Beats s k a c
+pub beats-transitive : (s : ℕ → ℕ → ℕ) (k a b c : ℕ) → a < k → b < k → c < k → a ≢ b → b ≢ c → a ≢ c → Beats s k a b
+    → Beats s k b c → Beats s k a c
 beats-transitive s k a b c ha hb hc ab bc ac h g =
     omega (
       arith,
@@ -157,14 +176,24 @@ champion s k (suc m) h = go (champion s k m (omega arith))
         old = c .who
 
         takes : Beats s k new old → Champion s k (suc (suc m))
-        takes b = record { who = new; low = omega arith; unbeaten = λ j l n. ⊎-elim (beaten j (omega arith) n) (λ u. u) (below-or-not (strongest s k new j) (strongest s k j new)) }
+        takes b = record {
+          who = new;
+          low = omega arith;
+          unbeaten =
+              λ j l n. ⊎-elim (beaten j (omega arith) n) (λ u. u)
+              (below-or-not (strongest s k new j) (strongest s k j new));
+        }
           where
             beaten : (j : ℕ) → j < suc m → j ≢ new → Beats s k j new → strongest s k j new ≤ strongest s k new j
-            beaten j l n w = ⊎-elim (λ e. rw e (omega arith)) (λ o. let t = beats-transitive s k j new old (omega arith) (omega arith) (omega (arith, c .low)) n (omega (arith, c .low)) o w b in omega (arith, c .unbeaten j l o)) (same-or-not j old)
+            beaten j l n w = ⊎-elim (λ e. rw e (omega arith))
+                (λ o. let t = beats-transitive s k j new old (omega arith) (omega arith) (omega (arith, c .low)) n
+                (omega (arith, c .low)) o w b in omega (arith, c .unbeaten j l o)) (same-or-not j old)
 
         keeps : strongest s k new old ≤ strongest s k old new → Champion s k (suc (suc m))
-        keeps b = record { who = old; low = omega (arith, c .low); unbeaten = λ j l n. ⊎-elim (λ (e : j < suc m). c .unbeaten j e n) (λ e. let z : j ≡ new = omega arith in rw z b) (below-or-not j (suc m)) }
+        keeps b =
+            record { who = old; low = omega (arith, c .low); unbeaten = λ j l n. ⊎-elim (λ (e : j < suc m). c .unbeaten j e n) (λ e. let z : j ≡ new = omega arith in rw z b) (below-or-not j (suc m)) }
 
 pub somebody-wins : (v : ℕ → ℕ → ℕ) (k : ℕ) → 1 ≤ k → (i : ℕ) × (i < k) × (wins v k i ≡ true)
 somebody-wins v zero h = absurd (omega arith)
-somebody-wins v (suc m) h = let c = champion (link v) (suc m) m (omega arith) in (c .who, c .low, unbeaten-wins v (suc m) (c .who) (c .unbeaten))
+somebody-wins v (suc m) h = let c = champion (link v) (suc m) m (omega arith) in
+    (c .who, c .low, unbeaten-wins v (suc m) (c .who) (c .unbeaten))

@@ -25,7 +25,9 @@ use Rattle.season.specs.Theorems.{SheetSums}
 unfoldable pub judged : Bool → Place → Option Reason
 judged size run = firstOf (unless size 21 ∷ foundAt 22 run ∷ [])
 
-pub judged-by : (bytes : List ℕ) (size : Bool) (run : Place) → (eqb (length bytes % runBytes) 0 && leb (length bytes) (mostRuns * runBytes)) ≡ size → firstBadRun 0 (runsIn bytes) ≡ run →
+pub judged-by : (bytes : List ℕ) (size : Bool) (run : Place)
+    → (eqb (length bytes % runBytes) 0 && leb (length bytes) (mostRuns * runBytes)) ≡ size
+    → firstBadRun 0 (runsIn bytes) ≡ run →
     firstOf (sheetReasons bytes) ≡ judged size run
 unfolding judged sheetReasons
 judged-by bytes size run e₁ e₂ = ap (λ (t : Bool). judged t (firstBadRun 0 (runsIn bytes))) e₁ ∙ ap (judged size) e₂
@@ -34,20 +36,25 @@ module _ (bytes : List ℕ) where
   -- the three ways to be refused, and the one to be accepted
   pub part-of-a-run : (length bytes % runBytes ≡ 0 → ⊥) → firstOf (sheetReasons bytes) ≡ some (reasonOf Length)
   unfolding judged unless firstOf reasonOf
-  part-of-a-run h = judged-by bytes false (firstBadRun 0 (runsIn bytes)) (and-first-fails _ (leb (length bytes) (mostRuns * runBytes)) (ne-eqb (length bytes % runBytes) 0 h)) refl
+  part-of-a-run h = judged-by bytes false (firstBadRun 0 (runsIn bytes))
+      (and-first-fails _ (leb (length bytes) (mostRuns * runBytes)) (ne-eqb (length bytes % runBytes) 0 h)) refl
 
   pub too-many : mostRuns * runBytes < length bytes → firstOf (sheetReasons bytes) ≡ some (reasonOf Length)
   unfolding judged unless firstOf reasonOf
-  too-many h = judged-by bytes false (firstBadRun 0 (runsIn bytes)) (and-second-fails (eqb (length bytes % runBytes) 0) _ (lt-leb (length bytes) (mostRuns * runBytes) h)) refl
+  too-many h = judged-by bytes false (firstBadRun 0 (runsIn bytes))
+      (and-second-fails (eqb (length bytes % runBytes) 0) _ (lt-leb (length bytes) (mostRuns * runBytes) h)) refl
 
-  size-passes : length bytes % runBytes ≡ 0 → length bytes ≤ mostRuns * runBytes → (eqb (length bytes % runBytes) 0 && leb (length bytes) (mostRuns * runBytes)) ≡ true
+  size-passes : length bytes % runBytes ≡ 0 → length bytes ≤ mostRuns * runBytes
+      → (eqb (length bytes % runBytes) 0 && leb (length bytes) (mostRuns * runBytes)) ≡ true
   size-passes h l = and-both _ _ (eq-eqb (length bytes % runBytes) 0 h) (le-leb (length bytes) (mostRuns * runBytes) l)
 
-  pub bad-run : (i : ℕ) → length bytes % runBytes ≡ 0 → length bytes ≤ mostRuns * runBytes → firstBadRun 0 (runsIn bytes) ≡ At i → firstOf (sheetReasons bytes) ≡ some (reasonOf (BadRun i))
+  pub bad-run : (i : ℕ) → length bytes % runBytes ≡ 0 → length bytes ≤ mostRuns * runBytes
+      → firstBadRun 0 (runsIn bytes) ≡ At i → firstOf (sheetReasons bytes) ≡ some (reasonOf (BadRun i))
   unfolding judged unless foundAt firstOf reasonOf
   bad-run i h l e = judged-by bytes true (At i) (size-passes h l) e
 
-  pub no-reason : length bytes % runBytes ≡ 0 → length bytes ≤ mostRuns * runBytes → firstBadRun 0 (runsIn bytes) ≡ Nowhere → firstOf (sheetReasons bytes) ≡ none
+  pub no-reason : length bytes % runBytes ≡ 0 → length bytes ≤ mostRuns * runBytes → firstBadRun 0 (runsIn bytes)
+      ≡ Nowhere → firstOf (sheetReasons bytes) ≡ none
   unfolding judged unless foundAt firstOf
   no-reason h l e = judged-by bytes true Nowhere (size-passes h l) e
 
@@ -58,7 +65,8 @@ module _ (bytes : List ℕ) where
 
   pub accepted-is : (t : Totals) → firstOf (sheetReasons bytes) ≡ none → t ≡ totalsOf (runsIn bytes) → Sheet bytes (Accepted t)
   unfolding reasonFor totalsFor totalsAfter
-  accepted-is t e h = record { reason = sym e; totals = ap some h ∙ sym (ap (λ (o : Option Reason). totalsAfter o (totalsOf (runsIn bytes))) e) }
+  accepted-is t e h =
+      record { reason = sym e; totals = ap some h ∙ sym (ap (λ (o : Option Reason). totalsAfter o (totalsOf (runsIn bytes))) e) }
 
 sum-joined : (f : Run → ℕ) (rs qs : List Run) → sumOver f (rs ++ qs) ≡ sumOver f rs + sumOver f qs
 unfolding sumOver

@@ -14,7 +14,8 @@ use Rattle.season.specs.declared.run.Run.{Run}
 use Rattle.season.specs.Season.{runBytes, numberAt, runOf, firstRuns, goodRun, firstBadRun}
 
 -- a run that was read number by number
-pub run-is : (bytes : List ℕ) (k d n m g c : ℕ) → k ≡ getD bytes 0 0 → d ≡ getD bytes 1 0 → n ≡ getD bytes 2 0 → m ≡ getD bytes 3 0 → g ≡ numberAt 4 bytes → c ≡ numberAt 8 bytes →
+pub run-is : (bytes : List ℕ) (k d n m g c : ℕ) → k ≡ getD bytes 0 0 → d ≡ getD bytes 1 0 → n ≡ getD bytes 2 0 → m
+    ≡ getD bytes 3 0 → g ≡ numberAt 4 bytes → c ≡ numberAt 8 bytes →
     _≡_ {A = Run} (record { candidates = k; grades = d; ballots = n; mask = m; gates = g; conditional = c }) (runOf bytes)
 unfolding runOf
 run-is bytes k d n m g c e₁ e₂ e₃ e₄ e₅ e₆ = cc
@@ -27,11 +28,14 @@ pub part-is : (at : ℕ) (bytes : List ℕ) → take (at + runBytes - at) (drop 
 part-is at bytes = ap (λ (n : ℕ). take n (drop at bytes)) (add-sub-cancel-left at runBytes)
 
 -- what is left after the run at a place
-pub left-is : (i runs at : ℕ) (bytes : List ℕ) → firstRuns (runs - (i + 1)) (drop (at + runBytes) bytes) ≡ firstRuns (runs - suc i) (drop runBytes (drop at bytes))
-left-is i runs at bytes = ap (λ (n : ℕ). firstRuns (runs - n) (drop (at + runBytes) bytes)) (add-one i) ∙ ap (firstRuns (runs - suc i)) (sym (drop-drop runBytes at bytes))
+pub left-is : (i runs at : ℕ) (bytes : List ℕ) → firstRuns (runs - (i + 1)) (drop (at + runBytes) bytes)
+    ≡ firstRuns (runs - suc i) (drop runBytes (drop at bytes))
+left-is i runs at bytes = ap (λ (n : ℕ). firstRuns (runs - n) (drop (at + runBytes) bytes)) (add-one i)
+    ∙ ap (firstRuns (runs - suc i)) (sym (drop-drop runBytes at bytes))
 
 -- the runs from run i on: that run first
-pub runs-step : (i runs : ℕ) (bytes : List ℕ) → i < runs → firstRuns (runs - i) bytes ≡ runOf (take runBytes bytes) ∷ firstRuns (runs - suc i) (drop runBytes bytes)
+pub runs-step : (i runs : ℕ) (bytes : List ℕ) → i < runs → firstRuns (runs - i) bytes
+    ≡ runOf (take runBytes bytes) ∷ firstRuns (runs - suc i) (drop runBytes bytes)
 unfolding firstRuns
 runs-step i runs bytes h = ap (λ (n : ℕ). firstRuns n bytes) {x = runs - i} {y = suc (runs - suc i)} (omega arith)
 
@@ -47,7 +51,8 @@ bad-step i runs bytes good h e =
     ap (firstBadRun i) (runs-step i runs bytes h)
     ∙ ap (λ (t : Bool). cond t (firstBadRun (suc i) (firstRuns (runs - suc i) (drop runBytes bytes))) (At i)) e
 
-pub bad-here : (i runs : ℕ) (bytes : List ℕ) → i < runs → goodRun (runOf (take runBytes bytes)) ≡ false → firstBadRun i (firstRuns (runs - i) bytes) ≡ At i
+pub bad-here : (i runs : ℕ) (bytes : List ℕ) → i < runs → goodRun (runOf (take runBytes bytes)) ≡ false
+    → firstBadRun i (firstRuns (runs - i) bytes) ≡ At i
 bad-here i runs bytes h e = bad-step i runs bytes false h e
 
 pub bad-later : (i runs : ℕ) (bytes : List ℕ) → i < runs → goodRun (runOf (take runBytes bytes)) ≡ true →

@@ -25,13 +25,15 @@ plus t u = record {
 }
 
 pub same-totals : (r g c b s r' g' c' b' s' : ℕ) → r ≡ r' → g ≡ g' → c ≡ c' → b ≡ b' → s ≡ s' →
-    _≡_ {A = Totals} (record { runs = r; gates = g; conditional = c; ballots = b; shared = s }) (record { runs = r'; gates = g'; conditional = c'; ballots = b'; shared = s' })
+    _≡_ {A = Totals} (record { runs = r; gates = g; conditional = c; ballots = b; shared = s })
+    (record { runs = r'; gates = g'; conditional = c'; ballots = b'; shared = s' })
 same-totals r g c b s r' g' c' b' s' e₁ e₂ e₃ e₄ e₅ = cc
 
 -- no runs are summed yet
 pub plus-start : (u : Totals) → plus (record { runs = 0; gates = 0; conditional = 0; ballots = 0; shared = 0 }) u ≡ u
 unfolding plus
-plus-start u = same-totals _ _ _ _ _ _ _ _ _ _ (zero-add (u .runs)) (zero-add (u .gates)) (zero-add (u .conditional)) (zero-add (u .ballots)) (zero-add (u .shared))
+plus-start u = same-totals _ _ _ _ _ _ _ _ _ _ (zero-add (u .runs)) (zero-add (u .gates))
+    (zero-add (u .conditional)) (zero-add (u .ballots)) (zero-add (u .shared))
 
 -- the sums over no run
 pub plus-end : (t : Totals) → plus t (totalsOf []) ≡ t
@@ -45,17 +47,22 @@ plus-run t r rs = same-totals _ _ _ _ _ _ _ _ _ _ (omega arith) (omega arith) (o
 
 -- a turn of the loop: the next run is added
 pub sums-step : (t : Totals) (i runs : ℕ) (bytes : List ℕ) → i < runs →
-    plus (plusRun t (runOf (take runBytes bytes))) (totalsOf (firstRuns (runs - suc i) (drop runBytes bytes))) ≡ plus t (totalsOf (firstRuns (runs - i) bytes))
-sums-step t i runs bytes h = plus-run t (runOf (take runBytes bytes)) (firstRuns (runs - suc i) (drop runBytes bytes)) ∙ sym (ap (λ (rs : List Run). plus t (totalsOf rs)) (runs-step i runs bytes h))
+    plus (plusRun t (runOf (take runBytes bytes))) (totalsOf (firstRuns (runs - suc i) (drop runBytes bytes)))
+    ≡ plus t (totalsOf (firstRuns (runs - i) bytes))
+sums-step t i runs bytes h = plus-run t (runOf (take runBytes bytes))
+    (firstRuns (runs - suc i) (drop runBytes bytes))
+    ∙ sym (ap (λ (rs : List Run). plus t (totalsOf rs)) (runs-step i runs bytes h))
 
 pub sums-end : (t : Totals) (i runs : ℕ) (bytes : List ℕ) → runs ≤ i → plus t (totalsOf (firstRuns (runs - i) bytes)) ≡ t
 sums-end t i runs bytes h = ap (λ (rs : List Run). plus t (totalsOf rs)) (runs-end i runs bytes h) ∙ plus-end t
 
 -- a turn of the loop, in the program's words
-pub sums-turn : (t u : Totals) (r : Run) (i runs at : ℕ) (bytes : List ℕ) → i < runs → u ≡ plusRun t r → r ≡ runOf (take (at + runBytes - at) (drop at bytes)) →
+pub sums-turn : (t u : Totals) (r : Run) (i runs at : ℕ) (bytes : List ℕ) → i < runs → u ≡ plusRun t r → r
+    ≡ runOf (take (at + runBytes - at) (drop at bytes)) →
     plus u (totalsOf (firstRuns (runs - (i + 1)) (drop (at + runBytes) bytes))) ≡ plus t (totalsOf (firstRuns (runs - i) (drop at bytes)))
 sums-turn t u r i runs at bytes h e₁ e₂ =
-    ap (λ (v : Totals). plus v (totalsOf (firstRuns (runs - (i + 1)) (drop (at + runBytes) bytes)))) (e₁ ∙ ap (plusRun t) (e₂ ∙ ap runOf (part-is at bytes)))
+    ap (λ (v : Totals). plus v (totalsOf (firstRuns (runs - (i + 1)) (drop (at + runBytes) bytes))))
+    (e₁ ∙ ap (plusRun t) (e₂ ∙ ap runOf (part-is at bytes)))
     ∙ ap (λ (rs : List Run). plus (plusRun t (runOf (take runBytes (drop at bytes)))) (totalsOf rs)) (left-is i runs at bytes)
     ∙ sums-step t i runs (drop at bytes) h
 

@@ -45,16 +45,21 @@ use Rattle.tally.proofs.Writing as writing
 -- the whole of a call that was refused
 module _ (s : Shape) (table ballots tape wires board : List ℕ) where
   after-refusal : (o : Option Reason) (r : Reason) → runResultAfter o s (gatesOf table) ballots tape wires board .answer ≡ refused r
-      → (o ≡ some r) × (runResultAfter o s (gatesOf table) ballots tape wires board .wires ≡ wires) × (runResultAfter o s (gatesOf table) ballots tape wires board .board ≡ board)
+      → (o ≡ some r) × (runResultAfter o s (gatesOf table) ballots tape wires board .wires ≡ wires)
+      × (runResultAfter o s (gatesOf table) ballots tape wires board .board ≡ board)
   unfolding runResultAfter
   after-refusal none r e = never (sizeOf (gatesOf table)) r (sym e)
   after-refusal (some q) r e = let same : q ≡ r = cc in (ap some same, refl, refl)
 
-  whole : runResult s table ballots tape wires board ≡ runResultAfter (firstOf (runReasons s table ballots tape wires board)) s (gatesOf table) ballots tape wires board
+  whole : runResult s table ballots tape wires board
+      ≡ runResultAfter (firstOf (runReasons s table ballots tape wires board)) s (gatesOf table) ballots tape wires
+      board
   whole = ran-by s table ballots tape wires board (firstOf (runReasons s table ballots tape wires board)) refl
 
   ran-refused : (r : Reason) → runResult s table ballots tape wires board .answer ≡ refused r
-      → (firstOf (runReasons s table ballots tape wires board) ≡ some r) × (runResult s table ballots tape wires board .wires ≡ wires) × (runResult s table ballots tape wires board .board ≡ board)
+      → (firstOf (runReasons s table ballots tape wires board) ≡ some r)
+      × (runResult s table ballots tape wires board .wires ≡ wires)
+      × (runResult s table ballots tape wires board .board ≡ board)
   ran-refused r e =
       let o = firstOf (runReasons s table ballots tape wires board) in
       let q = after-refusal o r (sym (ap (λ (z : RunResult). z .answer) whole) ∙ e) in
@@ -62,7 +67,8 @@ module _ (s : Shape) (table ballots tape wires board : List ℕ) where
 
   -- no run changes a length
   lengths : (o : Option Reason) → firstOf (runReasons s table ballots tape wires board) ≡ o
-      → (length (runResult s table ballots tape wires board .wires) ≡ length wires) × (length (runResult s table ballots tape wires board .board) ≡ length board)
+      → (length (runResult s table ballots tape wires board .wires) ≡ length wires)
+      × (length (runResult s table ballots tape wires board .board) ≡ length board)
   unfolding runResultAfter
   lengths (some r) e =
       let f = ran-by s table ballots tape wires board (some r) e in
@@ -75,8 +81,10 @@ module _ (s : Shape) (table ballots tape wires board : List ℕ) where
       )
 
 pub run-lengths : (s : Shape) (table ballots tape wires board : List ℕ)
-    → (length (runResult s table ballots tape wires board .wires) ≡ length wires) × (length (runResult s table ballots tape wires board .board) ≡ length board)
-run-lengths s table ballots tape wires board = lengths s table ballots tape wires board (firstOf (runReasons s table ballots tape wires board)) refl
+    → (length (runResult s table ballots tape wires board .wires) ≡ length wires)
+    × (length (runResult s table ballots tape wires board .board) ≡ length board)
+run-lengths s table ballots tape wires board =
+    lengths s table ballots tape wires board (firstOf (runReasons s table ballots tape wires board)) refl
 
 -- reasons after the third have larger numbers
 row-number : (row : Place) (r : Reason) → firstOf (foundAt 6 row ∷ []) ≡ some r → 4 ≤ r .number
@@ -84,18 +92,22 @@ unfolding foundAt firstOf reasonAt
 row-number (At i) r e = let n : 6 ≡ r .number = cc in omega arith
 row-number Nowhere r e = let z : _≡_ {A = ℕ} 0 1 = cc in absurd (omega arith)
 
-ranks-number : (clash notWeakOrder : Place) (r : Reason) → firstOf (foundAt 11 clash ∷ foundAt 12 notWeakOrder ∷ []) ≡ some r → 4 ≤ r .number
+ranks-number : (clash notWeakOrder : Place) (r : Reason) → firstOf (foundAt 11 clash ∷ foundAt 12 notWeakOrder ∷ [])
+    ≡ some r → 4 ≤ r .number
 unfolding foundAt firstOf reasonAt
 ranks-number (At i) notWeakOrder r e = let n : 11 ≡ r .number = cc in omega arith
 ranks-number Nowhere (At b) r e = let n : 12 ≡ r .number = cc in omega arith
 ranks-number Nowhere Nowhere r e = let z : _≡_ {A = ℕ} 0 1 = cc in absurd (omega arith)
 
-kind-number : (s : Shape) (xs : List ℕ) (t : Bool) (r : Reason) → firstOf (cond t (rankedReasons s xs) (gradedReasons s xs)) ≡ some r → 4 ≤ r .number
+kind-number : (s : Shape) (xs : List ℕ) (t : Bool) (r : Reason)
+    → firstOf (cond t (rankedReasons s xs) (gradedReasons s xs)) ≡ some r → 4 ≤ r .number
 unfolding rankedReasons gradedReasons
-kind-number s xs true r e = ranks-number (firstNotAsymmetric (s .candidates) (s .ballots) xs) (firstNotWeakOrder (s .candidates) (s .ballots) xs) r e
+kind-number s xs true r e = ranks-number (firstNotAsymmetric (s .candidates) (s .ballots) xs)
+    (firstNotWeakOrder (s .candidates) (s .ballots) xs) r e
 kind-number s xs false r e = row-number (firstBadRow 0 (rowsOf (s .grades) (s .ballots * s .candidates) xs)) r e
 
-ballots-number : (size : Bool) (byte : Place) (kind : Option Reason) → ((q : Reason) → kind ≡ some q → 4 ≤ q .number) → (r : Reason) → judged size byte kind ≡ some r → 4 ≤ r .number
+ballots-number : (size : Bool) (byte : Place) (kind : Option Reason)
+    → ((q : Reason) → kind ≡ some q → 4 ≤ q .number) → (r : Reason) → judged size byte kind ≡ some r → 4 ≤ r .number
 unfolding judged unless foundAt firstOf reasonAt
 ballots-number false byte kind k r e = let n : 4 ≡ r .number = cc in omega arith
 ballots-number true (At i) kind k r e = let n : 5 ≡ r .number = cc in omega arith
@@ -111,7 +123,8 @@ lent-number true Nowhere true false r e = let n : 10 ≡ r .number = cc in omega
 lent-number true Nowhere true true r e = let z : _≡_ {A = ℕ} 0 1 = cc in absurd (omega arith)
 
 -- if the list passes its test, the first reason comes after the third
-late : (a b c : Option Reason) (r : Reason) → a ≡ none → ((q : Reason) → b ≡ some q → 4 ≤ q .number) → ((q : Reason) → c ≡ some q → 4 ≤ q .number)
+late : (a b c : Option Reason) (r : Reason) → a ≡ none → ((q : Reason) → b ≡ some q → 4 ≤ q .number)
+    → ((q : Reason) → c ≡ some q → 4 ≤ q .number)
     → firstOfThree a b c ≡ some r → 4 ≤ r .number
 unfolding firstOfThree orElse
 late none none c r p f g e = g r e
@@ -139,12 +152,17 @@ module _ (s : Shape) (table : List ℕ) (size : Size) (p : writing.WritePassed s
   number ballots tape wires board r e =
       let lent = bufferReasons (ballotBytes s) (s .candidates) (sizeOf (gatesOf list)) tape wires board in
       late (firstOf (testReasons s list)) (firstOf (ballotReasons s ballots)) (firstOf lent) r (test .reasons)
-      (λ q f. ballots-number _ _ (kindReason s ballots) (λ o g. kind-number s ballots (isRanking s) o (unfold kindReason in g)) q (sym (judged-by s ballots _ _ _ refl refl refl) ∙ f))
-      (λ q f. lent-number _ _ _ _ q (sym (lent-by (ballotBytes s) (s .candidates) (sizeOf (gatesOf list)) tape wires board _ _ _ _ refl refl refl refl) ∙ f))
+      (λ q f. ballots-number _ _ (kindReason s ballots)
+      (λ o g. kind-number s ballots (isRanking s) o (unfold kindReason in g)) q
+      (sym (judged-by s ballots _ _ _ refl refl refl) ∙ f))
+      (λ q f. lent-number _ _ _ _ q
+      (sym (lent-by (ballotBytes s) (s .candidates) (sizeOf (gatesOf list)) tape wires board _ _ _ _ refl refl refl
+      refl) ∙ f))
       (sym (run-first s list ballots tape wires board) ∙ ran-refused s list ballots tape wires board r e .0)
 
   accepts : (ballots tape wires board : List ℕ) → AcceptedBallots s ballots → MaskTape (gatesOf list) tape
-      → length wires ≡ ballotBytes s + size .gates → length board ≡ size .conditional + s .candidates → runResult s list ballots tape wires board .answer ≡ accepted size
+      → length wires ≡ ballotBytes s + size .gates → length board ≡ size .conditional + s .candidates
+      → runResult s list ballots tape wires board .answer ≡ accepted size
   unfolding sizeOf
   accepts ballots tape wires board a m w b =
       let q : RunPassed s list ballots tape wires board = record {
@@ -156,7 +174,8 @@ module _ (s : Shape) (table : List ℕ) (size : Size) (p : writing.WritePassed s
       } in
       run-answer s list ballots wires board tape q tape m ∙ ap accepted own-size
 
-  module _ (ballots tape wires board : List ℕ) (answer : Size) (e : runResult s list ballots tape wires board .answer ≡ accepted answer) where
+  module _ (ballots tape wires board : List ℕ) (answer : Size)
+      (e : runResult s list ballots tape wires board .answer ≡ accepted answer) where
     passed : RunPassed s list ballots tape wires board
     passed = run-passed s list ballots tape wires board (ran-accepted s list ballots wires board tape answer e .0)
 
@@ -211,7 +230,8 @@ memory =
     refused-reason : (s : Shape) (table : List ℕ) (r : Reason) → writeOutcome s table ≡ refused r → firstOf (writeReasons s table) ≡ some r
     refused-reason s table r e = outcome-refused (firstOf (writeReasons s table)) (sizeOf (ownList s)) r (unfold writeOutcome in e)
 
-    count-named : (s : Shape) (ballots : List ℕ) (r : Reason) → countOutcome s ballots ≡ refused r → T (hasNumberIn (1 ∷ 4 ∷ 5 ∷ 6 ∷ 11 ∷ 12 ∷ []) r)
+    count-named : (s : Shape) (ballots : List ℕ) (r : Reason) → countOutcome s ballots ≡ refused r
+        → T (hasNumberIn (1 ∷ 4 ∷ 5 ∷ 6 ∷ 11 ∷ 12 ∷ []) r)
     count-named s ballots r e =
         numbering.count-number s ballots r (outcome-refused (countReason s ballots) (plainClosing s ballots) r (unfold countOutcome in e))
 
@@ -220,7 +240,8 @@ unfolding list
 accuracy s table size e =
     let p = writing.write-passed s table size e in
     record {
-      never-2-or-3 = λ ballots tape wires board r f. let n = number s table size p ballots tape wires board r f in (λ two. omega (arith, two), λ three. omega (arith, three));
+      never-2-or-3 = λ ballots tape wires board r f. let n = number s table size p ballots tape wires board r f in
+          (λ two. omega (arith, two), λ three. omega (arith, three));
       runs = accepts s table size p;
       plain = plain s table size p;
       says-who-wins = says s table size p;

@@ -96,16 +96,20 @@ unfolding edges refused countReason isRanking gradedLimits rankedLimits withinLi
 edges-closing = refl
 
 -- 1,048,576 gates are not too many.
-pub most-gates : (s : Shape) (n : ℕ) → withinLimits s ≡ true → s .candidates ≤ n → n ≤ 1048576 → testOutcome s (numbersOf (zeros n)) ≡ accepted (record { gates = n; conditional = 0 })
+pub most-gates : (s : Shape) (n : ℕ) → withinLimits s ≡ true → s .candidates ≤ n → n ≤ 1048576
+    → testOutcome s (numbersOf (zeros n)) ≡ accepted (record { gates = n; conditional = 0 })
 most-gates s n w enough few =
     let l = zeros-length n in
     let t = good-list-accepted (ballotBytes s) (s .candidates) (zeros n) (zeros-good (ballotBytes s) n) (omega arith) (omega arith) in
     list-accepted s (numbersOf (zeros n)) w n 0 (rw (zeros-length n, zeros-free n) at t)
 
 -- A table of more than 4,194,304 numbers is refused, whatever they are.
-pub one-gate-more : (s : Shape) (table : List ℕ) → withinLimits s ≡ true → 4194304 < length table → testOutcome s table ≡ turnedAway (reasonAt 2 0)
+pub one-gate-more : (s : Shape) (table : List ℕ) → withinLimits s ≡ true → 4194304 < length table
+    → testOutcome s table ≡ turnedAway (reasonAt 2 0)
 one-gate-more s table w long = by (eqb (length table % 4) 0) refl
   where
     by : (whole : Bool) → eqb (length table % 4) 0 ≡ whole → testOutcome s table ≡ turnedAway (reasonAt 2 0)
-    by false e = list-refused s table w PartOfAGate (reasonAt 2 0) (part-of-a-gate (ballotBytes s) (s .candidates) table e) (unfold listReason in refl)
-    by true e = list-refused s table w TooManyGates (reasonAt 2 0) (too-many (ballotBytes s) (s .candidates) table e (bounds s w .k-most) long) (unfold listReason in refl)
+    by false e = list-refused s table w PartOfAGate (reasonAt 2 0)
+        (part-of-a-gate (ballotBytes s) (s .candidates) table e) (unfold listReason in refl)
+    by true e = list-refused s table w TooManyGates (reasonAt 2 0)
+        (too-many (ballotBytes s) (s .candidates) table e (bounds s w .k-most) long) (unfold listReason in refl)

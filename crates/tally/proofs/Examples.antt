@@ -41,11 +41,22 @@ passed = test-passed oneBallot oneGate one (list-accepted oneBallot oneGate with
 module _ (ballots tape wires board : List ℕ) (b : firstOf (ballotReasons oneBallot ballots) ≡ none)
     (l : firstOf (bufferReasons (ballotBytes oneBallot) (oneBallot .candidates) one tape wires board) ≡ none) where
   outcome : (bs : List ℕ) → boardUnder ballots tape ≡ bs
-      → runResult oneBallot oneGate ballots tape wires board ≡ record { answer = accepted (record { gates = 1; conditional = 1 }); wires = replicate (length wires) 0; board = bs }
+      → runResult oneBallot oneGate ballots tape wires board
+      ≡ record {
+        answer = accepted (record { gates = 1; conditional = 1 });
+        wires = replicate (length wires) 0;
+        board = bs;
+      }
   unfolding runResultAfter boardUnder one oneBallot
   outcome bs e =
-      ran-by oneBallot oneGate ballots tape wires board none (by-lent oneBallot oneGate ballots tape wires board (passed .reasons) one none (passed .size) b l)
-      ∙ ap (λ (z : Size). record { answer = accepted z; wires = replicate (length wires) 0; board = boardOf (wiresOf ballots (gatesOf oneGate)) (gatesOf oneGate) 1 tape }) (sym (passed .size))
+      ran-by oneBallot oneGate ballots tape wires board none
+      (by-lent oneBallot oneGate ballots tape wires board (passed .reasons) one none (passed .size) b l)
+      ∙ ap (λ (z : Size). record {
+        answer = accepted z;
+        wires = replicate (length wires) 0;
+        board =
+            boardOf (wiresOf ballots (gatesOf oneGate)) (gatesOf oneGate) 1 tape;
+      }) (sym (passed .size))
       ∙ ap (λ (z : List ℕ). record { answer = accepted one; wires = replicate (length wires) 0; board = z }) e
 
 pub pair-of-runs : PairOfRuns
@@ -54,5 +65,6 @@ pair-of-runs =
     record {
       first-run = outcome (1 ∷ 0 ∷ []) (0 ∷ []) (9 ∷ 9 ∷ 9 ∷ []) (9 ∷ 9 ∷ []) refl refl (1 ∷ 0 ∷ []) gates.first-board;
       second-run = outcome (0 ∷ 1 ∷ []) (1 ∷ []) (7 ∷ 7 ∷ 7 ∷ []) (7 ∷ 7 ∷ []) refl refl (1 ∷ 0 ∷ []) gates.second-board;
-      other-tape = ap (λ (r : RunResult). r .board) (outcome (0 ∷ 1 ∷ []) (0 ∷ []) (7 ∷ 7 ∷ 7 ∷ []) (7 ∷ 7 ∷ []) refl refl (0 ∷ 0 ∷ []) gates.other-tape);
+      other-tape = ap (λ (r : RunResult). r .board)
+          (outcome (0 ∷ 1 ∷ []) (0 ∷ []) (7 ∷ 7 ∷ 7 ∷ []) (7 ∷ 7 ∷ []) refl refl (0 ∷ 0 ∷ []) gates.other-tape);
     }

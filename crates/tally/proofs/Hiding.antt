@@ -25,7 +25,8 @@ use Rattle.tally.proofs.RunReasons.{RunPassed, run-passed, run-passed-b
 module _ (s : Shape) (table ballots wires board : List ℕ) where
   -- a run that answers G and C has no reason that applies, and both numbers are the list's
   answered : (t : List ℕ) (size : Size) (o : Option Reason) → firstOf (runReasons s table ballots t wires board) ≡ o
-      → runResultAfter o s (gatesOf table) ballots t wires board .answer ≡ accepted size → (firstOf (runReasons s table ballots t wires board) ≡ none) × (size ≡ sizeOf (gatesOf table))
+      → runResultAfter o s (gatesOf table) ballots t wires board .answer ≡ accepted size
+      → (firstOf (runReasons s table ballots t wires board) ≡ none) × (size ≡ sizeOf (gatesOf table))
   unfolding runResultAfter
   answered t size none e f = (e, cc)
   answered t size (some r) e f = never size r f
@@ -59,7 +60,8 @@ module _ (s : Shape) (table ballots wires board : List ℕ) where
     unfolding runResultAfter
     run-wires = ap (λ (r : RunResult). r .wires) outcome
 
-    pub run-board : runResult s table ballots u wires board .board ≡ boardOf (wiresOf ballots (gatesOf table)) (gatesOf table) (s .candidates) u
+    pub run-board : runResult s table ballots u wires board .board
+        ≡ boardOf (wiresOf ballots (gatesOf table)) (gatesOf table) (s .candidates) u
     unfolding runResultAfter
     run-board = ap (λ (r : RunResult). r .board) outcome
 
@@ -75,7 +77,8 @@ module _ (s : Shape) (table ballots wires board : List ℕ) where
           wiresLength = w ∙ passed .wiresLength;
           boardLength = b ∙ passed .boardLength;
         } in
-        ap (λ (r : RunResult). r .board) (ran-by s table ballots u wires′ board′ none (run-passed-back s table ballots u wires′ board′ other))
+        ap (λ (r : RunResult). r .board)
+        (ran-by s table ballots u wires′ board′ none (run-passed-back s table ballots u wires′ board′ other))
 
     enough : s .candidates ≤ length (wiresOf ballots (gatesOf table))
     enough =
@@ -83,12 +86,15 @@ module _ (s : Shape) (table ballots wires board : List ℕ) where
         let f = accepted-list (ballotBytes s) (s .candidates) table (size .gates) (size .conditional) (passed .test .tests) in
         omega (arith, f .enough, length-wires ballots (gatesOf table))
 
-    pub run-finished : Finished (wiresOf ballots (gatesOf table)) (gatesOf table) (s .candidates) u (runResult s table ballots u wires board .board)
+    pub run-finished : Finished (wiresOf ballots (gatesOf table)) (gatesOf table) (s .candidates) u
+        (runResult s table ballots u wires board .board)
     run-finished =
-        subst (Finished (wiresOf ballots (gatesOf table)) (gatesOf table) (s .candidates) u) (sym run-board) (board-finished (wiresOf ballots (gatesOf table)) (gatesOf table) (s .candidates) u enough (mask .size))
+        subst (Finished (wiresOf ballots (gatesOf table)) (gatesOf table) (s .candidates) u) (sym run-board)
+        (board-finished (wiresOf ballots (gatesOf table)) (gatesOf table) (s .candidates) u enough (mask .size))
 
     -- the closing bytes are the last wires
-    pub run-closing : closingBytes s (runResult s table ballots u wires board .board) ≡ outputsOf (s .candidates) (wiresOf ballots (gatesOf table))
+    pub run-closing : closingBytes s (runResult s table ballots u wires board .board)
+        ≡ outputsOf (s .candidates) (wiresOf ballots (gatesOf table))
     unfolding closingBytes
     run-closing =
         let b = runResult s table ballots u wires board .board in

@@ -35,22 +35,31 @@ module _ (s : Shape) (table : List ℕ) (size : Size) (old new : List ℕ) (r : 
 
   -- ballots of an accepted run are accepted
   old-accepted : AcceptedBallots s old
-  old-accepted = run-passed s (listIn s size table) old (r .before .tape) (r .before .wires) (r .before .board) (ran-accepted s (listIn s size table) old (r .before .wires) (r .before .board) (r .before .tape) (r .before .answer) (r .before .accepts) .0) .ballotsPassed
+  old-accepted = run-passed s (listIn s size table) old (r .before .tape) (r .before .wires) (r .before .board)
+      (ran-accepted s (listIn s size table) old (r .before .wires) (r .before .board) (r .before .tape)
+      (r .before .answer) (r .before .accepts) .0) .ballotsPassed
 
   new-accepted : AcceptedBallots s new
-  new-accepted = run-passed s (listIn s size table) new (r .after .tape) (r .after .wires) (r .after .board) (ran-accepted s (listIn s size table) new (r .after .wires) (r .after .board) (r .after .tape) (r .after .answer) (r .after .accepts) .0) .ballotsPassed
+  new-accepted = run-passed s (listIn s size table) new (r .after .tape) (r .after .wires) (r .after .board)
+      (ran-accepted s (listIn s size table) new (r .after .wires) (r .after .board) (r .after .tape)
+      (r .after .answer) (r .after .accepts) .0) .ballotsPassed
 
   -- so closing bytes are those of the rule
   before-plain : (c : ℕ) → byteIn (r .before) c ≡ getD (take (s .candidates) (plainClosing s old)) c 0
-  before-plain c = ap (λ (bytes : List ℕ). getD bytes c 0) (holds .plain old (r .before .tape) (r .before .wires) (r .before .board) (r .before .answer) (r .before .accepts))
+  before-plain c = ap (λ (bytes : List ℕ). getD bytes c 0)
+      (holds .plain old (r .before .tape) (r .before .wires) (r .before .board) (r .before .answer)
+      (r .before .accepts))
 
   after-plain : (c : ℕ) → byteIn (r .after) c ≡ getD (take (s .candidates) (plainClosing s new)) c 0
-  after-plain c = ap (λ (bytes : List ℕ). getD bytes c 0) (holds .plain new (r .after .tape) (r .after .wires) (r .after .board) (r .after .answer) (r .after .accepts))
+  after-plain c = ap (λ (bytes : List ℕ). getD bytes c 0)
+      (holds .plain new (r .after .tape) (r .after .wires) (r .after .board) (r .after .answer) (r .after .accepts))
 
   -- no grade of a ranking is raised
-  same-ballots : isRanking s ≡ true → (candidate : ℕ) → RaisedOften s candidate old new → (c : ℕ) → byteIn (r .after) c ≡ byteIn (r .before) c
+  same-ballots : isRanking s ≡ true → (candidate : ℕ) → RaisedOften s candidate old new → (c : ℕ)
+      → byteIn (r .after) c ≡ byteIn (r .before) c
   same-ballots e candidate raises c =
-      after-plain c ∙ ap (λ (xs : List ℕ). getD (take (s .candidates) (plainClosing s xs)) c 0) (sym (unraised s candidate e raises)) ∙ sym (before-plain c)
+      after-plain c ∙ ap (λ (xs : List ℕ). getD (take (s .candidates) (plainClosing s xs)) c 0)
+      (sym (unraised s candidate e raises)) ∙ sym (before-plain c)
 
   module _ (e : isRanking s ≡ false) where
     before-is : (c : ℕ) → byteIn (r .before) c ≡ byteFor s old c
@@ -60,11 +69,14 @@ module _ (s : Shape) (table : List ℕ) (size : Size) (old new : List ℕ) (r : 
     after-is c = after-plain c ∙ ap (λ (bytes : List ℕ). getD bytes c 0) (plain-first s new new-accepted ∙ closing-graded s new e)
 
     graded-often : (candidate : ℕ) → RaisedOften s candidate old new → byteIn (r .before) candidate ≡ 1 → byteIn (r .after) candidate ≡ 1
-    graded-often candidate raises one = after-is candidate ∙ liked-more s candidate old new raises (sym (before-is candidate) ∙ one) .still-wins
+    graded-often candidate raises one = after-is candidate
+        ∙ liked-more s candidate old new raises (sym (before-is candidate) ∙ one) .still-wins
 
     graded-alone : (candidate : ℕ) → RaisedOften s candidate old new → byteIn (r .before) candidate ≡ 1
         → (c : ℕ) → byteIn (r .before) c ≡ 0 → c < s .candidates → byteIn (r .after) c ≡ 0
-    graded-alone candidate raises one c none h = after-is c ∙ liked-more s candidate old new raises (sym (before-is candidate) ∙ one) .no-new-winner c h (sym (before-is c) ∙ none)
+    graded-alone candidate raises one c none h = after-is c
+        ∙ liked-more s candidate old new raises (sym (before-is candidate) ∙ one) .no-new-winner c h
+        (sym (before-is c) ∙ none)
 
   often : (candidate : ℕ) → RaisedOften s candidate old new → byteIn (r .before) candidate ≡ 1 → byteIn (r .after) candidate ≡ 1
   often candidate raises one =
@@ -80,5 +92,6 @@ monotone-on-gates =
     record {
       raised = λ s table size old new r candidate once one. often s table size old new r candidate (once-more unchanged once) one;
       raised-often = often;
-      still-alone = λ s table size old new r candidate raises one others c h other. alone s table size old new r candidate raises one c (others c h other) h;
+      still-alone = λ s table size old new r candidate raises one others c h other. alone s table size old new r
+          candidate raises one c (others c h other) h;
     }

@@ -58,7 +58,8 @@ module _ (ns : List ℕ) where
   found-fine n Nowhere h = tt
   found-fine n (At i) h = h i
 
-  pub list-fine : (t : ListCheck) → T (hasNumberIn ns (reasonAt 2 0)) → ((g : ℕ) → T (hasNumberIn ns (reasonAt 3 g))) → Fine ns (listReason t)
+  pub list-fine : (t : ListCheck) → T (hasNumberIn ns (reasonAt 2 0))
+      → ((g : ℕ) → T (hasNumberIn ns (reasonAt 3 g))) → Fine ns (listReason t)
   unfolding Fine listReason
   list-fine (Accepted gates conditional) two three = tt
   list-fine PartOfAGate two three = two
@@ -71,12 +72,14 @@ module _ (ns : List ℕ) where
   outcome-fine none values f = tt
   outcome-fine (some r) values f = f
 
-  pub refused-fine : {Values : Type 0} (answer : Outcome Values) (r : Reason) → FineSaid ns answer → answer ≡ refused r → T (hasNumberIn ns r)
+  pub refused-fine : {Values : Type 0} (answer : Outcome Values) (r : Reason) → FineSaid ns answer → answer
+      ≡ refused r → T (hasNumberIn ns r)
   unfolding FineSaid
   refused-fine answer r f e = subst (FineSaid ns) e f
 
   -- the tests of either kind of ballots
-  pub kind-fine : (s : Shape) (xs : List ℕ) (ranking : Bool) → ((i : ℕ) → T (hasNumberIn ns (reasonAt 6 i))) → ((i : ℕ) → T (hasNumberIn ns (reasonAt 11 i))) → ((b : ℕ) → T (hasNumberIn ns (reasonAt 12 b)))
+  pub kind-fine : (s : Shape) (xs : List ℕ) (ranking : Bool) → ((i : ℕ) → T (hasNumberIn ns (reasonAt 6 i)))
+      → ((i : ℕ) → T (hasNumberIn ns (reasonAt 11 i))) → ((b : ℕ) → T (hasNumberIn ns (reasonAt 12 b)))
       → All ns (cond ranking (rankedReasons s xs) (gradedReasons s xs))
   unfolding All rankedReasons gradedReasons
   kind-fine s xs true row clash notWeakOrder = (found-fine 11 _ clash, (found-fine 12 _ notWeakOrder, tt))
@@ -89,27 +92,39 @@ all = 1 ∷ 2 ∷ 3 ∷ 4 ∷ 5 ∷ 6 ∷ 11 ∷ 12 ∷ 7 ∷ 8 ∷ 9 ∷ 10 ∷
 pub measure-number : (s : Shape) (r : Reason) → measureOutcome s ≡ refused r → T (hasNumberIn (1 ∷ []) r)
 unfolding measureOutcome All hasNumberIn reasonAt
 measure-number s r e =
-    refused-fine (1 ∷ []) (measureOutcome s) r (outcome-fine (1 ∷ []) _ (measuresOf s) (first-fine (1 ∷ []) (unless (withinLimits s) 1 ∷ []) (unless-fine (1 ∷ []) _ 1 tt, tt))) e
+    refused-fine (1 ∷ []) (measureOutcome s) r
+    (outcome-fine (1 ∷ []) _ (measuresOf s)
+    (first-fine (1 ∷ []) (unless (withinLimits s) 1 ∷ []) (unless-fine (1 ∷ []) _ 1 tt, tt))) e
 
 pub write-number : (s : Shape) (table : List ℕ) (r : Reason) → writeOutcome s table ≡ refused r → T (hasNumberIn (1 ∷ 2 ∷ []) r)
 unfolding writeOutcome writeReasons All hasNumberIn reasonAt
 write-number s table r e =
     let ns : List ℕ = 1 ∷ 2 ∷ [] in
-    refused-fine ns (writeOutcome s table) r (outcome-fine ns _ (sizeOf (ownList s)) (first-fine ns (writeReasons s table) (unless-fine ns _ 1 tt, (unless-fine ns _ 2 tt, tt)))) e
+    refused-fine ns (writeOutcome s table) r
+    (outcome-fine ns _ (sizeOf (ownList s))
+    (first-fine ns (writeReasons s table) (unless-fine ns _ 1 tt, (unless-fine ns _ 2 tt, tt)))) e
 
 pub test-number : (s : Shape) (table : List ℕ) (r : Reason) → testOutcome s table ≡ refused r → T (hasNumberIn (1 ∷ 2 ∷ 3 ∷ []) r)
 unfolding testOutcome testReasons All hasNumberIn reasonAt
 test-number s table r e =
     let ns : List ℕ = 1 ∷ 2 ∷ 3 ∷ [] in
-    refused-fine ns (testOutcome s table) r (outcome-fine ns _ (sizeOf (gatesOf table)) (first-fine ns (testReasons s table) (unless-fine ns _ 1 tt, (list-fine ns _ tt (λ g. tt), tt)))) e
+    refused-fine ns (testOutcome s table) r
+    (outcome-fine ns _ (sizeOf (gatesOf table))
+    (first-fine ns (testReasons s table) (unless-fine ns _ 1 tt, (list-fine ns _ tt (λ g. tt), tt)))) e
 
-pub count-number : (s : Shape) (ballots : List ℕ) (r : Reason) → countReason s ballots ≡ some r → T (hasNumberIn (1 ∷ 4 ∷ 5 ∷ 6 ∷ 11 ∷ 12 ∷ []) r)
+pub count-number : (s : Shape) (ballots : List ℕ) (r : Reason) → countReason s ballots ≡ some r
+    → T (hasNumberIn (1 ∷ 4 ∷ 5 ∷ 6 ∷ 11 ∷ 12 ∷ []) r)
 unfolding Fine countReason ballotReasons gradedReasons rankedReasons All hasNumberIn reasonAt
 count-number s ballots r e =
     let ns : List ℕ = 1 ∷ 4 ∷ 5 ∷ 6 ∷ 11 ∷ 12 ∷ [] in
     subst (Fine ns) e
-    (first-fine ns (unless (withinLimits s) 1 ∷ ballotReasons s ballots)
-    (unless-fine ns _ 1 tt, (unless-fine ns _ 4 tt, (found-fine ns 5 _ (λ i. tt), kind-fine ns s ballots (isRanking s) (λ i. tt) (λ i. tt) (λ b. tt)))))
+    (first-fine ns (unless (withinLimits s) 1 ∷ ballotReasons s ballots) (
+      unless-fine ns _ 1 tt,
+      (
+        unless-fine ns _ 4 tt,
+        (found-fine ns 5 _ (λ i. tt), kind-fine ns s ballots (isRanking s) (λ i. tt) (λ i. tt) (λ b. tt)),
+      ),
+    ))
 
 test-all : (s : Shape) (table : List ℕ) → All all (testReasons s table)
 unfolding All testReasons hasNumberIn reasonAt all
@@ -121,23 +136,28 @@ ballots-all s xs = (unless-fine all _ 4 tt, (found-fine all 5 _ (λ i. tt), kind
 
 lent-all : (i k : ℕ) (size : Size) (tape wires board : List ℕ) → All all (bufferReasons i k size tape wires board)
 unfolding All bufferReasons hasNumberIn reasonAt all
-lent-all i k size tape wires board = (unless-fine all _ 7 tt, (found-fine all 8 _ (λ i. tt), (unless-fine all _ 9 tt, (unless-fine all _ 10 tt, tt))))
+lent-all i k size tape wires board =
+    (unless-fine all _ 7 tt, (found-fine all 8 _ (λ i. tt), (unless-fine all _ 9 tt, (unless-fine all _ 10 tt, tt))))
 
 run-all : (s : Shape) (table ballots tape wires board : List ℕ) → All all (runReasons s table ballots tape wires board)
 unfolding runReasons
 run-all s table ballots tape wires board =
-    both all (testReasons s table ++ ballotReasons s ballots) (bufferReasons (ballotBytes s) (s .candidates) (sizeOf (gatesOf table)) tape wires board)
+    both all (testReasons s table ++ ballotReasons s ballots)
+    (bufferReasons (ballotBytes s) (s .candidates) (sizeOf (gatesOf table)) tape wires board)
     (both all (testReasons s table) (ballotReasons s ballots) (test-all s table) (ballots-all s ballots))
     (lent-all (ballotBytes s) (s .candidates) (sizeOf (gatesOf table)) tape wires board)
 
-ran-fine : (o : Option Reason) (s : Shape) (gs : List Gate) (ballots tape wires board : List ℕ) → Fine all o → FineSaid all (runResultAfter o s gs ballots tape wires board .answer)
+ran-fine : (o : Option Reason) (s : Shape) (gs : List Gate) (ballots tape wires board : List ℕ) → Fine all o
+    → FineSaid all (runResultAfter o s gs ballots tape wires board .answer)
 unfolding Fine FineSaid runResultAfter
 ran-fine none s gs ballots tape wires board f = tt
 ran-fine (some r) s gs ballots tape wires board f = f
 
-pub run-number : (s : Shape) (table ballots tape wires board : List ℕ) (r : Reason) → runResult s table ballots tape wires board .answer ≡ refused r
+pub run-number : (s : Shape) (table ballots tape wires board : List ℕ) (r : Reason)
+    → runResult s table ballots tape wires board .answer ≡ refused r
     → T (hasNumberIn (1 ∷ 2 ∷ 3 ∷ 4 ∷ 5 ∷ 6 ∷ 11 ∷ 12 ∷ 7 ∷ 8 ∷ 9 ∷ 10 ∷ []) r)
 unfolding runResult all
 run-number s table ballots tape wires board r e =
     refused-fine all (runResult s table ballots tape wires board .answer) r
-    (ran-fine _ s (gatesOf table) ballots tape wires board (first-fine all (runReasons s table ballots tape wires board) (run-all s table ballots tape wires board))) e
+    (ran-fine _ s (gatesOf table) ballots tape wires board
+    (first-fine all (runReasons s table ballots tape wires board) (run-all s table ballots tape wires board))) e

@@ -20,7 +20,8 @@ module _ (s : Shape) (w : withinLimits s ≡ false) where
   unfolding measureOutcome outcome firstOf unless
   outside-measure = rw w refl
 
-  pub outside-run : (table ballots tape wires board : List ℕ) → runResult s table ballots tape wires board ≡ record { answer = refused (reasonAt 1 0); wires = wires; board = board }
+  pub outside-run : (table ballots tape wires board : List ℕ) → runResult s table ballots tape wires board
+      ≡ record { answer = refused (reasonAt 1 0); wires = wires; board = board }
   unfolding runResult runReasons runResultAfter testReasons firstOf unless
   outside-run table ballots tape wires board = rw w refl
 

@@ -54,18 +54,22 @@ module _ (s : Shape) (w : withinLimits s ≡ true) where
   record Holds : Type 0 where
     takes : tested (ballotBytes s) (s .candidates) (numbersOf (ownList s)) ≡ Accepted (length (ownList s)) (conditionalCount (ownList s))
     bounded : length (ownList s) ≤ gateBound s
-    closing : (ballots : List ℕ) → AcceptedBallots s ballots → outputsOf (s .candidates) (wiresOf ballots (ownList s)) ≡ closingFor s ballots
+    closing : (ballots : List ℕ) → AcceptedBallots s ballots
+        → outputsOf (s .candidates) (wiresOf ballots (ownList s)) ≡ closingFor s ballots
 
   graded-holds : isRanking s ≡ false → Holds
   graded-holds e =
       let g = graded-kind s w e in
       let gs = graded.ownList s in
       record {
-        takes = subst (λ (gs : List Gate). tested (ballotBytes s) (s .candidates) (numbersOf gs) ≡ Accepted (length gs) (conditionalCount gs)) (sym (own-graded s e))
+        takes = subst (λ (gs : List Gate). tested (ballotBytes s) (s .candidates) (numbersOf gs)
+            ≡ Accepted (length gs) (conditionalCount gs)) (sym (own-graded s e))
             (good-list-accepted (ballotBytes s) (s .candidates) gs (own s g .good) (own s g .enough) (own-list-short s g));
-        bounded = subst (λ (gs : List Gate). length gs ≤ gateBound s) (sym (own-graded s e)) (subst (λ (n : ℕ). length gs ≤ n) (sym (bound-graded s e)) (own-list-keeps-the-bound s g));
+        bounded = subst (λ (gs : List Gate). length gs ≤ gateBound s) (sym (own-graded s e))
+            (subst (λ (n : ℕ). length gs ≤ n) (sym (bound-graded s e)) (own-list-keeps-the-bound s g));
         closing = λ ballots a.
-            ap (λ (gs : List Gate). outputsOf (s .candidates) (wiresOf ballots gs)) (own-graded s e) ∙ own-list-is-accurate s ballots (ballots-laws.graded s ballots a g)
+            ap (λ (gs : List Gate). outputsOf (s .candidates) (wiresOf ballots gs)) (own-graded s e)
+            ∙ own-list-is-accurate s ballots (ballots-laws.graded s ballots a g)
             ∙ sym (closing-graded s ballots e);
       }
 
@@ -73,13 +77,18 @@ module _ (s : Shape) (w : withinLimits s ≡ true) where
   ranked-holds e =
       let r : Ranked s = ranked s (ranked-kind s w e) in
       let gs = ownRanking (s .candidates) (s .ballots) in
-      let h : OwnRankingHolds (s .candidates) (s .ballots) = own-ranking-holds (s .candidates) (s .ballots) (r .k-least) (r .k-most) (r .n-least) (r .n-most) in
+      let h : OwnRankingHolds (s .candidates) (s .ballots) =
+      own-ranking-holds (s .candidates) (s .ballots) (r .k-least) (r .k-most) (r .n-least) (r .n-most) in
       record {
-        takes = subst (λ (gs : List Gate). tested (ballotBytes s) (s .candidates) (numbersOf gs) ≡ Accepted (length gs) (conditionalCount gs)) (sym (own-ranked s e))
-            (subst (λ (i : ℕ). tested i (s .candidates) (numbersOf gs) ≡ Accepted (length gs) (conditionalCount gs)) (sym (ranked-bytes s e)) (h .passes));
-        bounded = subst (λ (gs : List Gate). length gs ≤ gateBound s) (sym (own-ranked s e)) (subst (λ (n : ℕ). length gs ≤ n) (sym (bound-ranked s e)) (h .bounded));
+        takes = subst (λ (gs : List Gate). tested (ballotBytes s) (s .candidates) (numbersOf gs)
+            ≡ Accepted (length gs) (conditionalCount gs)) (sym (own-ranked s e))
+            (subst (λ (i : ℕ). tested i (s .candidates) (numbersOf gs) ≡ Accepted (length gs) (conditionalCount gs))
+            (sym (ranked-bytes s e)) (h .passes));
+        bounded = subst (λ (gs : List Gate). length gs ≤ gateBound s) (sym (own-ranked s e))
+            (subst (λ (n : ℕ). length gs ≤ n) (sym (bound-ranked s e)) (h .bounded));
         closing = λ ballots a.
-            ap (λ (gs : List Gate). outputsOf (s .candidates) (wiresOf ballots gs)) (own-ranked s e) ∙ h .closing ballots (a .size ∙ ranked-bytes s e) (a .bits)
+            ap (λ (gs : List Gate). outputsOf (s .candidates) (wiresOf ballots gs)) (own-ranked s e)
+            ∙ h .closing ballots (a .size ∙ ranked-bytes s e) (a .bits)
             ∙ sym (closing-ranked s ballots e);
       }
 

@@ -64,18 +64,22 @@ module _ (s : Shape) (w : withinLimits s ≡ true) (ballots tape wires board : L
   reason : firstOf (runReasons s list ballots tape wires board) ≡ firstOf (ballotReasons s ballots)
   reason =
       run-first s list ballots tape wires board
-      ∙ middle-alone (firstOf (testReasons s list)) (firstOf (ballotReasons s ballots)) (firstOf (bufferReasons (ballotBytes s) (s .candidates) (sizeOf (gatesOf list)) tape wires board)) (test .reasons) lent
+      ∙ middle-alone (firstOf (testReasons s list)) (firstOf (ballotReasons s ballots))
+      (firstOf (bufferReasons (ballotBytes s) (s .candidates) (sizeOf (gatesOf list)) tape wires board))
+      (test .reasons) lent
 
   answer-of : (o : Option Reason) → runResultAfter o s (gatesOf list) ballots tape wires board .answer ≡ outcome o (sizeOf (gatesOf list))
   unfolding runResultAfter outcome
   answer-of none = refl
   answer-of (some r) = refl
 
-  pub own-answer : runResult s (numbersOf (ownList s)) ballots tape wires board .answer ≡ outcome (firstOf (ballotReasons s ballots)) (sizeOf (ownList s))
+  pub own-answer : runResult s (numbersOf (ownList s)) ballots tape wires board .answer
+      ≡ outcome (firstOf (ballotReasons s ballots)) (sizeOf (ownList s))
   unfolding list
   own-answer =
       let o = firstOf (ballotReasons s ballots) in
-      ap (λ (r : RunResult). r .answer) (ran-by s list ballots tape wires board o reason) ∙ answer-of o ∙ ap (λ (gs : List Gate). outcome o (sizeOf gs)) gates
+      ap (λ (r : RunResult). r .answer) (ran-by s list ballots tape wires board o reason) ∙ answer-of o
+      ∙ ap (λ (gs : List Gate). outcome o (sizeOf gs)) gates
 
   -- if the ballots pass, the board has the closing bytes after the shown bits
   pub own-closing : firstOf (ballotReasons s ballots) ≡ none
@@ -88,5 +92,6 @@ module _ (s : Shape) (w : withinLimits s ≡ true) (ballots tape wires board : L
       let b = runResult s list ballots tape wires board .board in (
         f .size ∙ ap (λ (gs : List Gate). conditionalCount gs + s .candidates) gates,
         ap (λ (gs : List Gate). drop (conditionalCount gs) b) (sym gates) ∙ f .closing
-            ∙ ap (λ (gs : List Gate). outputsOf (s .candidates) (wiresOf ballots gs)) gates ∙ own-list-holds s w .closing ballots (p .ballotsPassed),
+            ∙ ap (λ (gs : List Gate). outputsOf (s .candidates) (wiresOf ballots gs)) gates
+            ∙ own-list-holds s w .closing ballots (p .ballotsPassed),
       )

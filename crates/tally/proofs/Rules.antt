@@ -40,11 +40,13 @@ none-exactly x h iff = (
 module _ (s : Shape) (xs : List ℕ) where
   pub closing-graded : isRanking s ≡ false → closingFor s xs ≡ judgmentOf (countsOf s xs)
   unfolding closingFor
-  closing-graded e = ap (λ (t : Bool). cond t (closingBytes (votes (s .candidates) (s .ballots) xs) (s .candidates)) (judgmentOf (countsOf s xs))) e
+  closing-graded e = ap (λ (t : Bool). cond t (closingBytes (votes (s .candidates) (s .ballots) xs) (s .candidates))
+      (judgmentOf (countsOf s xs))) e
 
   pub closing-ranked : isRanking s ≡ true → closingFor s xs ≡ closingBytes (votes (s .candidates) (s .ballots) xs) (s .candidates)
   unfolding closingFor
-  closing-ranked e = ap (λ (t : Bool). cond t (closingBytes (votes (s .candidates) (s .ballots) xs) (s .candidates)) (judgmentOf (countsOf s xs))) e
+  closing-ranked e = ap (λ (t : Bool). cond t (closingBytes (votes (s .candidates) (s .ballots) xs) (s .candidates))
+      (judgmentOf (countsOf s xs))) e
 
   -- a byte for each candidate
   pub closing-length : length (closingFor s xs) ≡ s .candidates
@@ -53,12 +55,15 @@ module _ (s : Shape) (xs : List ℕ) where
       (λ e. ap length (closing-graded e) ∙ judgment-length (countsOf s xs) ∙ counts-length s xs)
     where
       ranked-length : length (closingBytes (votes (s .candidates) (s .ballots) xs) (s .candidates)) ≡ s .candidates
-      ranked-length = unfold closingBytes in (length-tabulate (s .candidates) (λ i. cond {A = ℕ} (wins (votes (s .candidates) (s .ballots) xs) (s .candidates) i) 1 0))
+      ranked-length = unfold closingBytes in
+          (length-tabulate (s .candidates)
+          (λ i. cond {A = ℕ} (wins (votes (s .candidates) (s .ballots) xs) (s .candidates) i) 1 0))
 
   module _ (a : AcceptedBallots s xs) where
     graded-winner : isRanking s ≡ false → (i : ℕ) → i < s .candidates → (getD (closingFor s xs) i 0 ≡ 1) ↔ Wins s xs i
     graded-winner e i h =
-        let byte : getD (closingFor s xs) i 0 ≡ getD (judgmentOf (countsOf s xs)) i 0 = ap (λ (bytes : List ℕ). getD bytes i 0) (closing-graded e) in
+        let byte : getD (closingFor s xs) i 0 ≡ getD (judgmentOf (countsOf s xs)) i 0 =
+        ap (λ (bytes : List ℕ). getD bytes i 0) (closing-graded e) in
         let g = ballots-laws.graded s xs a (graded-kind s (a .within) e) in
         let says = bytes-say (s .ballots) (countsOf s xs) (each-gets s xs g) i (omega (arith, counts-length s xs)) in (
           λ one. record { graded = λ f. says .one .0 (sym byte ∙ one); ranked = λ f. absurd (true≢false (sym f ∙ e)) },
@@ -67,7 +72,8 @@ module _ (s : Shape) (xs : List ℕ) where
 
     graded-loser : isRanking s ≡ false → (i : ℕ) → i < s .candidates → (getD (closingFor s xs) i 0 ≡ 0) ↔ (¬ Wins s xs i)
     graded-loser e i h =
-        let byte : getD (closingFor s xs) i 0 ≡ getD (judgmentOf (countsOf s xs)) i 0 = ap (λ (bytes : List ℕ). getD bytes i 0) (closing-graded e) in
+        let byte : getD (closingFor s xs) i 0 ≡ getD (judgmentOf (countsOf s xs)) i 0 =
+        ap (λ (bytes : List ℕ). getD bytes i 0) (closing-graded e) in
         let g = ballots-laws.graded s xs a (graded-kind s (a .within) e) in
         let says = bytes-say (s .ballots) (countsOf s xs) (each-gets s xs g) i (omega (arith, counts-length s xs)) in (
           λ zero wins. says .zero .0 (sym byte ∙ zero) (wins .graded e),

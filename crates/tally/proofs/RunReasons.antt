@@ -35,7 +35,8 @@ lentFound tape byte wires board = firstOf (unless tape 7 ∷ foundAt 8 byte ∷ 
 
 module _ (i k : ℕ) (size : Size) (tape wires board : List ℕ) where
   pub lent-by : (t : Bool) (p : Place) (u v : Bool) → eqb (length tape) (size .conditional) ≡ t → firstAboveOne 0 tape ≡ p
-      → eqb (length wires) (i + size .gates) ≡ u → eqb (length board) (size .conditional + k) ≡ v → firstOf (bufferReasons i k size tape wires board) ≡ lentFound t p u v
+      → eqb (length wires) (i + size .gates) ≡ u → eqb (length board) (size .conditional + k) ≡ v
+      → firstOf (bufferReasons i k size tape wires board) ≡ lentFound t p u v
   unfolding bufferReasons lentFound
   lent-by t p u v e f g h = rw (e, f, g, h)
 
@@ -86,7 +87,8 @@ three-passed (some r) b c e = let z : _≡_ {A = ℕ} 0 1 = cc in absurd (omega 
 
 -- the result of a call is equal if its three parts are
 pub same-result : {answer answer′ : Outcome Size} {wires wires′ board board′ : List ℕ} → answer ≡ answer′ → wires ≡ wires′ → board ≡ board′
-    → _≡_ {A = RunResult} (record { answer = answer; wires = wires; board = board }) (record { answer = answer′; wires = wires′; board = board′ })
+    → _≡_ {A = RunResult} (record { answer = answer; wires = wires; board = board })
+    (record { answer = answer′; wires = wires′; board = board′ })
 same-result {answer} {answer′} {wires} {wires′} {board} {board′} e f g =
     ap (λ (z : Outcome Size). record { answer = z; wires = wires; board = board }) e
     ∙ ap (λ (z : List ℕ). record { answer = answer′; wires = z; board = board }) f
@@ -109,7 +111,8 @@ outcome-accepted o values size e = accepted-values o values size e .0
 
 module _ (s : Shape) (table ballots tape wires board : List ℕ) where
   pub run-first : firstOf (runReasons s table ballots tape wires board)
-      ≡ firstOfThree (firstOf (testReasons s table)) (firstOf (ballotReasons s ballots)) (firstOf (bufferReasons (ballotBytes s) (s .candidates) (sizeOf (gatesOf table)) tape wires board))
+      ≡ firstOfThree (firstOf (testReasons s table)) (firstOf (ballotReasons s ballots))
+      (firstOf (bufferReasons (ballotBytes s) (s .candidates) (sizeOf (gatesOf table)) tape wires board))
   unfolding runReasons firstOfThree
   run-first =
       let lent = bufferReasons (ballotBytes s) (s .candidates) (sizeOf (gatesOf table)) tape wires board in
@@ -121,16 +124,19 @@ module _ (s : Shape) (table ballots tape wires board : List ℕ) where
   unfolding testOutcome firstOfThree orElse
   by-test r e =
       run-first
-      ∙ ap (λ (o : Option Reason). firstOfThree o (firstOf (ballotReasons s ballots)) (firstOf (bufferReasons (ballotBytes s) (s .candidates) (sizeOf (gatesOf table)) tape wires board)))
+      ∙ ap (λ (o : Option Reason). firstOfThree o (firstOf (ballotReasons s ballots))
+      (firstOf (bufferReasons (ballotBytes s) (s .candidates) (sizeOf (gatesOf table)) tape wires board)))
       (outcome-refused (firstOf (testReasons s table)) (sizeOf (gatesOf table)) r e)
 
   module _ (t : firstOf (testReasons s table) ≡ none) where
-    pub by-ballots : (r : Reason) → firstOf (ballotReasons s ballots) ≡ some r → firstOf (runReasons s table ballots tape wires board) ≡ some r
+    pub by-ballots : (r : Reason) → firstOf (ballotReasons s ballots) ≡ some r
+        → firstOf (runReasons s table ballots tape wires board) ≡ some r
     unfolding firstOfThree orElse
     by-ballots r e = run-first ∙ rw (t, e)
 
     pub by-lent : (size : Size) (o : Option Reason) → size ≡ sizeOf (gatesOf table) → firstOf (ballotReasons s ballots) ≡ none
-        → firstOf (bufferReasons (ballotBytes s) (s .candidates) size tape wires board) ≡ o → firstOf (runReasons s table ballots tape wires board) ≡ o
+        → firstOf (bufferReasons (ballotBytes s) (s .candidates) size tape wires board) ≡ o
+        → firstOf (runReasons s table ballots tape wires board) ≡ o
     unfolding firstOfThree orElse
     by-lent size o f b e =
         run-first ∙ rw (t, b) (ap (λ (z : Size). firstOf (bufferReasons (ballotBytes s) (s .candidates) z tape wires board)) (sym f) ∙ e)
@@ -147,7 +153,8 @@ module _ (s : Shape) (table ballots tape wires board : List ℕ) where
   unfolding testOutcome outcome sizeOf
   run-passed e =
       let size = sizeOf (gatesOf table) in
-      let q = three-passed (firstOf (testReasons s table)) (firstOf (ballotReasons s ballots)) (firstOf (bufferReasons (ballotBytes s) (s .candidates) size tape wires board)) (sym run-first ∙ e) in
+      let q = three-passed (firstOf (testReasons s table)) (firstOf (ballotReasons s ballots))
+      (firstOf (bufferReasons (ballotBytes s) (s .candidates) size tape wires board)) (sym run-first ∙ e) in
       let t = test-passed s table size (ap (λ (r : Option Reason). outcome r size) (q .0)) in
       let l = lent-passed (ballotBytes s) (s .candidates) size tape wires board (q .2) in
       record {
@@ -166,7 +173,13 @@ module _ (s : Shape) (table ballots tape wires board : List ℕ) where
         r .test .reasons,
         ballots-laws.accepted-back s ballots (r .ballotsPassed),
         lent-passed-back (ballotBytes s) (s .candidates) (sizeOf (gatesOf table)) tape wires board
-            (record { tapeLength = r .mask .size; tapeBits = none-above 0 tape (r .mask .bits); wiresLength = r .wiresLength; boardLength = r .boardLength }),
+            (record {
+              tapeLength = r .mask .size;
+              tapeBits = none-above 0 tape (r .mask .bits);
+              wiresLength =
+                  r .wiresLength;
+              boardLength = r .boardLength;
+            }),
       )
 
   -- what the tests establish is what the evaluation asks
@@ -184,6 +197,7 @@ module _ (s : Shape) (table ballots tape wires board : List ℕ) where
       }
 
   -- the whole of a call by its first reason
-  pub ran-by : (o : Option Reason) → firstOf (runReasons s table ballots tape wires board) ≡ o → runResult s table ballots tape wires board ≡ runResultAfter o s (gatesOf table) ballots tape wires board
+  pub ran-by : (o : Option Reason) → firstOf (runReasons s table ballots tape wires board) ≡ o
+      → runResult s table ballots tape wires board ≡ runResultAfter o s (gatesOf table) ballots tape wires board
   unfolding runResult
   ran-by o e = ap (λ (r : Option Reason). runResultAfter r s (gatesOf table) ballots tape wires board) e

@@ -39,7 +39,8 @@ module _ (s : Shape) (table : List ℕ) where
   by : Bool → ListCheck → Option Reason
   by within t = firstOf (unless within 1 ∷ listReason t ∷ [])
 
-  reasons-by : (within : Bool) (t : ListCheck) → withinLimits s ≡ within → tested (ballotBytes s) (s .candidates) table ≡ t → firstOf (testReasons s table) ≡ by within t
+  reasons-by : (within : Bool) (t : ListCheck) → withinLimits s ≡ within
+      → tested (ballotBytes s) (s .candidates) table ≡ t → firstOf (testReasons s table) ≡ by within t
   unfolding testReasons by
   reasons-by within t w e =
       ap (λ (b : Bool). firstOf (unless b 1 ∷ listReason (tested (ballotBytes s) (s .candidates) table) ∷ [])) w
@@ -47,10 +48,12 @@ module _ (s : Shape) (table : List ℕ) where
 
   pub outside-list : withinLimits s ≡ false → testOutcome s table ≡ refused (reasonAt 1 0)
   unfolding testOutcome outcome by unless firstOf
-  outside-list w = ap (λ (r : Option Reason). outcome r (sizeOf (gatesOf table))) (reasons-by false (tested (ballotBytes s) (s .candidates) table) w refl)
+  outside-list w = ap (λ (r : Option Reason). outcome r (sizeOf (gatesOf table)))
+      (reasons-by false (tested (ballotBytes s) (s .candidates) table) w refl)
 
   module _ (w : withinLimits s ≡ true) where
-    pub list-refused : (t : ListCheck) (r : Reason) → tested (ballotBytes s) (s .candidates) table ≡ t → listReason t ≡ some r → testOutcome s table ≡ refused r
+    pub list-refused : (t : ListCheck) (r : Reason) → tested (ballotBytes s) (s .candidates) table ≡ t
+        → listReason t ≡ some r → testOutcome s table ≡ refused r
     unfolding testOutcome outcome by unless firstOf
     list-refused t r e f =
         ap (λ (o : Option Reason). outcome o (sizeOf (gatesOf table))) (reasons-by true t w e)
@@ -65,9 +68,11 @@ module _ (s : Shape) (table : List ℕ) where
         ∙ ap (λ (n : ℕ). accepted (record { gates = n; conditional = sizeOf (gatesOf table) .conditional })) (sym (f .gates-are))
         ∙ ap (λ (n : ℕ). accepted (record { gates = gates; conditional = n })) (sym (f .conditional-are))
 
-  sized : (g c : ℕ) → g ≡ length (gatesOf table) → c ≡ conditionalCount (gatesOf table) → record { gates = g; conditional = c } ≡ sizeOf (gatesOf table)
+  sized : (g c : ℕ) → g ≡ length (gatesOf table) → c ≡ conditionalCount (gatesOf table)
+      → record { gates = g; conditional = c } ≡ sizeOf (gatesOf table)
   unfolding sizeOf
-  sized g c e f = ap (λ (n : ℕ). record { gates = n; conditional = c }) e ∙ ap (λ (n : ℕ). record { gates = length (gatesOf table); conditional = n }) f
+  sized g c e f = ap (λ (n : ℕ). record { gates = n; conditional = c }) e
+      ∙ ap (λ (n : ℕ). record { gates = length (gatesOf table); conditional = n }) f
 
   passes : (g c : ℕ) → by true (Accepted g c) ≡ none
   unfolding by unless firstOf listReason
@@ -86,7 +91,8 @@ module _ (s : Shape) (table : List ℕ) where
       list : withinLimits s ≡ true → (t : ListCheck) → tested (ballotBytes s) (s .candidates) table ≡ t → TestPassed values
       list w PartOfAGate p = never values (reasonAt 2 0) (sym (list-refused w PartOfAGate (reasonAt 2 0) p (unfold listReason in refl)) ∙ e)
       list w TooFewGates p = never values (reasonAt 2 0) (sym (list-refused w TooFewGates (reasonAt 2 0) p (unfold listReason in refl)) ∙ e)
-      list w TooManyGates p = never values (reasonAt 2 0) (sym (list-refused w TooManyGates (reasonAt 2 0) p (unfold listReason in refl)) ∙ e)
+      list w TooManyGates p = never values (reasonAt 2 0)
+          (sym (list-refused w TooManyGates (reasonAt 2 0) p (unfold listReason in refl)) ∙ e)
       list w (BadGate g) p = never values (reasonAt 3 g) (sym (list-refused w (BadGate g) (reasonAt 3 g) p (unfold listReason in refl)) ∙ e)
       list w (Accepted g c) p =
           let q : accepted (record { gates = g; conditional = c }) ≡ accepted values = sym (list-accepted w g c p) ∙ e in
@@ -104,5 +110,6 @@ module _ (s : Shape) (table : List ℕ) where
       shape false w = never values (reasonAt 1 0) (sym (outside-list w) ∙ e)
 
   -- and back
-  pub test-passed-back : withinLimits s ≡ true → (gates conditional : ℕ) → tested (ballotBytes s) (s .candidates) table ≡ Accepted gates conditional → firstOf (testReasons s table) ≡ none
+  pub test-passed-back : withinLimits s ≡ true → (gates conditional : ℕ)
+      → tested (ballotBytes s) (s .candidates) table ≡ Accepted gates conditional → firstOf (testReasons s table) ≡ none
   test-passed-back w gates conditional e = reasons-by true (Accepted gates conditional) w e ∙ passes gates conditional

@@ -25,20 +25,26 @@ module _ (s : Shape) (table : List ℕ) where
   by : Bool → Bool → Option Reason
   by within long = firstOf (unless within 1 ∷ unless long 2 ∷ [])
 
-  reasons-by : (within long : Bool) → withinLimits s ≡ within → leb (4 * length (ownList s)) (length table) ≡ long → firstOf (writeReasons s table) ≡ by within long
+  reasons-by : (within long : Bool) → withinLimits s ≡ within → leb (4 * length (ownList s)) (length table) ≡ long
+      → firstOf (writeReasons s table) ≡ by within long
   unfolding writeReasons by
   reasons-by within long e f = rw (e, f)
 
   -- the answer and the table, by the first reason that applies
-  pub write-refused : (r : Reason) → firstOf (writeReasons s table) ≡ some r → (writeOutcome s table ≡ refused r) × (writeResult s table ≡ table)
+  pub write-refused : (r : Reason) → firstOf (writeReasons s table) ≡ some r → (writeOutcome s table ≡ refused r)
+      × (writeResult s table ≡ table)
   unfolding writeOutcome outcome writeResult writeResultAfter
-  write-refused r e = (ap (λ (o : Option Reason). outcome o (sizeOf (ownList s))) e, ap (λ (o : Option Reason). writeResultAfter o (numbersOf (ownList s)) table) e)
+  write-refused r e = (
+    ap (λ (o : Option Reason). outcome o (sizeOf (ownList s))) e,
+    ap (λ (o : Option Reason). writeResultAfter o (numbersOf (ownList s)) table) e,
+  )
 
   pub outside : withinLimits s ≡ false → firstOf (writeReasons s table) ≡ some (reasonAt 1 0)
   unfolding by unless firstOf
   outside e = reasons-by false _ e refl
 
-  pub too-short : withinLimits s ≡ true → leb (4 * length (ownList s)) (length table) ≡ false → firstOf (writeReasons s table) ≡ some (reasonAt 2 0)
+  pub too-short : withinLimits s ≡ true → leb (4 * length (ownList s)) (length table) ≡ false
+      → firstOf (writeReasons s table) ≡ some (reasonAt 2 0)
   unfolding by unless firstOf
   too-short e f = reasons-by true false e f
 
@@ -47,9 +53,13 @@ module _ (s : Shape) (table : List ℕ) where
   fits e f = reasons-by true true e f
 
   pub write-accepted : firstOf (writeReasons s table) ≡ none
-      → (writeOutcome s table ≡ accepted (sizeOf (ownList s))) × (writeResult s table ≡ numbersOf (ownList s) ++ drop (length (numbersOf (ownList s))) table)
+      → (writeOutcome s table ≡ accepted (sizeOf (ownList s)))
+      × (writeResult s table ≡ numbersOf (ownList s) ++ drop (length (numbersOf (ownList s))) table)
   unfolding writeOutcome outcome writeResult writeResultAfter
-  write-accepted e = (ap (λ (o : Option Reason). outcome o (sizeOf (ownList s))) e, ap (λ (o : Option Reason). writeResultAfter o (numbersOf (ownList s)) table) e)
+  write-accepted e = (
+    ap (λ (o : Option Reason). outcome o (sizeOf (ownList s))) e,
+    ap (λ (o : Option Reason). writeResultAfter o (numbersOf (ownList s)) table) e,
+  )
 
   -- an accepted write, as facts
   pub record WritePassed (size : Size) : Type 0 where
@@ -93,13 +103,21 @@ module _ (s : Shape) (table : List ℕ) where
   long-after none e =
       let ns = numbersOf (ownList s) in
       let p = write-passed (sizeOf (ownList s)) (write-accepted e .0) in
-      ap length (write-accepted e .1) ∙ omega (arith, length-append ns (drop (length ns) table), length-drop (length ns) table, length-numbers (ownList s), p .room)
+      ap length (write-accepted e .1)
+      ∙ omega (
+        arith,
+        length-append ns (drop (length ns) table),
+        length-drop (length ns) table,
+        length-numbers (ownList s),
+        p .room,
+      )
 
   pub write-length : length (writeResult s table) ≡ length table
   write-length = long-after (firstOf (writeReasons s table)) refl
 
   -- storing the list's numbers leaves the table that the definition names
-  pub stored : 4 * length (ownList s) ≤ length table → sets table (4 * 0) (numbersOf (ownList s)) ≡ numbersOf (ownList s) ++ drop (length (numbersOf (ownList s))) table
+  pub stored : 4 * length (ownList s) ≤ length table → sets table (4 * 0) (numbersOf (ownList s))
+      ≡ numbersOf (ownList s) ++ drop (length (numbersOf (ownList s))) table
   stored h =
       let ns = numbersOf (ownList s) in
       let from : 0 + length ns ≡ length ns = omega arith in

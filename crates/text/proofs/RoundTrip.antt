@@ -44,13 +44,16 @@ impossible r e = let z : _≡_ {A = ℕ} 0 1 = cc in absurd (omega arith)
 -- what accepted writing establishes
 test-none : (s : Shape) (table output : List ℕ) → firstOf (textReasons s table output) ≡ none → firstOf (testReasons s table) ≡ none
 unfolding textReasons orElse
-test-none s table output e = by (firstOf (testReasons s table)) (sym (first-append (testReasons s table) (unless (leb (length (textOf (gatesOf table))) (length output)) 24 ∷ [])) ∙ e)
+test-none s table output e = by (firstOf (testReasons s table))
+    (sym (first-append (testReasons s table)
+    (unless (leb (length (textOf (gatesOf table))) (length output)) 24 ∷ [])) ∙ e)
   where
     by : (o : Option Reason) → orElse o (firstOf (unless (leb (length (textOf (gatesOf table))) (length output)) 24 ∷ [])) ≡ none → o ≡ none
     by none e = refl
     by (some r) e = impossible r e
 
-test-accepted : (s : Shape) (table : List ℕ) → firstOf (testReasons s table) ≡ none → testOutcome s table ≡ accepted (sizeOf (gatesOf table))
+test-accepted : (s : Shape) (table : List ℕ) → firstOf (testReasons s table) ≡ none → testOutcome s table
+    ≡ accepted (sizeOf (gatesOf table))
 unfolding testOutcome outcome
 test-accepted s table e = rw e
 
@@ -65,14 +68,26 @@ record ReadPassed (s : Shape) (text output : List ℕ) : Type 0 where
 read-passed : (s : Shape) (text output : List ℕ) → firstOf (readReasons s text output) ≡ none → ReadPassed s text output
 unfolding readReasons firstOf unless foundAt
 read-passed s text output e =
-    by (withinLimits s) (leb (s .candidates) (length (linesOf text))) (leb (length (linesOf text)) 1048576) (firstMalformed 0 (linesOf text)) (firstBad (ballotBytes s) 0 (gatesIn (linesOf text))) refl refl refl refl refl e
+    by (withinLimits s) (leb (s .candidates) (length (linesOf text))) (leb (length (linesOf text)) 1048576)
+    (firstMalformed 0 (linesOf text)) (firstBad (ballotBytes s) 0 (gatesIn (linesOf text))) refl refl refl refl refl e
   where
     room : Option Reason
     room = unless (leb (4 * length (linesOf text)) (length output)) 24
 
-    by : (w k m : Bool) (p q : Place) → withinLimits s ≡ w → leb (s .candidates) (length (linesOf text)) ≡ k → leb (length (linesOf text)) 1048576 ≡ m → firstMalformed 0 (linesOf text) ≡ p
-        → firstBad (ballotBytes s) 0 (gatesIn (linesOf text)) ≡ q → firstOf (unless w 1 ∷ unless (k && m) 2 ∷ foundAt 23 p ∷ foundAt 3 q ∷ room ∷ []) ≡ none → ReadPassed s text output
-    by true true true Nowhere Nowhere a b c d f e = record { limits = a; enough = leb-true (s .candidates) (length (linesOf text)) b; few = leb-true (length (linesOf text)) 1048576 c; all-gates = d; good = f }
+    by : (w k m : Bool) (p q : Place) → withinLimits s ≡ w → leb (s .candidates) (length (linesOf text)) ≡ k
+        → leb (length (linesOf text)) 1048576 ≡ m → firstMalformed 0 (linesOf text) ≡ p
+        → firstBad (ballotBytes s) 0 (gatesIn (linesOf text)) ≡ q
+        → firstOf (unless w 1 ∷ unless (k && m) 2 ∷ foundAt 23 p ∷ foundAt 3 q ∷ room ∷ []) ≡ none
+        → ReadPassed s text output
+    by true true true Nowhere Nowhere a b c d f e =
+        record {
+          limits = a;
+          enough = leb-true (s .candidates) (length (linesOf text)) b;
+          few =
+              leb-true (length (linesOf text)) 1048576 c;
+          all-gates = d;
+          good = f;
+        }
     by true true true Nowhere (At g) a b c d f e = impossible _ e
     by true true true (At i) q a b c d f e = impossible _ e
     by true true false p q a b c d f e = impossible _ e
@@ -94,8 +109,12 @@ back s table output numbers n e room =
     let l = text-lines gs (all-writable (ballotBytes s) gs (omega (arith, f .few)) good) in
     let whole : numbersOf gs ≡ table = whole-table table (f .whole) in
     let long : 4 * length (linesOf text) ≡ length table = omega (arith, l .as-many, ap length whole, length-numbers gs) in
-    let written : take n (textWritten s table output) ≡ text = ap (take n) (sym (text-accepted s table output (p .0) .1)) ∙ take-at text (drop (length text) output) n (p .1) in
-    let none-applies = numbers-good s text numbers (t .within) (omega (arith, f .enough, l .as-many)) (omega (arith, f .few, l .as-many)) (l .all-gates 0) (ap (firstBad (ballotBytes s) 0) (l .read-back) ∙ f .good) (omega arith) in
+    let written : take n (textWritten s table output) ≡ text =
+    ap (take n) (sym (text-accepted s table output (p .0) .1))
+    ∙ take-at text (drop (length text) output) n (p .1) in
+    let none-applies = numbers-good s text numbers (t .within) (omega (arith, f .enough, l .as-many))
+    (omega (arith, f .few, l .as-many)) (l .all-gates 0)
+    (ap (firstBad (ballotBytes s) 0) (l .read-back) ∙ f .good) (omega arith) in
     let r = read-accepted s text numbers none-applies in
     let same : numbersOf (gatesIn (linesOf text)) ≡ table = ap numbersOf (l .read-back) ∙ whole in (
       ap (λ (x : List ℕ). readOutcome s x numbers) written ∙ sym (r .0) ∙ ap (λ (k : ℕ). accepted k) long,
@@ -113,7 +132,8 @@ forth s text numbers output n e room =
     let f = read-passed s text numbers (p .0) in
     let many = gates-many (linesOf text) 0 (f .all-gates) in
     let long : length ns ≡ n = omega (arith, length-numbers gs, many, p .1) in
-    let read : take n (numbersRead s text numbers) ≡ ns = ap (take n) (sym (read-accepted s text numbers (p .0) .1)) ∙ take-at ns (drop (length ns) numbers) n long in
+    let read : take n (numbersRead s text numbers) ≡ ns = ap (take n) (sym (read-accepted s text numbers (p .0) .1))
+    ∙ take-at ns (drop (length ns) numbers) n long in
     let good = subst (λ (m : ℕ). AllGood m gs) (add-zero (ballotBytes s)) (all-good (ballotBytes s) 0 gs (f .good)) in
     let ok = good-list-accepted (ballotBytes s) (s .candidates) gs good (omega (arith, f .enough, many)) (omega (arith, f .few, many)) in
     let passes = test-passed-back s ns (f .limits) (length gs) (conditionalCount gs) ok in
@@ -134,7 +154,8 @@ text-length : (s : Shape) (table output : List ℕ) → length (textWritten s ta
 unfolding textReasons orElse firstOf unless
 text-length s table output = by (firstOf (textReasons s table output)) refl
   where
-    fits : (o : Option Reason) (t : Bool) → leb (length (textOf (gatesOf table))) (length output) ≡ t → orElse o (firstOf (unless t 24 ∷ [])) ≡ none → length (textOf (gatesOf table)) ≤ length output
+    fits : (o : Option Reason) (t : Bool) → leb (length (textOf (gatesOf table))) (length output) ≡ t
+        → orElse o (firstOf (unless t 24 ∷ [])) ≡ none → length (textOf (gatesOf table)) ≤ length output
     fits none true p e = leb-true (length (textOf (gatesOf table))) (length output) p
     fits none false p e = impossible _ e
     fits (some r) t p e = impossible r e
@@ -142,15 +163,22 @@ text-length s table output = by (firstOf (textReasons s table output)) refl
     by : (o : Option Reason) → firstOf (textReasons s table output) ≡ o → length (textWritten s table output) ≡ length output
     by none e =
         ap length (sym (text-accepted s table output e .1))
-        ∙ same-length (textOf (gatesOf table)) output (fits (firstOf (testReasons s table)) (leb (length (textOf (gatesOf table))) (length output)) refl (sym (first-append (testReasons s table) (unless (leb (length (textOf (gatesOf table))) (length output)) 24 ∷ [])) ∙ e))
+        ∙ same-length (textOf (gatesOf table)) output
+        (fits (firstOf (testReasons s table)) (leb (length (textOf (gatesOf table))) (length output)) refl
+        (sym (first-append (testReasons s table)
+        (unless (leb (length (textOf (gatesOf table))) (length output)) 24 ∷ [])) ∙ e))
     by (some r) e = ap length (sym (text-refused s table output r e .1))
 
 read-room : (s : Shape) (text output : List ℕ) → firstOf (readReasons s text output) ≡ none → 4 * length (linesOf text) ≤ length output
 unfolding readReasons firstOf unless foundAt
 read-room s text output e =
-    by (withinLimits s) (leb (s .candidates) (length (linesOf text)) && leb (length (linesOf text)) 1048576) (firstMalformed 0 (linesOf text)) (firstBad (ballotBytes s) 0 (gatesIn (linesOf text))) (leb (4 * length (linesOf text)) (length output)) refl e
+    by (withinLimits s) (leb (s .candidates) (length (linesOf text)) && leb (length (linesOf text)) 1048576)
+    (firstMalformed 0 (linesOf text)) (firstBad (ballotBytes s) 0 (gatesIn (linesOf text)))
+    (leb (4 * length (linesOf text)) (length output)) refl e
   where
-    by : (w k : Bool) (p q : Place) (t : Bool) → leb (4 * length (linesOf text)) (length output) ≡ t → firstOf (unless w 1 ∷ unless k 2 ∷ foundAt 23 p ∷ foundAt 3 q ∷ unless t 24 ∷ []) ≡ none → 4 * length (linesOf text) ≤ length output
+    by : (w k : Bool) (p q : Place) (t : Bool) → leb (4 * length (linesOf text)) (length output) ≡ t
+        → firstOf (unless w 1 ∷ unless k 2 ∷ foundAt 23 p ∷ foundAt 3 q ∷ unless t 24 ∷ []) ≡ none → 4
+        * length (linesOf text) ≤ length output
     by true true Nowhere Nowhere true f e = leb-true (4 * length (linesOf text)) (length output) f
     by true true Nowhere Nowhere false f e = impossible _ e
     by true true Nowhere (At g) t f e = impossible _ e
@@ -166,7 +194,8 @@ read-length s text output = by (firstOf (readReasons s text output)) refl
         let f = read-passed s text output e in
         let many = gates-many (linesOf text) 0 (f .all-gates) in
         ap length (sym (read-accepted s text output e .1))
-        ∙ same-length (numbersOf (gatesIn (linesOf text))) output (omega (arith, length-numbers (gatesIn (linesOf text)), many, read-room s text output e))
+        ∙ same-length (numbersOf (gatesIn (linesOf text))) output
+        (omega (arith, length-numbers (gatesIn (linesOf text)), many, read-room s text output e))
     by (some r) e = ap length (sym (read-refused s text output r e .1))
 
 pub text-memory : TextMemory
@@ -175,15 +204,21 @@ text-memory =
     record {
       write = λ s table output. record {
         number = text-number s table output;
-        refusal = λ r e.
-            (sym (text-refused s table output r (outcome-refused (firstOf (textReasons s table output)) (length (textOf (gatesOf table))) r e) .1), tt);
+        refusal = λ r e. (
+          sym (text-refused s table output r
+              (outcome-refused (firstOf (textReasons s table output)) (length (textOf (gatesOf table))) r e) .1),
+          tt,
+        );
         empties = λ length e. tt;
         lengths = (text-length s table output, tt);
       };
       read = λ s text output. record {
         number = read-number s text output;
-        refusal = λ r e.
-            (sym (read-refused s text output r (outcome-refused (firstOf (readReasons s text output)) (4 * length (linesOf text)) r e) .1), tt);
+        refusal = λ r e. (
+          sym (read-refused s text output r
+              (outcome-refused (firstOf (readReasons s text output)) (4 * length (linesOf text)) r e) .1),
+          tt,
+        );
         empties = λ length e. tt;
         lengths = (read-length s text output, tt);
       };

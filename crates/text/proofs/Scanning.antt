@@ -54,7 +54,8 @@ module _ (text : List ℕ) (at : ℕ) (r : Line) (read : LineRead text (gateIn (
     pub good-here : (own : ℕ) → 0 < own → goodGate own (gate kind a b c) ≡ (ltb a own && ltb b own && ltb c own)
     good-here own pos =
         let w = gate-first (drop at text) (record { value = gate kind a b c; behind = drop next text }) gate-here .writable in
-        good-by own (gate kind a b c) pos (w .known) (record { a-zero = w .a-holds .unused; b-zero = w .b-holds .unused; c-zero = w .c-holds .unused })
+        good-by own (gate kind a b c) pos (w .known)
+        (record { a-zero = w .a-holds .unused; b-zero = w .b-holds .unused; c-zero = w .c-holds .unused })
 
     pub later-good : (inputs i : ℕ) → true ≡ goodGate (inputs + i) (gate kind a b c)
         → firstBad inputs i (gatesIn (linesOf (drop at text))) ≡ firstBad inputs (suc i) (gatesIn (linesOf (drop next text)))
@@ -62,7 +63,8 @@ module _ (text : List ℕ) (at : ℕ) (r : Line) (read : LineRead text (gateIn (
         ap (firstBad inputs i) later-gates ∙ first-bad-cons inputs i (gate kind a b c) (gatesIn (linesOf (drop next text)))
         ∙ ap (λ (t : Bool). cond t (firstBad inputs (suc i) (gatesIn (linesOf (drop next text)))) (At i)) (sym ok)
 
-    pub here-bad : (inputs i : ℕ) → false ≡ goodGate (inputs + i) (gate kind a b c) → firstBad inputs i (gatesIn (linesOf (drop at text))) ≡ At i
+    pub here-bad : (inputs i : ℕ) → false ≡ goodGate (inputs + i) (gate kind a b c)
+        → firstBad inputs i (gatesIn (linesOf (drop at text))) ≡ At i
     here-bad inputs i bad =
         ap (firstBad inputs i) later-gates ∙ first-bad-cons inputs i (gate kind a b c) (gatesIn (linesOf (drop next text)))
         ∙ ap (λ (t : Bool). cond t (firstBad inputs (suc i) (gatesIn (linesOf (drop next text)))) (At i)) (sym bad)
@@ -72,7 +74,8 @@ module _ (text : List ℕ) (at : ℕ) (r : Line) (read : LineRead text (gateIn (
   here-other p h i =
       let q : drop at text ≡ getD text at 0 ∷ drop (suc at) text = drop-cons text at 0 h in
       let n : gateIn (getD text at 0 ∷ drop (suc at) text) ≡ none = ap gateIn (sym q) ∙ sym (sym (ap (lineFound text) p) ∙ read .found) in
-      ap (λ (l : List ℕ). firstMalformed i (linesOf l)) q ∙ other-here i (getD text at 0 ∷ drop (suc at) text) (other-first (getD text at 0) (drop (suc at) text) n)
+      ap (λ (l : List ℕ). firstMalformed i (linesOf l)) q
+      ∙ other-here i (getD text at 0 ∷ drop (suc at) text) (other-first (getD text at 0) (drop (suc at) text) n)
 
 -- past the last character
 module _ (text : List ℕ) (at : ℕ) (h : length text ≤ at) where
@@ -97,7 +100,9 @@ unfolding firstMalformed malformedAt
 nowhere-any [] i j e = refl
 nowhere-any (l ∷ ls) i j e = by (gateOf l) e (nowhere-any ls (suc i) (suc j))
   where
-    by : (o : Option Gate) → malformedAt o i (firstMalformed (suc i) ls) ≡ Nowhere → (firstMalformed (suc i) ls ≡ Nowhere → firstMalformed (suc j) ls ≡ Nowhere) → malformedAt o j (firstMalformed (suc j) ls) ≡ Nowhere
+    by : (o : Option Gate) → malformedAt o i (firstMalformed (suc i) ls) ≡ Nowhere
+        → (firstMalformed (suc i) ls ≡ Nowhere → firstMalformed (suc j) ls ≡ Nowhere)
+        → malformedAt o j (firstMalformed (suc j) ls) ≡ Nowhere
     by none e ih = let z : _≡_ {A = ℕ} 0 1 = cc in absurd (omega arith)
     by (some g) e ih = ih e
 
@@ -126,7 +131,8 @@ lines-are (c ∷ []) = by (eqb c 10)
 lines-are (c ∷ d ∷ cs) = by (eqb c 10) (lines-are (d ∷ cs))
   where
     by : (t : Bool) → length (linesOf (d ∷ cs)) ≡ feeds (d ∷ cs) + open-end (d ∷ cs)
-        → length (cond t ((c ∷ []) ∷ linesOf (d ∷ cs)) (inFront c (linesOf (d ∷ cs)))) ≡ cond t (suc (feeds (d ∷ cs))) (feeds (d ∷ cs)) + open-end (d ∷ cs)
+        → length (cond t ((c ∷ []) ∷ linesOf (d ∷ cs)) (inFront c (linesOf (d ∷ cs))))
+        ≡ cond t (suc (feeds (d ∷ cs))) (feeds (d ∷ cs)) + open-end (d ∷ cs)
     by true ih = omega arith
     by false ih = length-front c cs d ∙ ih
 
@@ -162,13 +168,16 @@ unfolding feeds-of
 closed-lines [] i e p q = absurd (omega arith)
 closed-lines (c ∷ cs) i e p q =
     let k : i - 1 ≡ length cs = omega arith in
-    let f : open-end (c ∷ cs) ≡ 0 = last-is c cs ∙ rw (eq-eqb (getD (c ∷ cs) (length cs) 0) 10 (ap (λ (j : ℕ). getD (c ∷ cs) j 0) (sym k) ∙ q)) in
+    let f : open-end (c ∷ cs) ≡ 0 = last-is c cs
+    ∙ rw (eq-eqb (getD (c ∷ cs) (length cs) 0) 10 (ap (λ (j : ℕ). getD (c ∷ cs) j 0) (sym k) ∙ q)) in
     omega (arith, lines-are (c ∷ cs))
 
-pub open-lines : (text : List ℕ) (i : ℕ) → i ≡ length text → 0 < i → (getD text (i - 1) 0 ≡ 10 → ⊥) → length (linesOf text) ≡ feeds-of text + 1
+pub open-lines : (text : List ℕ) (i : ℕ) → i ≡ length text → 0 < i → (getD text (i - 1) 0 ≡ 10 → ⊥)
+    → length (linesOf text) ≡ feeds-of text + 1
 unfolding feeds-of
 open-lines [] i e p q = absurd (omega arith)
 open-lines (c ∷ cs) i e p q =
     let k : i - 1 ≡ length cs = omega arith in
-    let f : open-end (c ∷ cs) ≡ 1 = last-is c cs ∙ rw (ne-eqb (getD (c ∷ cs) (length cs) 0) 10 (λ x. q (ap (λ (j : ℕ). getD (c ∷ cs) j 0) k ∙ x))) in
+    let f : open-end (c ∷ cs) ≡ 1 = last-is c cs
+    ∙ rw (ne-eqb (getD (c ∷ cs) (length cs) 0) 10 (λ x. q (ap (λ (j : ℕ). getD (c ∷ cs) j 0) k ∙ x))) in
     omega (arith, lines-are (c ∷ cs))

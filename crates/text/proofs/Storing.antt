@@ -15,7 +15,8 @@ use Rattle.text_lines.specs.Line.{lineOf}
 use Rattle.text.specs.Text.{textOf}
 
 -- four numbers one after the other
-pub put-four : (l : List ℕ) (i k a b c : ℕ) (rest : List ℕ) → sets (set (set (set (set l i k) (i + 1) a) (i + 2) b) (i + 3) c) (i + 4) rest ≡ sets l i (k ∷ a ∷ b ∷ c ∷ rest)
+pub put-four : (l : List ℕ) (i k a b c : ℕ) (rest : List ℕ)
+    → sets (set (set (set (set l i k) (i + 1) a) (i + 2) b) (i + 3) c) (i + 4) rest ≡ sets l i (k ∷ a ∷ b ∷ c ∷ rest)
 put-four l i k a b c rest = rw (add-one i, add-two i, add-three i, add-four i)
 
 pub long-four : (l : List ℕ) (i k a b c : ℕ) → length (set (set (set (set l i k) (i + 1) a) (i + 2) b) (i + 3) c) ≡ length l
@@ -23,7 +24,14 @@ long-four l i k a b c = simp length-set
 
 -- the text from gate g on begins with gate g's line
 pub text-from : (t : List ℕ) (g : ℕ) → g < length (gatesOf t)
-    → textOf (drop g (gatesOf t)) ≡ lineOf (record { kind = getD t (4 * g) 0; a = getD t (4 * g + 1) 0; b = getD t (4 * g + 2) 0; c = getD t (4 * g + 3) 0 }) ++ textOf (drop (suc g) (gatesOf t))
+    → textOf (drop g (gatesOf t)) ≡ lineOf
+    (record {
+      kind = getD t (4 * g) 0;
+      a = getD t (4 * g + 1) 0;
+      b = getD t (4 * g + 2) 0;
+      c =
+          getD t (4 * g + 3) 0;
+    }) ++ textOf (drop (suc g) (gatesOf t))
 unfolding textOf
 text-from t g h = ap textOf (gates-from t g h) ∙ ap (λ (x : Gate). lineOf x ++ textOf (drop (suc g) (gatesOf t))) (gate-numbers t g)
 

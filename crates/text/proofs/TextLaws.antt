@@ -63,7 +63,8 @@ no-feed-front g =
     let tb = operandText (ltb 1 n) (g .b) in
     let tc = operandText (ltb 2 n) (g .c) in
     no-feed-append (d ++ ta ++ tb) tc
-    (no-feed-append (d ++ ta) tb (no-feed-append d ta (no-feed-decimal 10 (g .kind)) (no-feed-operand (ltb 0 n) (g .a))) (no-feed-operand (ltb 1 n) (g .b)))
+    (no-feed-append (d ++ ta) tb (no-feed-append d ta (no-feed-decimal 10 (g .kind))
+    (no-feed-operand (ltb 0 n) (g .a))) (no-feed-operand (ltb 1 n) (g .b)))
     (no-feed-operand (ltb 2 n) (g .c))
 
 -- characters without a line feed, then a line feed, are a line
@@ -151,15 +152,18 @@ other-first c cs e = by (gateOf (f .line)) refl
     by none q = record { line = f .line; later = f .later; lines = f .is; reads = q }
     by (some g) q =
         let w = line-wrote (f .line) g q in
-        let whole : c ∷ cs ≡ lineOf g ++ flatten (f .later) = sym (flatten-lines (c ∷ cs)) ∙ ap flatten (f .is) ∙ ap (λ (l : List ℕ). l ++ flatten (f .later)) (w .1) in
-        absurd (Option·none-ne-some (record { value = g; behind = flatten (f .later) }) (sym e ∙ ap gateIn whole ∙ read-line g (flatten (f .later)) (w .0)))
+        let whole : c ∷ cs ≡ lineOf g ++ flatten (f .later) = sym (flatten-lines (c ∷ cs)) ∙ ap flatten (f .is)
+        ∙ ap (λ (l : List ℕ). l ++ flatten (f .later)) (w .1) in
+        absurd (Option·none-ne-some (record { value = g; behind = flatten (f .later) })
+        (sym e ∙ ap gateIn whole ∙ read-line g (flatten (f .later)) (w .0)))
 
 -- The first malformed line, and the gates, line by line.
 pub other-here : (i : ℕ) (cs : List ℕ) (o : OtherFirst cs) → firstMalformed i (linesOf cs) ≡ At i
 unfolding firstMalformed malformedAt
 other-here i cs o = ap (firstMalformed i) (o .lines) ∙ rw (o .reads)
 
-pub other-later : (i : ℕ) (cs : List ℕ) (t : Taken Gate) → gateIn cs ≡ some t → firstMalformed i (linesOf cs) ≡ firstMalformed (suc i) (linesOf (t .behind))
+pub other-later : (i : ℕ) (cs : List ℕ) (t : Taken Gate) → gateIn cs ≡ some t → firstMalformed i (linesOf cs)
+    ≡ firstMalformed (suc i) (linesOf (t .behind))
 unfolding firstMalformed malformedAt
 other-later i cs t e = let f = gate-first cs t e in ap (firstMalformed i) (f .lines) ∙ rw (f .reads)
 

@@ -24,7 +24,9 @@ unfolding firstMalformed malformedAt gatesIn gateBefore
 gates-many [] i e = refl
 gates-many (l ∷ ls) i e = by (gateOf l) e (gates-many ls (suc i))
   where
-    by : (o : Option Gate) → malformedAt o i (firstMalformed (suc i) ls) ≡ Nowhere → (firstMalformed (suc i) ls ≡ Nowhere → length (gatesIn ls) ≡ length ls) → length (gateBefore o (gatesIn ls)) ≡ suc (length ls)
+    by : (o : Option Gate) → malformedAt o i (firstMalformed (suc i) ls) ≡ Nowhere
+        → (firstMalformed (suc i) ls ≡ Nowhere → length (gatesIn ls) ≡ length ls)
+        → length (gateBefore o (gatesIn ls)) ≡ suc (length ls)
     by none e ih = let z : _≡_ {A = ℕ} 0 1 = cc in absurd (omega arith)
     by (some g) e ih = ap suc (ih e)
 
@@ -33,7 +35,9 @@ unfolding firstMalformed malformedAt gatesIn gateBefore textOf flatten
 lines-text [] i e = refl
 lines-text (l ∷ ls) i e = by (gateOf l) refl e (lines-text ls (suc i))
   where
-    by : (o : Option Gate) → gateOf l ≡ o → malformedAt o i (firstMalformed (suc i) ls) ≡ Nowhere → (firstMalformed (suc i) ls ≡ Nowhere → flatten ls ≡ textOf (gatesIn ls)) → l ++ flatten ls ≡ textOf (gateBefore o (gatesIn ls))
+    by : (o : Option Gate) → gateOf l ≡ o → malformedAt o i (firstMalformed (suc i) ls) ≡ Nowhere
+        → (firstMalformed (suc i) ls ≡ Nowhere → flatten ls ≡ textOf (gatesIn ls)) → l ++ flatten ls
+        ≡ textOf (gateBefore o (gatesIn ls))
     by none p e ih = let z : _≡_ {A = ℕ} 0 1 = cc in absurd (omega arith)
     by (some g) p e ih = ap (λ (x : List ℕ). x ++ flatten ls) (line-wrote l g p .1) ∙ ap (λ (x : List ℕ). lineOf g ++ x) (ih e)
 
@@ -74,7 +78,10 @@ text-lines (g ∷ gs) w =
     let e = lines-cons g (textOf gs) in
     let r = line-read g (w .0) in
     record {
-      all-gates = λ i. ap (firstMalformed i) e ∙ ap (λ (o : Option Gate). malformedAt o i (firstMalformed (suc i) (linesOf (textOf gs)))) r ∙ t .all-gates (suc i);
-      read-back = ap gatesIn e ∙ ap (λ (o : Option Gate). gateBefore o (gatesIn (linesOf (textOf gs)))) r ∙ ap (λ (l : List Gate). g ∷ l) (t .read-back);
+      all-gates = λ i. ap (firstMalformed i) e
+          ∙ ap (λ (o : Option Gate). malformedAt o i (firstMalformed (suc i) (linesOf (textOf gs)))) r
+          ∙ t .all-gates (suc i);
+      read-back = ap gatesIn e ∙ ap (λ (o : Option Gate). gateBefore o (gatesIn (linesOf (textOf gs)))) r
+          ∙ ap (λ (l : List Gate). g ∷ l) (t .read-back);
       as-many = ap length e ∙ ap suc (t .as-many);
     }

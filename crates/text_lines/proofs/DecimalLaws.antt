@@ -58,9 +58,13 @@ tenth f n h = let p = pow-succ' 10 f in omega arith
 -- the digits of a number above 0 are read as that number
 read-digits : (f n : ℕ) (rest : List ℕ) → 0 < n → n ≤ 4294967295 → n < 10 ^ f → numberIn (decimalWithin f n ++ rest) ≡ digitsIn n rest
 read-digits zero n rest pos fits few = absurd (omega arith)
-read-digits (suc f) n rest pos fits few = by (ltb n 10) refl (λ (more : 10 ≤ n). read-digits f (n / 10) ((48 + n % 10) ∷ rest) (omega arith) (omega arith) (tenth f n few))
+read-digits (suc f) n rest pos fits few =
+    by (ltb n 10) refl (λ (more : 10 ≤ n). read-digits f (n / 10) ((48 + n % 10) ∷ rest) (omega arith) (omega arith)
+    (tenth f n few))
   where
-    by : (t : Bool) → ltb n 10 ≡ t → (10 ≤ n → numberIn (decimalWithin f (n / 10) ++ (48 + n % 10) ∷ rest) ≡ digitsIn (n / 10) ((48 + n % 10) ∷ rest))
+    by : (t : Bool) → ltb n 10 ≡ t
+        → (10 ≤ n → numberIn (decimalWithin f (n / 10) ++ (48 + n % 10) ∷ rest)
+        ≡ digitsIn (n / 10) ((48 + n % 10) ∷ rest))
         → numberIn (decimalWithin (suc f) n ++ rest) ≡ digitsIn n rest
     by true e ih =
         let small = ltb-true n 10 e in
@@ -88,7 +92,8 @@ spare : (f n : ℕ) → n < 10 ^ suc f → decimalWithin (suc (suc f)) n ≡ dec
 spare zero n h = one-digit 1 n (omega arith) ∙ sym (one-digit 0 n (omega arith))
 spare (suc f) n h = by (ltb n 10) refl (spare f (n / 10) (tenth (suc f) n h))
   where
-    by : (t : Bool) → ltb n 10 ≡ t → decimalWithin (suc (suc f)) (n / 10) ≡ decimalWithin (suc f) (n / 10) → decimalWithin (suc (suc (suc f))) n ≡ decimalWithin (suc (suc f)) n
+    by : (t : Bool) → ltb n 10 ≡ t → decimalWithin (suc (suc f)) (n / 10) ≡ decimalWithin (suc f) (n / 10)
+        → decimalWithin (suc (suc (suc f))) n ≡ decimalWithin (suc (suc f)) n
     by true e ih = let small = ltb-true n 10 e in one-digit (suc (suc f)) n small ∙ sym (one-digit (suc f) n small)
     by false e ih =
         let more = ltb-false n 10 e in
@@ -136,13 +141,18 @@ stopped n cs m rest fits e =
 nothing : {A : Type 0} {P : Type 0} {x : A} → none ≡ some x → P
 nothing {x = x} e = absurd (Option·none-ne-some x e)
 
-wrote-digits : (cs : List ℕ) (n : ℕ) (m : ℕ) (rest : List ℕ) → 0 < n → n ≤ 4294967295 → digitsIn n cs ≡ taken m rest → Wrote (decimal n ++ cs) m rest
+wrote-digits : (cs : List ℕ) (n : ℕ) (m : ℕ) (rest : List ℕ) → 0 < n → n ≤ 4294967295 → digitsIn n cs ≡ taken m rest
+    → Wrote (decimal n ++ cs) m rest
 unfolding digitsIn
 wrote-digits [] n m rest pos fits e = stopped n [] m rest fits e
-wrote-digits (c ∷ cs) n m rest pos fits e = digit (isDigit c) refl e (λ (few : 10 * n + (c - 48) ≤ 4294967295) f. wrote-digits cs (10 * n + (c - 48)) m rest (omega arith) few f)
+wrote-digits (c ∷ cs) n m rest pos fits e =
+    digit (isDigit c) refl e (λ (few : 10 * n + (c - 48) ≤ 4294967295) f. wrote-digits cs (10 * n + (c - 48)) m rest
+    (omega arith) few f)
   where
-    more : isDigit c ≡ true → (u : Bool) → leb (10 * n + (c - 48)) 4294967295 ≡ u → cond u (digitsIn (10 * n + (c - 48)) cs) none ≡ taken m rest
-        → (10 * n + (c - 48) ≤ 4294967295 → digitsIn (10 * n + (c - 48)) cs ≡ taken m rest → Wrote (decimal (10 * n + (c - 48)) ++ cs) m rest)
+    more : isDigit c ≡ true → (u : Bool) → leb (10 * n + (c - 48)) 4294967295 ≡ u
+        → cond u (digitsIn (10 * n + (c - 48)) cs) none ≡ taken m rest
+        → (10 * n + (c - 48) ≤ 4294967295 → digitsIn (10 * n + (c - 48)) cs ≡ taken m rest
+        → Wrote (decimal (10 * n + (c - 48)) ++ cs) m rest)
         → Wrote (decimal n ++ c ∷ cs) m rest
     more d false l e ih = nothing e
     more d true l e ih =
@@ -159,7 +169,8 @@ wrote-digits (c ∷ cs) n m rest pos fits e = digit (isDigit c) refl e (λ (few 
 
     digit : (t : Bool) → isDigit c ≡ t
         → cond t (cond (leb (10 * n + (c - 48)) 4294967295) (digitsIn (10 * n + (c - 48)) cs) none) (taken n (c ∷ cs)) ≡ taken m rest
-        → (10 * n + (c - 48) ≤ 4294967295 → digitsIn (10 * n + (c - 48)) cs ≡ taken m rest → Wrote (decimal (10 * n + (c - 48)) ++ cs) m rest)
+        → (10 * n + (c - 48) ≤ 4294967295 → digitsIn (10 * n + (c - 48)) cs ≡ taken m rest
+        → Wrote (decimal (10 * n + (c - 48)) ++ cs) m rest)
         → Wrote (decimal n ++ c ∷ cs) m rest
     digit true d e ih = more d (leb (10 * n + (c - 48)) 4294967295) refl e ih
     digit false d e ih = stopped n (c ∷ cs) m rest fits e
@@ -184,7 +195,8 @@ wrote-number (c ∷ cs) n rest e = digit (isDigit c) refl e
         let t : decimal (c - 48) ≡ (48 + (c - 48)) ∷ [] = unfold decimal in one-digit 9 (c - 48) (is .1) in
         record { fits = w .fits; is = ap (λ (x : ℕ). x ∷ cs) (is .0) ∙ ap (λ (l : List ℕ). l ++ cs) (sym t) ∙ w .is }
 
-    digit : (t : Bool) → isDigit c ≡ t → cond t (cond (eqb c 48) (taken 0 cs) (digitsIn (c - 48) cs)) none ≡ taken n rest → Wrote (c ∷ cs) n rest
+    digit : (t : Bool) → isDigit c ≡ t → cond t (cond (eqb c 48) (taken 0 cs) (digitsIn (c - 48) cs)) none
+        ≡ taken n rest → Wrote (c ∷ cs) n rest
     digit true d e = first d (eqb c 48) refl e
     digit false d e = nothing e
 
@@ -228,7 +240,8 @@ module _ (n : ℕ) (text : List ℕ) (i : ℕ) where
   unfolding digitsIn
   digits-step h e fits = rw (drop-cons text i 0 h, e, le-leb (10 * n + (getD text i 0 - 48)) 4294967295 fits)
 
-  pub digits-over : i < length text → isDigit (getD text i 0) ≡ true → 4294967295 < 10 * n + (getD text i 0 - 48) → digitsIn n (drop i text) ≡ none
+  pub digits-over : i < length text → isDigit (getD text i 0) ≡ true → 4294967295 < 10 * n + (getD text i 0 - 48)
+      → digitsIn n (drop i text) ≡ none
   unfolding digitsIn
   digits-over h e over = rw (drop-cons text i 0 h, e, lt-leb (10 * n + (getD text i 0 - 48)) 4294967295 over)
 
@@ -246,7 +259,8 @@ module _ (text : List ℕ) (i : ℕ) where
   unfolding numberIn isDigit
   number-zero h e = rw (drop-cons text i 0 h, e)
 
-  pub number-digits : i < length text → isDigit (getD text i 0) ≡ true → (getD text i 0 ≡ 48 → ⊥) → numberIn (drop i text) ≡ digitsIn (getD text i 0 - 48) (drop (suc i) text)
+  pub number-digits : i < length text → isDigit (getD text i 0) ≡ true → (getD text i 0 ≡ 48 → ⊥)
+      → numberIn (drop i text) ≡ digitsIn (getD text i 0 - 48) (drop (suc i) text)
   unfolding numberIn
   number-digits h e ne = rw (drop-cons text i 0 h, e, ne-eqb (getD text i 0) 48 ne)
 

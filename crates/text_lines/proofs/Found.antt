@@ -102,7 +102,8 @@ module _ (k : Taken ℕ) where
   unfolding afterB
   c-lost a b e = bind-none _ _ e
 
-  pub end-found : (a b c : Taken ℕ) (rest : List ℕ) → endIn (c .behind) ≡ some rest → afterC a b c ≡ taken (record { kind = k .value; a = a .value; b = b .value; c = c .value }) rest
+  pub end-found : (a b c : Taken ℕ) (rest : List ℕ) → endIn (c .behind) ≡ some rest → afterC a b c
+      ≡ taken (record { kind = k .value; a = a .value; b = b .value; c = c .value }) rest
   unfolding afterC
   end-found a b c rest e = bind-is _ _ rest e
 

@@ -33,7 +33,8 @@ pub record Writable (g : Gate) : Type 0 where
   pub c-holds : Holds (ltb 2 (operandsOf (g .kind))) (g .c)
 
 -- one operand
-read-operand : (used : Bool) (x : ℕ) (rest : List ℕ) → Holds used x → Apart rest → operandIn used (operandText used x ++ rest) ≡ taken x rest
+read-operand : (used : Bool) (x : ℕ) (rest : List ℕ) → Holds used x → Apart rest
+    → operandIn used (operandText used x ++ rest) ≡ taken x rest
 unfolding operandIn operandText
 read-operand true x rest h a = read-decimal x rest (h .fits) a
 read-operand false x rest h a = ap (λ (y : ℕ). taken y rest) (sym (h .unused refl))
@@ -58,7 +59,11 @@ wrote-operand true (c ∷ cs) t e = by (eqb c 32) refl e
     by : (u : Bool) → eqb c 32 ≡ u → cond u (numberIn cs) none ≡ some t → WroteOperand true (c ∷ cs) t
     by true p e =
         let w = wrote-number cs (t .value) (t .behind) e in
-        record { holds = record { fits = w .fits; unused = λ (n : true ≡ false). never n }; is = ap (λ (x : ℕ). x ∷ cs) (eqb-true c 32 p) ∙ ap (λ (l : List ℕ). 32 ∷ l) (w .is) }
+        record {
+          holds = record { fits = w .fits; unused = λ (n : true ≡ false). never n };
+          is =
+              ap (λ (x : ℕ). x ∷ cs) (eqb-true c 32 p) ∙ ap (λ (l : List ℕ). 32 ∷ l) (w .is);
+        }
     by false p e = absurd (Option·none-ne-some t e)
 wrote-operand false cs t e =
     let p = Option·some-injective (record { value = 0; behind = cs }) t e in
@@ -99,7 +104,13 @@ read-line g rest w =
     let aa : Apart oa = apart-operand (ltb 0 n) (g .a) ob ab in
     let whole : lineOf g ++ rest ≡ decimal (g .kind) ++ oa = simp append-assoc in
     ap gateIn whole
-    ∙ rw (read-decimal (g .kind) oa (omega (arith, w .known)) aa, lt-ltb (g .kind) 8 (w .known), read-operand (ltb 0 n) (g .a) ob (w .a-holds) ab, read-operand (ltb 1 n) (g .b) oc (w .b-holds) ac, read-operand (ltb 2 n) (g .c) (10 ∷ rest) (w .c-holds) refl)
+    ∙ rw (
+      read-decimal (g .kind) oa (omega (arith, w .known)) aa,
+      lt-ltb (g .kind) 8 (w .known),
+      read-operand (ltb 0 n) (g .a) ob (w .a-holds) ab,
+      read-operand (ltb 1 n) (g .b) oc (w .b-holds) ac,
+      read-operand (ltb 2 n) (g .c) (10 ∷ rest) (w .c-holds) refl,
+    )
 
 -- What is read was written.
 pub record WroteLine (cs : List ℕ) (t : Taken Gate) : Type 0 where
@@ -124,7 +135,8 @@ together cs k a b c rest ek small ea eb ec er =
     let ta = operandText (ltb 0 n) (a .value) in
     let tb = operandText (ltb 1 n) (b .value) in
     let tc = operandText (ltb 2 n) (c .value) in
-    let line : decimal (k .value) ++ (ta ++ (tb ++ (tc ++ 10 ∷ rest))) ≡ decimal (k .value) ++ ta ++ tb ++ tc ++ 10 ∷ [] ++ rest = sym (simp append-assoc) in
+    let line : decimal (k .value) ++ (ta ++ (tb ++ (tc ++ 10 ∷ rest))) ≡ decimal (k .value) ++ ta ++ tb ++ tc
+    ++ 10 ∷ [] ++ rest = sym (simp append-assoc) in
     record {
       writable = record { known = small; a-holds = wa .holds; b-holds = wb .holds; c-holds = wc .holds };
       is = wk .is
@@ -146,12 +158,14 @@ wrote-line cs t e =
     let c = bind-some _ _ t (b .2) in
     let r = bind-some _ _ t (c .2) in
     subst (WroteLine cs) (Option·some-injective _ t (r .2))
-    (together cs (k .0) (a .0) (b .0) (c .0) (r .0) (n .1 ∙ ap {B = Option (Taken ℕ)} some (known .0)) (known .1) (a .1) (b .1) (c .1) (r .1))
+    (together cs (k .0) (a .0) (b .0) (c .0) (r .0) (n .1 ∙ ap {B = Option (Taken ℕ)} some (known .0)) (known .1)
+    (a .1) (b .1) (c .1) (r .1))
 
 -- The same for a whole line.
 pub line-read : (g : Gate) → Writable g → gateOf (lineOf g) ≡ some g
 unfolding gateOf bind only
-line-read g w = ap (λ (o : Option (Taken Gate)). bind o λ t. only (t .value) (t .behind)) (ap gateIn (sym (append-nil (lineOf g))) ∙ read-line g [] w)
+line-read g w = ap (λ (o : Option (Taken Gate)). bind o λ t. only (t .value) (t .behind))
+    (ap gateIn (sym (append-nil (lineOf g))) ∙ read-line g [] w)
 
 pub line-wrote : (line : List ℕ) (g : Gate) → gateOf line ≡ some g → Writable g × (line ≡ lineOf g)
 unfolding gateOf only

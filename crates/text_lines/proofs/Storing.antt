@@ -42,7 +42,8 @@ pub length-tenth : (n : ℕ) → 10 ≤ n → n ≤ 4294967295 → length (decim
 length-tenth n h fits = omega (arith, ap length (decimal-tenth n h fits), length-append (decimal (n / 10)) ((48 + n % 10) ∷ []))
 
 -- the last digit may be stored first
-pub store-last : (l : List ℕ) (at i n d : ℕ) → 10 ≤ n → n ≤ 4294967295 → d ≡ 48 + n % 10 → suc i ≡ at + length (decimal n) → sets (set l i d) at (decimal (n / 10)) ≡ sets l at (decimal n)
+pub store-last : (l : List ℕ) (at i n d : ℕ) → 10 ≤ n → n ≤ 4294967295 → d ≡ 48 + n % 10 → suc i
+    ≡ at + length (decimal n) → sets (set l i d) at (decimal (n / 10)) ≡ sets l at (decimal n)
 store-last l at i n d h fits e p =
     let q : i ≡ at + length (decimal (n / 10)) = omega (arith, length-tenth n h fits) in
     ap (λ (k : ℕ). sets (set l k d) at (decimal (n / 10))) q
@@ -59,10 +60,12 @@ store-first l at i n d h e p =
 pub stored-long : {l : List ℕ} {at : ℕ} {xs r : List ℕ} {e : ℕ} → Stored l at xs r e → length r ≡ length l
 stored-long {l} {at} {xs} s = ap length (s .is) ∙ length-sets l at xs
 
-pub stored-then : {l : List ℕ} {at : ℕ} {xs r : List ℕ} {e : ℕ} → Stored l at xs r e → {ys r′ : List ℕ} {e′ : ℕ} → Stored r e ys r′ e′ → Stored l at (xs ++ ys) r′ e′
+pub stored-then : {l : List ℕ} {at : ℕ} {xs r : List ℕ} {e : ℕ} → Stored l at xs r e → {ys r′ : List ℕ} {e′ : ℕ}
+    → Stored r e ys r′ e′ → Stored l at (xs ++ ys) r′ e′
 stored-then {l} {at} {xs} {r} {e} s {ys} {r′} {e′} more =
     record {
-      is = more .is ∙ ap (λ (t : List ℕ). sets t e ys) (s .is) ∙ ap (λ (k : ℕ). sets (sets l at xs) k ys) (s .next) ∙ sym (sets-append l at xs ys);
+      is = more .is ∙ ap (λ (t : List ℕ). sets t e ys) (s .is) ∙ ap (λ (k : ℕ). sets (sets l at xs) k ys) (s .next)
+          ∙ sym (sets-append l at xs ys);
       next = omega (arith, s .next, more .next, length-append xs ys);
     }
 
@@ -72,7 +75,8 @@ unfolding decimalWithin
 digits-most zero n = omega arith
 digits-most (suc f) n = by (ltb n 10) (digits-most f (n / 10))
   where
-    by : (t : Bool) → length (decimalWithin f (n / 10)) ≤ f → length (cond t ((48 + n) ∷ []) (decimalWithin f (n / 10) ++ (48 + n % 10) ∷ [])) ≤ suc f
+    by : (t : Bool) → length (decimalWithin f (n / 10)) ≤ f
+        → length (cond t ((48 + n) ∷ []) (decimalWithin f (n / 10) ++ (48 + n % 10) ∷ [])) ≤ suc f
     by true ih = omega arith
     by false ih = omega (arith, length-append (decimalWithin f (n / 10)) ((48 + n % 10) ∷ []))
 
@@ -97,15 +101,24 @@ operand-most false n = omega arith
 pub lineWith : ℕ → Gate → List ℕ
 lineWith m g = decimal (g .kind) ++ operandText (ltb 0 m) (g .a) ++ operandText (ltb 1 m) (g .b) ++ operandText (ltb 2 m) (g .c) ++ 10 ∷ []
 
-pub line-with : (m : ℕ) (g : Gate) → m ≡ operandsOf (g .kind) → decimal (g .kind) ++ operandText (ltb 0 m) (g .a) ++ operandText (ltb 1 m) (g .b) ++ operandText (ltb 2 m) (g .c) ++ 10 ∷ [] ≡ lineOf g
+pub line-with : (m : ℕ) (g : Gate) → m ≡ operandsOf (g .kind) → decimal (g .kind) ++ operandText (ltb 0 m) (g .a)
+    ++ operandText (ltb 1 m) (g .b) ++ operandText (ltb 2 m) (g .c) ++ 10 ∷ [] ≡ lineOf g
 unfolding lineOf lineWith
 line-with m g e = ap (λ (x : ℕ). lineWith x g) e
 
 pub line-long : (m : ℕ) (g : Gate) → m ≡ operandsOf (g .kind)
-    → length (lineOf g) ≡ length (decimal (g .kind)) + length (operandText (ltb 0 m) (g .a)) + length (operandText (ltb 1 m) (g .b)) + length (operandText (ltb 2 m) (g .c)) + 1
+    → length (lineOf g) ≡ length (decimal (g .kind)) + length (operandText (ltb 0 m) (g .a))
+    + length (operandText (ltb 1 m) (g .b)) + length (operandText (ltb 2 m) (g .c)) + 1
 line-long m g e =
     let d = decimal (g .kind) in
     let x = operandText (ltb 0 m) (g .a) in
     let y = operandText (ltb 1 m) (g .b) in
     let z = operandText (ltb 2 m) (g .c) in
-    omega (arith, ap length (line-with m g e), length-append (d ++ x ++ y ++ z) (10 ∷ []), length-append (d ++ x ++ y) z, length-append (d ++ x) y, length-append d x)
+    omega (
+      arith,
+      ap length (line-with m g e),
+      length-append (d ++ x ++ y ++ z) (10 ∷ []),
+      length-append (d ++ x ++ y) z,
+      length-append (d ++ x) y,
+      length-append d x,
+    )

@@ -68,22 +68,28 @@ module _ (c : Call) (passed : CallPassed c) (p : ℕ) (l : p < c .trustees) wher
 
   parts-long : length (ballotsOf (ballotBytes (c .shape)) (c .lent .dealing) p) ≡ ballotBytes (c .shape)
   unfolding ballotsOf
-  parts-long = length-piece (c .trustees) (ballotBytes (c .shape)) (c .lent .dealing .ballotParts) p (good .ballot-size ∙ ap (λ (n : ℕ). (c .trustees) * n) (passed .ballotsPassed .size)) l
+  parts-long = length-piece (c .trustees) (ballotBytes (c .shape)) (c .lent .dealing .ballotParts) p
+      (good .ballot-size ∙ ap (λ (n : ℕ). (c .trustees) * n) (passed .ballotsPassed .size)) l
 
   dealt-long : length (dealtOf (gatesOf (c .table)) (c .lent .dealing) p) ≡ 3 * conditionalCount (gatesOf (c .table))
   unfolding dealtOf
-  dealt-long = length-piece (c .trustees) (3 * conditionalCount (gatesOf (c .table))) (c .lent .dealing .dealerParts) p (good .dealer-size) l
+  dealt-long = length-piece (c .trustees) (3 * conditionalCount (gatesOf (c .table)))
+      (c .lent .dealing .dealerParts) p (good .dealer-size) l
 
   parts-bits : onlyBits (ballotsOf (ballotBytes (c .shape)) (c .lent .dealing) p) ≡ true
   unfolding ballotsOf
-  parts-bits = only-bits-back (piece (ballotBytes (c .shape)) (c .lent .dealing .ballotParts) p) (piece-bits (ballotBytes (c .shape)) (c .lent .dealing .ballotParts) p (good .ballot-bits))
+  parts-bits = only-bits-back (piece (ballotBytes (c .shape)) (c .lent .dealing .ballotParts) p)
+      (piece-bits (ballotBytes (c .shape)) (c .lent .dealing .ballotParts) p (good .ballot-bits))
 
   dealt-bits : onlyBits (dealtOf (gatesOf (c .table)) (c .lent .dealing) p) ≡ true
   unfolding dealtOf
-  dealt-bits = only-bits-back (piece (3 * conditionalCount (gatesOf (c .table))) (c .lent .dealing .dealerParts) p) (piece-bits (3 * conditionalCount (gatesOf (c .table))) (c .lent .dealing .dealerParts) p (good .dealer-bits))
+  dealt-bits = only-bits-back (piece (3 * conditionalCount (gatesOf (c .table))) (c .lent .dealing .dealerParts) p)
+      (piece-bits (3 * conditionalCount (gatesOf (c .table))) (c .lent .dealing .dealerParts) p (good .dealer-bits))
 
-  fits : (ws published : List ℕ) → length ws ≡ ballotBytes (c .shape) + length (gatesOf (c .table)) → length published ≡ 2 * conditionalCount (gatesOf (c .table)) + c .shape .candidates
-      → tablesFit (ballotBytes (c .shape)) (c .shape .candidates) (sizeOf (gatesOf (c .table))) (dealtOf (gatesOf (c .table)) (c .lent .dealing) p) ws published ≡ true
+  fits : (ws published : List ℕ) → length ws ≡ ballotBytes (c .shape) + length (gatesOf (c .table))
+      → length published ≡ 2 * conditionalCount (gatesOf (c .table)) + c .shape .candidates
+      → tablesFit (ballotBytes (c .shape)) (c .shape .candidates) (sizeOf (gatesOf (c .table)))
+      (dealtOf (gatesOf (c .table)) (c .lent .dealing) p) ws published ≡ true
   unfolding tablesFit sizeOf
   fits ws published e f =
       rw (
@@ -93,20 +99,31 @@ module _ (c : Call) (passed : CallPassed c) (p : ℕ) (l : p < c .trustees) wher
       )
 
   -- the start
-  start-passes : (ws published : List ℕ) → length ws ≡ ballotBytes (c .shape) + length (gatesOf (c .table)) → length published ≡ 2 * conditionalCount (gatesOf (c .table)) + c .shape .candidates
-      → firstOf (startReasons (c .shape) (c .table) (c .trustees) p (ballotsOf (ballotBytes (c .shape)) (c .lent .dealing) p) (dealtOf (gatesOf (c .table)) (c .lent .dealing) p) ws published) ≡ none
+  start-passes : (ws published : List ℕ) → length ws ≡ ballotBytes (c .shape) + length (gatesOf (c .table))
+      → length published ≡ 2 * conditionalCount (gatesOf (c .table)) + c .shape .candidates
+      → firstOf (startReasons (c .shape) (c .table) (c .trustees) p
+      (ballotsOf (ballotBytes (c .shape)) (c .lent .dealing) p) (dealtOf (gatesOf (c .table)) (c .lent .dealing) p)
+      ws published) ≡ none
   unfolding startReasons ownReasons
   start-passes ws published e f =
       behind (testReasons (c .shape) (c .table)) _ (passed .test .reasons) ∙ pass _ 16 _ trustee
-      ∙ pass _ 17 _ (and-both _ _ true (eq-eqb (length (ballotsOf (ballotBytes (c .shape)) (c .lent .dealing) p)) (ballotBytes (c .shape)) parts-long) (fits ws published e f))
+      ∙ pass _ 17 _ (and-both _ _ true
+      (eq-eqb (length (ballotsOf (ballotBytes (c .shape)) (c .lent .dealing) p)) (ballotBytes (c .shape))
+      parts-long) (fits ws published e f))
       ∙ pass _ 18 [] (and-both _ _ true parts-bits dealt-bits) ∙ end
 
   -- no round changes a length
-  pub lengths : (r : ℕ) → (length (holdingsAfter (c .trustees) (ballotBytes (c .shape)) (gatesOf (c .table)) (c .shape .candidates) (c .lent .dealing) r .wireParts p) ≡ ballotBytes (c .shape) + length (gatesOf (c .table)))
-      × (length (holdingsAfter (c .trustees) (ballotBytes (c .shape)) (gatesOf (c .table)) (c .shape .candidates) (c .lent .dealing) r .published p) ≡ 2 * conditionalCount (gatesOf (c .table)) + c .shape .candidates)
+  pub lengths : (r : ℕ) → (length
+      (holdingsAfter (c .trustees) (ballotBytes (c .shape)) (gatesOf (c .table)) (c .shape .candidates)
+      (c .lent .dealing) r .wireParts p) ≡ ballotBytes (c .shape) + length (gatesOf (c .table)))
+      × (length (holdingsAfter (c .trustees) (ballotBytes (c .shape)) (gatesOf (c .table)) (c .shape .candidates)
+      (c .lent .dealing) r .published p) ≡ 2 * conditionalCount (gatesOf (c .table)) + c .shape .candidates)
   unfolding holdingsAfter startWires startPublished wiresAfter publishedAfter
   lengths zero = (
-    length-append (ballotsOf (ballotBytes (c .shape)) (c .lent .dealing) p) (replicate (length (gatesOf (c .table))) 0) ∙ ap (λ (n : ℕ). n + length (replicate {A = ℕ} (length (gatesOf (c .table))) 0)) parts-long ∙ ap (λ (n : ℕ). ballotBytes (c .shape) + n) (length-replicate {A = ℕ} (length (gatesOf (c .table))) 0),
+    length-append (ballotsOf (ballotBytes (c .shape)) (c .lent .dealing) p)
+        (replicate (length (gatesOf (c .table))) 0)
+        ∙ ap (λ (n : ℕ). n + length (replicate {A = ℕ} (length (gatesOf (c .table))) 0)) parts-long
+        ∙ ap (λ (n : ℕ). ballotBytes (c .shape) + n) (length-replicate {A = ℕ} (length (gatesOf (c .table))) 0),
     length-replicate {A = ℕ} (2 * conditionalCount (gatesOf (c .table)) + c .shape .candidates) 0,
   )
   lengths (suc r) =
@@ -115,29 +132,44 @@ module _ (c : Call) (passed : CallPassed c) (p : ℕ) (l : p < c .trustees) wher
       let W = enters u (gatesOf (c .table)) 0 0 (h .wireParts p) in
       let before = lengths r in (
         length-enters u (gatesOf (c .table)) 0 0 (h .wireParts p) ∙ before .0,
-        length-closes r (roundsOf (ballotBytes (c .shape)) (gatesOf (c .table))) (conditionalCount (gatesOf (c .table))) (c .shape .candidates) W (publishes u W (gatesOf (c .table)) 0 0 (h .published p))
+        length-closes r (roundsOf (ballotBytes (c .shape)) (gatesOf (c .table)))
+            (conditionalCount (gatesOf (c .table))) (c .shape .candidates) W
+            (publishes u W (gatesOf (c .table)) 0 0 (h .published p))
             ∙ length-publishes u W (gatesOf (c .table)) 0 0 (h .published p) ∙ before .1,
       )
 
   heard-long : (r : ℕ) → length (heardBefore c r) ≡ 2 * conditionalCount (gatesOf (c .table))
   unfolding heardBefore sumsOf
-  heard-long r = length-sums (c .trustees) (2 * conditionalCount (gatesOf (c .table))) 0 (holdingsAfter (c .trustees) (ballotBytes (c .shape)) (gatesOf (c .table)) (c .shape .candidates) (c .lent .dealing) r .published)
+  heard-long r = length-sums (c .trustees) (2 * conditionalCount (gatesOf (c .table))) 0
+      (holdingsAfter (c .trustees) (ballotBytes (c .shape)) (gatesOf (c .table)) (c .shape .candidates)
+      (c .lent .dealing) r .published)
 
   heard-bits : (r : ℕ) → onlyBits (heardBefore c r) ≡ true
   unfolding heardBefore sumsOf
   heard-bits r =
-      let all = holdingsAfter (c .trustees) (ballotBytes (c .shape)) (gatesOf (c .table)) (c .shape .candidates) (c .lent .dealing) r .published in
-      only-bits-back (sumsFrom (c .trustees) (2 * conditionalCount (gatesOf (c .table))) 0 all) (sums-bits (c .trustees) (2 * conditionalCount (gatesOf (c .table))) 0 all)
+      let all = holdingsAfter (c .trustees) (ballotBytes (c .shape)) (gatesOf (c .table)) (c .shape .candidates)
+      (c .lent .dealing) r .published in
+      only-bits-back (sumsFrom (c .trustees) (2 * conditionalCount (gatesOf (c .table))) 0 all)
+      (sums-bits (c .trustees) (2 * conditionalCount (gatesOf (c .table))) 0 all)
 
   -- a round
   round-passes : (r : ℕ) → r ≤ roundsOf (ballotBytes (c .shape)) (gatesOf (c .table))
-      → firstOf (roundReasons (c .shape) (c .table) (c .trustees) p r (levelsOf (ballotBytes (c .shape)) (gatesOf (c .table))) (dealtOf (gatesOf (c .table)) (c .lent .dealing) p) (heardBefore c r) (holdingsAfter (c .trustees) (ballotBytes (c .shape)) (gatesOf (c .table)) (c .shape .candidates) (c .lent .dealing) r .wireParts p) (holdingsAfter (c .trustees) (ballotBytes (c .shape)) (gatesOf (c .table)) (c .shape .candidates) (c .lent .dealing) r .published p)) ≡ none
+      → firstOf (roundReasons (c .shape) (c .table) (c .trustees) p r
+      (levelsOf (ballotBytes (c .shape)) (gatesOf (c .table))) (dealtOf (gatesOf (c .table)) (c .lent .dealing) p)
+      (heardBefore c r) (holdingsAfter (c .trustees) (ballotBytes (c .shape)) (gatesOf (c .table))
+      (c .shape .candidates) (c .lent .dealing) r .wireParts p)
+      (holdingsAfter (c .trustees) (ballotBytes (c .shape)) (gatesOf (c .table)) (c .shape .candidates)
+      (c .lent .dealing) r .published p)) ≡ none
   unfolding roundReasons tableReasons
   round-passes r e =
       let h = lengths r in
-      behind (testReasons (c .shape) (c .table)) _ (passed .test .reasons) ∙ pass _ 16 _ trustee ∙ pass _ 17 _ (fits _ _ (h .0) (h .1)) ∙ pass _ 18 _ dealt-bits
-      ∙ pass _ 200 _ (same-refl (levelsOf (ballotBytes (c .shape)) (gatesOf (c .table)))) ∙ pass _ 201 _ (le-leb r (roundsOf (ballotBytes (c .shape)) (gatesOf (c .table))) e)
-      ∙ pass _ 202 [] (and-both _ _ true (eq-eqb (length (heardBefore c r)) (2 * conditionalCount (gatesOf (c .table))) (heard-long r)) (heard-bits r)) ∙ end
+      behind (testReasons (c .shape) (c .table)) _ (passed .test .reasons) ∙ pass _ 16 _ trustee
+      ∙ pass _ 17 _ (fits _ _ (h .0) (h .1)) ∙ pass _ 18 _ dealt-bits
+      ∙ pass _ 200 _ (same-refl (levelsOf (ballotBytes (c .shape)) (gatesOf (c .table))))
+      ∙ pass _ 201 _ (le-leb r (roundsOf (ballotBytes (c .shape)) (gatesOf (c .table))) e)
+      ∙ pass _ 202 [] (and-both _ _ true
+      (eq-eqb (length (heardBefore c r)) (2 * conditionalCount (gatesOf (c .table))) (heard-long r)) (heard-bits r))
+      ∙ end
 
   pub calls-of : CallsOf c p
   unfolding startOutcome startedWires startedPublished roundOutcome roundedWires roundedPublished wiresMade publishedMade ownTurn holdingsAfter wiresAfter publishedAfter turnOf heardBefore
@@ -147,7 +179,8 @@ module _ (c : Call) (passed : CallPassed c) (p : ℕ) (l : p < c .trustees) wher
             let why = start-passes ws published e f in
             record {
               answer = sym (outcome-none _ (sizeOf (gatesOf (c .table))) (sizeOf (gatesOf (c .table))) why refl);
-              wires = sym (left-new _ (startWires (length (gatesOf (c .table))) (ballotsOf (ballotBytes (c .shape)) (c .lent .dealing) p)) ws why);
+              wires = sym (left-new _ (startWires (length (gatesOf (c .table)))
+                  (ballotsOf (ballotBytes (c .shape)) (c .lent .dealing) p)) ws why);
               bits = sym (left-new _ (startPublished (conditionalCount (gatesOf (c .table))) (c .shape .candidates)) published why);
             };
         round = λ r e.
@@ -156,8 +189,11 @@ module _ (c : Call) (passed : CallPassed c) (p : ℕ) (l : p < c .trustees) wher
             let own = levelsOf (ballotBytes (c .shape)) (gatesOf (c .table)) in
             let dealt = dealtOf (gatesOf (c .table)) (c .lent .dealing) p in
             record {
-              answer = sym (outcome-none _ (depthsOf (ballotBytes (c .shape)) (gatesOf (c .table))) (depthsOf (ballotBytes (c .shape)) (gatesOf (c .table))) why refl);
-              wires = sym (left-new _ (wiresMade (c .shape) (c .table) p r own dealt (heardBefore c r) (h .wireParts p)) (h .wireParts p) why);
-              bits = sym (left-new _ (publishedMade (c .shape) (c .table) p r own dealt (heardBefore c r) (h .wireParts p) (h .published p)) (h .published p) why);
+              answer = sym (outcome-none _ (depthsOf (ballotBytes (c .shape)) (gatesOf (c .table)))
+                  (depthsOf (ballotBytes (c .shape)) (gatesOf (c .table))) why refl);
+              wires = sym (left-new _ (wiresMade (c .shape) (c .table) p r own dealt (heardBefore c r)
+                  (h .wireParts p)) (h .wireParts p) why);
+              bits = sym (left-new _ (publishedMade (c .shape) (c .table) p r own dealt (heardBefore c r)
+                  (h .wireParts p) (h .published p)) (h .published p) why);
             };
       }

@@ -36,7 +36,8 @@ use Rattle.trustee_alone.proofs.Memory.{memory}
 use Rattle.trustee_alone.proofs.Apart.{lengths, calls-of}
 
 -- the turn by what it is made of
-turn-same : (t inputs : ℕ) (gs : List Gate) (d e : Dealing) (r : ℕ) (one other : Held) (p : ℕ) → dealtOf gs d p ≡ dealtOf gs e p → sumsOf t (conditionalCount gs) one ≡ sumsOf t (conditionalCount gs) other
+turn-same : (t inputs : ℕ) (gs : List Gate) (d e : Dealing) (r : ℕ) (one other : Held) (p : ℕ) → dealtOf gs d p
+    ≡ dealtOf gs e p → sumsOf t (conditionalCount gs) one ≡ sumsOf t (conditionalCount gs) other
     → turnOf t inputs gs d r one p ≡ turnOf t inputs gs e r other p
 unfolding turnOf
 turn-same t inputs gs d e r one other p f g = rw (f, g)
@@ -45,7 +46,9 @@ own-tables-only : OwnTablesOnly
 unfolding publishedAfter wiresAfter
 own-tables-only t inputs k gs d e r one other p f g w q =
     let same = turn-same t inputs gs d e r (one .published) (other .published) p f g in
-    let X : Turn → List ℕ → List ℕ → List ℕ = λ u ws published. closes r (roundsOf inputs gs) (conditionalCount gs) k (enters u gs 0 0 ws) (publishes u (enters u gs 0 0 ws) gs 0 0 published) in
+    let X : Turn → List ℕ → List ℕ → List ℕ =
+    λ u ws published. closes r (roundsOf inputs gs) (conditionalCount gs) k (enters u gs 0 0 ws)
+    (publishes u (enters u gs 0 0 ws) gs 0 0 published) in
     ap (λ (u : Turn). X u (one .wireParts p) (one .published p)) same
     ∙ ap (λ (ws : List ℕ). X (turnOf t inputs gs e r (other .published) p) ws (one .published p)) w
     ∙ ap (λ (l : List ℕ). X (turnOf t inputs gs e r (other .published) p) (other .wireParts p) l) q
@@ -57,7 +60,9 @@ module _ (c : Call) (size : Size) (yes : trusteesResult c .answer ≡ accepted s
       go : (o : Option Reason) → firstOf (trusteesReasons c) ≡ o → firstOf (trusteesReasons c) ≡ none
       go none e = e
       go (some r) e =
-          let q : refused r ≡ accepted size = sym (ap (λ (x : TrusteesResult). x .answer) (result-by c (some r) e) ∙ (unfold trusteesResultAfter in refl)) ∙ yes in
+          let q : refused r ≡ accepted size =
+          sym (ap (λ (x : TrusteesResult). x .answer) (result-by c (some r) e)
+          ∙ (unfold trusteesResultAfter in refl)) ∙ yes in
           let z : _≡_ {A = ℕ} 0 1 = cc in absurd (omega arith)
 
   is : trusteesResult c ≡ trusteesResultAfter none c
@@ -71,14 +76,19 @@ module _ (c : Call) (size : Size) (yes : trusteesResult c .answer ≡ accepted s
 
   parts-long : (q : ℕ) → q < c .trustees → length (ballotsOf (ballotBytes (c .shape)) (c .lent .dealing) q) ≡ ballotBytes (c .shape)
   unfolding ballotsOf
-  parts-long q h = length-piece (c .trustees) (ballotBytes (c .shape)) (c .lent .dealing .ballotParts) q (passed .parts .tables .ballot-length ∙ ap (λ (n : ℕ). c .trustees * n) long) h
+  parts-long q h = length-piece (c .trustees) (ballotBytes (c .shape)) (c .lent .dealing .ballotParts) q
+      (passed .parts .tables .ballot-length ∙ ap (λ (n : ℕ). c .trustees * n) long) h
 
   made : (p : ℕ) → p < c .trustees
-      → (holdingsIn c (suc (roundsIn c)) .wireParts p ≡ wirePartsOf (c .trustees) (ballotBytes (c .shape)) (gatesOf (c .table)) (c .lent .dealing) p)
-      × (holdingsIn c (suc (roundsIn c)) .published p ≡ publishedOf (c .trustees) (ballotBytes (c .shape)) (gatesOf (c .table)) (c .shape .candidates) (c .lent .dealing) p)
+      → (holdingsIn c (suc (roundsIn c)) .wireParts p
+      ≡ wirePartsOf (c .trustees) (ballotBytes (c .shape)) (gatesOf (c .table)) (c .lent .dealing) p)
+      × (holdingsIn c (suc (roundsIn c)) .published p
+      ≡ publishedOf (c .trustees) (ballotBytes (c .shape)) (gatesOf (c .table)) (c .shape .candidates)
+      (c .lent .dealing) p)
   made p l =
       let f = accepted-list (ballotBytes (c .shape)) (c .shape .candidates) (c .table) _ _ (passed .test .tests) in
-      rounds-make-the-tally (c .trustees) (ballotBytes (c .shape)) (c .shape .candidates) (gatesOf (c .table)) (c .lent .dealing) (some-bytes (c .shape) (passed .test .within)) (f .enough) (f .good)
+      rounds-make-the-tally (c .trustees) (ballotBytes (c .shape)) (c .shape .candidates) (gatesOf (c .table))
+      (c .lent .dealing) (some-bytes (c .shape) (passed .test .within)) (f .enough) (f .good)
       parts-long p l
 
   -- the plain ballots are as long as the inputs
@@ -88,7 +98,8 @@ module _ (c : Call) (size : Size) (yes : trusteesResult c .answer ≡ accepted s
   joined-is : publishedAtEnd c ≡ joined (c .trustees) (publishedIn c)
   joined-is =
       joined-cong (c .trustees) (holdingsIn c (suc (roundsIn c)) .published) (publishedIn c)
-      (λ (p : ℕ) l. made p l .1 ∙ ap (λ (n : ℕ). publishedOf (c .trustees) n (gatesOf (c .table)) (c .shape .candidates) (c .lent .dealing) p) (sym long))
+      (λ (p : ℕ) l. made p l .1 ∙ ap (λ (n : ℕ). publishedOf (c .trustees) n (gatesOf (c .table))
+      (c .shape .candidates) (c .lent .dealing) p) (sym long))
 
   -- the sums that are heard are those that the single call opens
   opens : closingHeard c ≡ closingSums (c .trustees) (c .shape .candidates) (wirePartsIn c)
@@ -123,7 +134,8 @@ module _ (c : Call) (size : Size) (yes : trusteesResult c .answer ≡ accepted s
       let held = othersOf (c .trustees) q (partsAtEnd c) in
       let final = othersOf (c .trustees) q (wirePartsIn c) in
       ap (λ (n : ℕ). seen n held (publishedAtEnd c)) (sym long)
-      ∙ ap (λ (parts : List (List ℕ)). seen (length (c .ballots)) parts (publishedAtEnd c)) (others-cong (c .trustees) q (partsAtEnd c) (wirePartsIn c) (λ (p : ℕ) l n. same-parts p l))
+      ∙ ap (λ (parts : List (List ℕ)). seen (length (c .ballots)) parts (publishedAtEnd c))
+      (others-cong (c .trustees) q (partsAtEnd c) (wirePartsIn c) (λ (p : ℕ) l n. same-parts p l))
       ∙ ap (λ (bits : List ℕ). seen (length (c .ballots)) final bits) joined-is
 
 -- demands 2 and 3 of the single call are those of trustees apart
@@ -134,7 +146,8 @@ apart-accuracy c size e =
     record {
       own-size = a .own-size;
       every-wire = λ (x : ℕ) h.
-          opened-same (c .trustees) (λ p. part (partsAtEnd c p) x) (λ p. part (wirePartsIn c p) x) (λ (p : ℕ) l. ap (λ (ws : List ℕ). part ws x) (s .same-parts p l))
+          opened-same (c .trustees) (λ p. part (partsAtEnd c p) x) (λ p. part (wirePartsIn c p) x)
+          (λ (p : ℕ) l. ap (λ (ws : List ℕ). part ws x) (s .same-parts p l))
           ∙ a .every-wire x h;
       last-wires = s .same-closing ∙ a .last-wires;
       plain-run = λ tape wires board run f. s .same-closing ∙ a .plain-run tape wires board run f;
@@ -179,7 +192,8 @@ module _ (c : Call) (ballots : List ℕ) (lent : PartTables) (first second : Siz
 
   -- what trustee p ends with
   wires-alike : (p : ℕ) → p < c .trustees → p ≢ q
-      → wirePartsOf (c .trustees) (ballotBytes (c .shape)) (gatesOf (c .table)) (c .lent .dealing) p ≡ wirePartsOf (c .trustees) (ballotBytes (c .shape)) (gatesOf (c .table)) (lent .dealing) p
+      → wirePartsOf (c .trustees) (ballotBytes (c .shape)) (gatesOf (c .table)) (c .lent .dealing) p
+      ≡ wirePartsOf (c .trustees) (ballotBytes (c .shape)) (gatesOf (c .table)) (lent .dealing) p
   wires-alike p l n =
       sym (made c first a p l .0)
       ∙ others-same (c .trustees) q (partsAtEnd c) (partsAtEnd other) (ap (λ (v : View). v .wireParts) same) p l n
@@ -190,33 +204,42 @@ module _ (c : Call) (ballots : List ℕ) (lent : PartTables) (first second : Siz
       ≡ publishedOf (c .trustees) (ballotBytes (c .shape)) (gatesOf (c .table)) (c .shape .candidates) (lent .dealing) p
   published-alike p l =
       sym (made c first a p l .1)
-      ∙ joined-same (c .trustees) (2 * conditionalCount (gatesOf (c .table)) + c .shape .candidates) (holdingsIn c (suc (roundsIn c)) .published) (holdingsIn other (suc (roundsIn c)) .published)
-      (λ (p : ℕ) h. lengths c (passed c first a) p h (suc (roundsIn c)) .1) (λ (p : ℕ) h. lengths other (passed other second b) p h (suc (roundsIn c)) .1)
+      ∙ joined-same (c .trustees) (2 * conditionalCount (gatesOf (c .table)) + c .shape .candidates)
+      (holdingsIn c (suc (roundsIn c)) .published) (holdingsIn other (suc (roundsIn c)) .published)
+      (λ (p : ℕ) h. lengths c (passed c first a) p h (suc (roundsIn c)) .1)
+      (λ (p : ℕ) h. lengths other (passed other second b) p h (suc (roundsIn c)) .1)
       (ap (λ (v : View). v .published) same) p l
       ∙ made other second b p l .1
 
   earlier : (r : ℕ) → r ≤ roundsIn c → viewBefore r q c ≡ viewBefore r q other
   earlier r h =
-      same-parts-same-view (viewBefore r q c) (viewBefore r q other) (ap (λ (v : View). v .ballotParts) same) (ap (λ (v : View). v .dealerParts) same)
-      (others-cong (c .trustees) q (holdingsIn c r .wireParts) (holdingsIn other r .wireParts) (λ (p : ℕ) l n. before p l .0 (wires-alike p l n)))
-      (joined-cong (c .trustees) (holdingsIn c r .published) (holdingsIn other r .published) (λ (p : ℕ) l. before p l .1 (published-alike p l)))
+      same-parts-same-view (viewBefore r q c) (viewBefore r q other) (ap (λ (v : View). v .ballotParts) same)
+      (ap (λ (v : View). v .dealerParts) same)
+      (others-cong (c .trustees) q (holdingsIn c r .wireParts) (holdingsIn other r .wireParts)
+      (λ (p : ℕ) l n. before p l .0 (wires-alike p l n)))
+      (joined-cong (c .trustees) (holdingsIn c r .published) (holdingsIn other r .published)
+      (λ (p : ℕ) l. before p l .1 (published-alike p l)))
     where
       before : (p : ℕ) → p < c .trustees
-          → (wirePartsOf (c .trustees) (ballotBytes (c .shape)) (gatesOf (c .table)) (c .lent .dealing) p ≡ wirePartsOf (c .trustees) (ballotBytes (c .shape)) (gatesOf (c .table)) (lent .dealing) p
+          → (wirePartsOf (c .trustees) (ballotBytes (c .shape)) (gatesOf (c .table)) (c .lent .dealing) p
+          ≡ wirePartsOf (c .trustees) (ballotBytes (c .shape)) (gatesOf (c .table)) (lent .dealing) p
           → holdingsIn c r .wireParts p ≡ holdingsIn other r .wireParts p)
           × (publishedOf (c .trustees) (ballotBytes (c .shape)) (gatesOf (c .table)) (c .shape .candidates) (c .lent .dealing) p
           ≡ publishedOf (c .trustees) (ballotBytes (c .shape)) (gatesOf (c .table)) (c .shape .candidates) (lent .dealing) p
           → holdingsIn c r .published p ≡ holdingsIn other r .published p)
       before p l =
           let f = accepted-list (ballotBytes (c .shape)) (c .shape .candidates) (c .table) _ _ (passed c first a .test .tests) in
-          earlier-follows (c .trustees) (ballotBytes (c .shape)) (c .shape .candidates) (gatesOf (c .table)) (c .lent .dealing) (lent .dealing)
-          (some-bytes (c .shape) (passed c first a .test .within)) (f .enough) (f .good) (parts-long c first a) (parts-long other second b) r h p l
+          earlier-follows (c .trustees) (ballotBytes (c .shape)) (c .shape .candidates) (gatesOf (c .table))
+          (c .lent .dealing) (lent .dealing)
+          (some-bytes (c .shape) (passed c first a .test .within)) (f .enough) (f .good) (parts-long c first a)
+          (parts-long other second b) r h p l
 
 no-earlier-view : NoEarlierView
 no-earlier-view c c′ first second shape table trustees a b q same =
     let is : alike c (c′ .ballots) (c′ .lent) ≡ c′ = rw (shape, table, trustees) refl in
     subst (λ (e : Call). (r : ℕ) → r ≤ roundsIn c → viewBefore r q c ≡ viewBefore r q e) is
-    (earlier c (c′ .ballots) (c′ .lent) first second a (ap (λ (e : Call). trusteesResult e .answer) is ∙ b) q (same ∙ sym (ap (λ (e : Call). apart .view q e) is)))
+    (earlier c (c′ .ballots) (c′ .lent) first second a (ap (λ (e : Call). trusteesResult e .answer) is ∙ b) q
+    (same ∙ sym (ap (λ (e : Call). apart .view q e) is)))
 
 tallies : Tallies apart
 tallies =

@@ -55,50 +55,83 @@ finish-list : (s : Shape) (table : List ℕ) → All finish-numbers (testReasons
 unfolding All testReasons hasNumberIn reasonAt finish-numbers
 finish-list s table = (unless-fine finish-numbers _ 1 tt, (list-fine finish-numbers _ tt (λ g. tt), tt))
 
-start-all : (s : Shape) (table : List ℕ) (t p : ℕ) (parts dealt ws published : List ℕ) → All start-numbers (startReasons s table t p parts dealt ws published)
+start-all : (s : Shape) (table : List ℕ) (t p : ℕ) (parts dealt ws published : List ℕ)
+    → All start-numbers (startReasons s table t p parts dealt ws published)
 unfolding All startReasons ownReasons hasNumberIn reasonAt start-numbers
-start-all s table t p parts dealt ws published = both start-numbers (testReasons s table) _ (start-list s table) (unless-fine start-numbers _ 16 tt, (unless-fine start-numbers _ 17 tt, (unless-fine start-numbers _ 18 tt, tt)))
+start-all s table t p parts dealt ws published =
+    both start-numbers (testReasons s table) _ (start-list s table)
+    (unless-fine start-numbers _ 16 tt, (unless-fine start-numbers _ 17 tt, (unless-fine start-numbers _ 18 tt, tt)))
 
-round-all : (s : Shape) (table : List ℕ) (t p round : ℕ) (levels dealt heard ws published : List ℕ) → All round-numbers (roundReasons s table t p round levels dealt heard ws published)
+round-all : (s : Shape) (table : List ℕ) (t p round : ℕ) (levels dealt heard ws published : List ℕ)
+    → All round-numbers (roundReasons s table t p round levels dealt heard ws published)
 unfolding All roundReasons tableReasons hasNumberIn reasonAt round-numbers
 round-all s table t p round levels dealt heard ws published =
-    both round-numbers (testReasons s table) _ (round-list s table)
-    (unless-fine round-numbers _ 16 tt, (unless-fine round-numbers _ 17 tt, (unless-fine round-numbers _ 18 tt, (unless-fine round-numbers _ 200 tt, (unless-fine round-numbers _ 201 tt, (unless-fine round-numbers _ 202 tt, tt))))))
+    both round-numbers (testReasons s table) _ (round-list s table) (
+      unless-fine round-numbers _ 16 tt,
+      (
+        unless-fine round-numbers _ 17 tt,
+        (
+          unless-fine round-numbers _ 18 tt,
+          (
+            unless-fine round-numbers _ 200 tt,
+            (unless-fine round-numbers _ 201 tt, (unless-fine round-numbers _ 202 tt, tt)),
+          ),
+        ),
+      ),
+    )
 
 finish-all : (s : Shape) (table ws : List ℕ) → All finish-numbers (finishReasons s table ws)
 unfolding All finishReasons hasNumberIn reasonAt finish-numbers
 finish-all s table ws = both finish-numbers (testReasons s table) _ (finish-list s table) (unless-fine finish-numbers _ 17 tt, tt)
 
-pub start-number : (s : Shape) (table : List ℕ) (t p : ℕ) (parts dealt ws published : List ℕ) (r : Reason) → startOutcome s table t p parts dealt ws published ≡ refused r → T (hasNumberIn (1 ∷ 2 ∷ 3 ∷ 16 ∷ 17 ∷ 18 ∷ []) r)
+pub start-number : (s : Shape) (table : List ℕ) (t p : ℕ) (parts dealt ws published : List ℕ) (r : Reason)
+    → startOutcome s table t p parts dealt ws published ≡ refused r → T (hasNumberIn (1 ∷ 2 ∷ 3 ∷ 16 ∷ 17 ∷ 18 ∷ []) r)
 unfolding startOutcome start-numbers
 start-number s table t p parts dealt ws published r e =
-    refused-fine start-numbers (startOutcome s table t p parts dealt ws published) r (outcome-fine start-numbers _ _ (first-fine start-numbers (startReasons s table t p parts dealt ws published) (start-all s table t p parts dealt ws published))) e
+    refused-fine start-numbers (startOutcome s table t p parts dealt ws published) r
+    (outcome-fine start-numbers _ _
+    (first-fine start-numbers (startReasons s table t p parts dealt ws published)
+    (start-all s table t p parts dealt ws published))) e
 
-pub round-number : (s : Shape) (table : List ℕ) (t p round : ℕ) (levels dealt heard ws published : List ℕ) (r : Reason) → roundOutcome s table t p round levels dealt heard ws published ≡ refused r
+pub round-number : (s : Shape) (table : List ℕ) (t p round : ℕ) (levels dealt heard ws published : List ℕ)
+    (r : Reason) → roundOutcome s table t p round levels dealt heard ws published ≡ refused r
     → T (hasNumberIn (1 ∷ 2 ∷ 3 ∷ 16 ∷ 17 ∷ 18 ∷ 200 ∷ 201 ∷ 202 ∷ []) r)
 unfolding roundOutcome round-numbers
 round-number s table t p round levels dealt heard ws published r e =
-    refused-fine round-numbers (roundOutcome s table t p round levels dealt heard ws published) r (outcome-fine round-numbers _ _ (first-fine round-numbers (roundReasons s table t p round levels dealt heard ws published) (round-all s table t p round levels dealt heard ws published))) e
+    refused-fine round-numbers (roundOutcome s table t p round levels dealt heard ws published) r
+    (outcome-fine round-numbers _ _
+    (first-fine round-numbers (roundReasons s table t p round levels dealt heard ws published)
+    (round-all s table t p round levels dealt heard ws published))) e
 
-pub finish-number : (s : Shape) (table ws : List ℕ) (r : Reason) → finishOutcome s table ws ≡ refused r → T (hasNumberIn (1 ∷ 2 ∷ 3 ∷ 17 ∷ []) r)
+pub finish-number : (s : Shape) (table ws : List ℕ) (r : Reason) → finishOutcome s table ws ≡ refused r
+    → T (hasNumberIn (1 ∷ 2 ∷ 3 ∷ 17 ∷ []) r)
 unfolding finishOutcome finish-numbers
-finish-number s table ws r e = refused-fine finish-numbers (finishOutcome s table ws) r (outcome-fine finish-numbers _ _ (first-fine finish-numbers (finishReasons s table ws) (finish-all s table ws))) e
+finish-number s table ws r e =
+    refused-fine finish-numbers (finishOutcome s table ws) r
+    (outcome-fine finish-numbers _ _ (first-fine finish-numbers (finishReasons s table ws) (finish-all s table ws))) e
 
-start-refused : (s : Shape) (table : List ℕ) (t p : ℕ) (parts dealt ws published : List ℕ) (r : Reason) → startOutcome s table t p parts dealt ws published ≡ refused r
+start-refused : (s : Shape) (table : List ℕ) (t p : ℕ) (parts dealt ws published : List ℕ) (r : Reason)
+    → startOutcome s table t p parts dealt ws published ≡ refused r
     → (startedWires s table t p parts dealt ws published ≡ ws) × (startedPublished s table t p parts dealt ws published ≡ published)
 unfolding startOutcome startedWires startedPublished
 start-refused s table t p parts dealt ws published r e =
     let o = firstOf (startReasons s table t p parts dealt ws published) in
-    let why = outcome-refused o (sizeOf (gatesOf table)) r e in
-    (sym (left-old o (startWires (length (gatesOf table)) parts) ws r why), sym (left-old o (startPublished (conditionalCount (gatesOf table)) (s .candidates)) published r why))
+    let why = outcome-refused o (sizeOf (gatesOf table)) r e in (
+      sym (left-old o (startWires (length (gatesOf table)) parts) ws r why),
+      sym (left-old o (startPublished (conditionalCount (gatesOf table)) (s .candidates)) published r why),
+    )
 
-round-refused : (s : Shape) (table : List ℕ) (t p round : ℕ) (levels dealt heard ws published : List ℕ) (r : Reason) → roundOutcome s table t p round levels dealt heard ws published ≡ refused r
-    → (roundedWires s table t p round levels dealt heard ws published ≡ ws) × (roundedPublished s table t p round levels dealt heard ws published ≡ published)
+round-refused : (s : Shape) (table : List ℕ) (t p round : ℕ) (levels dealt heard ws published : List ℕ) (r : Reason)
+    → roundOutcome s table t p round levels dealt heard ws published ≡ refused r
+    → (roundedWires s table t p round levels dealt heard ws published ≡ ws)
+    × (roundedPublished s table t p round levels dealt heard ws published ≡ published)
 unfolding roundOutcome roundedWires roundedPublished
 round-refused s table t p round levels dealt heard ws published r e =
     let o = firstOf (roundReasons s table t p round levels dealt heard ws published) in
-    let why = outcome-refused o (depthsOf (ballotBytes s) (gatesOf table)) r e in
-    (sym (left-old o (wiresMade s table p round levels dealt heard ws) ws r why), sym (left-old o (publishedMade s table p round levels dealt heard ws published) published r why))
+    let why = outcome-refused o (depthsOf (ballotBytes s) (gatesOf table)) r e in (
+      sym (left-old o (wiresMade s table p round levels dealt heard ws) ws r why),
+      sym (left-old o (publishedMade s table p round levels dealt heard ws published) published r why),
+    )
 
 finish-refused : (s : Shape) (table ws : List ℕ) (r : Reason) → finishOutcome s table ws ≡ refused r → finishedWires s table ws ≡ ws
 unfolding finishOutcome finishedWires
@@ -106,14 +139,16 @@ finish-refused s table ws r e =
     let o = firstOf (finishReasons s table ws) in
     sym (left-old o (replicate (length ws) 0) ws r (outcome-refused o (sizeOf (gatesOf table)) r e))
 
-finish-empties : (s : Shape) (table ws : List ℕ) (size : Size) → finishOutcome s table ws ≡ accepted size → finishedWires s table ws ≡ replicate (length ws) 0
+finish-empties : (s : Shape) (table ws : List ℕ) (size : Size) → finishOutcome s table ws ≡ accepted size
+    → finishedWires s table ws ≡ replicate (length ws) 0
 unfolding finishOutcome finishedWires
 finish-empties s table ws size e =
     let o = firstOf (finishReasons s table ws) in
     sym (left-new o (replicate (length ws) 0) ws (accepted-values o (sizeOf (gatesOf table)) size e .0))
 
 -- no call changes a length
-pub length-closes : (round last conditional k : ℕ) (ws published : List ℕ) → length (closes round last conditional k ws published) ≡ length published
+pub length-closes : (round last conditional k : ℕ) (ws published : List ℕ)
+    → length (closes round last conditional k ws published) ≡ length published
 unfolding closes
 length-closes round last conditional k ws published = go (eqb round last)
   where
@@ -126,8 +161,10 @@ unfolding afterwards
 kept (some r) new old h = refl
 kept none new old h = h refl
 
-start-fit : (s : Shape) (table : List ℕ) (t p : ℕ) (parts dealt ws published : List ℕ) → firstOf (startReasons s table t p parts dealt ws published) ≡ none
-    → (length (startWires (length (gatesOf table)) parts) ≡ length ws) × (length (startPublished (conditionalCount (gatesOf table)) (s .candidates)) ≡ length published)
+start-fit : (s : Shape) (table : List ℕ) (t p : ℕ) (parts dealt ws published : List ℕ)
+    → firstOf (startReasons s table t p parts dealt ws published) ≡ none
+    → (length (startWires (length (gatesOf table)) parts) ≡ length ws)
+    × (length (startPublished (conditionalCount (gatesOf table)) (s .candidates)) ≡ length published)
 unfolding startReasons ownReasons startWires startPublished
 start-fit s table t p parts dealt ws published e =
     let inputs = ballotBytes s in
@@ -144,16 +181,19 @@ start-fit s table t p parts dealt ws published e =
     )
 
 start-lengths : (s : Shape) (table : List ℕ) (t p : ℕ) (parts dealt ws published : List ℕ)
-    → (length (startedWires s table t p parts dealt ws published) ≡ length ws) × (length (startedPublished s table t p parts dealt ws published) ≡ length published)
+    → (length (startedWires s table t p parts dealt ws published) ≡ length ws)
+    × (length (startedPublished s table t p parts dealt ws published) ≡ length published)
 unfolding startedWires startedPublished
 start-lengths s table t p parts dealt ws published =
     let o = firstOf (startReasons s table t p parts dealt ws published) in (
       kept o (startWires (length (gatesOf table)) parts) ws (λ e. start-fit s table t p parts dealt ws published e .0),
-      kept o (startPublished (conditionalCount (gatesOf table)) (s .candidates)) published (λ e. start-fit s table t p parts dealt ws published e .1),
+      kept o (startPublished (conditionalCount (gatesOf table)) (s .candidates)) published
+          (λ e. start-fit s table t p parts dealt ws published e .1),
     )
 
 round-lengths : (s : Shape) (table : List ℕ) (t p round : ℕ) (levels dealt heard ws published : List ℕ)
-    → (length (roundedWires s table t p round levels dealt heard ws published) ≡ length ws) × (length (roundedPublished s table t p round levels dealt heard ws published) ≡ length published)
+    → (length (roundedWires s table t p round levels dealt heard ws published) ≡ length ws)
+    × (length (roundedPublished s table t p round levels dealt heard ws published) ≡ length published)
 unfolding roundedWires roundedPublished wiresMade publishedMade
 round-lengths s table t p round levels dealt heard ws published =
     let o = firstOf (roundReasons s table t p round levels dealt heard ws published) in
@@ -162,12 +202,14 @@ round-lengths s table t p round levels dealt heard ws published =
     let W = enters u gs 0 0 ws in (
       kept o W ws (λ e. length-enters u gs 0 0 ws),
       kept o (closes round (roundsOf (ballotBytes s) gs) (conditionalCount gs) (s .candidates) W (publishes u W gs 0 0 published)) published
-          (λ e. length-closes round (roundsOf (ballotBytes s) gs) (conditionalCount gs) (s .candidates) W (publishes u W gs 0 0 published) ∙ length-publishes u W gs 0 0 published),
+          (λ e. length-closes round (roundsOf (ballotBytes s) gs) (conditionalCount gs) (s .candidates) W
+          (publishes u W gs 0 0 published) ∙ length-publishes u W gs 0 0 published),
     )
 
 finish-length : (s : Shape) (table ws : List ℕ) → length (finishedWires s table ws) ≡ length ws
 unfolding finishedWires
-finish-length s table ws = kept (firstOf (finishReasons s table ws)) (replicate (length ws) 0) ws (λ e. length-replicate {A = ℕ} (length ws) 0)
+finish-length s table ws = kept (firstOf (finishReasons s table ws)) (replicate (length ws) 0) ws
+    (λ e. length-replicate {A = ℕ} (length ws) 0)
 
 pub memory : Memory
 unfolding Each

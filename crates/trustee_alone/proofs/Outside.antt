@@ -16,15 +16,18 @@ use Rattle.trustee_alone.specs.Finish.{finishReasons, finishOutcome, fin
 
 module _ (s : Shape) (w : withinLimits s ≡ false) where
   pub outside-start : (table : List ℕ) (t p : ℕ) (parts dealt wireParts published : List ℕ)
-      → startResult s table t p parts dealt wireParts published ≡ record { answer = refused (reasonAt 1 0); wires = wireParts; published = published }
+      → startResult s table t p parts dealt wireParts published
+      ≡ record { answer = refused (reasonAt 1 0); wires = wireParts; published = published }
   unfolding startOutcome startedWires startedPublished startReasons testReasons outcome afterwards firstOf unless
   outside-start table t p parts dealt wireParts published = rw w refl
 
   pub outside-round : (table : List ℕ) (t p round : ℕ) (levels dealt heard wireParts published : List ℕ)
-      → roundResult s table t p round levels dealt heard wireParts published ≡ record { answer = refused (reasonAt 1 0); wires = wireParts; published = published }
+      → roundResult s table t p round levels dealt heard wireParts published
+      ≡ record { answer = refused (reasonAt 1 0); wires = wireParts; published = published }
   unfolding roundOutcome roundedWires roundedPublished roundReasons testReasons outcome afterwards firstOf unless
   outside-round table t p round levels dealt heard wireParts published = rw w refl
 
-  pub outside-finish : (table wireParts : List ℕ) → finishResult s table wireParts ≡ record { answer = refused (reasonAt 1 0); wires = wireParts }
+  pub outside-finish : (table wireParts : List ℕ) → finishResult s table wireParts
+      ≡ record { answer = refused (reasonAt 1 0); wires = wireParts }
   unfolding finishOutcome finishedWires finishReasons testReasons outcome afterwards firstOf unless
   outside-finish table wireParts = rw w refl

@@ -34,12 +34,16 @@ pub record Passed (s : Shape) (table : List ℕ) (round : ℕ) (levels dealt hea
   pub heard-length : length heard ≡ 2 * conditionalCount (gatesOf table)
 
 -- a list that passed its test
-pub facts-by : (s : Shape) (table : List ℕ) → firstOf (testReasons s table) ≡ none → ListFacts s table (length (gatesOf table)) (conditionalCount (gatesOf table))
+pub facts-by : (s : Shape) (table : List ℕ) → firstOf (testReasons s table) ≡ none
+    → ListFacts s table (length (gatesOf table)) (conditionalCount (gatesOf table))
 unfolding sizeOf testOutcome
-facts-by s table e = list-facts s table _ _ (test-passed s table (sizeOf (gatesOf table)) (sym (outcome-none (firstOf (testReasons s table)) (sizeOf (gatesOf table)) (sizeOf (gatesOf table)) e refl)))
+facts-by s table e = list-facts s table _ _
+    (test-passed s table (sizeOf (gatesOf table))
+    (sym (outcome-none (firstOf (testReasons s table)) (sizeOf (gatesOf table)) (sizeOf (gatesOf table)) e refl)))
 
 pub round-passed : (s : Shape) (table : List ℕ) (t p round : ℕ) (levels dealt heard wireParts published : List ℕ)
-    → firstOf (roundReasons s table t p round levels dealt heard wireParts published) ≡ none → Passed s table round levels dealt heard wireParts published
+    → firstOf (roundReasons s table t p round levels dealt heard wireParts published) ≡ none
+    → Passed s table round levels dealt heard wireParts published
 unfolding roundReasons tableReasons
 round-passed s table t p round levels dealt heard wireParts published e =
     let inputs = ballotBytes s in
@@ -58,5 +62,6 @@ round-passed s table t p round levels dealt heard wireParts published e =
       levels-are = same;
       levels-length = ap length same ∙ length-levels inputs gs;
       early = leb-true round (roundsOf inputs gs) (at201 .0);
-      heard-length = eqb-true (length heard) (2 * conditionalCount gs) (and-first (eqb (length heard) (2 * conditionalCount gs)) (onlyBits heard) at202);
+      heard-length = eqb-true (length heard) (2 * conditionalCount gs)
+          (and-first (eqb (length heard) (2 * conditionalCount gs)) (onlyBits heard) at202);
     }

@@ -29,7 +29,8 @@ use Rattle.trustee_rounds.specs.Rounds.{startWires, startPublished}
 use Rattle.trustee_alone.specs.Own.{tablesFit}
 use Rattle.trustee_alone.specs.inner.Ready.{TablesReady}
 
-pub tables-ready : (s : Shape) (table : List ℕ) (gates conditional : ℕ) → ListFacts s table gates conditional → TablesReady (ballotBytes s) (s .candidates) gates conditional table
+pub tables-ready : (s : Shape) (table : List ℕ) (gates conditional : ℕ) → ListFacts s table gates conditional
+    → TablesReady (ballotBytes s) (s .candidates) gates conditional table
 tables-ready s table gates conditional f =
     let w = bounds s (f .within) in
     record {
@@ -42,7 +43,8 @@ tables-ready s table gates conditional f =
       conditional-are = f .conditional-are;
     }
 
-pub small-sizes : (inputs k gates conditional : ℕ) (table : List ℕ) → TablesReady inputs k gates conditional table → SmallSizes inputs k gates conditional
+pub small-sizes : (inputs k gates conditional : ℕ) (table : List ℕ) → TablesReady inputs k gates conditional table
+    → SmallSizes inputs k gates conditional
 small-sizes inputs k gates conditional table r =
     record {
       inputs-most = r .inputs-most;
@@ -51,9 +53,11 @@ small-sizes inputs k gates conditional table r =
       conditional-most = omega (arith, r .few, r .conditional-are, count-most (gatesOf table));
     }
 
-pub size-is : (g c : ℕ) (table : List ℕ) → g ≡ length (gatesOf table) → c ≡ conditionalCount (gatesOf table) → record { gates = g; conditional = c } ≡ sizeOf (gatesOf table)
+pub size-is : (g c : ℕ) (table : List ℕ) → g ≡ length (gatesOf table) → c ≡ conditionalCount (gatesOf table)
+    → record { gates = g; conditional = c } ≡ sizeOf (gatesOf table)
 unfolding sizeOf
-size-is g c table e f = ap (λ (n : ℕ). record { gates = n; conditional = c }) e ∙ ap (λ (n : ℕ). record { gates = length (gatesOf table); conditional = n }) f
+size-is g c table e f = ap (λ (n : ℕ). record { gates = n; conditional = c }) e
+    ∙ ap (λ (n : ℕ). record { gates = length (gatesOf table); conditional = n }) f
 
 -- the three lengths
 pub record Fit (inputs k : ℕ) (gs : List Gate) (dealt wireParts published : List ℕ) : Type 0 where
@@ -61,7 +65,8 @@ pub record Fit (inputs k : ℕ) (gs : List Gate) (dealt wireParts published : Li
   pub wires-length : length wireParts ≡ inputs + length gs
   pub published-length : length published ≡ 2 * conditionalCount gs + k
 
-pub fit : (inputs k : ℕ) (gs : List Gate) (dealt wireParts published : List ℕ) → tablesFit inputs k (sizeOf gs) dealt wireParts published ≡ true → Fit inputs k gs dealt wireParts published
+pub fit : (inputs k : ℕ) (gs : List Gate) (dealt wireParts published : List ℕ)
+    → tablesFit inputs k (sizeOf gs) dealt wireParts published ≡ true → Fit inputs k gs dealt wireParts published
 unfolding tablesFit sizeOf
 fit inputs k gs dealt wireParts published e =
     let a = eqb (length dealt) (3 * conditionalCount gs) in
@@ -75,23 +80,28 @@ fit inputs k gs dealt wireParts published e =
     }
 
 -- what comparing levels says
-pub own-same : (inputs : ℕ) (gs : List Gate) (levels : List ℕ) (rounds : ℕ) → compared inputs gs levels ≡ Own rounds → (sameNumbers levels (levelsOf inputs gs) ≡ true) × (rounds ≡ roundsOf inputs gs)
+pub own-same : (inputs : ℕ) (gs : List Gate) (levels : List ℕ) (rounds : ℕ) → compared inputs gs levels ≡ Own rounds
+    → (sameNumbers levels (levelsOf inputs gs) ≡ true) × (rounds ≡ roundsOf inputs gs)
 unfolding compared
 own-same inputs gs levels rounds e = go (sameNumbers levels (levelsOf inputs gs)) refl e
   where
-    go : (b : Bool) → sameNumbers levels (levelsOf inputs gs) ≡ b → cond b (Own (roundsOf inputs gs)) Other ≡ Own rounds → (sameNumbers levels (levelsOf inputs gs) ≡ true) × (rounds ≡ roundsOf inputs gs)
+    go : (b : Bool) → sameNumbers levels (levelsOf inputs gs) ≡ b → cond b (Own (roundsOf inputs gs)) Other
+        ≡ Own rounds → (sameNumbers levels (levelsOf inputs gs) ≡ true) × (rounds ≡ roundsOf inputs gs)
     go true f e = (f, cc)
     go false f e = let z : _≡_ {A = ℕ} 0 1 = cc in absurd (omega arith)
 
-pub other-same : (inputs : ℕ) (gs : List Gate) (levels : List ℕ) → compared inputs gs levels ≡ Other → sameNumbers levels (levelsOf inputs gs) ≡ false
+pub other-same : (inputs : ℕ) (gs : List Gate) (levels : List ℕ) → compared inputs gs levels ≡ Other
+    → sameNumbers levels (levelsOf inputs gs) ≡ false
 unfolding compared
 other-same inputs gs levels e = go (sameNumbers levels (levelsOf inputs gs)) refl e
   where
-    go : (b : Bool) → sameNumbers levels (levelsOf inputs gs) ≡ b → cond b (Own (roundsOf inputs gs)) Other ≡ Other → sameNumbers levels (levelsOf inputs gs) ≡ false
+    go : (b : Bool) → sameNumbers levels (levelsOf inputs gs) ≡ b → cond b (Own (roundsOf inputs gs)) Other ≡ Other
+        → sameNumbers levels (levelsOf inputs gs) ≡ false
     go true f e = let z : _≡_ {A = ℕ} 0 1 = cc in absurd (omega arith)
     go false f e = f
 
-pub other-long : (inputs : ℕ) (gs : List Gate) (levels : List ℕ) → (length levels ≡ length gs → ⊥) → sameNumbers levels (levelsOf inputs gs) ≡ false
+pub other-long : (inputs : ℕ) (gs : List Gate) (levels : List ℕ) → (length levels ≡ length gs → ⊥)
+    → sameNumbers levels (levelsOf inputs gs) ≡ false
 other-long inputs gs levels h = go (sameNumbers levels (levelsOf inputs gs)) refl
   where
     go : (b : Bool) → sameNumbers levels (levelsOf inputs gs) ≡ b → sameNumbers levels (levelsOf inputs gs) ≡ false
@@ -109,8 +119,10 @@ unfolding startWires
 started parts wireParts inputs gates e f =
     let n : length wireParts ≡ length parts + gates = omega arith in
     ap (λ (l : List ℕ). l ++ drop (length parts) (replicate {A = ℕ} (length wireParts) 0)) (take-all (length parts) parts (omega arith))
-    ∙ ap (λ (k : ℕ). parts ++ drop (length parts) (replicate {A = ℕ} k 0)) n ∙ ap (λ (l : List ℕ). parts ++ l) (drop-zeros (length parts) gates)
+    ∙ ap (λ (k : ℕ). parts ++ drop (length parts) (replicate {A = ℕ} k 0)) n
+    ∙ ap (λ (l : List ℕ). parts ++ l) (drop-zeros (length parts) gates)
 
-pub started-published : (published : List ℕ) (conditional k : ℕ) → length published ≡ 2 * conditional + k → replicate {A = ℕ} (length published) 0 ≡ startPublished conditional k
+pub started-published : (published : List ℕ) (conditional k : ℕ) → length published ≡ 2 * conditional + k
+    → replicate {A = ℕ} (length published) 0 ≡ startPublished conditional k
 unfolding startPublished
 started-published published conditional k e = ap (λ (n : ℕ). replicate {A = ℕ} n 0) e

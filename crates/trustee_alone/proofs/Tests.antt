@@ -45,7 +45,8 @@ both-passed xs ys e = go (firstOf xs) refl
   where
     go : (o : Option Reason) → firstOf xs ≡ o → (firstOf xs ≡ none) × (firstOf ys ≡ none)
     go none f = (f, sym (ap (λ (o : Option Reason). orElse o (firstOf ys)) f) ∙ sym (first-append xs ys) ∙ e)
-    go (some r) f = let q : some r ≡ none = sym (ap (λ (o : Option Reason). orElse o (firstOf ys)) f) ∙ sym (first-append xs ys) ∙ e in let z : _≡_ {A = ℕ} 0 1 = cc in absurd (omega arith)
+    go (some r) f = let q : some r ≡ none = sym (ap (λ (o : Option Reason). orElse o (firstOf ys)) f)
+        ∙ sym (first-append xs ys) ∙ e in let z : _≡_ {A = ℕ} 0 1 = cc in absurd (omega arith)
 
 -- two conditions
 pub and-both : (a b c : Bool) → a ≡ true → b ≡ c → (a && b) ≡ c

@@ -32,12 +32,14 @@ unfolding onlyBits
 only-bits-back xs b = sym (all-pass (λ j. leb (getD xs j 0) 1) (length xs) (λ (i : ℕ) h. le-leb (getD xs i 0) 1 (b i)))
 
 module _ (t : ℕ) (gs : List Gate) (xs : List ℕ) (d : Dealing) where
-  pub dealt-good : length (d .ballotParts) ≡ t * length xs → length (d .dealerParts) ≡ t * (3 * conditionalCount gs) → dealtWell t (conditionalCount gs) xs d ≡ true → GoodDealing t gs xs d
+  pub dealt-good : length (d .ballotParts) ≡ t * length xs → length (d .dealerParts) ≡ t * (3 * conditionalCount gs)
+      → dealtWell t (conditionalCount gs) xs d ≡ true → GoodDealing t gs xs d
   unfolding dealtWell addsUp productsAddUp productAddsUp ballotsOf dealtOf
   dealt-good lb ld e =
       let n = length xs in
       let C = conditionalCount gs in
-      let s = and-both (onlyBits (d .ballotParts) && onlyBits (d .dealerParts) && addsUp t xs (d .ballotParts)) (productsAddUp t C (d .dealerParts)) e in
+      let s = and-both (onlyBits (d .ballotParts) && onlyBits (d .dealerParts) && addsUp t xs (d .ballotParts))
+      (productsAddUp t C (d .dealerParts)) e in
       let r = and-both (onlyBits (d .ballotParts) && onlyBits (d .dealerParts)) (addsUp t xs (d .ballotParts)) (s .0) in
       let q = and-both (onlyBits (d .ballotParts)) (onlyBits (d .dealerParts)) (r .0) in
       let U : ℕ → ℕ = λ i. opened t (λ p. uOf (piece (3 * C) (d .dealerParts) p) i) in

@@ -18,7 +18,8 @@ module _ (t size own i : ℕ) (g : Gate) (dealt : Held) (ws after : List ℕ) wh
   bit p z = partOfKind p (g .kind) (part (piece size ws p) (g .a)) (part (piece size ws p) (g .b)) (part (piece size ws p) (g .c)) z
 
   pub products-entered : (e f : ℕ) → e ≡ openedFirst t dealt (piece size ws) i g → f ≡ openedSecond t dealt (piece size ws) i g
-      → after ≡ eachPuts t size own (λ p. partOfKind p (g .kind) (part (piece size ws p) (g .a)) (part (piece size ws p) (g .b)) (part (piece size ws p) (g .c)) (productPart p (dealt p) i e f) ∷ []) ws
+      → after ≡ eachPuts t size own (λ p. partOfKind p (g .kind) (part (piece size ws p) (g .a))
+      (part (piece size ws p) (g .b)) (part (piece size ws p) (g .c)) (productPart p (dealt p) i e f) ∷ []) ws
       → after ≡ eachPuts t size own (λ p. newPart t dealt (piece size ws) i g p ∷ []) ws
   unfolding newPart
   products-entered e f he hf h =
@@ -26,10 +27,16 @@ module _ (t size own i : ℕ) (g : Gate) (dealt : Held) (ws after : List ℕ) wh
       ∙ ap (λ (y : ℕ). eachPuts t size own (λ p. bit p (productPart p (dealt p) i (openedFirst t dealt (piece size ws) i g) y) ∷ []) ws) hf
 
   pub free-entered : g .kind < 8 → conditionalOf (g .kind) ≡ false
-      → after ≡ eachPuts t size own (λ p. partOfKind p (g .kind) (part (piece size ws p) (g .a)) (part (piece size ws p) (g .b)) (part (piece size ws p) (g .c)) 0 ∷ []) ws
+      → after ≡ eachPuts t size own (λ p. partOfKind p (g .kind) (part (piece size ws p) (g .a))
+      (part (piece size ws p) (g .b)) (part (piece size ws p) (g .c)) 0 ∷ []) ws
       → after ≡ eachPuts t size own (λ p. newPart t dealt (piece size ws) i g p ∷ []) ws
   unfolding newPart
   free-entered known free h =
-      h ∙ puts-same t size own (λ p. bit p 0 ∷ []) (λ p. bit p (productPart p (dealt p) i (openedFirst t dealt (piece size ws) i g) (openedSecond t dealt (piece size ws) i g)) ∷ []) ws
+      h ∙ puts-same t size own (λ p. bit p 0 ∷ [])
+      (λ p. bit p (productPart p (dealt p) i (openedFirst t dealt (piece size ws) i g)
+      (openedSecond t dealt (piece size ws) i g)) ∷ []) ws
       (λ (p : ℕ) l. ap (λ (x : ℕ). x ∷ [])
-      (ignores p (g .kind) (part (piece size ws p) (g .a)) (part (piece size ws p) (g .b)) (part (piece size ws p) (g .c)) 0 (productPart p (dealt p) i (openedFirst t dealt (piece size ws) i g) (openedSecond t dealt (piece size ws) i g)) known free))
+      (ignores p (g .kind) (part (piece size ws p) (g .a)) (part (piece size ws p) (g .b))
+      (part (piece size ws p) (g .c)) 0
+      (productPart p (dealt p) i (openedFirst t dealt (piece size ws) i g)
+      (openedSecond t dealt (piece size ws) i g)) known free))

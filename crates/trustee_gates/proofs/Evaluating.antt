@@ -29,8 +29,10 @@ sets-both l us vs m e h =
     ∙ ap (λ (z : List ℕ). z ++ vs ++ drop (m + length vs) r) (take-sets l us m e (omega arith))
     ∙ ap (λ (z : List ℕ). us ++ vs ++ z) (drop-of-length-le r {i = m + length vs} (omega arith)) ∙ append-nil (us ++ vs)
 
-module _ (t inputs : ℕ) (gs : List Gate) (k : ℕ) (d : Dealing) (ws published : List ℕ) (sizeW sizeP C : ℕ) (count : C ≡ conditionalCount gs) (size-is : sizeW ≡ inputs + length gs) (enough : k ≤ length gs)
-    (published-is : sizeP ≡ 2 * C + k) (ballot-length : length (d .ballotParts) ≡ t * inputs) (wires-length : length ws ≡ t * sizeW) (published-length : length published ≡ t * sizeP) where
+module _ (t inputs : ℕ) (gs : List Gate) (k : ℕ) (d : Dealing) (ws published : List ℕ) (sizeW sizeP C : ℕ)
+    (count : C ≡ conditionalCount gs) (size-is : sizeW ≡ inputs + length gs) (enough : k ≤ length gs)
+    (published-is : sizeP ≡ 2 * C + k) (ballot-length : length (d .ballotParts) ≡ t * inputs)
+    (wires-length : length ws ≡ t * sizeW) (published-length : length published ≡ t * sizeP) where
   -- the wire parts once the inputs are copied
   module _ (ws₁ : List ℕ) (e₁ : ws₁ ≡ eachPuts t sizeW 0 (λ p. take inputs (drop 0 (piece inputs (d .ballotParts) p))) ws) where
     ballot-long : (p : ℕ) → p < t → length (piece inputs (d .ballotParts) p) ≡ inputs
@@ -45,8 +47,10 @@ module _ (t inputs : ℕ) (gs : List Gate) (k : ℕ) (d : Dealing) (ws published
         let xs = piece inputs (d .ballotParts) p in
         let all : take inputs xs ≡ xs = take-all inputs xs (omega (arith, ballot-long p h)) in
         ap (λ (l : List ℕ). take inputs (piece sizeW l p)) e₁
-        ∙ ap (take inputs) (puts-at sizeW 0 (λ q. take inputs (drop 0 (piece inputs (d .ballotParts) q))) ws t p h (λ (q : ℕ) l. omega (arith, length-take inputs (piece inputs (d .ballotParts) q))))
-        ∙ take-sets (piece sizeW ws p) (take inputs xs) inputs (ap length all ∙ ballot-long p h) (omega (arith, length-piece t sizeW ws p wires-length h)) ∙ all
+        ∙ ap (take inputs) (puts-at sizeW 0 (λ q. take inputs (drop 0 (piece inputs (d .ballotParts) q))) ws t p h
+        (λ (q : ℕ) l. omega (arith, length-take inputs (piece inputs (d .ballotParts) q))))
+        ∙ take-sets (piece sizeW ws p) (take inputs xs) inputs (ap length all ∙ ballot-long p h)
+        (omega (arith, length-piece t sizeW ws p wires-length h)) ∙ all
 
     parts-are : (p : ℕ) → p < t → partsOf t (dealtOf gs d) (λ q. take inputs (piece sizeW ws₁ q)) 0 gs p ≡ wirePartsOf t inputs gs d p
     unfolding wirePartsOf
@@ -57,8 +61,11 @@ module _ (t inputs : ℕ) (gs : List Gate) (k : ℕ) (d : Dealing) (ws published
     parts-long p h = length-parts t (dealtOf gs d) gs (piece inputs (d .ballotParts)) 0 inputs p (ballot-long p h) ∙ sym size-is
 
     -- the tables after the gates
-    module _ (ws₂ published₂ : List ℕ) (e₂ : ws₂ ≡ joined t (partsOf t (piece (3 * C) (d .dealerParts)) (λ p. take inputs (piece sizeW ws₁ p)) 0 gs))
-        (f₂ : published₂ ≡ joined t (λ p. sets (piece sizeP published p) 0 (maskedFactors (partsOf t (piece (3 * C) (d .dealerParts)) (λ q. take inputs (piece sizeW ws₁ q)) 0 gs p) (piece (3 * C) (d .dealerParts) p) 0 gs))) where
+    module _ (ws₂ published₂ : List ℕ)
+        (e₂ : ws₂ ≡ joined t (partsOf t (piece (3 * C) (d .dealerParts)) (λ p. take inputs (piece sizeW ws₁ p)) 0 gs))
+        (f₂ : published₂ ≡ joined t (λ p. sets (piece sizeP published p) 0
+        (maskedFactors (partsOf t (piece (3 * C) (d .dealerParts)) (λ q. take inputs (piece sizeW ws₁ q)) 0 gs
+        p) (piece (3 * C) (d .dealerParts) p) 0 gs))) where
       dealt-are : piece (3 * C) (d .dealerParts) ≡ dealtOf gs d
       unfolding dealtOf
       dealt-are = ap (λ (n : ℕ). piece (3 * n) (d .dealerParts)) count
@@ -81,8 +88,12 @@ module _ (t inputs : ℕ) (gs : List Gate) (k : ℕ) (d : Dealing) (ws published
       published-are : published₂ ≡ joined t (λ p. sets (piece sizeP published p) 0 (factors p))
       unfolding factors
       published-are =
-          f₂ ∙ ap (λ (f : Held). joined t (λ p. sets (piece sizeP published p) 0 (maskedFactors (partsOf t f (λ q. take inputs (piece sizeW ws₁ q)) 0 gs p) (f p) 0 gs))) dealt-are
-          ∙ joined-cong t (λ p. sets (piece sizeP published p) 0 (maskedFactors (partsOf t (dealtOf gs d) (λ q. take inputs (piece sizeW ws₁ q)) 0 gs p) (dealtOf gs d p) 0 gs))
+          f₂ ∙ ap (λ (f : Held). joined t
+          (λ p. sets (piece sizeP published p) 0
+          (maskedFactors (partsOf t f (λ q. take inputs (piece sizeW ws₁ q)) 0 gs p) (f p) 0 gs))) dealt-are
+          ∙ joined-cong t (λ p. sets (piece sizeP published p) 0
+          (maskedFactors (partsOf t (dealtOf gs d) (λ q. take inputs (piece sizeW ws₁ q)) 0 gs p) (dealtOf gs d p) 0
+          gs))
           (λ p. sets (piece sizeP published p) 0 (maskedFactors (wirePartsOf t inputs gs d p) (dealtOf gs d p) 0 gs))
           (λ (p : ℕ) h. ap (λ (l : List ℕ). sets (piece sizeP published p) 0 (maskedFactors l (dealtOf gs d p) 0 gs)) (parts-are p h))
 
@@ -112,7 +123,8 @@ module _ (t inputs : ℕ) (gs : List Gate) (k : ℕ) (d : Dealing) (ws published
           let parts = wirePartsOf t inputs gs d p in
           omega (arith, length-drop (length parts - k) parts, parts-long p h)
 
-      pub all-published : (published₃ : List ℕ) → published₃ ≡ eachPuts t sizeP (2 * C) (λ p. take k (drop (sizeW - k) (piece sizeW ws₂ p))) published₂
+      pub all-published : (published₃ : List ℕ) → published₃
+          ≡ eachPuts t sizeP (2 * C) (λ p. take k (drop (sizeW - k) (piece sizeW ws₂ p))) published₂
           → published₃ ≡ joined t (publishedOf t inputs gs k d)
       unfolding publishedOf factors
       all-published published₃ e₃ =
@@ -122,7 +134,11 @@ module _ (t inputs : ℕ) (gs : List Gate) (k : ℕ) (d : Dealing) (ws published
           ∙ joined-cong t (piece sizeP published₃) (publishedOf t inputs gs k d)
           (λ (p : ℕ) h.
           ap (λ (l : List ℕ). piece sizeP l p) e₃
-          ∙ puts-at sizeP (2 * C) entries published₂ t p h (λ (q : ℕ) l. omega (arith, length-take k (drop (sizeW - k) (piece sizeW ws₂ q))))
-          ∙ ap (λ (l : List ℕ). sets l (2 * C) (take k (drop (sizeW - k) (piece sizeW ws₂ p)))) (ap (λ (l : List ℕ). piece sizeP l p) published-are ∙ piece-joined sizeP (λ q. sets (piece sizeP published q) 0 (factors q)) t set-long p h)
+          ∙ puts-at sizeP (2 * C) entries published₂ t p h
+          (λ (q : ℕ) l. omega (arith, length-take k (drop (sizeW - k) (piece sizeW ws₂ q))))
+          ∙ ap (λ (l : List ℕ). sets l (2 * C) (take k (drop (sizeW - k) (piece sizeW ws₂ p))))
+          (ap (λ (l : List ℕ). piece sizeP l p) published-are
+          ∙ piece-joined sizeP (λ q. sets (piece sizeP published q) 0 (factors q)) t set-long p h)
           ∙ ap (λ (l : List ℕ). sets (sets (piece sizeP published p) 0 (factors p)) (2 * C) l) (closing-is p h)
-          ∙ sets-both (piece sizeP published p) (factors p) (closingParts k (wirePartsOf t inputs gs d p)) (2 * C) (factors-long p) (omega (arith, closing-long p h, piece-long p h)))
+          ∙ sets-both (piece sizeP published p) (factors p) (closingParts k (wirePartsOf t inputs gs d p)) (2 * C)
+          (factors-long p) (omega (arith, closing-long p h, piece-long p h)))

@@ -44,7 +44,8 @@ three-mods a b z =
     plus-mod ((u + z % 2) % 2) u (z % 2) (a + b) z e f refl
 
 -- a product of three sums
-pub product-sum : (p s a b c x y z e d m r : ℕ) → x ≡ a % 2 → y ≡ b % 2 → z ≡ c % 2 → d ≡ (s + x) % 2 → m ≡ (d + y) % 2 → e ≡ entered p z → r ≡ (m + e) % 2
+pub product-sum : (p s a b c x y z e d m r : ℕ) → x ≡ a % 2 → y ≡ b % 2 → z ≡ c % 2 → d ≡ (s + x) % 2 → m
+    ≡ (d + y) % 2 → e ≡ entered p z → r ≡ (m + e) % 2
     → r ≡ (s + a + b + entered p c) % 2
 product-sum p s a b c x y z e d m r hx hy hz hd hm he hr =
     let k : e % 2 ≡ entered p c % 2 = ap (λ (n : ℕ). n % 2) he ∙ ap (λ (n : ℕ). entered p n % 2) hz ∙ entered-mod p c in

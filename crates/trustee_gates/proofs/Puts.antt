@@ -26,11 +26,13 @@ pub reaches : (t size : ℕ) (table : List ℕ) (p : ℕ) → length table ≡ t
 reaches t size table p e h = omega (arith, row-within p t size h)
 
 -- one entry
-piece-set-same : (size : ℕ) (table : List ℕ) (p x v : ℕ) → x < size → piece size (set table (p * size + x) v) p ≡ set (piece size table p) x v
+piece-set-same : (size : ℕ) (table : List ℕ) (p x v : ℕ) → x < size → piece size (set table (p * size + x) v) p
+    ≡ set (piece size table p) x v
 unfolding piece
 piece-set-same size table p x v h = ap (take size) (drop-set-add (p * size) table x v) ∙ take-set-lt size (drop (p * size) table) x v h
 
-piece-set-other : (size : ℕ) (table : List ℕ) (p q x v : ℕ) → q ≢ p → x < size → piece size (set table (p * size + x) v) q ≡ piece size table q
+piece-set-other : (size : ℕ) (table : List ℕ) (p q x v : ℕ) → q ≢ p → x < size
+    → piece size (set table (p * size + x) v) q ≡ piece size table q
 unfolding piece
 piece-set-other size table p q x v n h = go (ltb p q) refl
   where
@@ -48,7 +50,8 @@ piece-set-other size table p q x v n h = go (ltb p q) refl
         ∙ ap (take size) (drop-set-add (q * size) table j v) ∙ take-set-le size (drop (q * size) table) j v (omega arith)
 
 -- several entries
-piece-sets-same : (size p : ℕ) (vs : List ℕ) (table : List ℕ) (x : ℕ) → x + length vs ≤ size → piece size (sets table (p * size + x) vs) p ≡ sets (piece size table p) x vs
+piece-sets-same : (size p : ℕ) (vs : List ℕ) (table : List ℕ) (x : ℕ) → x + length vs ≤ size
+    → piece size (sets table (p * size + x) vs) p ≡ sets (piece size table p) x vs
 piece-sets-same size p [] table x h = refl
 piece-sets-same size p (v ∷ vs) table x h =
     let e : suc (p * size + x) ≡ p * size + suc x = omega arith in
@@ -56,7 +59,8 @@ piece-sets-same size p (v ∷ vs) table x h =
     ∙ piece-sets-same size p vs (set table (p * size + x) v) (suc x) (omega arith)
     ∙ ap (λ (l : List ℕ). sets l (suc x) vs) (piece-set-same size table p x v (omega arith))
 
-piece-sets-other : (size p q : ℕ) (vs : List ℕ) (table : List ℕ) (x : ℕ) → q ≢ p → x + length vs ≤ size → piece size (sets table (p * size + x) vs) q ≡ piece size table q
+piece-sets-other : (size p q : ℕ) (vs : List ℕ) (table : List ℕ) (x : ℕ) → q ≢ p → x + length vs ≤ size
+    → piece size (sets table (p * size + x) vs) q ≡ piece size table q
 piece-sets-other size p q [] table x n h = refl
 piece-sets-other size p q (v ∷ vs) table x n h =
     let e : suc (p * size + x) ≡ p * size + suc x = omega arith in
@@ -71,7 +75,8 @@ length-puts (suc t) size x f table = length-sets (eachPuts t size x f table) (t 
 
 module _ (size x : ℕ) (f : Held) (table : List ℕ) where
   -- pieces from t on are unchanged
-  pub puts-later : (t q : ℕ) → t ≤ q → ((p : ℕ) → p < t → x + length (f p) ≤ size) → piece size (eachPuts t size x f table) q ≡ piece size table q
+  pub puts-later : (t q : ℕ) → t ≤ q → ((p : ℕ) → p < t → x + length (f p) ≤ size)
+      → piece size (eachPuts t size x f table) q ≡ piece size table q
   unfolding eachPuts
   puts-later zero q h fits = refl
   puts-later (suc t) q h fits =
@@ -79,7 +84,8 @@ module _ (size x : ℕ) (f : Held) (table : List ℕ) where
       ∙ puts-later t q (omega arith) (λ (p : ℕ) l. fits p (omega arith))
 
   -- those before have their entries
-  pub puts-at : (t q : ℕ) → q < t → ((p : ℕ) → p < t → x + length (f p) ≤ size) → piece size (eachPuts t size x f table) q ≡ sets (piece size table q) x (f q)
+  pub puts-at : (t q : ℕ) → q < t → ((p : ℕ) → p < t → x + length (f p) ≤ size)
+      → piece size (eachPuts t size x f table) q ≡ sets (piece size table q) x (f q)
   unfolding eachPuts
   puts-at zero q h fits = absurd (omega arith)
   puts-at (suc t) q h fits = go (eqb q t) refl (λ l. puts-at t q l (λ (p : ℕ) m. fits p (omega arith)))
@@ -95,7 +101,8 @@ module _ (size x : ℕ) (f : Held) (table : List ℕ) where
           piece-sets-other size t q (f t) (eachPuts t size x f table) x n (fits t (omega arith)) ∙ rest (omega arith)
 
 -- equal entries
-pub puts-same : (t size x : ℕ) (f g : Held) (table : List ℕ) → ((p : ℕ) → p < t → f p ≡ g p) → eachPuts t size x f table ≡ eachPuts t size x g table
+pub puts-same : (t size x : ℕ) (f g : Held) (table : List ℕ) → ((p : ℕ) → p < t → f p ≡ g p)
+    → eachPuts t size x f table ≡ eachPuts t size x g table
 unfolding eachPuts
 puts-same zero size x f g table e = refl
 puts-same (suc t) size x f g table e = rw (puts-same t size x f g table (λ (p : ℕ) h. e p (omega arith)), e t (omega arith))
@@ -107,7 +114,8 @@ drop-in-take (suc m) k zero l h = absurd (omega arith)
 drop-in-take (suc m) k (suc n) [] h = refl
 drop-in-take (suc m) k (suc n) (x ∷ l) h = drop-in-take m k n l (omega arith)
 
-pub piece-part : (size : ℕ) (table : List ℕ) (p m k : ℕ) → m + k ≤ size → take k (drop (p * size + m) table) ≡ take k (drop m (piece size table p))
+pub piece-part : (size : ℕ) (table : List ℕ) (p m k : ℕ) → m + k ≤ size → take k (drop (p * size + m) table)
+    ≡ take k (drop m (piece size table p))
 unfolding piece
 piece-part size table p m k h =
     ap (take k) (sym (drop-drop m (p * size) table)) ∙ sym (drop-in-take m k size (drop (p * size) table) h)
@@ -118,17 +126,20 @@ pub puts-one : (f : ℕ → ℕ) (now before : List ℕ) (p size x v : ℕ) → 
 unfolding eachPuts
 puts-one f now before p size x v e h = rw (e, h, add-one p)
 
-pub puts-two : (f g : ℕ → ℕ) (now before : List ℕ) (p size x v w : ℕ) → now ≡ eachPuts p size x (λ q. f q ∷ g q ∷ []) before → v ≡ f p → w ≡ g p
+pub puts-two : (f g : ℕ → ℕ) (now before : List ℕ) (p size x v w : ℕ) → now
+    ≡ eachPuts p size x (λ q. f q ∷ g q ∷ []) before → v ≡ f p → w ≡ g p
     → set (set now (p * size + x) v) (p * size + x + 1) w ≡ eachPuts (p + 1) size x (λ q. f q ∷ g q ∷ []) before
 unfolding eachPuts
 puts-two f g now before p size x v w e h k = rw (e, h, k, add-one p, add-one (p * size + x))
 
 -- its own piece is unchanged until then
-pub own-piece : (f : ℕ → ℕ) (now before : List ℕ) (p size x : ℕ) → x < size → now ≡ eachPuts p size x (λ q. f q ∷ []) before → piece size now p ≡ piece size before p
+pub own-piece : (f : ℕ → ℕ) (now before : List ℕ) (p size x : ℕ) → x < size → now
+    ≡ eachPuts p size x (λ q. f q ∷ []) before → piece size now p ≡ piece size before p
 own-piece f now before p size x h e =
     ap (λ (l : List ℕ). piece size l p) e ∙ puts-later size x (λ q. f q ∷ []) before p p (omega arith) (λ (q : ℕ) l. omega arith)
 
-pub puts-many : (f : Held) (now before after : List ℕ) (p size x : ℕ) (vs : List ℕ) → now ≡ eachPuts p size x f before → after ≡ sets now (p * size + x) vs → vs ≡ f p
+pub puts-many : (f : Held) (now before after : List ℕ) (p size x : ℕ) (vs : List ℕ) → now
+    ≡ eachPuts p size x f before → after ≡ sets now (p * size + x) vs → vs ≡ f p
     → after ≡ eachPuts (p + 1) size x f before
 unfolding eachPuts
 puts-many f now before after p size x vs e h k = h ∙ rw (e, k, add-one p)

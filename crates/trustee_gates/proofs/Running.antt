@@ -67,24 +67,32 @@ pub parts-cong : (t : ℕ) (dealt : Held) (gs : List Gate) (held held′ : Held)
 unfolding partsOf
 parts-cong t dealt [] held held′ i e p h = e p h
 parts-cong t dealt (g ∷ gs) held held′ i e p h =
-    parts-cong t dealt gs (λ q. held q ++ (newPart t dealt held i g q ∷ [])) (λ q. held′ q ++ (newPart t dealt held′ i g q ∷ [])) (i + markOf g)
+    parts-cong t dealt gs (λ q. held q ++ (newPart t dealt held i g q ∷ []))
+    (λ q. held′ q ++ (newPart t dealt held′ i g q ∷ [])) (i + markOf g)
     (λ (q : ℕ) l. rw (e q l, new-cong t dealt held held′ i g (same-by t held held′ g e) q l)) p h
 
 -- parts that are there stay, and each gate adds one
-pub parts-keep : (t : ℕ) (dealt : Held) (gs : List Gate) (held : Held) (i n p x : ℕ) → length (held p) ≡ n → x < n → part (partsOf t dealt held i gs p) x ≡ part (held p) x
+pub parts-keep : (t : ℕ) (dealt : Held) (gs : List Gate) (held : Held) (i n p x : ℕ) → length (held p) ≡ n → x < n
+    → part (partsOf t dealt held i gs p) x ≡ part (held p) x
 unfolding partsOf
 parts-keep t dealt [] held i n p x e h = refl
 parts-keep t dealt (g ∷ gs) held i n p x e h =
     let v = newPart t dealt held i g p in
-    parts-keep t dealt gs (λ q. held q ++ (newPart t dealt held i g q ∷ [])) (i + markOf g) (suc n) p x (omega (arith, length-append (held p) (v ∷ []))) (omega arith)
+    parts-keep t dealt gs (λ q. held q ++ (newPart t dealt held i g q ∷ [])) (i + markOf g) (suc n) p x
+    (omega (arith, length-append (held p) (v ∷ []))) (omega arith)
     ∙ part-before (held p) v n x e h
 
-pub length-parts : (t : ℕ) (dealt : Held) (gs : List Gate) (held : Held) (i n p : ℕ) → length (held p) ≡ n → length (partsOf t dealt held i gs p) ≡ n + length gs
+pub length-parts : (t : ℕ) (dealt : Held) (gs : List Gate) (held : Held) (i n p : ℕ) → length (held p) ≡ n
+    → length (partsOf t dealt held i gs p) ≡ n + length gs
 unfolding partsOf
 length-parts t dealt [] held i n p e = omega arith
 length-parts t dealt (g ∷ gs) held i n p e =
     let v = newPart t dealt held i g p in
-    omega (arith, length-parts t dealt gs (λ q. held q ++ (newPart t dealt held i g q ∷ [])) (i + markOf g) (suc n) p (omega (arith, length-append (held p) (v ∷ []))))
+    omega (
+      arith,
+      length-parts t dealt gs (λ q. held q ++ (newPart t dealt held i g q ∷ [])) (i + markOf g) (suc n)
+          p (omega (arith, length-append (held p) (v ∷ []))),
+    )
 
 module _ (t sizeW sizeP inputs : ℕ) (dealt : Held) (table : List ℕ) (final finalPublished : Held) where
   -- The invariant: gates from g on are left, and with what is there they make the wire parts and published bits of
@@ -92,13 +100,16 @@ module _ (t sizeW sizeP inputs : ℕ) (dealt : Held) (table : List ℕ) (final f
   pub record Left (ws published : List ℕ) (i g : ℕ) : Type 0 where
     pub order : g ≤ length (gatesOf table)
     pub wires-left : (p : ℕ) → p < t → partsOf t dealt (λ q. take (inputs + g) (piece sizeW ws q)) i (drop g (gatesOf table)) p ≡ final p
-    pub published-left : (p : ℕ) → p < t → sets (piece sizeP published p) (2 * i) (maskedFactors (final p) (dealt p) i (drop g (gatesOf table))) ≡ finalPublished p
+    pub published-left : (p : ℕ) → p < t
+        → sets (piece sizeP published p) (2 * i) (maskedFactors (final p) (dealt p) i (drop g (gatesOf table)))
+        ≡ finalPublished p
     pub count-left : i + conditionalCount (drop g (gatesOf table)) ≡ conditionalCount (gatesOf table)
     pub good-left : AllGood (inputs + g) (drop g (gatesOf table))
     pub wires-long : length ws ≡ t * sizeW
     pub published-long : length published ≡ t * sizeP
 
-  module _ (size-is : sizeW ≡ inputs + length (gatesOf table)) (room : 2 * conditionalCount (gatesOf table) ≤ sizeP) (some-input : 1 ≤ inputs)
+  module _ (size-is : sizeW ≡ inputs + length (gatesOf table)) (room : 2 * conditionalCount (gatesOf table) ≤ sizeP)
+      (some-input : 1 ≤ inputs)
       (ws published : List ℕ) (i g : ℕ) (left : Left ws published i g) (h : g < length (gatesOf table)) where
     abbrev x : Gate
     x = gateAt table g
@@ -153,7 +164,8 @@ module _ (t sizeW sizeP inputs : ℕ) (dealt : Held) (table : List ℕ) (final f
 
     stands : (p y : ℕ) → p < t → y < own → part (piece sizeW ws p) y ≡ part (final p) y
     stands p y l b =
-        taken p y b ∙ sym (parts-keep t dealt (drop g (gatesOf table)) held i own p y (held-long p l) b) ∙ ap (λ (r : List ℕ). part r y) (is-final p l)
+        taken p y b ∙ sym (parts-keep t dealt (drop g (gatesOf table)) held i own p y (held-long p l) b)
+        ∙ ap (λ (r : List ℕ). part r y) (is-final p l)
 
     same-final : SameParts t (piece sizeW ws) final x
     same-final =
@@ -170,29 +182,38 @@ module _ (t sizeW sizeP inputs : ℕ) (dealt : Held) (table : List ℕ) (final f
       new-held p l =
           let v = newPart t dealt (piece sizeW ws) i x p in
           let put : piece sizeW ws′ p ≡ set (piece sizeW ws p) own v =
-          ap (λ (r : List ℕ). piece sizeW r p) e ∙ puts-at sizeW own (λ q. newPart t dealt (piece sizeW ws) i x q ∷ []) ws t p l (λ (q : ℕ) m. omega arith) in
+          ap (λ (r : List ℕ). piece sizeW r p) e
+          ∙ puts-at sizeW own (λ q. newPart t dealt (piece sizeW ws) i x q ∷ []) ws t p l
+          (λ (q : ℕ) m. omega arith) in
           ap (λ (r : List ℕ). take (inputs + suc g) r) put
           ∙ ap (λ (n : ℕ). take n (set (piece sizeW ws p) own v)) (add-suc inputs g)
           ∙ take-suc-set (piece sizeW ws p) own v (omega (arith, long p l))
-          ∙ ap (λ (n : ℕ). take own (piece sizeW ws p) ++ (n ∷ [])) (new-cong t dealt (piece sizeW ws) (λ q. take own (piece sizeW ws q)) i x same-taken p l)
+          ∙ ap (λ (n : ℕ). take own (piece sizeW ws p) ++ (n ∷ []))
+          (new-cong t dealt (piece sizeW ws) (λ q. take own (piece sizeW ws q)) i x same-taken p l)
 
       pub wires-after : (p : ℕ) → p < t → partsOf t dealt (λ q. take (inputs + suc g) (piece sizeW ws′ q)) (i + markOf x) rest p ≡ final p
       unfolding partsOf
       wires-after p l =
-          parts-cong t dealt rest (λ q. take (inputs + suc g) (piece sizeW ws′ q)) (λ q. held q ++ (newPart t dealt held i x q ∷ [])) (i + markOf x) new-held p l
+          parts-cong t dealt rest (λ q. take (inputs + suc g) (piece sizeW ws′ q))
+          (λ q. held q ++ (newPart t dealt held i x q ∷ [])) (i + markOf x) new-held p l
           ∙ sym (ap (λ (gs : List Gate). partsOf t dealt held i gs p) from) ∙ is-final p l
 
     -- the published bits after the gate
     module _ (published′ : List ℕ)
-        (e : published′ ≡ cond (conditionalOf (x .kind)) (eachPuts t sizeP (2 * i) (λ p. maskedFirst (piece sizeW ws p) (dealt p) i x ∷ maskedSecond (piece sizeW ws p) (dealt p) i x ∷ []) published) published) where
+        (e : published′ ≡ cond (conditionalOf (x .kind))
+        (eachPuts t sizeP (2 * i) (λ p. maskedFirst (piece sizeW ws p) (dealt p) i x ∷ maskedSecond
+        (piece sizeW ws p) (dealt p) i x ∷ []) published) published) where
       two-more : (n : ℕ) → 2 * (n + 1) ≡ suc (suc (2 * n))
       two-more n = omega arith
 
-      pub published-after : (p : ℕ) → p < t → sets (piece sizeP published′ p) (2 * (i + markOf x)) (maskedFactors (final p) (dealt p) (i + markOf x) rest) ≡ finalPublished p
+      pub published-after : (p : ℕ) → p < t
+          → sets (piece sizeP published′ p) (2 * (i + markOf x))
+          (maskedFactors (final p) (dealt p) (i + markOf x) rest) ≡ finalPublished p
       unfolding maskedFactors
       published-after p l =
           go (conditionalOf (x .kind)) refl e
-          ∙ sym (ap (λ (gs : List Gate). sets (piece sizeP published p) (2 * i) (maskedFactors (final p) (dealt p) i gs)) from) ∙ left .published-left p l
+          ∙ sym (ap (λ (gs : List Gate). sets (piece sizeP published p) (2 * i)
+          (maskedFactors (final p) (dealt p) i gs)) from) ∙ left .published-left p l
         where
           first : ℕ
           first = maskedFirst (final p) (dealt p) i x
@@ -201,34 +222,57 @@ module _ (t sizeW sizeP inputs : ℕ) (dealt : Held) (table : List ℕ) (final f
           second = maskedSecond (final p) (dealt p) i x
 
           go : (b : Bool) → conditionalOf (x .kind) ≡ b
-              → published′ ≡ cond b (eachPuts t sizeP (2 * i) (λ p. maskedFirst (piece sizeW ws p) (dealt p) i x ∷ maskedSecond (piece sizeW ws p) (dealt p) i x ∷ []) published) published
+              → published′ ≡ cond b (eachPuts t sizeP (2 * i)
+              (λ p. maskedFirst (piece sizeW ws p) (dealt p) i x ∷ maskedSecond (piece sizeW ws p) (dealt p) i x ∷
+              []) published) published
               → sets (piece sizeP published′ p) (2 * (i + markOf x)) (maskedFactors (final p) (dealt p) (i + markOf x) rest)
               ≡ sets (piece sizeP published p) (2 * i) (maskedFactors (final p) (dealt p) i (x ∷ rest))
           go true is f =
               let one = mark-one x is in
-              let put : piece sizeP published′ p ≡ sets (piece sizeP published p) (2 * i) (maskedFirst (piece sizeW ws p) (dealt p) i x ∷ maskedSecond (piece sizeW ws p) (dealt p) i x ∷ []) =
+              let put : piece sizeP published′ p
+              ≡ sets (piece sizeP published p) (2 * i)
+              (maskedFirst (piece sizeW ws p) (dealt p) i x ∷ maskedSecond (piece sizeW ws p) (dealt p) i x ∷ []) =
               ap (λ (r : List ℕ). piece sizeP r p) f
-              ∙ puts-at sizeP (2 * i) (λ q. maskedFirst (piece sizeW ws q) (dealt q) i x ∷ maskedSecond (piece sizeW ws q) (dealt q) i x ∷ []) published t p l (λ (q : ℕ) m. omega (arith, count-from)) in
+              ∙ puts-at sizeP (2 * i) (λ q. maskedFirst (piece sizeW ws q) (dealt q) i x ∷ maskedSecond
+              (piece sizeW ws q) (dealt q) i x ∷ []) published t p l (λ (q : ℕ) m. omega (arith, count-from)) in
               ap (λ (r : List ℕ). sets r (2 * (i + markOf x)) (maskedFactors (final p) (dealt p) (i + markOf x) rest)) put
-              ∙ ap (λ (n : ℕ). sets (sets (piece sizeP published p) (2 * i) (maskedFirst (piece sizeW ws p) (dealt p) i x ∷ maskedSecond (piece sizeW ws p) (dealt p) i x ∷ [])) (2 * (i + n)) (maskedFactors (final p) (dealt p) (i + n) rest)) one
-              ∙ ap (λ (n : ℕ). sets (sets (piece sizeP published p) (2 * i) (maskedFirst (piece sizeW ws p) (dealt p) i x ∷ maskedSecond (piece sizeW ws p) (dealt p) i x ∷ [])) n (maskedFactors (final p) (dealt p) (i + 1) rest)) (two-more i)
-              ∙ ap (λ (n : ℕ). sets (piece sizeP published p) (2 * i) (n ∷ maskedSecond (piece sizeW ws p) (dealt p) i x ∷ maskedFactors (final p) (dealt p) (i + 1) rest)) (first-cong t dealt (piece sizeW ws) final i x same-final p l)
-              ∙ ap (λ (n : ℕ). sets (piece sizeP published p) (2 * i) (first ∷ n ∷ maskedFactors (final p) (dealt p) (i + 1) rest)) (second-cong t dealt (piece sizeW ws) final i x same-final p l)
-              ∙ sym (ap (λ (b : Bool). sets (piece sizeP published p) (2 * i) (cond b (first ∷ second ∷ maskedFactors (final p) (dealt p) (i + 1) rest) (maskedFactors (final p) (dealt p) i rest))) is)
+              ∙ ap (λ (n : ℕ). sets (sets (piece sizeP published p) (2 * i)
+              (maskedFirst (piece sizeW ws p) (dealt p) i x ∷ maskedSecond (piece sizeW ws p) (dealt p) i x ∷
+              [])) (2 * (i + n)) (maskedFactors (final p) (dealt p) (i + n) rest)) one
+              ∙ ap (λ (n : ℕ). sets (sets (piece sizeP published p) (2 * i)
+              (maskedFirst (piece sizeW ws p) (dealt p) i x ∷ maskedSecond (piece sizeW ws p) (dealt p) i x ∷
+              [])) n (maskedFactors (final p) (dealt p) (i + 1) rest)) (two-more i)
+              ∙ ap (λ (n : ℕ). sets (piece sizeP published p) (2 * i)
+              (n ∷ maskedSecond (piece sizeW ws p) (dealt p) i x ∷ maskedFactors (final p) (dealt p) (i + 1)
+              rest)) (first-cong t dealt (piece sizeW ws) final i x same-final p l)
+              ∙ ap (λ (n : ℕ). sets (piece sizeP published p) (2 * i)
+              (first ∷ n ∷ maskedFactors (final p) (dealt p) (i + 1) rest))
+              (second-cong t dealt (piece sizeW ws) final i x same-final p l)
+              ∙ sym (ap (λ (b : Bool). sets (piece sizeP published p) (2 * i)
+              (cond b (first ∷ second ∷ maskedFactors (final p) (dealt p) (i + 1) rest)
+              (maskedFactors (final p) (dealt p) i rest))) is)
           go false is f =
               let none : i + markOf x ≡ i = omega (arith, mark-none x is) in
               ap (λ (r : List ℕ). sets (piece sizeP r p) (2 * (i + markOf x)) (maskedFactors (final p) (dealt p) (i + markOf x) rest)) f
               ∙ ap (λ (n : ℕ). sets (piece sizeP published p) (2 * n) (maskedFactors (final p) (dealt p) n rest)) none
-              ∙ sym (ap (λ (b : Bool). sets (piece sizeP published p) (2 * i) (cond b (first ∷ second ∷ maskedFactors (final p) (dealt p) (i + 1) rest) (maskedFactors (final p) (dealt p) i rest))) is)
+              ∙ sym (ap (λ (b : Bool). sets (piece sizeP published p) (2 * i)
+              (cond b (first ∷ second ∷ maskedFactors (final p) (dealt p) (i + 1) rest)
+              (maskedFactors (final p) (dealt p) i rest))) is)
 
       long-after : length published′ ≡ t * sizeP
       long-after = go (conditionalOf (x .kind)) e
         where
-          go : (b : Bool) → published′ ≡ cond b (eachPuts t sizeP (2 * i) (λ p. maskedFirst (piece sizeW ws p) (dealt p) i x ∷ maskedSecond (piece sizeW ws p) (dealt p) i x ∷ []) published) published → length published′ ≡ t * sizeP
-          go true f = ap length f ∙ length-puts t sizeP (2 * i) (λ p. maskedFirst (piece sizeW ws p) (dealt p) i x ∷ maskedSecond (piece sizeW ws p) (dealt p) i x ∷ []) published ∙ left .published-long
+          go : (b : Bool) → published′ ≡ cond b
+              (eachPuts t sizeP (2 * i) (λ p. maskedFirst (piece sizeW ws p) (dealt p) i x ∷ maskedSecond
+              (piece sizeW ws p) (dealt p) i x ∷ []) published) published → length published′ ≡ t * sizeP
+          go true f = ap length f ∙ length-puts t sizeP (2 * i)
+              (λ p. maskedFirst (piece sizeW ws p) (dealt p) i x ∷ maskedSecond (piece sizeW ws p) (dealt p) i x ∷
+              []) published ∙ left .published-long
           go false f = ap length f ∙ left .published-long
 
-      pub left-turn : (ws′ : List ℕ) → ws′ ≡ eachPuts t sizeW own (λ p. newPart t dealt (piece sizeW ws) i x p ∷ []) ws → Left ws′ published′ (i + markOf x) (suc g)
+      pub left-turn : (ws′ : List ℕ) → ws′
+          ≡ eachPuts t sizeW own (λ p. newPart t dealt (piece sizeW ws) i x p ∷ []) ws
+          → Left ws′ published′ (i + markOf x) (suc g)
       left-turn ws′ f =
           record {
             order = h;
@@ -241,13 +285,22 @@ module _ (t sizeW sizeP inputs : ℕ) (dealt : Held) (table : List ℕ) (final f
           }
 
   -- nothing is left
-  pub left-end : sizeW ≡ inputs + length (gatesOf table) → (ws published : List ℕ) (i g : ℕ) → Left ws published i g → length (gatesOf table) ≤ g
+  pub left-end : sizeW ≡ inputs + length (gatesOf table) → (ws published : List ℕ) (i g : ℕ) → Left ws published i g
+      → length (gatesOf table) ≤ g
       → (ws ≡ joined t final) × (published ≡ joined t finalPublished)
   left-end size-is ws published i g left h =
       let e : g ≡ length (gatesOf table) = omega (arith, left .order) in
       let none : drop g (gatesOf table) ≡ [] = drop-of-length-le (gatesOf table) {i = g} h in (
-        sym (whole-table t sizeW ws (left .wires-long)) ∙ joined-cong t (piece sizeW ws) final (λ (p : ℕ) l. sym (all-taken p l) ∙ sym (ap (λ (gs : List Gate). partsOf t dealt (λ q. take (inputs + g) (piece sizeW ws q)) i gs p) none ∙ no-gate p) ∙ left .wires-left p l),
-        sym (whole-table t sizeP published (left .published-long)) ∙ joined-cong t (piece sizeP published) finalPublished (λ (p : ℕ) l. sym (ap (λ (gs : List Gate). sets (piece sizeP published p) (2 * i) (maskedFactors (final p) (dealt p) i gs)) none ∙ no-factor p) ∙ left .published-left p l),
+        sym (whole-table t sizeW ws (left .wires-long))
+            ∙ joined-cong t (piece sizeW ws) final
+            (λ (p : ℕ) l. sym (all-taken p l)
+            ∙ sym (ap (λ (gs : List Gate). partsOf t dealt (λ q. take (inputs + g) (piece sizeW ws q)) i gs p) none
+            ∙ no-gate p) ∙ left .wires-left p l),
+        sym (whole-table t sizeP published (left .published-long))
+            ∙ joined-cong t (piece sizeP published) finalPublished
+            (λ (p : ℕ) l.
+            sym (ap (λ (gs : List Gate). sets (piece sizeP published p) (2 * i)
+            (maskedFactors (final p) (dealt p) i gs)) none ∙ no-factor p) ∙ left .published-left p l),
       )
     where
       all-taken : (p : ℕ) → p < t → take (inputs + g) (piece sizeW ws p) ≡ piece sizeW ws p
@@ -260,9 +313,12 @@ module _ (t sizeW sizeP inputs : ℕ) (dealt : Held) (table : List ℕ) (final f
       no-factor p = unfold maskedFactors in refl
 
 -- before the first gate all is left
-pub left-start : (t sizeW sizeP inputs : ℕ) (dealt : Held) (table ws published : List ℕ) → firstBad inputs 0 (gatesOf table) ≡ Nowhere → length ws ≡ t * sizeW → length published ≡ t * sizeP
+pub left-start : (t sizeW sizeP inputs : ℕ) (dealt : Held) (table ws published : List ℕ)
+    → firstBad inputs 0 (gatesOf table) ≡ Nowhere → length ws ≡ t * sizeW → length published ≡ t * sizeP
     → Left t sizeW sizeP inputs dealt table (partsOf t dealt (λ p. take inputs (piece sizeW ws p)) 0 (gatesOf table))
-    (λ p. sets (piece sizeP published p) 0 (maskedFactors (partsOf t dealt (λ q. take inputs (piece sizeW ws q)) 0 (gatesOf table) p) (dealt p) 0 (gatesOf table))) ws published 0 0
+    (λ p. sets (piece sizeP published p) 0
+    (maskedFactors (partsOf t dealt (λ q. take inputs (piece sizeW ws q)) 0 (gatesOf table) p) (dealt p) 0
+    (gatesOf table))) ws published 0 0
 left-start t sizeW sizeP inputs dealt table ws published good w q =
     record {
       order = omega arith;
@@ -274,16 +330,24 @@ left-start t sizeW sizeP inputs dealt table ws published good w q =
       published-long = q;
     }
 
-module _ (t inputs : ℕ) (pieces : Pieces) (table dealt : List ℕ) (final finalPublished : Held) (size-is : pieces .wires ≡ inputs + length (gatesOf table)) (few : inputs + length (gatesOf table) < 1073741824)
-    (dealt-size : 3 * conditionalCount (gatesOf table) ≤ pieces .dealt) (room : 2 * conditionalCount (gatesOf table) ≤ pieces .published) (some-input : 1 ≤ inputs) (dealt-length : length dealt ≡ t * pieces .dealt)
-    (ws published : List ℕ) (i g : ℕ) (left : Left t (pieces .wires) (pieces .published) inputs (piece (pieces .dealt) dealt) table final finalPublished ws published i g) (h : g < length (gatesOf table))
+module _ (t inputs : ℕ) (pieces : Pieces) (table dealt : List ℕ) (final finalPublished : Held)
+    (size-is : pieces .wires ≡ inputs + length (gatesOf table)) (few : inputs + length (gatesOf table) < 1073741824)
+    (dealt-size : 3 * conditionalCount (gatesOf table) ≤ pieces .dealt)
+    (room : 2 * conditionalCount (gatesOf table) ≤ pieces .published) (some-input : 1 ≤ inputs)
+    (dealt-length : length dealt ≡ t * pieces .dealt)
+    (ws published : List ℕ) (i g : ℕ)
+    (left : Left t (pieces .wires) (pieces .published) inputs (piece (pieces .dealt) dealt) table final
+    finalPublished ws published i g) (h : g < length (gatesOf table))
     (r : Numbers) (is : gateOf r ≡ gateAt table g) where
   -- the next gate can be run
   pub gate-ready : GateReady t pieces r (inputs + g) i dealt ws published
   gate-ready =
-      let good = gate-good t (pieces .wires) (pieces .published) inputs (piece (pieces .dealt) dealt) table final finalPublished size-is room some-input ws published i g left h in
-      let below = operands t (pieces .wires) (pieces .published) inputs (piece (pieces .dealt) dealt) table final finalPublished size-is room some-input ws published i g left h in
-      let count = count-from t (pieces .wires) (pieces .published) inputs (piece (pieces .dealt) dealt) table final finalPublished size-is room some-input ws published i g left h in
+      let good = gate-good t (pieces .wires) (pieces .published) inputs (piece (pieces .dealt) dealt) table final
+      finalPublished size-is room some-input ws published i g left h in
+      let below = operands t (pieces .wires) (pieces .published) inputs (piece (pieces .dealt) dealt) table final
+      finalPublished size-is room some-input ws published i g left h in
+      let count = count-from t (pieces .wires) (pieces .published) inputs (piece (pieces .dealt) dealt) table final
+      finalPublished size-is room some-input ws published i g left h in
       let a : r .a ≡ gateAt table g .a = ap (λ (x : Gate). x .a) is in
       let b : r .b ≡ gateAt table g .b = ap (λ (x : Gate). x .b) is in
       let c : r .c ≡ gateAt table g .c = ap (λ (x : Gate). x .c) is in
@@ -307,11 +371,21 @@ module _ (t inputs : ℕ) (pieces : Pieces) (table dealt : List ℕ) (final fina
 
   -- what is left after it
   pub turn-by : (ws′ published′ : List ℕ) (i′ g′ : ℕ) → i′ ≡ i + markOf (gateOf r)
-      → ws′ ≡ eachPuts t (pieces .wires) (inputs + g) (λ p. newPart t (piece (pieces .dealt) dealt) (piece (pieces .wires) ws) i (gateOf r) p ∷ []) ws
-      → published′ ≡ cond (conditionalOf (r .kind)) (eachPuts t (pieces .published) (2 * i) (λ p. maskedFirst (piece (pieces .wires) ws p) (piece (pieces .dealt) dealt p) i (gateOf r) ∷ maskedSecond (piece (pieces .wires) ws p) (piece (pieces .dealt) dealt p) i (gateOf r) ∷ []) published) published
-      → g′ ≡ suc g → Left t (pieces .wires) (pieces .published) inputs (piece (pieces .dealt) dealt) table final finalPublished ws′ published′ i′ g′
+      → ws′ ≡ eachPuts t (pieces .wires) (inputs + g)
+      (λ p. newPart t (piece (pieces .dealt) dealt) (piece (pieces .wires) ws) i (gateOf r) p ∷ []) ws
+      → published′ ≡ cond (conditionalOf (r .kind))
+      (eachPuts t (pieces .published) (2 * i)
+      (λ p. maskedFirst (piece (pieces .wires) ws p) (piece (pieces .dealt) dealt p) i (gateOf r) ∷ maskedSecond
+      (piece (pieces .wires) ws p) (piece (pieces .dealt) dealt p) i (gateOf r) ∷ []) published) published
+      → g′ ≡ suc g → Left t (pieces .wires) (pieces .published) inputs (piece (pieces .dealt) dealt) table final
+      finalPublished ws′ published′ i′ g′
   turn-by ws′ published′ i′ g′ ei ew ep eg =
       rw (ei ∙ ap (λ (x : Gate). i + markOf x) is, eg)
-      (left-turn t (pieces .wires) (pieces .published) inputs (piece (pieces .dealt) dealt) table final finalPublished size-is room some-input ws published i g left h published′
-      (ep ∙ ap (λ (x : Gate). cond (conditionalOf (x .kind)) (eachPuts t (pieces .published) (2 * i) (λ p. maskedFirst (piece (pieces .wires) ws p) (piece (pieces .dealt) dealt p) i x ∷ maskedSecond (piece (pieces .wires) ws p) (piece (pieces .dealt) dealt p) i x ∷ []) published) published) is) ws′
-      (ew ∙ ap (λ (x : Gate). eachPuts t (pieces .wires) (inputs + g) (λ p. newPart t (piece (pieces .dealt) dealt) (piece (pieces .wires) ws) i x p ∷ []) ws) is))
+      (left-turn t (pieces .wires) (pieces .published) inputs (piece (pieces .dealt) dealt) table final
+      finalPublished size-is room some-input ws published i g left h published′
+      (ep ∙ ap (λ (x : Gate). cond (conditionalOf (x .kind))
+      (eachPuts t (pieces .published) (2 * i)
+      (λ p. maskedFirst (piece (pieces .wires) ws p) (piece (pieces .dealt) dealt p) i x ∷ maskedSecond
+      (piece (pieces .wires) ws p) (piece (pieces .dealt) dealt p) i x ∷ []) published) published) is) ws′
+      (ew ∙ ap (λ (x : Gate). eachPuts t (pieces .wires) (inputs + g)
+      (λ p. newPart t (piece (pieces .dealt) dealt) (piece (pieces .wires) ws) i x p ∷ []) ws) is))

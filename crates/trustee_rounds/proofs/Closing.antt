@@ -24,30 +24,38 @@ length-cond false new old e = refl
 
 length-enters-gate : (u : Turn) (g i : ℕ) (x : Gate) (ws : List ℕ) → length (entersGate u g i x ws) ≡ length ws
 unfolding entersGate
-length-enters-gate u g i x ws = length-cond (eqb (getD (u .levels) g 0) (u .round)) (set ws (u .inputs + g) (heardPart u i x ws)) ws (length-set ws (u .inputs + g) (heardPart u i x ws))
+length-enters-gate u g i x ws =
+    length-cond (eqb (getD (u .levels) g 0) (u .round)) (set ws (u .inputs + g) (heardPart u i x ws)) ws
+    (length-set ws (u .inputs + g) (heardPart u i x ws))
 
 pub length-enters : (u : Turn) (gs : List Gate) (g i : ℕ) (ws : List ℕ) → length (enters u gs g i ws) ≡ length ws
 unfolding enters
 length-enters u [] g i ws = refl
 length-enters u (x ∷ xs) g i ws = length-enters u xs (suc g) (i + markOf x) (entersGate u g i x ws) ∙ length-enters-gate u g i x ws
 
-length-publishes-gate : (u : Turn) (ws : List ℕ) (g i : ℕ) (x : Gate) (published : List ℕ) → length (publishesGate u ws g i x published) ≡ length published
+length-publishes-gate : (u : Turn) (ws : List ℕ) (g i : ℕ) (x : Gate) (published : List ℕ)
+    → length (publishesGate u ws g i x published) ≡ length published
 unfolding publishesGate
 length-publishes-gate u ws g i x published =
     let entries = maskedFirst ws (u .dealt) i x ∷ maskedSecond ws (u .dealt) i x ∷ [] in
-    length-cond (conditionalOf (x .kind) && eqb (getD (u .levels) g 0) (suc (u .round))) (sets published (2 * i) entries) published (length-sets published (2 * i) entries)
+    length-cond (conditionalOf (x .kind) && eqb (getD (u .levels) g 0) (suc (u .round)))
+    (sets published (2 * i) entries) published (length-sets published (2 * i) entries)
 
-pub length-publishes : (u : Turn) (ws : List ℕ) (gs : List Gate) (g i : ℕ) (published : List ℕ) → length (publishes u ws gs g i published) ≡ length published
+pub length-publishes : (u : Turn) (ws : List ℕ) (gs : List Gate) (g i : ℕ) (published : List ℕ)
+    → length (publishes u ws gs g i published) ≡ length published
 unfolding publishes
 length-publishes u ws [] g i published = refl
-length-publishes u ws (x ∷ xs) g i published = length-publishes u ws xs (suc g) (i + markOf x) (publishesGate u ws g i x published) ∙ length-publishes-gate u ws g i x published
+length-publishes u ws (x ∷ xs) g i published =
+    length-publishes u ws xs (suc g) (i + markOf x) (publishesGate u ws g i x published)
+    ∙ length-publishes-gate u ws g i x published
 
 module _ (round last conditional k : ℕ) (ws published : List ℕ) where
   pub not-closing : (round ≡ last → ⊥) → published ≡ closes round last conditional k ws published
   unfolding closes
   not-closing h = sym (ap (λ (b : Bool). cond b (sets published (2 * conditional) (closingParts k ws)) published) (ne-eqb round last h))
 
-  pub closing : round ≡ last → k ≤ length ws → length published ≡ 2 * conditional + k → (after : List ℕ) → after ≡ take (2 * conditional) published ++ outputsOf k ws → after ≡ closes round last conditional k ws published
+  pub closing : round ≡ last → k ≤ length ws → length published ≡ 2 * conditional + k → (after : List ℕ) → after
+      ≡ take (2 * conditional) published ++ outputsOf k ws → after ≡ closes round last conditional k ws published
   unfolding closes closingParts
   closing e enough long after f =
       let out = drop (length ws - k) ws in
@@ -56,5 +64,6 @@ module _ (round last conditional k : ℕ) (ws published : List ℕ) where
       ∙ sym (
       ap (λ (b : Bool). cond b (sets published (2 * conditional) out) published) (eq-eqb round last e)
       ∙ sets-eq out published (2 * conditional) (omega arith)
-      ∙ ap (λ (l : List ℕ). take (2 * conditional) published ++ out ++ l) (drop-of-length-le published {i = 2 * conditional + length out} (omega arith))
+      ∙ ap (λ (l : List ℕ). take (2 * conditional) published ++ out ++ l)
+      (drop-of-length-le published {i = 2 * conditional + length out} (omega arith))
       ∙ append-nil (take (2 * conditional) published ++ out))

@@ -59,7 +59,8 @@ module _ (t inputs : ℕ) (dealt final : Held) (levels : List ℕ) where
     reached-part n h l = rw (lt-ltb (getD levels h 0) n l)
 
     -- a wire of a level that is done holds its part
-    pub wire-there : (size : ℕ) (ws : List ℕ) (g : ℕ) → Stands size ws g → (x : ℕ) → x < inputs + g → wireLevel inputs levels x ≤ r → part ws x ≡ part (final p) x
+    pub wire-there : (size : ℕ) (ws : List ℕ) (g : ℕ) → Stands size ws g → (x : ℕ) → x < inputs + g
+        → wireLevel inputs levels x ≤ r → part ws x ≡ part (final p) x
     unfolding wireLevel
     wire-there size ws g s x l = go (ltb x inputs) refl
       where
@@ -68,14 +69,16 @@ module _ (t inputs : ℕ) (dealt final : Held) (levels : List ℕ) where
         go false e m =
             let f = ltb-false x inputs e in
             let is : inputs + (x - inputs) ≡ x = omega arith in
-            subst (λ (y : ℕ). part ws y ≡ part (final p) y) is (s .done (x - inputs) (omega arith) ∙ reached-part (suc r) (x - inputs) (omega arith))
+            subst (λ (y : ℕ). part ws y ≡ part (final p) y) is
+            (s .done (x - inputs) (omega arith) ∙ reached-part (suc r) (x - inputs) (omega arith))
 
     -- its part, from its bit z of the product
     abbrev by : Gate → ℕ → ℕ
     by x z = partOfKind p (x .kind) (part (final p) (x .a)) (part (final p) (x .b)) (part (final p) (x .c)) z
 
     -- so a gate of this round gets its final part
-    pub gate-heard : (size : ℕ) (ws : List ℕ) (g i : ℕ) (x : Gate) → p < t → Stands size ws g → GateFits g i x → HeardGate g i x → getD levels g 0 ≡ r
+    pub gate-heard : (size : ℕ) (ws : List ℕ) (g i : ℕ) (x : Gate) → p < t → Stands size ws g → GateFits g i x
+        → HeardGate g i x → getD levels g 0 ≡ r
         → heardPart turn i x ws ≡ part (final p) (inputs + g)
     unfolding heardPart newPart
     gate-heard size ws g i x l s fits heard-gate is =
@@ -88,19 +91,23 @@ module _ (t inputs : ℕ) (dealt final : Held) (levels : List ℕ) where
         rw (ea, eb, ec) (go (conditionalOf (x .kind)) refl) ∙ sym (fits .new p l)
       where
         go : (b : Bool) → conditionalOf (x .kind) ≡ b
-            → by x (productPart p (dealt p) i (part heard (2 * i)) (part heard (2 * i + 1))) ≡ by x (productPart p (dealt p) i (openedFirst t dealt final i x) (openedSecond t dealt final i x))
+            → by x (productPart p (dealt p) i (part heard (2 * i)) (part heard (2 * i + 1)))
+            ≡ by x (productPart p (dealt p) i (openedFirst t dealt final i x) (openedSecond t dealt final i x))
         go true e = let h = heard-gate e is in rw (h .0, h .1)
         go false e = ignores p (x .kind) (part (final p) (x .a)) (part (final p) (x .b)) (part (final p) (x .c)) _ _ (fits .known) e
 
     -- one gate
-    stands-gate : (size : ℕ) (ws : List ℕ) (g i : ℕ) (x : Gate) → p < t → g < size → Stands size ws g → GateFits g i x → HeardGate g i x → Stands size (entersGate turn g i x ws) (suc g)
+    stands-gate : (size : ℕ) (ws : List ℕ) (g i : ℕ) (x : Gate) → p < t → g < size → Stands size ws g
+        → GateFits g i x → HeardGate g i x → Stands size (entersGate turn g i x ws) (suc g)
     unfolding entersGate part
     stands-gate size ws g i x l m s fits heard-gate = go (eqb (getD levels g 0) r) refl
       where
         v : ℕ
         v = heardPart turn i x ws
 
-        split : (h : ℕ) → h < suc g → (b : Bool) → eqb h g ≡ b → (n : ℕ) → (h < g → part ws (inputs + h) ≡ reached p n h) → part ws (inputs + g) ≡ reached p n g → part ws (inputs + h) ≡ reached p n h
+        split : (h : ℕ) → h < suc g → (b : Bool) → eqb h g ≡ b → (n : ℕ)
+            → (h < g → part ws (inputs + h) ≡ reached p n h) → part ws (inputs + g) ≡ reached p n g
+            → part ws (inputs + h) ≡ reached p n h
         split h k true e n before own = let is = eqb-true h g e in rw is own
         split h k false e n before own = let no = eqb-false h g e in before (omega arith)
 
@@ -108,7 +115,8 @@ module _ (t inputs : ℕ) (dealt final : Held) (levels : List ℕ) where
         go true e =
             let is = eqb-true (getD levels g 0) r e in
             let long = s .long in
-            let own : v ≡ reached p (suc r) g = gate-heard size ws g i x l s fits heard-gate is ∙ sym (reached-part (suc r) g (omega arith)) in
+            let own : v ≡ reached p (suc r) g = gate-heard size ws g i x l s fits heard-gate is
+            ∙ sym (reached-part (suc r) g (omega arith)) in
             record {
               long = length-set ws (inputs + g) v ∙ s .long;
               input = λ (y : ℕ) k. getD-set-other ws (inputs + g) y v 0 (λ e. omega arith) ∙ s .input y k;
@@ -116,7 +124,8 @@ module _ (t inputs : ℕ) (dealt final : Held) (levels : List ℕ) where
               left = λ (h : ℕ) k j. getD-set-other ws (inputs + g) (inputs + h) v 0 (λ e. omega arith) ∙ s .left h (omega arith) j;
             }
           where
-            at : (h : ℕ) → h < suc g → (b : Bool) → eqb h g ≡ b → v ≡ reached p (suc r) g → getD (set ws (inputs + g) v) (inputs + h) 0 ≡ reached p (suc r) h
+            at : (h : ℕ) → h < suc g → (b : Bool) → eqb h g ≡ b → v ≡ reached p (suc r) g
+                → getD (set ws (inputs + g) v) (inputs + h) 0 ≡ reached p (suc r) h
             at h k true e own =
                 let long = s .long in
                 rw (eqb-true h g e) (getD-set-same ws (inputs + g) v 0 (omega arith) ∙ own)
@@ -128,7 +137,8 @@ module _ (t inputs : ℕ) (dealt final : Held) (levels : List ℕ) where
             record {
               long = s .long;
               input = s .input;
-              done = λ (h : ℕ) k. split h k (eqb h g) refl (suc r) (s .done h) (s .left g (omega arith) m ∙ same no (ltb (getD levels g 0) r) refl);
+              done = λ (h : ℕ) k. split h k (eqb h g) refl (suc r) (s .done h)
+                  (s .left g (omega arith) m ∙ same no (ltb (getD levels g 0) r) refl);
               left = λ (h : ℕ) k j. s .left h (omega arith) j;
             }
           where
@@ -137,8 +147,10 @@ module _ (t inputs : ℕ) (dealt final : Held) (levels : List ℕ) where
             same other false e = let k = ltb-false (getD levels g 0) r e in rw (e, le-ltb (getD levels g 0) (suc r) (omega (arith, other)))
 
     -- the whole round
-    pub stands-end : (gs : List Gate) (size g i : ℕ) (ws : List ℕ) → p < t → g + length gs ≡ size → Fits gs g i → Heard gs g i → Stands size ws g → Stands size (enters turn gs g i ws) size
+    pub stands-end : (gs : List Gate) (size g i : ℕ) (ws : List ℕ) → p < t → g + length gs ≡ size → Fits gs g i
+        → Heard gs g i → Stands size ws g → Stands size (enters turn gs g i ws) size
     unfolding enters
     stands-end [] size g i ws l e fits hs s = let is : g ≡ size = omega arith in subst (λ (n : ℕ). Stands size ws n) is s
     stands-end (x ∷ xs) size g i ws l e fits hs s =
-        stands-end xs size (suc g) (i + markOf x) (entersGate turn g i x ws) l (omega arith) (fits .1) (hs .1) (stands-gate size ws g i x l (omega arith) s (fits .0) (hs .0))
+        stands-end xs size (suc g) (i + markOf x) (entersGate turn g i x ws) l (omega arith) (fits .1) (hs .1)
+        (stands-gate size ws g i x l (omega arith) s (fits .0) (hs .0))

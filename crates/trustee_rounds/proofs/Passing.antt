@@ -89,7 +89,9 @@ module _ (inputs : ℕ) (table : List ℕ) where
       conditional-here : conditionalOf (n .kind) ≡ true → i + 1 ≤ conditionalCount (gatesOf table)
       conditional-here e = omega (arith, count-here, mark-one (gateAt table g) (ap (λ (x : Gate). conditionalOf (x .kind)) (sym is) ∙ e))
 
-      pub part-ready : (dealt heard ws : List ℕ) → length ws ≡ inputs + length (gatesOf table) → length dealt ≡ 3 * conditionalCount (gatesOf table) → length heard ≡ 2 * conditionalCount (gatesOf table) → PartReady n i dealt heard ws
+      pub part-ready : (dealt heard ws : List ℕ) → length ws ≡ inputs + length (gatesOf table) → length dealt ≡ 3
+          * conditionalCount (gatesOf table) → length heard ≡ 2 * conditionalCount (gatesOf table)
+          → PartReady n i dealt heard ws
       part-ready dealt heard ws lw ld lh =
           record {
             operands = gate-in ws lw;
@@ -98,9 +100,16 @@ module _ (inputs : ℕ) (table : List ℕ) where
             sums-in = λ e. omega (arith, conditional-here e);
           }
 
-      pub publish-ready : (dealt ws published : List ℕ) → length ws ≡ inputs + length (gatesOf table) → length dealt ≡ 3 * conditionalCount (gatesOf table) → 2 * conditionalCount (gatesOf table) ≤ length published → PublishReady n i dealt ws published
+      pub publish-ready : (dealt ws published : List ℕ) → length ws ≡ inputs + length (gatesOf table) → length dealt
+          ≡ 3 * conditionalCount (gatesOf table) → 2 * conditionalCount (gatesOf table) ≤ length published
+          → PublishReady n i dealt ws published
       publish-ready dealt ws published lw ld lp =
-          record { operands = gate-in ws lw; triple-in = λ e. omega (arith, conditional-here e); places-in = λ e. omega (arith, conditional-here e) }
+          record {
+            operands = gate-in ws lw;
+            triple-in = λ e. omega (arith, conditional-here e);
+            places-in =
+                λ e. omega (arith, conditional-here e);
+          }
 
 -- Entering: what is left.
 pub record EnterLeft (u : Turn) (table ws₀ ws : List ℕ) (g i : ℕ) : Type 0 where
@@ -108,12 +117,16 @@ pub record EnterLeft (u : Turn) (table ws₀ ws : List ℕ) (g i : ℕ) : Type 0
   pub long : length ws ≡ u .inputs + length (gatesOf table)
   pub rest : enters u (drop g (gatesOf table)) g i ws ≡ enters u (gatesOf table) 0 0 ws₀
 
-pub enter-start : (u : Turn) (table ws : List ℕ) → firstBad (u .inputs) 0 (gatesOf table) ≡ Nowhere → length ws ≡ u .inputs + length (gatesOf table) → EnterLeft u table ws ws 0 0
+pub enter-start : (u : Turn) (table ws : List ℕ) → firstBad (u .inputs) 0 (gatesOf table) ≡ Nowhere → length ws
+    ≡ u .inputs + length (gatesOf table) → EnterLeft u table ws ws 0 0
 enter-start u table ws good long = record { ahead = ahead-start (u .inputs) table good; long = long; rest = refl }
 
-module _ (u : Turn) (table ws₀ ws : List ℕ) (g i : ℕ) (left : EnterLeft u table ws₀ ws g i) (pos : 1 ≤ u .inputs) (h : g < length (gatesOf table)) (n : Numbers) (is : gateOf n ≡ gateAt table g) where
+module _ (u : Turn) (table ws₀ ws : List ℕ) (g i : ℕ) (left : EnterLeft u table ws₀ ws g i) (pos : 1 ≤ u .inputs)
+    (h : g < length (gatesOf table)) (n : Numbers) (is : gateOf n ≡ gateAt table g) where
   pub enter-turn : (level : ℕ) (ws′ : List ℕ) (m i′ g′ : ℕ) → level ≡ getD (u .levels) g 0
-      → ws′ ≡ cond (eqb level (u .round)) (set ws (u .inputs + g) (partOfKind (u .trustee) (n .kind) (part ws (n .a)) (part ws (n .b)) (part ws (n .c)) (productPart (u .trustee) (u .dealt) i (part (u .heard) (2 * i)) (part (u .heard) (2 * i + 1))))) ws
+      → ws′ ≡ cond (eqb level (u .round))
+      (set ws (u .inputs + g) (partOfKind (u .trustee) (n .kind) (part ws (n .a)) (part ws (n .b)) (part ws (n .c))
+      (productPart (u .trustee) (u .dealt) i (part (u .heard) (2 * i)) (part (u .heard) (2 * i + 1))))) ws
       → m ≡ cond (conditionalOf (n .kind)) 1 0 → i′ ≡ i + m → g′ ≡ suc g → EnterLeft u table ws₀ ws′ g′ i′
   unfolding enters
   enter-turn level ws′ m i′ g′ el ew em ei eg =
@@ -123,15 +136,21 @@ module _ (u : Turn) (table ws₀ ws : List ℕ) (g i : ℕ) (left : EnterLeft u 
       record {
         ahead = ahead-turn (u .inputs) table g i (left .ahead) pos h i′ g′ mk eg;
         long = ap length ew ∙ length-cond (eqb level (u .round)) _ ws (length-set ws (u .inputs + g) _) ∙ left .long;
-        rest = ap (λ (k : ℕ). enters u (drop k (gatesOf table)) k i′ ws′) eg ∙ ap (λ (k : ℕ). enters u (drop (suc g) (gatesOf table)) (suc g) k ws′) mk
+        rest = ap (λ (k : ℕ). enters u (drop k (gatesOf table)) k i′ ws′) eg
+            ∙ ap (λ (k : ℕ). enters u (drop (suc g) (gatesOf table)) (suc g) k ws′) mk
             ∙ ap (λ (l : List ℕ). enters u (drop (suc g) (gatesOf table)) (suc g) (i + markOf x) l) e
             ∙ sym (ap (λ (gs : List Gate). enters u gs g i ws) (starts (u .inputs) table g i (left .ahead) pos h)) ∙ left .rest;
       }
     where
       stored : ws′ ≡ entersGate u g i (gateOf n) ws
-      stored = unfold entersGate heardPart in ew ∙ ap (λ (k : ℕ). cond (eqb k (u .round)) (set ws (u .inputs + g) (partOfKind (u .trustee) (n .kind) (part ws (n .a)) (part ws (n .b)) (part ws (n .c)) (productPart (u .trustee) (u .dealt) i (part (u .heard) (2 * i)) (part (u .heard) (2 * i + 1))))) ws) el
+      stored = unfold entersGate heardPart in ew
+          ∙ ap (λ (k : ℕ). cond (eqb k (u .round))
+          (set ws (u .inputs + g) (partOfKind (u .trustee) (n .kind) (part ws (n .a)) (part ws (n .b))
+          (part ws (n .c)) (productPart (u .trustee) (u .dealt) i (part (u .heard) (2 * i))
+          (part (u .heard) (2 * i + 1))))) ws) el
 
-pub enter-end : (u : Turn) (table ws₀ ws : List ℕ) (g i : ℕ) → EnterLeft u table ws₀ ws g i → length (gatesOf table) ≤ g → ws ≡ enters u (gatesOf table) 0 0 ws₀
+pub enter-end : (u : Turn) (table ws₀ ws : List ℕ) (g i : ℕ) → EnterLeft u table ws₀ ws g i → length (gatesOf table)
+    ≤ g → ws ≡ enters u (gatesOf table) 0 0 ws₀
 unfolding enters
 enter-end u table ws₀ ws g i left h =
     let none : drop g (gatesOf table) ≡ [] = drop-of-length-le (gatesOf table) {i = g} h in
@@ -143,12 +162,17 @@ pub record PublishLeft (u : Turn) (table ws published₀ published : List ℕ) (
   pub long : length published ≡ length published₀
   pub rest : publishes u ws (drop g (gatesOf table)) g i published ≡ publishes u ws (gatesOf table) 0 0 published₀
 
-pub publish-start : (u : Turn) (table ws published : List ℕ) → firstBad (u .inputs) 0 (gatesOf table) ≡ Nowhere → PublishLeft u table ws published published 0 0
+pub publish-start : (u : Turn) (table ws published : List ℕ) → firstBad (u .inputs) 0 (gatesOf table) ≡ Nowhere
+    → PublishLeft u table ws published published 0 0
 publish-start u table ws published good = record { ahead = ahead-start (u .inputs) table good; long = refl; rest = refl }
 
-module _ (u : Turn) (table ws published₀ published : List ℕ) (g i : ℕ) (left : PublishLeft u table ws published₀ published g i) (pos : 1 ≤ u .inputs) (h : g < length (gatesOf table)) (n : Numbers) (is : gateOf n ≡ gateAt table g) where
+module _ (u : Turn) (table ws published₀ published : List ℕ) (g i : ℕ)
+    (left : PublishLeft u table ws published₀ published g i) (pos : 1 ≤ u .inputs) (h : g < length (gatesOf table))
+    (n : Numbers) (is : gateOf n ≡ gateAt table g) where
   pub publish-turn : (level next : ℕ) (published′ : List ℕ) (m i′ g′ : ℕ) → level ≡ getD (u .levels) g 0 → next ≡ suc (u .round)
-      → published′ ≡ cond (conditionalOf (n .kind) && eqb level next) (sets published (2 * i) (maskedFirst ws (u .dealt) i (gateOf n) ∷ maskedSecond ws (u .dealt) i (gateOf n) ∷ [])) published
+      → published′ ≡ cond (conditionalOf (n .kind) && eqb level next)
+      (sets published (2 * i) (maskedFirst ws (u .dealt) i (gateOf n) ∷ maskedSecond ws (u .dealt) i (gateOf n) ∷
+      [])) published
       → m ≡ cond (conditionalOf (n .kind)) 1 0 → i′ ≡ i + m → g′ ≡ suc g → PublishLeft u table ws published₀ published′ g′ i′
   unfolding publishes
   publish-turn level next published′ m i′ g′ el en ep em ei eg =
@@ -157,19 +181,29 @@ module _ (u : Turn) (table ws published₀ published : List ℕ) (g i : ℕ) (le
       let e : published′ ≡ publishesGate u ws g i x published = stored ∙ ap (λ (y : Gate). publishesGate u ws g i y published) is in
       record {
         ahead = ahead-turn (u .inputs) table g i (left .ahead) pos h i′ g′ mk eg;
-        long = ap length ep ∙ length-cond (conditionalOf (n .kind) && eqb level next) _ published (length-sets published (2 * i) (maskedFirst ws (u .dealt) i (gateOf n) ∷ maskedSecond ws (u .dealt) i (gateOf n) ∷ [])) ∙ left .long;
-        rest = ap (λ (k : ℕ). publishes u ws (drop k (gatesOf table)) k i′ published′) eg ∙ ap (λ (k : ℕ). publishes u ws (drop (suc g) (gatesOf table)) (suc g) k published′) mk
+        long = ap length ep ∙ length-cond (conditionalOf (n .kind) && eqb level next) _ published
+            (length-sets published (2 * i)
+            (maskedFirst ws (u .dealt) i (gateOf n) ∷ maskedSecond ws (u .dealt) i (gateOf n) ∷ [])) ∙ left .long;
+        rest = ap (λ (k : ℕ). publishes u ws (drop k (gatesOf table)) k i′ published′) eg
+            ∙ ap (λ (k : ℕ). publishes u ws (drop (suc g) (gatesOf table)) (suc g) k published′) mk
             ∙ ap (λ (l : List ℕ). publishes u ws (drop (suc g) (gatesOf table)) (suc g) (i + markOf x) l) e
-            ∙ sym (ap (λ (gs : List Gate). publishes u ws gs g i published) (starts (u .inputs) table g i (left .ahead) pos h)) ∙ left .rest;
+            ∙ sym (ap (λ (gs : List Gate). publishes u ws gs g i published)
+            (starts (u .inputs) table g i (left .ahead) pos h)) ∙ left .rest;
       }
     where
       stored : published′ ≡ publishesGate u ws g i (gateOf n) published
       stored =
           unfold publishesGate in ep
-          ∙ ap (λ (k : ℕ). cond (conditionalOf (n .kind) && eqb k next) (sets published (2 * i) (maskedFirst ws (u .dealt) i (gateOf n) ∷ maskedSecond ws (u .dealt) i (gateOf n) ∷ [])) published) el
-          ∙ ap (λ (k : ℕ). cond (conditionalOf (n .kind) && eqb (getD (u .levels) g 0) k) (sets published (2 * i) (maskedFirst ws (u .dealt) i (gateOf n) ∷ maskedSecond ws (u .dealt) i (gateOf n) ∷ [])) published) en
+          ∙ ap (λ (k : ℕ). cond (conditionalOf (n .kind) && eqb k next)
+          (sets published (2 * i) (maskedFirst ws (u .dealt) i (gateOf n) ∷ maskedSecond ws (u .dealt) i
+          (gateOf n) ∷ [])) published) el
+          ∙ ap (λ (k : ℕ). cond (conditionalOf (n .kind) && eqb (getD (u .levels) g 0) k)
+          (sets published (2 * i) (maskedFirst ws (u .dealt) i (gateOf n) ∷ maskedSecond ws (u .dealt) i
+          (gateOf n) ∷ [])) published) en
 
-pub publish-end : (u : Turn) (table ws published₀ published : List ℕ) (g i : ℕ) → PublishLeft u table ws published₀ published g i → length (gatesOf table) ≤ g → published ≡ publishes u ws (gatesOf table) 0 0 published₀
+pub publish-end : (u : Turn) (table ws published₀ published : List ℕ) (g i : ℕ)
+    → PublishLeft u table ws published₀ published g i → length (gatesOf table) ≤ g → published
+    ≡ publishes u ws (gatesOf table) 0 0 published₀
 unfolding publishes
 publish-end u table ws published₀ published g i left h =
     let none : drop g (gatesOf table) ≡ [] = drop-of-length-le (gatesOf table) {i = g} h in

@@ -25,11 +25,13 @@ use Rattle.trustee_rounds.proofs.Entering.{GateFits, Fits, Heard, turn,
 use Rattle.trustee_shares.proofs.Publishing.{mark-none}
 
 -- masked factors depend only on the parts of the operands
-first-same : (ws vs dealt : List ℕ) (i : ℕ) (x : Gate) → part ws (x .a) ≡ part vs (x .a) → maskedFirst ws dealt i x ≡ maskedFirst vs dealt i x
+first-same : (ws vs dealt : List ℕ) (i : ℕ) (x : Gate) → part ws (x .a) ≡ part vs (x .a) → maskedFirst ws dealt i x
+    ≡ maskedFirst vs dealt i x
 unfolding maskedFirst firstFactor
 first-same ws vs dealt i x e = rw e
 
-second-same : (ws vs dealt : List ℕ) (i : ℕ) (x : Gate) → part ws (x .b) ≡ part vs (x .b) → part ws (x .c) ≡ part vs (x .c) → maskedSecond ws dealt i x ≡ maskedSecond vs dealt i x
+second-same : (ws vs dealt : List ℕ) (i : ℕ) (x : Gate) → part ws (x .b) ≡ part vs (x .b) → part ws (x .c)
+    ≡ part vs (x .c) → maskedSecond ws dealt i x ≡ maskedSecond vs dealt i x
 unfolding maskedSecond secondFactor
 second-same ws vs dealt i x e f = rw (e, f)
 
@@ -47,9 +49,11 @@ unfolding sumsFrom
 length-sums t zero j published = refl
 length-sums t (suc n) j published = ap suc (length-sums t n (suc j) published)
 
-pub sums-at : (t conditional j : ℕ) (published : Held) → j < 2 * conditional → part (sumsOf t conditional published) j ≡ opened t (λ p. part (published p) j)
+pub sums-at : (t conditional j : ℕ) (published : Held) → j < 2 * conditional
+    → part (sumsOf t conditional published) j ≡ opened t (λ p. part (published p) j)
 unfolding sumsOf part
-sums-at t conditional j published h = sum-at t (2 * conditional) 0 j published h ∙ ap (λ (i : ℕ). opened t (λ p. getD (published p) i 0)) (zero-add j)
+sums-at t conditional j published h = sum-at t (2 * conditional) 0 j published h
+    ∙ ap (λ (i : ℕ). opened t (λ p. getD (published p) i 0)) (zero-add j)
 
 module _ (t inputs : ℕ) (dealt final : Held) (levels : List ℕ) where
   -- What trustee p has published for gate g once all levels below n are.
@@ -63,7 +67,8 @@ module _ (t inputs : ℕ) (dealt final : Held) (levels : List ℕ) where
   Shown p n published (x ∷ xs) g i = ShownGate p n published g i x × Shown p n published xs (suc g) (i + markOf x)
 
   -- it reads only the places from 2 * i on
-  shown-same : (p n : ℕ) (gs : List Gate) (g i : ℕ) (pub₁ pub₂ : List ℕ) → ((j : ℕ) → 2 * i ≤ j → part pub₂ j ≡ part pub₁ j) → Shown p n pub₁ gs g i → Shown p n pub₂ gs g i
+  shown-same : (p n : ℕ) (gs : List Gate) (g i : ℕ) (pub₁ pub₂ : List ℕ)
+      → ((j : ℕ) → 2 * i ≤ j → part pub₂ j ≡ part pub₁ j) → Shown p n pub₁ gs g i → Shown p n pub₂ gs g i
   shown-same p n [] g i pub₁ pub₂ e s = tt
   shown-same p n (x ∷ xs) g i pub₁ pub₂ e s = (
     λ is. (e (2 * i) (omega arith) ∙ s .0 is .0, e (2 * i + 1) (omega arith) ∙ s .0 is .1),
@@ -72,7 +77,8 @@ module _ (t inputs : ℕ) (dealt final : Held) (levels : List ℕ) where
 
   -- what the sums of all are
   pub heard-shown : (gs : List Gate) (g i r conditional : ℕ) (published : Held) → i + conditionalCount gs ≤ conditional
-      → ((p : ℕ) → p < t → Shown p (suc r) (published p) gs g i) → (p : ℕ) → Heard t inputs dealt final levels p r (sumsOf t conditional published) gs g i
+      → ((p : ℕ) → p < t → Shown p (suc r) (published p) gs g i) → (p : ℕ)
+      → Heard t inputs dealt final levels p r (sumsOf t conditional published) gs g i
   unfolding openedFirst openedSecond
   heard-shown [] g i r conditional published room s p = tt
   heard-shown (x ∷ xs) g i r conditional published room s p = (
@@ -81,9 +87,13 @@ module _ (t inputs : ℕ) (dealt final : Held) (levels : List ℕ) where
         let m = mark-one x is in
         let l : getD levels g 0 < suc r = omega arith in (
           sums-at t conditional (2 * i) published (omega arith)
-              ∙ opened-same t (λ q. part (published q) (2 * i)) (λ q. maskedFirst (final q) (dealt q) i x) (λ (q : ℕ) h. s q h .0 is .0 ∙ ap (λ (b : Bool). cond b (maskedFirst (final q) (dealt q) i x) 0) (lt-ltb (getD levels g 0) (suc r) l)),
+              ∙ opened-same t (λ q. part (published q) (2 * i)) (λ q. maskedFirst (final q) (dealt q) i x)
+              (λ (q : ℕ) h. s q h .0 is .0 ∙ ap (λ (b : Bool). cond b (maskedFirst (final q) (dealt q) i x) 0)
+              (lt-ltb (getD levels g 0) (suc r) l)),
           sums-at t conditional (2 * i + 1) published (omega arith)
-              ∙ opened-same t (λ q. part (published q) (2 * i + 1)) (λ q. maskedSecond (final q) (dealt q) i x) (λ (q : ℕ) h. s q h .0 is .1 ∙ ap (λ (b : Bool). cond b (maskedSecond (final q) (dealt q) i x) 0) (lt-ltb (getD levels g 0) (suc r) l)),
+              ∙ opened-same t (λ q. part (published q) (2 * i + 1)) (λ q. maskedSecond (final q) (dealt q) i x)
+              (λ (q : ℕ) h. s q h .0 is .1 ∙ ap (λ (b : Bool). cond b (maskedSecond (final q) (dealt q) i x) 0)
+              (lt-ltb (getD levels g 0) (suc r) l)),
         ),
     heard-shown xs (suc g) (i + markOf x) r conditional published (omega (arith, count-mark x xs)) (λ (q : ℕ) h. s q h .1) p,
   )
@@ -96,8 +106,10 @@ module _ (t inputs : ℕ) (dealt final : Held) (levels : List ℕ) where
       before : (j : ℕ) → j < 2 * i → part published′ j ≡ part published j
       behind : (j : ℕ) → 2 * (i + markOf x) ≤ j → part published′ j ≡ part published j
 
-    turned : (published : List ℕ) (g i : ℕ) (x : Gate) → g < size → i + markOf x ≤ i + 1 → 2 * (i + markOf x) ≤ length published → GateFits t inputs dealt final levels g i x
-        → ShownGate p (suc r) published g i x → Turned published (publishesGate (turn t inputs dealt final levels p r heard) ws g i x published) g i x
+    turned : (published : List ℕ) (g i : ℕ) (x : Gate) → g < size → i + markOf x ≤ i + 1 → 2 * (i + markOf x)
+        ≤ length published → GateFits t inputs dealt final levels g i x
+        → ShownGate p (suc r) published g i x
+        → Turned published (publishesGate (turn t inputs dealt final levels p r heard) ws g i x published) g i x
     unfolding publishesGate part
     turned published g i x m few room fits shown = go (conditionalOf (x .kind)) refl (eqb (getD levels g 0) (suc r)) refl
       where
@@ -119,14 +131,22 @@ module _ (t inputs : ℕ) (dealt final : Held) (levels : List ℕ) where
         go true is false f =
             record {
               long = refl;
-              shows = λ yes. (shown yes .0 ∙ later (maskedFirst (final p) (dealt p) i x) (ltb (getD levels g 0) (suc r)) refl, shown yes .1 ∙ later (maskedSecond (final p) (dealt p) i x) (ltb (getD levels g 0) (suc r)) refl);
+              shows = λ yes. (
+                shown yes .0 ∙ later (maskedFirst (final p) (dealt p) i x)
+                    (ltb (getD levels g 0) (suc r)) refl,
+                shown yes .1
+                    ∙ later (maskedSecond (final p) (dealt p) i x) (ltb (getD levels g 0) (suc r)) refl,
+              );
               before = λ (j : ℕ) h. refl;
               behind = λ (j : ℕ) h. refl;
             }
           where
-            later : (v : ℕ) (b : Bool) → ltb (getD levels g 0) (suc r) ≡ b → cond (ltb (getD levels g 0) (suc r)) v 0 ≡ cond (ltb (getD levels g 0) (suc (suc r))) v 0
+            later : (v : ℕ) (b : Bool) → ltb (getD levels g 0) (suc r) ≡ b
+                → cond (ltb (getD levels g 0) (suc r)) v 0 ≡ cond (ltb (getD levels g 0) (suc (suc r))) v 0
             later v true e = let k = ltb-true (getD levels g 0) (suc r) e in rw (e, lt-ltb (getD levels g 0) (suc (suc r)) (omega arith))
-            later v false e = let k = ltb-false (getD levels g 0) (suc r) e in let other = eqb-false (getD levels g 0) (suc r) f in rw (e, le-ltb (getD levels g 0) (suc (suc r)) (omega (arith, other)))
+            later v false e = let k = ltb-false (getD levels g 0) (suc r) e in let other =
+                eqb-false (getD levels g 0) (suc r) f in
+                rw (e, le-ltb (getD levels g 0) (suc (suc r)) (omega (arith, other)))
         go true is true f =
             let one = mark-one x is in
             let level = eqb-true (getD levels g 0) (suc r) f in
@@ -143,13 +163,19 @@ module _ (t inputs : ℕ) (dealt final : Held) (levels : List ℕ) where
             record {
               long = length-set (set published (2 * i) first) (suc (2 * i)) second ∙ length-set published (2 * i) first;
               shows = λ again. (
-                getD-set-other (set published (2 * i) first) (suc (2 * i)) (2 * i) second 0 (λ e. omega arith) ∙ getD-set-same published (2 * i) first 0 (omega arith)
-                    ∙ first-same ws (final p) (dealt p) i x ea ∙ sym (ap (λ (b : Bool). cond b (maskedFirst (final p) (dealt p) i x) 0) yes),
-                ap (λ (j : ℕ). getD (set (set published (2 * i) first) (suc (2 * i)) second) j 0) more ∙ getD-set-same (set published (2 * i) first) (suc (2 * i)) second 0 (omega arith)
-                    ∙ second-same ws (final p) (dealt p) i x eb ec ∙ sym (ap (λ (b : Bool). cond b (maskedSecond (final p) (dealt p) i x) 0) yes),
+                getD-set-other (set published (2 * i) first) (suc (2 * i)) (2 * i) second 0 (λ e. omega arith)
+                    ∙ getD-set-same published (2 * i) first 0 (omega arith)
+                    ∙ first-same ws (final p) (dealt p) i x ea
+                    ∙ sym (ap (λ (b : Bool). cond b (maskedFirst (final p) (dealt p) i x) 0) yes),
+                ap (λ (j : ℕ). getD (set (set published (2 * i) first) (suc (2 * i)) second) j 0) more
+                    ∙ getD-set-same (set published (2 * i) first) (suc (2 * i)) second 0 (omega arith)
+                    ∙ second-same ws (final p) (dealt p) i x eb ec
+                    ∙ sym (ap (λ (b : Bool). cond b (maskedSecond (final p) (dealt p) i x) 0) yes),
               );
-              before = λ (j : ℕ) h. getD-set-other (set published (2 * i) first) (suc (2 * i)) j second 0 (λ e. omega arith) ∙ getD-set-other published (2 * i) j first 0 (λ e. omega arith);
-              behind = λ (j : ℕ) h. getD-set-other (set published (2 * i) first) (suc (2 * i)) j second 0 (λ e. omega arith) ∙ getD-set-other published (2 * i) j first 0 (λ e. omega arith);
+              before = λ (j : ℕ) h. getD-set-other (set published (2 * i) first) (suc (2 * i)) j second 0
+                  (λ e. omega arith) ∙ getD-set-other published (2 * i) j first 0 (λ e. omega arith);
+              behind = λ (j : ℕ) h. getD-set-other (set published (2 * i) first) (suc (2 * i)) j second 0
+                  (λ e. omega arith) ∙ getD-set-other published (2 * i) j first 0 (λ e. omega arith);
             }
 
     -- all gates
@@ -159,10 +185,13 @@ module _ (t inputs : ℕ) (dealt final : Held) (levels : List ℕ) where
       pub before : (j : ℕ) → j < 2 * i → part published′ j ≡ part published j
       pub behind : (j : ℕ) → 2 * (i + conditionalCount gs) ≤ j → part published′ j ≡ part published j
 
-    pub published-end : (gs : List Gate) (g i : ℕ) (published : List ℕ) → g + length gs ≡ size → 2 * (i + conditionalCount gs) ≤ length published → Fits t inputs dealt final levels gs g i
-        → Shown p (suc r) published gs g i → Published published (publishes (turn t inputs dealt final levels p r heard) ws gs g i published) gs g i
+    pub published-end : (gs : List Gate) (g i : ℕ) (published : List ℕ) → g + length gs ≡ size → 2
+        * (i + conditionalCount gs) ≤ length published → Fits t inputs dealt final levels gs g i
+        → Shown p (suc r) published gs g i
+        → Published published (publishes (turn t inputs dealt final levels p r heard) ws gs g i published) gs g i
     unfolding publishes
-    published-end [] g i published e room fits s = record { long = refl; shows = tt; before = λ (j : ℕ) h. refl; behind = λ (j : ℕ) h. refl }
+    published-end [] g i published e room fits s =
+        record { long = refl; shows = tt; before = λ (j : ℕ) h. refl; behind = λ (j : ℕ) h. refl }
     published-end (x ∷ xs) g i published e room fits s =
         let c = count-mark x xs in
         let pub₁ = publishesGate (turn t inputs dealt final levels p r heard) ws g i x published in
@@ -189,11 +218,14 @@ module _ (t inputs : ℕ) (dealt final : Held) (levels : List ℕ) where
             go false e = omega (arith, mark-none x e)
 
   -- once all levels are done, the places of the gates are the masked factors
-  pub all-shown : (p n : ℕ) (published : List ℕ) (gs : List Gate) (g i : ℕ) → ((h : ℕ) → getD levels h 0 < n) → 2 * (i + conditionalCount gs) ≤ length published → Shown p n published gs g i
+  pub all-shown : (p n : ℕ) (published : List ℕ) (gs : List Gate) (g i : ℕ) → ((h : ℕ) → getD levels h 0 < n) → 2
+      * (i + conditionalCount gs) ≤ length published → Shown p n published gs g i
       → take (2 * conditionalCount gs) (drop (2 * i) published) ≡ maskedFactors (final p) (dealt p) i gs
   unfolding maskedFactors
   all-shown p n published [] g i small room s = rw count-nil
-  all-shown p n published (x ∷ xs) g i small room s = go (conditionalOf (x .kind)) refl (all-shown p n published xs (suc g) (i + markOf x) small (omega (arith, count-mark x xs)) (s .1))
+  all-shown p n published (x ∷ xs) g i small room s =
+      go (conditionalOf (x .kind)) refl
+      (all-shown p n published xs (suc g) (i + markOf x) small (omega (arith, count-mark x xs)) (s .1))
     where
       first : ℕ
       first = maskedFirst (final p) (dealt p) i x
@@ -204,16 +236,20 @@ module _ (t inputs : ℕ) (dealt final : Held) (levels : List ℕ) where
       yes : ltb (getD levels g 0) n ≡ true
       yes = lt-ltb (getD levels g 0) n (small g)
 
-      go : (b : Bool) → conditionalOf (x .kind) ≡ b → take (2 * conditionalCount xs) (drop (2 * (i + markOf x)) published) ≡ maskedFactors (final p) (dealt p) (i + markOf x) xs
+      go : (b : Bool) → conditionalOf (x .kind) ≡ b
+          → take (2 * conditionalCount xs) (drop (2 * (i + markOf x)) published)
+          ≡ maskedFactors (final p) (dealt p) (i + markOf x) xs
           → take (2 * conditionalCount (x ∷ xs)) (drop (2 * i) published)
-          ≡ cond b (maskedFirst (final p) (dealt p) i x ∷ maskedSecond (final p) (dealt p) i x ∷ maskedFactors (final p) (dealt p) (i + 1) xs) (maskedFactors (final p) (dealt p) i xs)
+          ≡ cond b (maskedFirst (final p) (dealt p) i x ∷ maskedSecond (final p) (dealt p) i x ∷ maskedFactors
+          (final p) (dealt p) (i + 1) xs) (maskedFactors (final p) (dealt p) i xs)
       go false is rest =
           let c = count-mark x xs in
           let z = mark-none x is in
           let a : conditionalCount (x ∷ xs) ≡ conditionalCount xs = omega arith in
           let b : i ≡ i + markOf x = omega arith in
           let f : i + markOf x ≡ i = omega arith in
-          ap (λ (m : ℕ). take (2 * m) (drop (2 * i) published)) a ∙ ap (λ (m : ℕ). take (2 * conditionalCount xs) (drop (2 * m) published)) b
+          ap (λ (m : ℕ). take (2 * m) (drop (2 * i) published)) a
+          ∙ ap (λ (m : ℕ). take (2 * conditionalCount xs) (drop (2 * m) published)) b
           ∙ rest ∙ ap (λ (m : ℕ). maskedFactors (final p) (dealt p) m xs) f
       go true is rest =
           let c = count-mark x xs in
@@ -223,9 +259,12 @@ module _ (t inputs : ℕ) (dealt final : Held) (levels : List ℕ) where
           let d : 2 * i + 1 ≡ suc (2 * i) = omega arith in
           let f : i + markOf x ≡ i + 1 = omega arith in
           let va : getD published (2 * i) 0 ≡ first = unfold part in s .0 is .0 ∙ ap (λ (b : Bool). cond b first 0) yes in
-          let vb : getD published (suc (2 * i)) 0 ≡ second = ap (λ (j : ℕ). getD published j 0) (sym d) ∙ (unfold part in s .0 is .1 ∙ ap (λ (b : Bool). cond b second 0) yes) in
+          let vb : getD published (suc (2 * i)) 0 ≡ second = ap (λ (j : ℕ). getD published j 0) (sym d)
+          ∙ (unfold part in s .0 is .1 ∙ ap (λ (b : Bool). cond b second 0) yes) in
           ap (λ (m : ℕ). take m (drop (2 * i) published)) a
-          ∙ ap (λ (l : List ℕ). take (suc (suc (2 * conditionalCount xs))) l) (drop-cons published (2 * i) 0 (omega arith) ∙ ap (λ (l : List ℕ). getD published (2 * i) 0 ∷ l) (drop-cons published (suc (2 * i)) 0 (omega arith)))
+          ∙ ap (λ (l : List ℕ). take (suc (suc (2 * conditionalCount xs))) l)
+          (drop-cons published (2 * i) 0 (omega arith)
+          ∙ ap (λ (l : List ℕ). getD published (2 * i) 0 ∷ l) (drop-cons published (suc (2 * i)) 0 (omega arith)))
           ∙ ap (λ (v : ℕ). v ∷ getD published (suc (2 * i)) 0 ∷ take (2 * conditionalCount xs) (drop (suc (suc (2 * i))) published)) va
           ∙ ap (λ (v : ℕ). first ∷ v ∷ take (2 * conditionalCount xs) (drop (suc (suc (2 * i))) published)) vb
           ∙ ap (λ (m : ℕ). first ∷ second ∷ take (2 * conditionalCount xs) (drop m published)) b
@@ -244,16 +283,21 @@ module _ (inputs : ℕ) (levels : List ℕ) (p n : ℕ) where
   same-shown t dealt final dealt′ final′ [] g i a b s s′ e j low high = absurd (omega (arith, count-nil))
   same-shown t dealt final dealt′ final′ (x ∷ xs) g i a b s s′ e j low high =
       let few : j < 2 * (i + markOf x + conditionalCount xs) = omega (arith, count-mark x xs) in
-      go (λ f l. same-shown t dealt final dealt′ final′ xs (suc g) (i + markOf x) a b (s .1) (s′ .1) f j l few) (conditionalOf (x .kind)) refl e
+      go (λ f l. same-shown t dealt final dealt′ final′ xs (suc g) (i + markOf x) a b (s .1) (s′ .1) f j l few)
+      (conditionalOf (x .kind)) refl e
     where
-      go : (maskedFactors (final p) (dealt p) (i + markOf x) xs ≡ maskedFactors (final′ p) (dealt′ p) (i + markOf x) xs → 2 * (i + markOf x) ≤ j → part a j ≡ part b j)
+      go : (maskedFactors (final p) (dealt p) (i + markOf x) xs
+          ≡ maskedFactors (final′ p) (dealt′ p) (i + markOf x) xs → 2 * (i + markOf x) ≤ j → part a j ≡ part b j)
           → (c : Bool) → conditionalOf (x .kind) ≡ c
-          → cond c (maskedFirst (final p) (dealt p) i x ∷ maskedSecond (final p) (dealt p) i x ∷ maskedFactors (final p) (dealt p) (i + 1) xs) (maskedFactors (final p) (dealt p) i xs)
-          ≡ cond c (maskedFirst (final′ p) (dealt′ p) i x ∷ maskedSecond (final′ p) (dealt′ p) i x ∷ maskedFactors (final′ p) (dealt′ p) (i + 1) xs) (maskedFactors (final′ p) (dealt′ p) i xs)
+          → cond c (maskedFirst (final p) (dealt p) i x ∷ maskedSecond (final p) (dealt p) i x ∷ maskedFactors
+          (final p) (dealt p) (i + 1) xs) (maskedFactors (final p) (dealt p) i xs)
+          ≡ cond c (maskedFirst (final′ p) (dealt′ p) i x ∷ maskedSecond (final′ p) (dealt′ p) i x ∷ maskedFactors
+          (final′ p) (dealt′ p) (i + 1) xs) (maskedFactors (final′ p) (dealt′ p) i xs)
           → part a j ≡ part b j
       go more false is f =
           let same : i ≡ i + markOf x = omega (arith, mark-none x is) in
-          more (subst (λ (m : ℕ). maskedFactors (final p) (dealt p) m xs ≡ maskedFactors (final′ p) (dealt′ p) m xs) same f) (omega (arith, low, mark-none x is))
+          more (subst (λ (m : ℕ). maskedFactors (final p) (dealt p) m xs ≡ maskedFactors (final′ p) (dealt′ p) m xs)
+          same f) (omega (arith, low, mark-none x is))
       go more true is f =
           let h = heads f in
           let one = mark-one x is in
@@ -262,9 +306,12 @@ module _ (inputs : ℕ) (levels : List ℕ) (p n : ℕ) where
           let second : part a (2 * i + 1) ≡ part b (2 * i + 1) =
           s .0 is .1 ∙ ap (λ (v : ℕ). cond (ltb (getD levels g 0) n) v 0) (h .1) ∙ sym (s′ .0 is .1) in
           let same : i + 1 ≡ i + markOf x = omega arith in
-          place first second (λ l. more (subst (λ (m : ℕ). maskedFactors (final p) (dealt p) m xs ≡ maskedFactors (final′ p) (dealt′ p) m xs) same (h .2)) (omega (arith, one, l)))
+          place first second
+          (λ l. more (subst (λ (m : ℕ). maskedFactors (final p) (dealt p) m xs
+          ≡ maskedFactors (final′ p) (dealt′ p) m xs) same (h .2)) (omega (arith, one, l)))
         where
-          place : part a (2 * i) ≡ part b (2 * i) → part a (2 * i + 1) ≡ part b (2 * i + 1) → (2 * i + 2 ≤ j → part a j ≡ part b j) → part a j ≡ part b j
+          place : part a (2 * i) ≡ part b (2 * i) → part a (2 * i + 1) ≡ part b (2 * i + 1)
+              → (2 * i + 2 ≤ j → part a j ≡ part b j) → part a j ≡ part b j
           place u v w = at (eqb j (2 * i)) refl (eqb j (2 * i + 1)) refl
             where
               at : (y : Bool) → eqb j (2 * i) ≡ y → (z : Bool) → eqb j (2 * i + 1) ≡ z → part a j ≡ part b j

@@ -32,8 +32,10 @@ use Rattle.trustee_rounds.proofs.Entering.{Fits, Heard, reached, turn, 
 use Rattle.trustee_rounds.proofs.Publishing.{Shown, heard-shown, Published, published-end, all-shown, same-shown}
 
 -- a list's own levels and parts fit each of its gates
-fits-list : (t inputs : ℕ) (dealt final : Held) (levels : List ℕ) → 1 ≤ inputs → (gs : List Gate) (g i : ℕ) (held : Held) → ((p : ℕ) → p < t → length (held p) ≡ inputs + g)
-    → ((p : ℕ) → p < t → final p ≡ partsOf t dealt held i gs p) → AllGood (inputs + g) gs → Leveled inputs levels g gs → Fits t inputs dealt final levels gs g i
+fits-list : (t inputs : ℕ) (dealt final : Held) (levels : List ℕ) → 1 ≤ inputs
+    → (gs : List Gate) (g i : ℕ) (held : Held) → ((p : ℕ) → p < t → length (held p) ≡ inputs + g)
+    → ((p : ℕ) → p < t → final p ≡ partsOf t dealt held i gs p) → AllGood (inputs + g) gs
+    → Leveled inputs levels g gs → Fits t inputs dealt final levels gs g i
 unfolding partsOf
 fits-list t inputs dealt final levels pos [] g i held long is good leveled = tt
 fits-list t inputs dealt final levels pos (x ∷ xs) g i held long is good leveled = (
@@ -45,7 +47,9 @@ fits-list t inputs dealt final levels pos (x ∷ xs) g i held long is good level
         ap (λ (r : List ℕ). part r own) (is p l) ∙ parts-keep t dealt xs next (i + markOf x) (suc own) p own (next-long p l) (omega arith)
         ∙ part-new (held p) (newPart t dealt held i x p) own (long p l) ∙ new-cong t dealt held final i x same p l;
   },
-  fits-list t inputs dealt final levels pos xs (suc g) (i + markOf x) next (λ (p : ℕ) l. next-long p l ∙ sym (add-suc inputs g)) is (subst (λ (m : ℕ). AllGood m xs) (sym (add-suc inputs g)) (good .1)) (leveled .1),
+  fits-list t inputs dealt final levels pos xs (suc g) (i + markOf x) next
+      (λ (p : ℕ) l. next-long p l ∙ sym (add-suc inputs g)) is
+      (subst (λ (m : ℕ). AllGood m xs) (sym (add-suc inputs g)) (good .1)) (leveled .1),
 )
   where
     own : ℕ
@@ -71,7 +75,8 @@ fits-list t inputs dealt final levels pos (x ∷ xs) g i held long is good level
           c-same = λ (p : ℕ) l. stays p (x .c) l (below .c-below);
         }
 
-module _ (t inputs k : ℕ) (gs : List Gate) (d : Dealing) (pos : 1 ≤ inputs) (enough : k ≤ length gs) (good : firstBad inputs 0 gs ≡ Nowhere) (ballots : (p : ℕ) → p < t → length (ballotsOf inputs d p) ≡ inputs) where
+module _ (t inputs k : ℕ) (gs : List Gate) (d : Dealing) (pos : 1 ≤ inputs) (enough : k ≤ length gs)
+    (good : firstBad inputs 0 gs ≡ Nowhere) (ballots : (p : ℕ) → p < t → length (ballotsOf inputs d p) ≡ inputs) where
   size : ℕ
   size = length gs
 
@@ -99,7 +104,8 @@ module _ (t inputs k : ℕ) (gs : List Gate) (d : Dealing) (pos : 1 ≤ inputs) 
   fits : Fits t inputs dealt final levels gs 0 0
   unfolding final wirePartsOf dealt levels
   fits =
-      fits-list t inputs dealt final levels pos gs 0 0 (ballotsOf inputs d) (λ (p : ℕ) l. ballots p l ∙ sym (add-zero inputs)) (λ (p : ℕ) l. refl)
+      fits-list t inputs dealt final levels pos gs 0 0 (ballotsOf inputs d)
+      (λ (p : ℕ) l. ballots p l ∙ sym (add-zero inputs)) (λ (p : ℕ) l. refl)
       (all-good inputs 0 gs good) (levels-leveled inputs gs pos good-all)
 
   long-final : (p : ℕ) → p < t → length (final p) ≡ inputs + size
@@ -115,7 +121,8 @@ module _ (t inputs k : ℕ) (gs : List Gate) (d : Dealing) (pos : 1 ≤ inputs) 
   level-most h = largest-most (levelsOf inputs gs) h
 
   -- a conditional gate's level is not 0, so at first nothing has to be shown
-  first-shown : (p : ℕ) (published : List ℕ) → ((j : ℕ) → part published j ≡ 0) → (hs : List Gate) (g i : ℕ) → Fits t inputs dealt final levels hs g i → Shown t inputs dealt final levels p 1 published hs g i
+  first-shown : (p : ℕ) (published : List ℕ) → ((j : ℕ) → part published j ≡ 0) → (hs : List Gate) (g i : ℕ)
+      → Fits t inputs dealt final levels hs g i → Shown t inputs dealt final levels p 1 published hs g i
   first-shown p published none [] g i f = tt
   first-shown p published none (x ∷ xs) g i f = (
     λ is.
@@ -144,7 +151,8 @@ module _ (t inputs k : ℕ) (gs : List Gate) (d : Dealing) (pos : 1 ≤ inputs) 
         wires-long = omega (arith, length-append b (replicate (length gs) 0), length-replicate {A = ℕ} (length gs) 0);
         input = λ (x : ℕ) h. List·getD-append b (replicate (length gs) 0) 0 x (omega arith) ∙ sym (input-final p x l h);
         gate = λ (h : ℕ) m.
-            ap (λ (n : ℕ). getD (b ++ replicate (length gs) 0) (n + h) 0) (sym long) ∙ getD-append-add b (replicate (length gs) 0) h 0 ∙ zeros-at (length gs) h
+            ap (λ (n : ℕ). getD (b ++ replicate (length gs) 0) (n + h) 0) (sym long)
+            ∙ getD-append-add b (replicate (length gs) 0) h 0 ∙ zeros-at (length gs) h
             ∙ sym (ap (λ (c : Bool). cond c (getD (final p) (inputs + h) 0) 0) (le-ltb (getD levels h 0) 0 (omega arith)));
         published-long = length-replicate {A = ℕ} (2 * conditionalCount gs + k) 0;
         shown = first-shown p (replicate (2 * conditionalCount gs + k) 0) (λ (j : ℕ). zeros-at (2 * conditionalCount gs + k) j) gs 0 0 fits;
@@ -177,12 +185,14 @@ module _ (t inputs k : ℕ) (gs : List Gate) (d : Dealing) (pos : 1 ≤ inputs) 
     abbrev W : List ℕ
     W = enters u gs 0 0 (s .wireParts p)
 
-    publishes-all : Published t inputs dealt final levels p r sums W size enters-all (s .published p) (publishes u W gs 0 0 (s .published p)) gs 0 0
+    publishes-all : Published t inputs dealt final levels p r sums W size enters-all (s .published p)
+        (publishes u W gs 0 0 (s .published p)) gs 0 0
     unfolding u size C
     publishes-all =
         let e = all p l in
         let long = e .published-long in
-        published-end t inputs dealt final levels p r sums W size enters-all gs 0 0 (s .published p) (omega arith) (omega arith) fits (e .shown)
+        published-end t inputs dealt final levels p r sums W size enters-all gs 0 0 (s .published p) (omega arith)
+        (omega arith) fits (e .shown)
 
     wires-are : wiresAfter t inputs gs d r s p ≡ W
     unfolding wiresAfter
@@ -191,15 +201,19 @@ module _ (t inputs k : ℕ) (gs : List Gate) (d : Dealing) (pos : 1 ≤ inputs) 
     published-are : publishedAfter t inputs gs k d r s p ≡ closes r R C k W (publishes u W gs 0 0 (s .published p))
     unfolding publishedAfter R C
     published-are =
-        ap (λ (v : Turn). closes r (roundsOf inputs gs) (conditionalCount gs) k (wiresAfter t inputs gs d r s p) (publishes v (wiresAfter t inputs gs d r s p) gs 0 0 (s .published p))) turn-is
+        ap (λ (v : Turn). closes r (roundsOf inputs gs) (conditionalCount gs) k (wiresAfter t inputs gs d r s p)
+        (publishes v (wiresAfter t inputs gs d r s p) gs 0 0 (s .published p))) turn-is
         ∙ ap (λ (ws : List ℕ). closes r (roundsOf inputs gs) (conditionalCount gs) k ws (publishes u ws gs 0 0 (s .published p))) wires-are
 
     -- before the last round nothing closes
     not-last : r < R → publishedAfter t inputs gs k d r s p ≡ publishes u W gs 0 0 (s .published p)
     unfolding closes
-    not-last h = published-are ∙ ap (λ (b : Bool). cond b (sets (publishes u W gs 0 0 (s .published p)) (2 * C) (closingParts k W)) (publishes u W gs 0 0 (s .published p))) (ne-eqb r R (λ e. omega arith))
+    not-last h = published-are ∙ ap (λ (b : Bool). cond b
+        (sets (publishes u W gs 0 0 (s .published p)) (2 * C) (closingParts k W))
+        (publishes u W gs 0 0 (s .published p))) (ne-eqb r R (λ e. omega arith))
 
-    next-reached : (s′ : Holdings) → s′ .wireParts p ≡ wiresAfter t inputs gs d r s p → s′ .published p ≡ publishedAfter t inputs gs k d r s p → r < R → Reached (suc r) s′ p
+    next-reached : (s′ : Holdings) → s′ .wireParts p ≡ wiresAfter t inputs gs d r s p → s′ .published p
+        ≡ publishedAfter t inputs gs k d r s p → r < R → Reached (suc r) s′ p
     next-reached s′ ew ep h =
         let w = ew ∙ wires-are in
         let q = ep ∙ not-last h in
@@ -216,7 +230,8 @@ module _ (t inputs k : ℕ) (gs : List Gate) (d : Dealing) (pos : 1 ≤ inputs) 
     module _ (last : r ≡ R) where
       wires-final : W ≡ final p
       unfolding part
-      wires-final = ext-getD 0 W (final p) (enters-all .long ∙ sym (long-final p l)) (λ (x : ℕ) h. at x (omega (arith, enters-all .long)) (ltb x inputs) refl)
+      wires-final = ext-getD 0 W (final p) (enters-all .long ∙ sym (long-final p l))
+          (λ (x : ℕ) h. at x (omega (arith, enters-all .long)) (ltb x inputs) refl)
         where
           at : (x : ℕ) → x < inputs + size → (b : Bool) → ltb x inputs ≡ b → getD W x 0 ≡ getD (final p) x 0
           at x h true e = enters-all .input x (ltb-true x inputs e)
@@ -224,7 +239,9 @@ module _ (t inputs k : ℕ) (gs : List Gate) (d : Dealing) (pos : 1 ≤ inputs) 
               let f = ltb-false x inputs e in
               let is : inputs + (x - inputs) ≡ x = omega arith in
               subst (λ (y : ℕ). getD W y 0 ≡ getD (final p) y 0) is
-              (enters-all .done (x - inputs) (omega arith) ∙ ap (λ (c : Bool). cond c (getD (final p) (inputs + (x - inputs)) 0) 0) (lt-ltb (getD levels (x - inputs) 0) (suc r) (omega (arith, level-most (x - inputs)))))
+              (enters-all .done (x - inputs) (omega arith)
+              ∙ ap (λ (c : Bool). cond c (getD (final p) (inputs + (x - inputs)) 0) 0)
+              (lt-ltb (getD levels (x - inputs) 0) (suc r) (omega (arith, level-most (x - inputs)))))
 
       published-final : publishedAfter t inputs gs k d r s p ≡ maskedFactors (final p) (dealt p) 0 gs ++ closingParts k (final p)
       unfolding closes closingParts C
@@ -232,14 +249,18 @@ module _ (t inputs k : ℕ) (gs : List Gate) (d : Dealing) (pos : 1 ≤ inputs) 
           let X = publishes u W gs 0 0 (s .published p) in
           let long : length X ≡ 2 * C + k = publishes-all .long ∙ all p l .published-long in
           let wl = long-final p l in
-          let cl : length (drop (length (final p) - k) (final p)) ≡ k = omega (arith, length-drop (length (final p) - k) (final p), size-is) in
+          let cl : length (drop (length (final p) - k) (final p)) ≡ k =
+          omega (arith, length-drop (length (final p) - k) (final p), size-is) in
           published-are
           ∙ ap (λ (b : Bool). cond b (sets X (2 * C) (drop (length W - k) W)) X) (eq-eqb r R last)
           ∙ ap (λ (ws : List ℕ). sets X (2 * C) (drop (length ws - k) ws)) wires-final
           ∙ sets-eq (drop (length (final p) - k) (final p)) X (2 * C) (omega arith)
-          ∙ ap (λ (v : List ℕ). take (2 * C) X ++ drop (length (final p) - k) (final p) ++ v) (drop-of-length-le X {i = 2 * C + length (drop (length (final p) - k) (final p))} (omega arith))
+          ∙ ap (λ (v : List ℕ). take (2 * C) X ++ drop (length (final p) - k) (final p) ++ v)
+          (drop-of-length-le X {i = 2 * C + length (drop (length (final p) - k) (final p))} (omega arith))
           ∙ append-nil (take (2 * C) X ++ drop (length (final p) - k) (final p))
-          ∙ ap (λ (v : List ℕ). v ++ drop (length (final p) - k) (final p)) (all-shown t inputs dealt final levels p (suc (suc r)) X gs 0 0 (λ (h : ℕ). omega (arith, level-most h)) (omega arith) (publishes-all .shows))
+          ∙ ap (λ (v : List ℕ). v ++ drop (length (final p) - k) (final p))
+          (all-shown t inputs dealt final levels p (suc (suc r)) X gs 0 0
+          (λ (h : ℕ). omega (arith, level-most h)) (omega arith) (publishes-all .shows))
         where
           size-is : size ≡ length gs
           size-is = unfold size in refl
@@ -248,9 +269,13 @@ module _ (t inputs k : ℕ) (gs : List Gate) (d : Dealing) (pos : 1 ≤ inputs) 
   before-last : (n : ℕ) → n ≤ R → (p : ℕ) → p < t → Reached n (holdingsAfter t inputs gs k d n) p
   before-last zero h p l = at-start p l
   before-last (suc r) h p l =
-      next-reached r (holdingsAfter t inputs gs k d r) (before-last r (omega arith)) p l (holdingsAfter t inputs gs k d (suc r)) (unfold holdingsAfter in refl) (unfold holdingsAfter in refl) (omega arith)
+      next-reached r (holdingsAfter t inputs gs k d r) (before-last r (omega arith)) p l
+      (holdingsAfter t inputs gs k d (suc r)) (unfold holdingsAfter in refl) (unfold holdingsAfter in refl)
+      (omega arith)
 
-  pub tally-made : (p : ℕ) → p < t → (holdingsAfter t inputs gs k d (suc (roundsOf inputs gs)) .wireParts p ≡ wirePartsOf t inputs gs d p) × (holdingsAfter t inputs gs k d (suc (roundsOf inputs gs)) .published p ≡ publishedOf t inputs gs k d p)
+  pub tally-made : (p : ℕ) → p < t
+      → (holdingsAfter t inputs gs k d (suc (roundsOf inputs gs)) .wireParts p ≡ wirePartsOf t inputs gs d p)
+      × (holdingsAfter t inputs gs k d (suc (roundsOf inputs gs)) .published p ≡ publishedOf t inputs gs k d p)
   unfolding holdingsAfter R final dealt publishedOf
   tally-made p l =
       let s = holdingsAfter t inputs gs k d R in
@@ -258,7 +283,8 @@ module _ (t inputs k : ℕ) (gs : List Gate) (d : Dealing) (pos : 1 ≤ inputs) 
       (wires-are R s all p l ∙ wires-final R s all p l refl, published-final R s all p l refl)
 
 -- two dealings that end alike for trustee p
-module _ (t inputs k : ℕ) (gs : List Gate) (d e : Dealing) (pos : 1 ≤ inputs) (enough : k ≤ length gs) (good : firstBad inputs 0 gs ≡ Nowhere)
+module _ (t inputs k : ℕ) (gs : List Gate) (d e : Dealing) (pos : 1 ≤ inputs) (enough : k ≤ length gs)
+    (good : firstBad inputs 0 gs ≡ Nowhere)
     (bd : (p : ℕ) → p < t → length (ballotsOf inputs d p) ≡ inputs) (be : (p : ℕ) → p < t → length (ballotsOf inputs e p) ≡ inputs)
     (n : ℕ) (h : n ≤ roundsOf inputs gs) (p : ℕ) (l : p < t) where
   one : Reached t inputs k gs d pos enough good bd n (holdingsAfter t inputs gs k d n) p
@@ -273,7 +299,8 @@ module _ (t inputs k : ℕ) (gs : List Gate) (d e : Dealing) (pos : 1 ≤ inputs
       → holdingsAfter t inputs gs k d n .wireParts p ≡ holdingsAfter t inputs gs k e n .wireParts p
   unfolding part size final levels
   wires-earlier same =
-      ext-getD 0 (holdingsAfter t inputs gs k d n .wireParts p) (holdingsAfter t inputs gs k e n .wireParts p) (one .wires-long ∙ sym (other .wires-long))
+      ext-getD 0 (holdingsAfter t inputs gs k d n .wireParts p) (holdingsAfter t inputs gs k e n .wireParts p)
+      (one .wires-long ∙ sym (other .wires-long))
       (λ (x : ℕ) m. at x (omega (arith, m, one .wires-long)) (ltb x inputs) refl)
     where
       at : (x : ℕ) → x < inputs + length gs → (b : Bool) → ltb x inputs ≡ b
@@ -282,32 +309,38 @@ module _ (t inputs k : ℕ) (gs : List Gate) (d e : Dealing) (pos : 1 ≤ inputs
       at x m false f =
           let g = ltb-false x inputs f in
           let is : inputs + (x - inputs) ≡ x = omega arith in
-          subst (λ (y : ℕ). getD (holdingsAfter t inputs gs k d n .wireParts p) y 0 ≡ getD (holdingsAfter t inputs gs k e n .wireParts p) y 0) is
+          subst (λ (y : ℕ). getD (holdingsAfter t inputs gs k d n .wireParts p) y 0
+          ≡ getD (holdingsAfter t inputs gs k e n .wireParts p) y 0) is
           (one .gate (x - inputs) (omega arith)
           ∙ ap (λ (w : List ℕ). cond (ltb (getD (levelsOf inputs gs) (x - inputs) 0) n) (getD w (inputs + (x - inputs)) 0) 0) same
           ∙ sym (other .gate (x - inputs) (omega arith)))
 
   factors-same : publishedOf t inputs gs k d p ≡ publishedOf t inputs gs k e p
-      → maskedFactors (wirePartsOf t inputs gs d p) (dealtOf gs d p) 0 gs ≡ maskedFactors (wirePartsOf t inputs gs e p) (dealtOf gs e p) 0 gs
+      → maskedFactors (wirePartsOf t inputs gs d p) (dealtOf gs d p) 0 gs
+      ≡ maskedFactors (wirePartsOf t inputs gs e p) (dealtOf gs e p) 0 gs
   unfolding publishedOf
   factors-same same =
       let m = maskedFactors (wirePartsOf t inputs gs d p) (dealtOf gs d p) 0 gs in
       let m′ = maskedFactors (wirePartsOf t inputs gs e p) (dealtOf gs e p) 0 gs in
-      sym (take-at m (closingParts k (wirePartsOf t inputs gs d p)) (2 * conditionalCount gs) (length-masked (wirePartsOf t inputs gs d p) (dealtOf gs d p) 0 gs))
+      sym (take-at m (closingParts k (wirePartsOf t inputs gs d p)) (2 * conditionalCount gs)
+      (length-masked (wirePartsOf t inputs gs d p) (dealtOf gs d p) 0 gs))
       ∙ ap (take (2 * conditionalCount gs)) same
-      ∙ take-at m′ (closingParts k (wirePartsOf t inputs gs e p)) (2 * conditionalCount gs) (length-masked (wirePartsOf t inputs gs e p) (dealtOf gs e p) 0 gs)
+      ∙ take-at m′ (closingParts k (wirePartsOf t inputs gs e p)) (2 * conditionalCount gs)
+      (length-masked (wirePartsOf t inputs gs e p) (dealtOf gs e p) 0 gs)
 
   published-earlier : publishedOf t inputs gs k d p ≡ publishedOf t inputs gs k e p
       → holdingsAfter t inputs gs k d n .published p ≡ holdingsAfter t inputs gs k e n .published p
   unfolding part C final dealt levels
   published-earlier same =
-      ext-getD 0 (holdingsAfter t inputs gs k d n .published p) (holdingsAfter t inputs gs k e n .published p) (one .published-long ∙ sym (other .published-long))
+      ext-getD 0 (holdingsAfter t inputs gs k d n .published p) (holdingsAfter t inputs gs k e n .published p)
+      (one .published-long ∙ sym (other .published-long))
       (λ (j : ℕ) m. at j (ltb j (2 * conditionalCount gs)) refl)
     where
       at : (j : ℕ) (b : Bool) → ltb j (2 * conditionalCount gs) ≡ b
           → getD (holdingsAfter t inputs gs k d n .published p) j 0 ≡ getD (holdingsAfter t inputs gs k e n .published p) j 0
       at j true f =
-          same-shown inputs (levelsOf inputs gs) p (suc n) t (dealtOf gs d) (wirePartsOf t inputs gs d) (dealtOf gs e) (wirePartsOf t inputs gs e) gs 0 0 _ _ (one .shown) (other .shown)
+          same-shown inputs (levelsOf inputs gs) p (suc n) t (dealtOf gs d) (wirePartsOf t inputs gs d)
+          (dealtOf gs e) (wirePartsOf t inputs gs e) gs 0 0 _ _ (one .shown) (other .shown)
           (factors-same same) j (omega arith) (omega (arith, ltb-true j (2 * conditionalCount gs) f))
       at j false f = one .blank j (ltb-false j (2 * conditionalCount gs) f) ∙ sym (other .blank j (ltb-false j (2 * conditionalCount gs) f))
 

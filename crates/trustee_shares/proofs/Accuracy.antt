@@ -74,7 +74,8 @@ module _ (t : ℕ) (some : 1 ≤ t) (A B C Z : ℕ → ℕ) (a b c : ℕ) (ha : 
   gives-5 la lb lc lz =
       let e = la (omega (arith, operand-counts .5)) in
       let f = lb (omega (arith, operand-counts .5)) in
-      opened-three t A B Z ∙ rw (e, f, lz (marks .5)) (two (λ x. (x + b + x * b) % 2 ≡ max x b) (omega arith) (omega arith) a ha ∙ sym (or-value a b c))
+      opened-three t A B Z ∙ rw (e, f, lz (marks .5))
+      (two (λ x. (x + b + x * b) % 2 ≡ max x b) (omega arith) (omega arith) a ha ∙ sym (or-value a b c))
 
   gives-6 : Gives 6
   unfolding partOfKind
@@ -90,7 +91,8 @@ module _ (t : ℕ) (some : 1 ≤ t) (A B C Z : ℕ → ℕ) (a b c : ℕ) (ha : 
       let none : (c + 0 * ((b + c) % 2)) % 2 ≡ c = omega arith in
       let one : (c + 1 * ((b + c) % 2)) % 2 ≡ b = omega arith in
       opened-two t C Z
-      ∙ rw (f, lz (marks .7)) (two (λ x. (c + x * ((b + c) % 2)) % 2 ≡ valueOf 7 x b c) (none ∙ sym (mux-zero 0 b c refl)) (one ∙ sym (mux-one 1 b c refl)) a ha)
+      ∙ rw (f, lz (marks .7)) (two (λ x. (c + x * ((b + c) % 2)) % 2 ≡ valueOf 7 x b c)
+      (none ∙ sym (mux-zero 0 b c refl)) (one ∙ sym (mux-one 1 b c refl)) a ha)
 
   pub gives : (kind : ℕ) → kind < 8 → Gives kind
   gives kind h = each-kind Gives gives-0 gives-1 gives-2 gives-3 gives-4 gives-5 gives-6 gives-7 kind h
@@ -115,8 +117,10 @@ part-new ws v n e = rw (sym e) (getD-append-seam ws v [] 0)
 
 -- a conditional gate has at least two operands
 pub conditional-operands : (kind : ℕ) → kind < 8 → conditionalOf kind ≡ true → 2 ≤ operandsOf kind
-conditional-operands kind h = each-kind (λ k. conditionalOf k ≡ true → 2 ≤ operandsOf k) (none 0 (marks .0)) (none 1 (marks .1)) (none 2 (marks .2)) (none 3 (marks .3))
-    (λ e. omega (arith, operand-counts .4)) (λ e. omega (arith, operand-counts .5)) (λ e. omega (arith, operand-counts .6)) (λ e. omega (arith, operand-counts .7)) kind h
+conditional-operands kind h = each-kind (λ k. conditionalOf k ≡ true → 2 ≤ operandsOf k) (none 0 (marks .0))
+    (none 1 (marks .1)) (none 2 (marks .2)) (none 3 (marks .3))
+    (λ e. omega (arith, operand-counts .4)) (λ e. omega (arith, operand-counts .5))
+    (λ e. omega (arith, operand-counts .6)) (λ e. omega (arith, operand-counts .7)) kind h
   where
     none : (k : ℕ) → conditionalOf k ≡ false → conditionalOf k ≡ true → 2 ≤ operandsOf k
     none k e f = let z : false ≡ true = sym e ∙ f in let y : _≡_ {A = ℕ} 0 1 = cc in absurd (omega arith)
@@ -141,7 +145,8 @@ second-opens t B C b c false e f = e
 
 module _ (t : ℕ) (some : 1 ≤ t) (dealt : Held) (w : ℕ → ℕ) (bits : (x : ℕ) → w x ≤ 1) where
   -- the wire of one gate
-  pub gate-opens : (n i : ℕ) (g : Gate) (held : Held) → GoodGate n g → (conditionalOf (g .kind) ≡ true → Triple t dealt i) → Split t w held n
+  pub gate-opens : (n i : ℕ) (g : Gate) (held : Held) → GoodGate n g
+      → (conditionalOf (g .kind) ≡ true → Triple t dealt i) → Split t w held n
       → opened t (newPart t dealt held i g) ≡ valueOf (g .kind) (w (g .a)) (w (g .b)) (w (g .c))
   unfolding newPart openedFirst openedSecond maskedFirst maskedSecond firstFactor secondFactor productBy
   gate-opens n i g held good triple s =
@@ -149,7 +154,8 @@ module _ (t : ℕ) (some : 1 ≤ t) (dealt : Held) (w : ℕ → ℕ) (bits : (x 
       let B : ℕ → ℕ = λ p. part (held p) (g .b) in
       let C : ℕ → ℕ = λ p. part (held p) (g .c) in
       let Y : ℕ → ℕ = λ p. cond (eqb (g .kind) 7) ((B p + C p) % 2) (B p) in
-      let Z : ℕ → ℕ = λ p. productPart p (dealt p) i (opened t (λ q. (A q + uOf (dealt q) i) % 2)) (opened t (λ q. (Y q + vOf (dealt q) i) % 2)) in
+      let Z : ℕ → ℕ = λ p. productPart p (dealt p) i (opened t (λ q. (A q + uOf (dealt q) i) % 2))
+      (opened t (λ q. (Y q + vOf (dealt q) i) % 2)) in
       gives t some A B C Z (w (g .a)) (w (g .b)) (w (g .c)) (bits (g .a)) (bits (g .b)) (bits (g .c)) (g .kind) (good .known)
       (λ h. s .sums (g .a) (good .a-below h)) (λ h. s .sums (g .b) (good .b-below h)) (λ h. s .sums (g .c) (good .c-below h))
       (λ h.
@@ -157,11 +163,16 @@ module _ (t : ℕ) (some : 1 ≤ t) (dealt : Held) (w : ℕ → ℕ) (bits : (x 
       let a = s .sums (g .a) (good .a-below (omega arith)) in
       let b = s .sums (g .b) (good .b-below (omega arith)) in
       product-opens t dealt i A Y some (triple h)
-      ∙ rw (a, second-opens t B C (w (g .b)) (w (g .c)) (eqb (g .kind) 7) b (λ e. s .sums (g .c) (good .c-below (choice-operands (g .kind) e)))))
+      ∙ rw (
+        a,
+        second-opens t B C (w (g .b)) (w (g .c)) (eqb (g .kind) 7) b
+            (λ e. s .sums (g .c) (good .c-below (choice-operands (g .kind) e))),
+      ))
 
   -- the wire of one gate more
   pub more : (n i : ℕ) (g : Gate) (held : Held) → T (goodGate n g) → w n ≡ valueOf (g .kind) (w (g .a)) (w (g .b)) (w (g .c))
-      → (conditionalOf (g .kind) ≡ true → Triple t dealt i) → Split t w held n → Split t w (λ p. held p ++ (newPart t dealt held i g p ∷ [])) (suc n)
+      → (conditionalOf (g .kind) ≡ true → Triple t dealt i) → Split t w held n
+      → Split t w (λ p. held p ++ (newPart t dealt held i g p ∷ [])) (suc n)
   more n i g held good is triple s =
       let new : ℕ → ℕ = newPart t dealt held i g in
       record {
@@ -174,7 +185,8 @@ module _ (t : ℕ) (some : 1 ≤ t) (dealt : Held) (w : ℕ → ℕ) (bits : (x 
 
       at : (x : ℕ) → x < suc n → (b : Bool) → ltb x n ≡ b → opened t (λ p. part (held p ++ (new p ∷ [])) x) ≡ w x
       at x h true e =
-          opened-same t (λ p. part (held p ++ (new p ∷ [])) x) (λ p. part (held p) x) (λ (p : ℕ) l. part-before (held p) (new p) n x (s .sizes p l) (ltb-true x n e))
+          opened-same t (λ p. part (held p ++ (new p ∷ [])) x) (λ p. part (held p) x)
+          (λ (p : ℕ) l. part-before (held p) (new p) n x (s .sizes p l) (ltb-true x n e))
           ∙ s .sums x (ltb-true x n e)
       at x h false e =
           let m : n ≡ x = omega (arith, ltb-false x n e) in
@@ -182,11 +194,14 @@ module _ (t : ℕ) (some : 1 ≤ t) (dealt : Held) (w : ℕ → ℕ) (bits : (x 
           ∙ gate-opens n i g held (good-gate n g good) triple s ∙ sym is)
 
   pub parts-split : (n i : ℕ) (gs : List Gate) (held : Held) → AllGood n gs → Holds w n gs
-      → ((j : ℕ) → i ≤ j → j < i + conditionalCount gs → Triple t dealt j) → Split t w held n → Split t w (partsOf t dealt held i gs) (n + length gs)
+      → ((j : ℕ) → i ≤ j → j < i + conditionalCount gs → Triple t dealt j) → Split t w held n
+      → Split t w (partsOf t dealt held i gs) (n + length gs)
   unfolding partsOf
   parts-split n i [] held good holds triples s = rw (add-zero n) s
   parts-split n i (g ∷ gs) held good holds triples s =
       let c = count-mark g gs in
-      subst (λ (m : ℕ). Split t w (partsOf t dealt (λ p. held p ++ (newPart t dealt held i g p ∷ [])) (i + markOf g) gs) m) (omega arith) (parts-split (suc n) (i + markOf g) gs (λ p. held p ++ (newPart t dealt held i g p ∷ [])) (good .1) (holds .1)
+      subst (λ (m : ℕ). Split t w (partsOf t dealt (λ p. held p ++ (newPart t dealt held i g p ∷ [])) (i + markOf g)
+      gs) m) (omega arith) (parts-split (suc n) (i + markOf g) gs
+      (λ p. held p ++ (newPart t dealt held i g p ∷ [])) (good .1) (holds .1)
       (λ (j : ℕ) l h. triples j (omega arith) (omega arith))
       (more n i g held (good .0) (holds .0) (λ e. triples i (omega arith) (omega (arith, mark-one g e))) s))

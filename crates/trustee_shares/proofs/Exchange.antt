@@ -59,7 +59,8 @@ new-bit : (p kind a b c z : ℕ) → kind < 8 → (0 < operandsOf kind → a ≤
 unfolding partOfKind entered
 new-bit p kind a b c z h ha hz =
     each-kind (λ k. (0 < operandsOf k → a ≤ 1) → partOfKind p k a b c z ≤ 1)
-    (λ u. omega arith) (λ u. one p) (λ u. u (omega (arith, operand-counts .2))) (λ u. omega arith) (λ u. hz) (λ u. omega arith) (λ u. omega arith) (λ u. omega arith) kind h ha
+    (λ u. omega arith) (λ u. one p) (λ u. u (omega (arith, operand-counts .2))) (λ u. omega arith) (λ u. hz)
+    (λ u. omega arith) (λ u. omega arith) (λ u. omega arith) kind h ha
   where
     one : (p : ℕ) → entered p 1 ≤ 1
     one zero = omega arith
@@ -109,7 +110,8 @@ module _ (t q : ℕ) (hq : q < t) (vs ws : ℕ → ℕ) (bv : (x : ℕ) → vs x
     pub bits : (x : ℕ) → x < n → part (held q) x ≤ 1
 
   module _ (same-dealt : (p : ℕ) → p < t → p ≢ q → dealt′ p ≡ dealt p) where
-    module _ (held held′ : Held) (n i : ℕ) (g : Gate) (good : GoodGate n g) (s : Same held held′ n) (is : conditionalOf (g .kind) ≡ true) (d : DealtAt i g) where
+    module _ (held held′ : Held) (n i : ℕ) (g : Gate) (good : GoodGate n g) (s : Same held held′ n)
+        (is : conditionalOf (g .kind) ≡ true) (d : DealtAt i g) where
       operands : 2 ≤ operandsOf (g .kind)
       operands = conditional-operands (g .kind) (good .known) is
 
@@ -128,26 +130,32 @@ module _ (t q : ℕ) (hq : q < t) (vs ws : ℕ → ℕ) (bv : (x : ℕ) → vs x
       unfolding maskedSecond secondFactor diff diffSecond
       second-same p h = go (eqb p q) refl
         where
-          chosen : (b : Bool) → eqb (g .kind) 7 ≡ b → vOf (dealt′ q) i ≡ (vOf (dealt q) i + cond b ((diff (g .b) + diff (g .c)) % 2) (diff (g .b))) % 2
+          chosen : (b : Bool) → eqb (g .kind) 7 ≡ b → vOf (dealt′ q) i
+              ≡ (vOf (dealt q) i + cond b ((diff (g .b) + diff (g .c)) % 2) (diff (g .b))) % 2
               → (cond b ((part (held′ q) (g .b) + part (held′ q) (g .c)) % 2) (part (held′ q) (g .b)) + vOf (dealt′ q) i) % 2
               ≡ (cond b ((part (held q) (g .b) + part (held q) (g .c)) % 2) (part (held q) (g .b)) + vOf (dealt q) i) % 2
           chosen true e v =
               let l = s .left-out (g .b) (good .b-below (omega (arith, operands))) in
               let m = s .left-out (g .c) (good .c-below (choice-operands (g .kind) e)) in
               let z = (diff (g .b) + diff (g .c)) % 2 in
-              cancels (part (held q) (g .b) + part (held q) (g .c)) (part (held′ q) (g .b) + part (held′ q) (g .c)) (vOf (dealt q) i) (vOf (dealt′ q) i) z
-              (sums-differ (part (held q) (g .b)) (part (held′ q) (g .b)) (part (held q) (g .c)) (part (held′ q) (g .c)) (diff (g .b)) (diff (g .c)) l m) (reduced (vOf (dealt′ q) i) (vOf (dealt q) i + z) v)
+              cancels (part (held q) (g .b) + part (held q) (g .c)) (part (held′ q) (g .b) + part (held′ q) (g .c))
+              (vOf (dealt q) i) (vOf (dealt′ q) i) z
+              (sums-differ (part (held q) (g .b)) (part (held′ q) (g .b)) (part (held q) (g .c))
+              (part (held′ q) (g .c)) (diff (g .b)) (diff (g .c)) l m)
+              (reduced (vOf (dealt′ q) i) (vOf (dealt q) i + z) v)
           chosen false e v =
               let l = s .left-out (g .b) (good .b-below (omega (arith, operands))) in
               omega (arith, l, v)
 
           go : (b : Bool) → eqb p q ≡ b
-              → (cond (eqb (g .kind) 7) ((part (held′ p) (g .b) + part (held′ p) (g .c)) % 2) (part (held′ p) (g .b)) + vOf (dealt′ p) i) % 2
+              → (cond (eqb (g .kind) 7) ((part (held′ p) (g .b) + part (held′ p) (g .c)) % 2)
+              (part (held′ p) (g .b)) + vOf (dealt′ p) i) % 2
               ≡ (cond (eqb (g .kind) 7) ((part (held p) (g .b) + part (held p) (g .c)) % 2) (part (held p) (g .b)) + vOf (dealt p) i) % 2
           go true e = let k : p ≡ q = eqb-true p q e in rw k (chosen (eqb (g .kind) 7) refl (d .v-is))
           go false e = rw (s .others p h (eqb-false p q e), same-dealt p h (eqb-false p q e))
 
-    module _ (held held′ : Held) (n i : ℕ) (g : Gate) (ok : T (goodGate n g)) (s : Same held held′ n) (d : conditionalOf (g .kind) ≡ true → DealtAt i g) where
+    module _ (held held′ : Held) (n i : ℕ) (g : Gate) (ok : T (goodGate n g)) (s : Same held held′ n)
+        (d : conditionalOf (g .kind) ≡ true → DealtAt i g) where
       good : GoodGate n g
       good = good-gate n g ok
 
@@ -163,22 +171,31 @@ module _ (t q : ℕ) (hq : q < t) (vs ws : ℕ → ℕ) (bv : (x : ℕ) → vs x
       new-others p h other = rw (s .others p h other, same-dealt p h other) (go (conditionalOf (g .kind)) refl)
         where
           go : (b : Bool) → conditionalOf (g .kind) ≡ b
-              → partOfKind p (g .kind) (part (held p) (g .a)) (part (held p) (g .b)) (part (held p) (g .c)) (productPart p (dealt p) i (opened t (λ r. maskedFirst (held′ r) (dealt′ r) i g)) (opened t (λ r. maskedSecond (held′ r) (dealt′ r) i g)))
-              ≡ partOfKind p (g .kind) (part (held p) (g .a)) (part (held p) (g .b)) (part (held p) (g .c)) (productPart p (dealt p) i (opened t (λ r. maskedFirst (held r) (dealt r) i g)) (opened t (λ r. maskedSecond (held r) (dealt r) i g)))
+              → partOfKind p (g .kind) (part (held p) (g .a)) (part (held p) (g .b)) (part (held p) (g .c))
+              (productPart p (dealt p) i (opened t (λ r. maskedFirst (held′ r) (dealt′ r) i g))
+              (opened t (λ r. maskedSecond (held′ r) (dealt′ r) i g)))
+              ≡ partOfKind p (g .kind) (part (held p) (g .a)) (part (held p) (g .b)) (part (held p) (g .c))
+              (productPart p (dealt p) i (opened t (λ r. maskedFirst (held r) (dealt r) i g))
+              (opened t (λ r. maskedSecond (held r) (dealt r) i g)))
           go true is =
               rw (
-                opened-same t (λ r. maskedFirst (held′ r) (dealt′ r) i g) (λ r. maskedFirst (held r) (dealt r) i g) (first-same held held′ n i g good s is (d is)),
-                opened-same t (λ r. maskedSecond (held′ r) (dealt′ r) i g) (λ r. maskedSecond (held r) (dealt r) i g) (second-same held held′ n i g good s is (d is)),
+                opened-same t (λ r. maskedFirst (held′ r) (dealt′ r) i g) (λ r. maskedFirst (held r) (dealt r) i g)
+                    (first-same held held′ n i g good s is (d is)),
+                opened-same t (λ r. maskedSecond (held′ r) (dealt′ r) i g)
+                    (λ r. maskedSecond (held r) (dealt r) i g) (second-same held held′ n i g good s is (d is)),
               )
           go false is =
               ignores p (g .kind) (part (held p) (g .a)) (part (held p) (g .b)) (part (held p) (g .c))
-              (productPart p (dealt p) i (opened t (λ r. maskedFirst (held′ r) (dealt′ r) i g)) (opened t (λ r. maskedSecond (held′ r) (dealt′ r) i g)))
-              (productPart p (dealt p) i (opened t (λ r. maskedFirst (held r) (dealt r) i g)) (opened t (λ r. maskedSecond (held r) (dealt r) i g))) (good .known) is
+              (productPart p (dealt p) i (opened t (λ r. maskedFirst (held′ r) (dealt′ r) i g))
+              (opened t (λ r. maskedSecond (held′ r) (dealt′ r) i g)))
+              (productPart p (dealt p) i (opened t (λ r. maskedFirst (held r) (dealt r) i g))
+              (opened t (λ r. maskedSecond (held r) (dealt r) i g))) (good .known) is
 
       new-is-bit : new q ≤ 1
       unfolding new newPart
       new-is-bit =
-          new-bit q (g .kind) (part (held q) (g .a)) (part (held q) (g .b)) (part (held q) (g .c)) (productPart q (dealt q) i (openedFirst t dealt held i g) (openedSecond t dealt held i g)) (good .known)
+          new-bit q (g .kind) (part (held q) (g .a)) (part (held q) (g .b)) (part (held q) (g .c))
+          (productPart q (dealt q) i (openedFirst t dealt held i g) (openedSecond t dealt held i g)) (good .known)
           (λ u. s .bits (g .a) (good .a-below u)) (product-bit q (dealt q) i (openedFirst t dealt held i g) (openedSecond t dealt held i g))
 
       left-out-bit : (x : ℕ) → x < n → part (held′ q) x ≤ 1
@@ -187,11 +204,14 @@ module _ (t q : ℕ) (hq : q < t) (vs ws : ℕ → ℕ) (bv : (x : ℕ) → vs x
       new-is-bit′ : new′ q ≤ 1
       unfolding new′ newPart
       new-is-bit′ =
-          new-bit q (g .kind) (part (held′ q) (g .a)) (part (held′ q) (g .b)) (part (held′ q) (g .c)) (productPart q (dealt′ q) i (openedFirst t dealt′ held′ i g) (openedSecond t dealt′ held′ i g)) (good .known)
-          (λ u. left-out-bit (g .a) (good .a-below u)) (product-bit q (dealt′ q) i (openedFirst t dealt′ held′ i g) (openedSecond t dealt′ held′ i g))
+          new-bit q (g .kind) (part (held′ q) (g .a)) (part (held′ q) (g .b)) (part (held′ q) (g .c))
+          (productPart q (dealt′ q) i (openedFirst t dealt′ held′ i g) (openedSecond t dealt′ held′ i g)) (good .known)
+          (λ u. left-out-bit (g .a) (good .a-below u))
+          (product-bit q (dealt′ q) i (openedFirst t dealt′ held′ i g) (openedSecond t dealt′ held′ i g))
 
       module _ (triple : conditionalOf (g .kind) ≡ true → Triple t dealt i) (triple′ : conditionalOf (g .kind) ≡ true → Triple t dealt′ i)
-          (is : vs n ≡ valueOf (g .kind) (vs (g .a)) (vs (g .b)) (vs (g .c))) (is′ : ws n ≡ valueOf (g .kind) (ws (g .a)) (ws (g .b)) (ws (g .c))) where
+          (is : vs n ≡ valueOf (g .kind) (vs (g .a)) (vs (g .b)) (vs (g .c)))
+          (is′ : ws n ≡ valueOf (g .kind) (ws (g .a)) (ws (g .b)) (ws (g .c))) where
         -- q's part of it: the sums of all parts are the two wires
         new-left-out : new′ q ≡ (new q + diff n) % 2
         unfolding opened diff new new′
@@ -203,7 +223,8 @@ module _ (t q : ℕ) (hq : q < t) (vs ws : ℕ → ℕ) (bv : (x : ℕ) → vs x
             differ : (a b x y v w : ℕ) → a % 2 ≡ v → b % 2 ≡ w → b + x ≡ a + y → y ≤ 1 → y ≡ (x + (v + w) % 2) % 2
             differ a b x y v w ha hb e h = omega arith
 
-        pub same-more : Same (λ p. held p ++ (newPart t dealt held i g p ∷ [])) (λ p. held′ p ++ (newPart t dealt′ held′ i g p ∷ [])) (suc n)
+        pub same-more : Same (λ p. held p ++ (newPart t dealt held i g p ∷ []))
+            (λ p. held′ p ++ (newPart t dealt′ held′ i g p ∷ [])) (suc n)
         unfolding new new′
         same-more =
             record {
@@ -214,12 +235,21 @@ module _ (t q : ℕ) (hq : q < t) (vs ws : ℕ → ℕ) (bv : (x : ℕ) → vs x
               bits = λ (x : ℕ) h. bit x h (ltb x n) refl;
             }
           where
-            at : (x : ℕ) → x < suc n → (b : Bool) → ltb x n ≡ b → part (held′ q ++ (new′ q ∷ [])) x ≡ (part (held q ++ (new q ∷ [])) x + diff x) % 2
+            at : (x : ℕ) → x < suc n → (b : Bool) → ltb x n ≡ b → part (held′ q ++ (new′ q ∷ [])) x
+                ≡ (part (held q ++ (new q ∷ [])) x + diff x) % 2
             at x h true e =
-                rw (part-before (held′ q) (new′ q) n x (s .split′ .sizes q hq) (ltb-true x n e), part-before (held q) (new q) n x (s .split .sizes q hq) (ltb-true x n e)) (s .left-out x (ltb-true x n e))
+                rw (
+                  part-before (held′ q) (new′ q) n x (s .split′ .sizes q hq) (ltb-true x n e),
+                  part-before (held q) (new q) n x (s .split .sizes q hq) (ltb-true x n e),
+                )
+                (s .left-out x (ltb-true x n e))
             at x h false e =
                 let m : x ≡ n = omega (arith, ltb-false x n e) in
-                rw (m, part-new (held′ q) (new′ q) n (s .split′ .sizes q hq), part-new (held q) (new q) n (s .split .sizes q hq)) new-left-out
+                rw (
+                  m,
+                  part-new (held′ q) (new′ q) n (s .split′ .sizes q hq),
+                  part-new (held q) (new q) n (s .split .sizes q hq),
+                ) new-left-out
 
             bit : (x : ℕ) → x < suc n → (b : Bool) → ltb x n ≡ b → part (held q ++ (new q ∷ [])) x ≤ 1
             bit x h true e = rw (part-before (held q) (new q) n x (s .split .sizes q hq) (ltb-true x n e)) (s .bits x (ltb-true x n e))
@@ -243,9 +273,12 @@ module _ (t q : ℕ) (hq : q < t) (vs ws : ℕ → ℕ) (bv : (x : ℕ) → vs x
         (λ (j : ℕ) l h. triples j (omega arith) (omega arith))
         (λ (j : ℕ) h.
         let a : i + (markOf g + j) ≡ i + markOf g + j = omega arith in
-        subst (λ (x : Gate). DealtAt (i + markOf g + j) x) (nth-next g gs j) (subst (λ (m : ℕ). DealtAt m (nthConditional (g ∷ gs) (markOf g + j))) a (d (markOf g + j) (omega arith))))
+        subst (λ (x : Gate). DealtAt (i + markOf g + j) x) (nth-next g gs j)
+        (subst (λ (m : ℕ). DealtAt m (nthConditional (g ∷ gs) (markOf g + j))) a (d (markOf g + j) (omega arith))))
         (same-more held held′ n i g (good .0) s (λ is. first is (d 0 (omega (arith, mark-one g is))))
-        (λ is. triples i (omega arith) (omega (arith, mark-one g is)) .0) (λ is. triples i (omega arith) (omega (arith, mark-one g is)) .1) (holds .0) (holds′ .0)))
+        (λ is. triples i (omega arith) (omega (arith, mark-one g is)) .0)
+        (λ is. triples i (omega arith) (omega (arith, mark-one g is)) .1) (holds .0) (holds′ .0)))
       where
         first : conditionalOf (g .kind) ≡ true → DealtAt (i + 0) (nthConditional (g ∷ gs) 0) → DealtAt i g
-        first is x = subst (λ (h : Gate). DealtAt i h) (nth-first g gs is) (subst (λ (m : ℕ). DealtAt m (nthConditional (g ∷ gs) 0)) (add-zero i) x)
+        first is x = subst (λ (h : Gate). DealtAt i h) (nth-first g gs is)
+            (subst (λ (m : ℕ). DealtAt m (nthConditional (g ∷ gs) 0)) (add-zero i) x)

@@ -33,7 +33,8 @@ use Rattle.trustee_shares.proofs.Exchange.{add-mods, nthConditional, di
 use Rattle.trustee_shares.proofs.Publishing.{nth-good, length-masked, AgreeAt, masked-cong, masked-same}
 
 -- one part changed by z changes the opened bit by z
-opened-shift : (t q z : ℕ) (f g : ℕ → ℕ) → q < t → ((p : ℕ) → p < t → p ≢ q → g p ≡ f p) → g q ≡ (f q + z) % 2 → opened t g ≡ (opened t f + z) % 2
+opened-shift : (t q z : ℕ) (f g : ℕ → ℕ) → q < t → ((p : ℕ) → p < t → p ≢ q → g p ≡ f p) → g q ≡ (f q + z) % 2
+    → opened t g ≡ (opened t f + z) % 2
 unfolding opened
 opened-shift t q z f g h e s = shift (sumOf t f) (sumOf t g) (f q) (g q) z (sum-change t q g f h e) s
   where
@@ -84,7 +85,9 @@ bits-triples zero u v w a b c i = omega arith
 bits-triples (suc n) u v w a b c zero = a 0
 bits-triples (suc n) u v w a b c (suc zero) = b 0
 bits-triples (suc n) u v w a b c (suc (suc zero)) = c 0
-bits-triples (suc n) u v w a b c (suc (suc (suc i))) = bits-triples n (λ j. u (suc j)) (λ j. v (suc j)) (λ j. w (suc j)) (λ j. a (suc j)) (λ j. b (suc j)) (λ j. c (suc j)) i
+bits-triples (suc n) u v w a b c (suc (suc (suc i))) =
+    bits-triples n (λ j. u (suc j)) (λ j. v (suc j)) (λ j. w (suc j)) (λ j. a (suc j)) (λ j. b (suc j))
+    (λ j. c (suc j)) i
 
 -- one trustee's piece replaced
 pub swapped : ℕ → List ℕ → Held → Held
@@ -116,8 +119,10 @@ bit-times zero y h k = omega arith
 bit-times (suc zero) y h k = omega arith
 bit-times (suc (suc x)) y h k = absurd (omega arith)
 
-module _ (t q k : ℕ) (gs : List Gate) (xs ys : List ℕ) (d : Dealing) (hq : q < t) (enough : k ≤ length gs) (same-length : length xs ≡ length ys)
-    (bx : Bits xs) (by : Bits ys) (passes : firstBad (length xs) 0 gs ≡ Nowhere) (closing : outputsOf k (wiresOf xs gs) ≡ outputsOf k (wiresOf ys gs)) (good : GoodDealing t gs xs d) where
+module _ (t q k : ℕ) (gs : List Gate) (xs ys : List ℕ) (d : Dealing) (hq : q < t) (enough : k ≤ length gs)
+    (same-length : length xs ≡ length ys)
+    (bx : Bits xs) (by : Bits ys) (passes : firstBad (length xs) 0 gs ≡ Nowhere)
+    (closing : outputsOf k (wiresOf xs gs) ≡ outputsOf k (wiresOf ys gs)) (good : GoodDealing t gs xs d) where
   n : ℕ
   n = length xs
 
@@ -279,7 +284,8 @@ module _ (t q k : ℕ) (gs : List Gate) (xs ys : List ℕ) (d : Dealing) (hq : q
   opens-bal′ : (x : ℕ) → x < n → opened t (λ p. part (ballotsOf n second p) x) ≡ ws x
   unfolding dif
   opens-bal′ x h =
-      opened-shift t q (dif x) (λ p. part (bal p) x) (λ p. part (ballotsOf n second p) x) hq (λ (p : ℕ) l e. ap (λ (z : List ℕ). part z x) (other-bal p l e)) (bal-left x h)
+      opened-shift t q (dif x) (λ p. part (bal p) x) (λ p. part (ballotsOf n second p) x) hq
+      (λ (p : ℕ) l e. ap (λ (z : List ℕ). part z x) (other-bal p l e)) (bal-left x h)
       ∙ settle (opened t (λ p. part (bal p) x)) (vs x) (ws x) (opens-bal x h) (bv x) (bw x)
     where
       settle : (a v w : ℕ) → a ≡ v → v ≤ 1 → w ≤ 1 → (a + (v + w) % 2) % 2 ≡ w
@@ -287,11 +293,15 @@ module _ (t q k : ℕ) (gs : List Gate) (xs ys : List ℕ) (d : Dealing) (hq : q
 
   opens-u : (i : ℕ) → i < C → opened t (λ p. uOf (dealtOf gs second p) i) ≡ U′ i
   unfolding U U′ u′
-  opens-u i h = opened-shift t q (dif (nthConditional gs i .a)) (λ p. uOf (dealt p) i) (λ p. uOf (dealtOf gs second p) i) hq (λ (p : ℕ) l e. ap (λ (z : List ℕ). uOf z i) (other-dealt p l e)) (u-left i h)
+  opens-u i h = opened-shift t q (dif (nthConditional gs i .a)) (λ p. uOf (dealt p) i)
+      (λ p. uOf (dealtOf gs second p) i) hq (λ (p : ℕ) l e. ap (λ (z : List ℕ). uOf z i) (other-dealt p l e))
+      (u-left i h)
 
   opens-v : (i : ℕ) → i < C → opened t (λ p. vOf (dealtOf gs second p) i) ≡ W′ i
   unfolding W W′ v′
-  opens-v i h = opened-shift t q (difSecond (nthConditional gs i)) (λ p. vOf (dealt p) i) (λ p. vOf (dealtOf gs second p) i) hq (λ (p : ℕ) l e. ap (λ (z : List ℕ). vOf z i) (other-dealt p l e)) (v-left i h)
+  opens-v i h = opened-shift t q (difSecond (nthConditional gs i)) (λ p. vOf (dealt p) i)
+      (λ p. vOf (dealtOf gs second p) i) hq (λ (p : ℕ) l e. ap (λ (z : List ℕ). vOf z i) (other-dealt p l e))
+      (v-left i h)
 
   first-triple : (i : ℕ) → i < C → Triple t dealt i
   unfolding dealt C
@@ -301,7 +311,9 @@ module _ (t q k : ℕ) (gs : List Gate) (xs ys : List ℕ) (d : Dealing) (hq : q
   unfolding U W U′ W′ w′
   second-triple i h =
       let r : U′ i * W′ i ≤ 1 = bit-times (U′ i) (W′ i) (omega arith) (omega arith) in
-      opened-shift t q (U i * W i + U′ i * W′ i) (λ p. productOf (dealt p) i) (λ p. productOf (dealtOf gs second p) i) hq (λ (p : ℕ) l e. ap (λ (z : List ℕ). productOf z i) (other-dealt p l e)) (w-left i h)
+      opened-shift t q (U i * W i + U′ i * W′ i) (λ p. productOf (dealt p) i)
+      (λ p. productOf (dealtOf gs second p) i) hq
+      (λ (p : ℕ) l e. ap (λ (z : List ℕ). productOf z i) (other-dealt p l e)) (w-left i h)
       ∙ settle (opened t (λ p. productOf (dealt p) i)) (U i * W i) (U′ i * W′ i) (first-triple i h) r
       ∙ sym (rw (opens-u i h, opens-v i h))
     where
@@ -322,8 +334,12 @@ module _ (t q k : ℕ) (gs : List Gate) (xs ys : List ℕ) (d : Dealing) (hq : q
       record {
         ballot-size = rw (sym same-length) (length-joined n bal′ t bal-size′);
         dealer-size = length-joined (3 * C) dealt′ t dealt-size′;
-        ballot-bits = bits-joined t bal′ (λ (p : ℕ) h. swapped-all Bits q newBallots bal p (bits-made n (λ x. (part (bal q) x + dif x) % 2) (λ x. omega arith)) (bal-bits p));
-        dealer-bits = bits-joined t dealt′ (λ (p : ℕ) h. swapped-all Bits q newDealt dealt p (bits-triples C u′ v′ w′ (λ i. omega arith) (λ i. omega arith) (λ i. omega arith)) (dealt-bits p));
+        ballot-bits = bits-joined t bal′
+            (λ (p : ℕ) h. swapped-all Bits q newBallots bal p
+            (bits-made n (λ x. (part (bal q) x + dif x) % 2) (λ x. omega arith)) (bal-bits p));
+        dealer-bits = bits-joined t dealt′
+            (λ (p : ℕ) h. swapped-all Bits q newDealt dealt p
+            (bits-triples C u′ v′ w′ (λ i. omega arith) (λ i. omega arith) (λ i. omega arith)) (dealt-bits p));
         ballot-sums = λ (x : ℕ) h. rw (sym same-length) (opens-bal′ x (omega arith) ∙ starts′ x (omega arith));
         products = second-triple;
       }
@@ -392,14 +408,17 @@ module _ (t q k : ℕ) (gs : List Gate) (xs ys : List ℕ) (d : Dealing) (hq : q
           let e : length (held′ q) - k ≡ n + length gs - k = omega arith in
           let f : length (held q) - k ≡ n + length gs - k = omega arith in
           rw (getD-drop (length (held′ q) - k) (held′ q) i 0, getD-drop (length (held q) - k) (held q) i 0, e, f)
-          (settle (getD (held q) x 0) (getD (held′ q) x 0) (vs x) (ws x) (end .left-out x (omega arith)) (same-closing i h) (end .bits x (omega arith)))
+          (settle (getD (held q) x 0) (getD (held′ q) x 0) (vs x) (ws x) (end .left-out x (omega arith))
+          (same-closing i h) (end .bits x (omega arith)))
 
   agree : (j : ℕ) → j < C → AgreeAt (held′ q) (held q) (dealtOf gs second q) (dealt q) j (nthConditional gs j)
   unfolding C
   agree j h =
       let g = nth-good n gs j good-list h in (
-        first-same t q hq vs ws bv bw dealt (dealtOf gs second) other-dealt held held′ (n + length gs) j (nthConditional gs j) (g .0) end (g .1) (dealt-at j h) q hq,
-        second-same t q hq vs ws bv bw dealt (dealtOf gs second) other-dealt held held′ (n + length gs) j (nthConditional gs j) (g .0) end (g .1) (dealt-at j h) q hq,
+        first-same t q hq vs ws bv bw dealt (dealtOf gs second) other-dealt held held′ (n + length gs) j
+            (nthConditional gs j) (g .0) end (g .1) (dealt-at j h) q hq,
+        second-same t q hq vs ws bv bw dealt (dealtOf gs second) other-dealt held held′ (n + length gs) j
+            (nthConditional gs j) (g .0) end (g .1) (dealt-at j h) q hq,
       )
 
   published-same : (p : ℕ) → p < t → publishedOf t n gs k second p ≡ publishedOf t n gs k d p
@@ -407,10 +426,15 @@ module _ (t q k : ℕ) (gs : List Gate) (xs ys : List ℕ) (d : Dealing) (hq : q
   published-same p h = go (eqb p q) refl
     where
       go : (b : Bool) → eqb p q ≡ b
-          → maskedFactors (held′ p) (dealtOf gs second p) 0 gs ++ closingParts k (held′ p) ≡ maskedFactors (held p) (dealtOf gs d p) 0 gs ++ closingParts k (held p)
+          → maskedFactors (held′ p) (dealtOf gs second p) 0 gs ++ closingParts k (held′ p)
+          ≡ maskedFactors (held p) (dealtOf gs d p) 0 gs ++ closingParts k (held p)
       go true e =
           let s : p ≡ q = eqb-true p q e in
-          rw s (rw (masked-cong (held′ q) (held q) (dealtOf gs second q) (dealtOf gs d q) 0 gs (λ (j : ℕ) l. let z : 0 + j ≡ j = omega arith in rw z (unfold C in agree j l)), closing-same))
+          rw s (rw (
+            masked-cong (held′ q) (held q) (dealtOf gs second q) (dealtOf gs d q) 0 gs
+                (λ (j : ℕ) l. let z : 0 + j ≡ j = omega arith in rw z (unfold C in agree j l)),
+            closing-same,
+          ))
       go false e = rw (end .others p h (eqb-false p q e), other-dealt p h (eqb-false p q e))
 
   same-view : viewOf t q n gs k d ≡ viewOf t q n gs k second
@@ -448,19 +472,22 @@ module _ (t q k : ℕ) (gs : List Gate) (xs ys : List ℕ) (d : Dealing) (hq : q
 
     opens-e : (x : ℕ) → x < n → opened t (λ p. part (ballotsOf n e p) x) ≡ ws x
     unfolding n
-    opens-e x h = subst (λ (m : ℕ). opened t (λ p. part (ballotsOf m e p) x) ≡ getD ys x 0) (sym same-length) (fine .ballot-sums x (omega arith)) ∙ sym (starts′ x h)
+    opens-e x h = subst (λ (m : ℕ). opened t (λ p. part (ballotsOf m e p) x) ≡ getD ys x 0) (sym same-length)
+        (fine .ballot-sums x (omega arith)) ∙ sym (starts′ x h)
 
     spells : Split t ws (wirePartsOf t n gs e) (n + length gs)
     unfolding wirePartsOf
     spells =
-        parts-split t (omega arith) (dealtOf gs e) ws bw n 0 gs (ballotsOf n e) good-list holds′ (λ (j : ℕ) l h. fine .products j (omega arith))
+        parts-split t (omega arith) (dealtOf gs e) ws bw n 0 gs (ballotsOf n e) good-list holds′
+        (λ (j : ℕ) l h. fine .products j (omega arith))
         (record { sizes = size-bal; sums = opens-e })
 
     -- so the left-out trustee's parts are equal modulo 2
     parts-left : (x : ℕ) → x < n + length gs → part (wirePartsOf t n gs e q) x % 2 ≡ part (held′ q) x % 2
     unfolding held′
     parts-left x h =
-        opened-left t q (λ p. part (wirePartsOf t n gs second p) x) (λ p. part (wirePartsOf t n gs e p) x) hq (λ (p : ℕ) l o. ap (λ (z : List ℕ). part z x) (sees-parts p l o))
+        opened-left t q (λ p. part (wirePartsOf t n gs second p) x) (λ p. part (wirePartsOf t n gs e p) x) hq
+        (λ (p : ℕ) l o. ap (λ (z : List ℕ). part z x) (sees-parts p l o))
         (spells .sums x h ∙ sym (end .split′ .sums x h))
 
     bits-equal : (x y : ℕ) → x ≤ 1 → y ≤ 1 → x % 2 ≡ y % 2 → x ≡ y
@@ -475,7 +502,8 @@ module _ (t q k : ℕ) (gs : List Gate) (xs ys : List ℕ) (d : Dealing) (hq : q
     bal-equal x h =
         bits-equal (part (ballotsOf n e q) x) (part (ballotsOf n second q) x)
         (bits-piece n (e .ballotParts) q (fine .ballot-bits) x) (bits-piece n (second .ballotParts) q (second-good .ballot-bits) x)
-        (opened-left t q (λ p. part (ballotsOf n second p) x) (λ p. part (ballotsOf n e p) x) hq (λ (p : ℕ) l o. ap (λ (z : List ℕ). part z x) (sees-bal p l o)) (opens-e x h ∙ sym (opens-bal′ x h)))
+        (opened-left t q (λ p. part (ballotsOf n second p) x) (λ p. part (ballotsOf n e p) x) hq
+        (λ (p : ℕ) l o. ap (λ (z : List ℕ). part z x) (sees-bal p l o)) (opens-e x h ∙ sym (opens-bal′ x h)))
 
     same-bal : (p : ℕ) → p < t → ballotsOf n e p ≡ ballotsOf n second p
     same-bal p h = go (eqb p q) refl
@@ -483,23 +511,34 @@ module _ (t q k : ℕ) (gs : List Gate) (xs ys : List ℕ) (d : Dealing) (hq : q
         go : (b : Bool) → eqb p q ≡ b → ballotsOf n e p ≡ ballotsOf n second p
         go true is =
             let s : p ≡ q = eqb-true p q is in
-            rw s (ext-getD 0 (ballotsOf n e q) (ballotsOf n second q) (size-bal q hq ∙ sym (start .split′ .sizes q hq)) (λ (x : ℕ) l. bal-equal x (omega (arith, size-bal q hq))))
+            rw s (ext-getD 0 (ballotsOf n e q) (ballotsOf n second q)
+            (size-bal q hq ∙ sym (start .split′ .sizes q hq))
+            (λ (x : ℕ) l. bal-equal x (omega (arith, size-bal q hq))))
         go false is = sees-bal p h (eqb-false p q is)
 
     -- what the left-out trustee published
-    size-published : (f : Dealing) → ((p : ℕ) → p < t → length (wirePartsOf t n gs f p) ≡ n + length gs) → (p : ℕ) → p < t → length (publishedOf t n gs k f p) ≡ 2 * C + k
+    size-published : (f : Dealing) → ((p : ℕ) → p < t → length (wirePartsOf t n gs f p) ≡ n + length gs) → (p : ℕ)
+        → p < t → length (publishedOf t n gs k f p) ≡ 2 * C + k
     unfolding publishedOf closingParts C
     size-published f l p h =
         let parts = wirePartsOf t n gs f p in
-        omega (arith, length-append (maskedFactors parts (dealtOf gs f p) 0 gs) (drop (length parts - k) parts), length-masked parts (dealtOf gs f p) 0 gs, length-drop (length parts - k) parts, l p h)
+        omega (
+          arith,
+          length-append (maskedFactors parts (dealtOf gs f p) 0 gs) (drop (length parts - k) parts),
+          length-masked parts (dealtOf gs f p) 0 gs,
+          length-drop (length parts - k) parts,
+          l p h,
+        )
 
     publishes : publishedOf t n gs k e q ≡ publishedOf t n gs k second q
     unfolding viewOf
     publishes =
         sym (joined-same t (2 * C + k) (publishedOf t n gs k second) (publishedOf t n gs k e)
-        (size-published second (unfold held′ in end .split′ .sizes)) (size-published e (spells .sizes)) (ap (λ (v : View). v .published) seen) q hq)
+        (size-published second (unfold held′ in end .split′ .sizes)) (size-published e (spells .sizes))
+        (ap (λ (v : View). v .published) seen) q hq)
 
-    masked-agree : (j : ℕ) → j < C → AgreeAt (wirePartsOf t n gs e q) (held′ q) (dealtOf gs e q) (dealtOf gs second q) j (nthConditional gs j)
+    masked-agree : (j : ℕ) → j < C
+        → AgreeAt (wirePartsOf t n gs e q) (held′ q) (dealtOf gs e q) (dealtOf gs second q) j (nthConditional gs j)
     unfolding publishedOf held′ C
     masked-agree j h =
         let parts = wirePartsOf t n gs e q in
@@ -508,26 +547,36 @@ module _ (t q k : ℕ) (gs : List Gate) (xs ys : List ℕ) (d : Dealing) (hq : q
         let m′ = maskedFactors parts′ (dealtOf gs second q) 0 gs in
         let l = length-masked parts (dealtOf gs e q) 0 gs in
         let l′ = length-masked parts′ (dealtOf gs second q) 0 gs in
-        let s : m ≡ m′ = sym (take-at m (closingParts k parts) (2 * conditionalCount gs) l) ∙ ap (take (2 * conditionalCount gs)) publishes ∙ take-at m′ (closingParts k parts′) (2 * conditionalCount gs) l′ in
+        let s : m ≡ m′ = sym (take-at m (closingParts k parts) (2 * conditionalCount gs) l)
+        ∙ ap (take (2 * conditionalCount gs)) publishes
+        ∙ take-at m′ (closingParts k parts′) (2 * conditionalCount gs) l′ in
         let z : 0 + j ≡ j = omega arith in
-        subst (λ (i : ℕ). AgreeAt parts parts′ (dealtOf gs e q) (dealtOf gs second q) i (nthConditional gs j)) z (masked-same parts parts′ (dealtOf gs e q) (dealtOf gs second q) 0 gs s j h)
+        subst (λ (i : ℕ). AgreeAt parts parts′ (dealtOf gs e q) (dealtOf gs second q) i (nthConditional gs j)) z
+        (masked-same parts parts′ (dealtOf gs e q) (dealtOf gs second q) 0 gs s j h)
 
     unmasked : (a b x y : ℕ) → (a + x) % 2 ≡ (b + y) % 2 → a % 2 ≡ b % 2 → x ≤ 1 → y ≤ 1 → x ≡ y
     unmasked a b x y e s h l = omega arith
 
     dealer-bit : (i : ℕ) → (getD (dealtOf gs e q) i 0 ≤ 1) × (getD (dealtOf gs second q) i 0 ≤ 1)
     unfolding dealtOf
-    dealer-bit i = (bits-piece (3 * conditionalCount gs) (e .dealerParts) q (fine .dealer-bits) i, bits-piece (3 * conditionalCount gs) (second .dealerParts) q (second-good .dealer-bits) i)
+    dealer-bit i = (
+      bits-piece (3 * conditionalCount gs) (e .dealerParts) q (fine .dealer-bits) i,
+      bits-piece (3 * conditionalCount gs) (second .dealerParts) q (second-good .dealer-bits) i,
+    )
 
     u-equal : (i : ℕ) → i < C → uOf (dealtOf gs e q) i ≡ uOf (dealtOf gs second q) i
     unfolding uOf maskedFirst firstFactor C
     u-equal i h =
         let g = nth-good n gs i good-list h in
         let a = nthConditional gs i .a in
-        unmasked (part (wirePartsOf t n gs e q) a) (part (held′ q) a) (getD (dealtOf gs e q) (3 * i) 0) (getD (dealtOf gs second q) (3 * i) 0)
-        (masked-agree i h .0) (parts-left a (g .0 .a-below (omega (arith, conditional-operands (nthConditional gs i .kind) (g .0 .known) (g .1))))) (dealer-bit (3 * i) .0) (dealer-bit (3 * i) .1)
+        unmasked (part (wirePartsOf t n gs e q) a) (part (held′ q) a) (getD (dealtOf gs e q) (3 * i) 0)
+        (getD (dealtOf gs second q) (3 * i) 0)
+        (masked-agree i h .0) (parts-left a
+        (g .0 .a-below (omega (arith, conditional-operands (nthConditional gs i .kind) (g .0 .known) (g .1)))))
+        (dealer-bit (3 * i) .0) (dealer-bit (3 * i) .1)
 
-    second-left : (g : Gate) → GoodGate (n + length gs) g → conditionalOf (g .kind) ≡ true → secondFactor (wirePartsOf t n gs e q) g % 2 ≡ secondFactor (held′ q) g % 2
+    second-left : (g : Gate) → GoodGate (n + length gs) g → conditionalOf (g .kind) ≡ true
+        → secondFactor (wirePartsOf t n gs e q) g % 2 ≡ secondFactor (held′ q) g % 2
     unfolding secondFactor
     second-left g good is = go (eqb (g .kind) 7) refl
       where
@@ -538,20 +587,26 @@ module _ (t q k : ℕ) (gs : List Gate) (xs ys : List ℕ) (d : Dealing) (hq : q
         add x y x′ y′ e f = ap (λ (m : ℕ). m % 2) (sym (add-mods x y) ∙ rw (e, f) (add-mods x′ y′))
 
         go : (b : Bool) → eqb (g .kind) 7 ≡ b
-            → cond b ((part (wirePartsOf t n gs e q) (g .b) + part (wirePartsOf t n gs e q) (g .c)) % 2) (part (wirePartsOf t n gs e q) (g .b)) % 2
+            → cond b ((part (wirePartsOf t n gs e q) (g .b) + part (wirePartsOf t n gs e q) (g .c)) % 2)
+            (part (wirePartsOf t n gs e q) (g .b)) % 2
             ≡ cond b ((part (held′ q) (g .b) + part (held′ q) (g .c)) % 2) (part (held′ q) (g .b)) % 2
-        go true k = add (part (wirePartsOf t n gs e q) (g .b)) (part (wirePartsOf t n gs e q) (g .c)) (part (held′ q) (g .b)) (part (held′ q) (g .c)) b-left (parts-left (g .c) (good .c-below (choice-operands (g .kind) k)))
+        go true k = add (part (wirePartsOf t n gs e q) (g .b)) (part (wirePartsOf t n gs e q) (g .c))
+            (part (held′ q) (g .b)) (part (held′ q) (g .c)) b-left
+            (parts-left (g .c) (good .c-below (choice-operands (g .kind) k)))
         go false k = b-left
 
     v-equal : (i : ℕ) → i < C → vOf (dealtOf gs e q) i ≡ vOf (dealtOf gs second q) i
     unfolding vOf maskedSecond C
     v-equal i h =
         let g = nth-good n gs i good-list h in
-        unmasked (secondFactor (wirePartsOf t n gs e q) (nthConditional gs i)) (secondFactor (held′ q) (nthConditional gs i)) (getD (dealtOf gs e q) (3 * i + 1) 0) (getD (dealtOf gs second q) (3 * i + 1) 0)
+        unmasked (secondFactor (wirePartsOf t n gs e q) (nthConditional gs i))
+        (secondFactor (held′ q) (nthConditional gs i)) (getD (dealtOf gs e q) (3 * i + 1) 0)
+        (getD (dealtOf gs second q) (3 * i + 1) 0)
         (masked-agree i h .1) (second-left (nthConditional gs i) (g .0) (g .1)) (dealer-bit (3 * i + 1) .0) (dealer-bit (3 * i + 1) .1)
 
     -- u and v are the same for all trustees, so the product is
-    everywhere : (f : List ℕ → ℕ) → f (dealtOf gs e q) ≡ f (dealtOf gs second q) → (p : ℕ) → p < t → f (dealtOf gs e p) ≡ f (dealtOf gs second p)
+    everywhere : (f : List ℕ → ℕ) → f (dealtOf gs e q) ≡ f (dealtOf gs second q) → (p : ℕ) → p < t
+        → f (dealtOf gs e p) ≡ f (dealtOf gs second p)
     everywhere f s p h = go (eqb p q) refl
       where
         go : (b : Bool) → eqb p q ≡ b → f (dealtOf gs e p) ≡ f (dealtOf gs second p)
@@ -563,8 +618,10 @@ module _ (t q k : ℕ) (gs : List Gate) (xs ys : List ℕ) (d : Dealing) (hq : q
     w-equal i h =
         let su = opened-same t (λ p. uOf (dealtOf gs e p) i) (λ p. uOf (dealtOf gs second p) i) (everywhere (λ z. uOf z i) (u-equal i h)) in
         let sv = opened-same t (λ p. vOf (dealtOf gs e p) i) (λ p. vOf (dealtOf gs second p) i) (everywhere (λ z. vOf z i) (v-equal i h)) in
-        bits-equal (getD (dealtOf gs e q) (3 * i + 2) 0) (getD (dealtOf gs second q) (3 * i + 2) 0) (dealer-bit (3 * i + 2) .0) (dealer-bit (3 * i + 2) .1)
-        (opened-left t q (λ p. productOf (dealtOf gs second p) i) (λ p. productOf (dealtOf gs e p) i) hq (λ (p : ℕ) l o. ap (λ (z : List ℕ). productOf z i) (sees-dealt p l o))
+        bits-equal (getD (dealtOf gs e q) (3 * i + 2) 0) (getD (dealtOf gs second q) (3 * i + 2) 0)
+        (dealer-bit (3 * i + 2) .0) (dealer-bit (3 * i + 2) .1)
+        (opened-left t q (λ p. productOf (dealtOf gs second p) i) (λ p. productOf (dealtOf gs e p) i) hq
+        (λ (p : ℕ) l o. ap (λ (z : List ℕ). productOf z i) (sees-dealt p l o))
         (fine .products i h ∙ rw (su, sv) (sym (second-triple i h))))
 
     same-dealt : (p : ℕ) → p < t → dealtOf gs e p ≡ dealtOf gs second p
@@ -573,16 +630,21 @@ module _ (t q k : ℕ) (gs : List Gate) (xs ys : List ℕ) (d : Dealing) (hq : q
         go : (b : Bool) → eqb p q ≡ b → dealtOf gs e p ≡ dealtOf gs second p
         go true is =
             let s : p ≡ q = eqb-true p q is in
-            rw s (triples-same C (dealtOf gs e q) (dealtOf gs second q) (size-dealt q hq) (ap length (is-dealt′ q hq) ∙ dealt-size′ q hq) (λ (i : ℕ) l. (u-equal i l, v-equal i l, w-equal i l)))
+            rw s (triples-same C (dealtOf gs e q) (dealtOf gs second q) (size-dealt q hq)
+            (ap length (is-dealt′ q hq) ∙ dealt-size′ q hq) (λ (i : ℕ) l. (u-equal i l, v-equal i l, w-equal i l)))
         go false is = sees-dealt p h (eqb-false p q is)
 
     same-dealing : e ≡ second
     same-dealing =
         let b : e .ballotParts ≡ second .ballotParts =
-        sym (whole-table t n (e .ballotParts) (unfold n in omega (arith, fine .ballot-size, ap (λ (m : ℕ). t * m) same-length))) ∙ joined-cong t (piece n (e .ballotParts)) (piece n (second .ballotParts)) (unfold ballotsOf in same-bal)
+        sym (whole-table t n (e .ballotParts)
+        (unfold n in omega (arith, fine .ballot-size, ap (λ (m : ℕ). t * m) same-length)))
+        ∙ joined-cong t (piece n (e .ballotParts)) (piece n (second .ballotParts)) (unfold ballotsOf in same-bal)
         ∙ whole-table t n (second .ballotParts) (unfold n in omega (arith, second-good .ballot-size, ap (λ (m : ℕ). t * m) same-length)) in
         let c : e .dealerParts ≡ second .dealerParts =
-        sym (whole-table t (3 * conditionalCount gs) (e .dealerParts) (fine .dealer-size)) ∙ joined-cong t (piece (3 * conditionalCount gs) (e .dealerParts)) (piece (3 * conditionalCount gs) (second .dealerParts)) (unfold dealtOf in same-dealt)
+        sym (whole-table t (3 * conditionalCount gs) (e .dealerParts) (fine .dealer-size))
+        ∙ joined-cong t (piece (3 * conditionalCount gs) (e .dealerParts))
+        (piece (3 * conditionalCount gs) (second .dealerParts)) (unfold dealtOf in same-dealt)
         ∙ whole-table t (3 * conditionalCount gs) (second .dealerParts) (second-good .dealer-size) in
         dealing-same e second b c
 
@@ -595,4 +657,5 @@ module _ (t q k : ℕ) (gs : List Gate) (xs ys : List ℕ) (d : Dealing) (hq : q
   )
 
 pub views-hide-inputs : ViewsHideInputs
-views-hide-inputs t q k gs xs ys d hq enough same bx by passes closing good = exactly-one t q k gs xs ys d hq enough same bx by passes closing good
+views-hide-inputs t q k gs xs ys d hq enough same bx by passes closing good =
+    exactly-one t q k gs xs ys d hq enough same bx by passes closing good

@@ -39,7 +39,8 @@ three-more : (i j : ℕ) → 3 * suc i + j ≡ suc (suc (suc (3 * i + j)))
 three-more i j = omega arith
 
 triples-at : (n : ℕ) (u v w : ℕ → ℕ) (i : ℕ) → i < n
-    → (getD (triples n u v w) (3 * i + 0) 0 ≡ u i) × (getD (triples n u v w) (3 * i + 1) 0 ≡ v i) × (getD (triples n u v w) (3 * i + 2) 0 ≡ w i)
+    → (getD (triples n u v w) (3 * i + 0) 0 ≡ u i) × (getD (triples n u v w) (3 * i + 1) 0 ≡ v i)
+    × (getD (triples n u v w) (3 * i + 2) 0 ≡ w i)
 unfolding triples
 triples-at zero u v w i h = absurd (omega arith)
 triples-at (suc n) u v w zero h = (refl, refl, refl)

@@ -28,13 +28,19 @@ Stated x y u v =
 spelled : (x y u v : ℕ) → x ≤ 1 → y ≤ 1 → u ≤ 1 → v ≤ 1 → Stated x y u v
 spelled x y u v hx hy hu hv =
     two (λ x. Stated x y u v)
-    (two (λ y. Stated 0 y u v) (two (λ u. Stated 0 0 u v) (two (Stated 0 0 0) (λ sx sy su sv sp hx hy hu hv hp. omega arith) (λ sx sy su sv sp hx hy hu hv hp. omega arith) v hv)
+    (two (λ y. Stated 0 y u v) (two (λ u. Stated 0 0 u v)
+    (two (Stated 0 0 0) (λ sx sy su sv sp hx hy hu hv hp. omega arith)
+    (λ sx sy su sv sp hx hy hu hv hp. omega arith) v hv)
     (two (Stated 0 0 1) (λ sx sy su sv sp hx hy hu hv hp. omega arith) (λ sx sy su sv sp hx hy hu hv hp. omega arith) v hv) u hu)
-    (two (λ u. Stated 0 1 u v) (two (Stated 0 1 0) (λ sx sy su sv sp hx hy hu hv hp. omega arith) (λ sx sy su sv sp hx hy hu hv hp. omega arith) v hv)
+    (two (λ u. Stated 0 1 u v) (two (Stated 0 1 0) (λ sx sy su sv sp hx hy hu hv hp. omega arith)
+    (λ sx sy su sv sp hx hy hu hv hp. omega arith) v hv)
     (two (Stated 0 1 1) (λ sx sy su sv sp hx hy hu hv hp. omega arith) (λ sx sy su sv sp hx hy hu hv hp. omega arith) v hv) u hu) y hy)
-    (two (λ y. Stated 1 y u v) (two (λ u. Stated 1 0 u v) (two (Stated 1 0 0) (λ sx sy su sv sp hx hy hu hv hp. omega arith) (λ sx sy su sv sp hx hy hu hv hp. omega arith) v hv)
+    (two (λ y. Stated 1 y u v) (two (λ u. Stated 1 0 u v)
+    (two (Stated 1 0 0) (λ sx sy su sv sp hx hy hu hv hp. omega arith)
+    (λ sx sy su sv sp hx hy hu hv hp. omega arith) v hv)
     (two (Stated 1 0 1) (λ sx sy su sv sp hx hy hu hv hp. omega arith) (λ sx sy su sv sp hx hy hu hv hp. omega arith) v hv) u hu)
-    (two (λ u. Stated 1 1 u v) (two (Stated 1 1 0) (λ sx sy su sv sp hx hy hu hv hp. omega arith) (λ sx sy su sv sp hx hy hu hv hp. omega arith) v hv)
+    (two (λ u. Stated 1 1 u v) (two (Stated 1 1 0) (λ sx sy su sv sp hx hy hu hv hp. omega arith)
+    (λ sx sy su sv sp hx hy hu hv hp. omega arith) v hv)
     (two (Stated 1 1 1) (λ sx sy su sv sp hx hy hu hv hp. omega arith) (λ sx sy su sv sp hx hy hu hv hp. omega arith) v hv) u hu) y hy)
     x hx
 
@@ -72,5 +78,6 @@ product-opens t dealt i x y ht triple =
     let e = opened-two t x u in
     let f = opened-two t y v in
     sum-products t dealt i (sumOf t (λ q. (x q + u q) % 2) % 2) (sumOf t (λ q. (y q + v q) % 2) % 2) ht (omega arith) (omega arith)
-    ∙ rw (e, f) (spelled (sumOf t x % 2) (sumOf t y % 2) (sumOf t u % 2) (sumOf t v % 2) (omega arith) (omega arith) (omega arith) (omega arith)
+    ∙ rw (e, f) (spelled (sumOf t x % 2) (sumOf t y % 2) (sumOf t u % 2) (sumOf t v % 2) (omega arith) (omega arith)
+    (omega arith) (omega arith)
     (sumOf t x) (sumOf t y) (sumOf t u) (sumOf t v) (sumOf t w) refl refl refl refl triple)

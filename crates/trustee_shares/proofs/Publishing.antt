@@ -52,9 +52,13 @@ Conditional m g = GoodGate m g × (conditionalOf (g .kind) ≡ true)
 
 pub nth-good : (n : ℕ) (gs : List Gate) (j : ℕ) → AllGood n gs → j < conditionalCount gs → Conditional (n + length gs) (nthConditional gs j)
 nth-good n [] j good h = absurd (omega (arith, count-nil))
-nth-good n (g ∷ gs) j good h = go (conditionalOf (g .kind)) refl j h (λ (i : ℕ) l. subst (λ (m : ℕ). Conditional m (nthConditional gs i)) (omega arith) (nth-good (suc n) gs i (good .1) l))
+nth-good n (g ∷ gs) j good h =
+    go (conditionalOf (g .kind)) refl j h
+    (λ (i : ℕ) l. subst (λ (m : ℕ). Conditional m (nthConditional gs i)) (omega arith)
+    (nth-good (suc n) gs i (good .1) l))
   where
-    go : (b : Bool) → conditionalOf (g .kind) ≡ b → (j : ℕ) → j < conditionalCount (g ∷ gs) → ((i : ℕ) → i < conditionalCount gs → Conditional (n + suc (length gs)) (nthConditional gs i))
+    go : (b : Bool) → conditionalOf (g .kind) ≡ b → (j : ℕ) → j < conditionalCount (g ∷ gs)
+        → ((i : ℕ) → i < conditionalCount gs → Conditional (n + suc (length gs)) (nthConditional gs i))
         → Conditional (n + suc (length gs)) (nthConditional (g ∷ gs) j)
     go true is zero l rest = rw (nth-first g gs is) (later n (n + suc (length gs)) g (omega arith) (good-gate n g (good .0)), is)
     go true is (suc j) l rest = rw (nth-behind g gs j is) (rest j (omega (arith, count-mark g gs, mark-one g is)))
@@ -63,41 +67,53 @@ nth-good n (g ∷ gs) j good h = go (conditionalOf (g .kind)) refl j h (λ (i : 
 pub length-masked : (parts dealt : List ℕ) (i : ℕ) (gs : List Gate) → length (maskedFactors parts dealt i gs) ≡ 2 * conditionalCount gs
 unfolding maskedFactors
 length-masked parts dealt i [] = omega (arith, count-nil)
-length-masked parts dealt i (g ∷ gs) = go (conditionalOf (g .kind)) refl (length-masked parts dealt (i + 1) gs) (length-masked parts dealt i gs)
+length-masked parts dealt i (g ∷ gs) =
+    go (conditionalOf (g .kind)) refl (length-masked parts dealt (i + 1) gs) (length-masked parts dealt i gs)
   where
-    go : (b : Bool) → conditionalOf (g .kind) ≡ b → length (maskedFactors parts dealt (i + 1) gs) ≡ 2 * conditionalCount gs → length (maskedFactors parts dealt i gs) ≡ 2 * conditionalCount gs
-        → length (cond b (maskedFirst parts dealt i g ∷ maskedSecond parts dealt i g ∷ maskedFactors parts dealt (i + 1) gs) (maskedFactors parts dealt i gs)) ≡ 2 * conditionalCount (g ∷ gs)
+    go : (b : Bool) → conditionalOf (g .kind) ≡ b → length (maskedFactors parts dealt (i + 1) gs) ≡ 2
+        * conditionalCount gs → length (maskedFactors parts dealt i gs) ≡ 2 * conditionalCount gs
+        → length (cond b (maskedFirst parts dealt i g ∷ maskedSecond parts dealt i g ∷ maskedFactors parts dealt
+        (i + 1) gs) (maskedFactors parts dealt i gs)) ≡ 2 * conditionalCount (g ∷ gs)
     go true is e f = omega (arith, count-mark g gs, mark-one g is)
     go false is e f = omega (arith, count-mark g gs, mark-none g is)
 
 -- equal bits for a conditional gate
 abbrev pub AgreeAt : List ℕ → List ℕ → List ℕ → List ℕ → ℕ → Gate → Type 0
-AgreeAt parts parts′ dealt dealt′ i g = (maskedFirst parts dealt i g ≡ maskedFirst parts′ dealt′ i g) × (maskedSecond parts dealt i g ≡ maskedSecond parts′ dealt′ i g)
+AgreeAt parts parts′ dealt dealt′ i g = (maskedFirst parts dealt i g ≡ maskedFirst parts′ dealt′ i g)
+    × (maskedSecond parts dealt i g ≡ maskedSecond parts′ dealt′ i g)
 
 module _ (parts parts′ dealt dealt′ : List ℕ) where
   abbrev Agree : ℕ → Gate → Type 0
   Agree i g = AgreeAt parts parts′ dealt dealt′ i g
 
-  pub masked-cong : (i : ℕ) (gs : List Gate) → ((j : ℕ) → j < conditionalCount gs → AgreeAt parts parts′ dealt dealt′ (i + j) (nthConditional gs j))
+  pub masked-cong : (i : ℕ) (gs : List Gate)
+      → ((j : ℕ) → j < conditionalCount gs → AgreeAt parts parts′ dealt dealt′ (i + j) (nthConditional gs j))
       → maskedFactors parts dealt i gs ≡ maskedFactors parts′ dealt′ i gs
   unfolding maskedFactors
   masked-cong i [] e = refl
   masked-cong i (g ∷ gs) e = go (conditionalOf (g .kind)) refl (λ f. masked-cong (i + 1) gs f) (λ f. masked-cong i gs f)
     where
       go : (b : Bool) → conditionalOf (g .kind) ≡ b
-          → (((j : ℕ) → j < conditionalCount gs → Agree (i + 1 + j) (nthConditional gs j)) → maskedFactors parts dealt (i + 1) gs ≡ maskedFactors parts′ dealt′ (i + 1) gs)
-          → (((j : ℕ) → j < conditionalCount gs → Agree (i + j) (nthConditional gs j)) → maskedFactors parts dealt i gs ≡ maskedFactors parts′ dealt′ i gs)
-          → cond b (maskedFirst parts dealt i g ∷ maskedSecond parts dealt i g ∷ maskedFactors parts dealt (i + 1) gs) (maskedFactors parts dealt i gs)
-          ≡ cond b (maskedFirst parts′ dealt′ i g ∷ maskedSecond parts′ dealt′ i g ∷ maskedFactors parts′ dealt′ (i + 1) gs) (maskedFactors parts′ dealt′ i gs)
+          → (((j : ℕ) → j < conditionalCount gs → Agree (i + 1 + j) (nthConditional gs j))
+          → maskedFactors parts dealt (i + 1) gs ≡ maskedFactors parts′ dealt′ (i + 1) gs)
+          → (((j : ℕ) → j < conditionalCount gs → Agree (i + j) (nthConditional gs j))
+          → maskedFactors parts dealt i gs ≡ maskedFactors parts′ dealt′ i gs)
+          → cond b (maskedFirst parts dealt i g ∷ maskedSecond parts dealt i g ∷ maskedFactors parts dealt (i + 1)
+          gs) (maskedFactors parts dealt i gs)
+          ≡ cond b (maskedFirst parts′ dealt′ i g ∷ maskedSecond parts′ dealt′ i g ∷ maskedFactors parts′ dealt′
+          (i + 1) gs) (maskedFactors parts′ dealt′ i gs)
       go true is more none =
           let c = count-mark g gs in
           let o = mark-one g is in
-          let first : Agree i g = subst (λ (h : Gate). Agree i h) (nth-first g gs is) (subst (λ (m : ℕ). Agree m (nthConditional (g ∷ gs) 0)) (add-zero i) (e 0 (omega arith))) in
+          let first : Agree i g = subst (λ (h : Gate). Agree i h) (nth-first g gs is)
+          (subst (λ (m : ℕ). Agree m (nthConditional (g ∷ gs) 0)) (add-zero i) (e 0 (omega arith))) in
           let rest = more (λ (j : ℕ) l.
           let a : i + suc j ≡ i + 1 + j = omega arith in
-          subst (λ (h : Gate). Agree (i + 1 + j) h) (nth-behind g gs j is) (subst (λ (m : ℕ). Agree m (nthConditional (g ∷ gs) (suc j))) a (e (suc j) (omega arith)))) in
+          subst (λ (h : Gate). Agree (i + 1 + j) h) (nth-behind g gs j is)
+          (subst (λ (m : ℕ). Agree m (nthConditional (g ∷ gs) (suc j))) a (e (suc j) (omega arith)))) in
           rw (first .0, first .1, rest)
-      go false is more none = none (λ (j : ℕ) l. subst (λ (h : Gate). Agree (i + j) h) (nth-passed g gs j is) (e j (omega (arith, count-mark g gs, mark-none g is))))
+      go false is more none = none (λ (j : ℕ) l. subst (λ (h : Gate). Agree (i + j) h) (nth-passed g gs j is)
+          (e j (omega (arith, count-mark g gs, mark-none g is))))
 
   pub masked-same : (i : ℕ) (gs : List Gate) → maskedFactors parts dealt i gs ≡ maskedFactors parts′ dealt′ i gs
       → (j : ℕ) → j < conditionalCount gs → AgreeAt parts parts′ dealt dealt′ (i + j) (nthConditional gs j)
@@ -106,16 +122,22 @@ module _ (parts parts′ dealt dealt′ : List ℕ) where
   masked-same i (g ∷ gs) e j h = go (conditionalOf (g .kind)) refl e j h (λ f. masked-same (i + 1) gs f) (λ f. masked-same i gs f)
     where
       go : (b : Bool) → conditionalOf (g .kind) ≡ b
-          → cond b (maskedFirst parts dealt i g ∷ maskedSecond parts dealt i g ∷ maskedFactors parts dealt (i + 1) gs) (maskedFactors parts dealt i gs)
-          ≡ cond b (maskedFirst parts′ dealt′ i g ∷ maskedSecond parts′ dealt′ i g ∷ maskedFactors parts′ dealt′ (i + 1) gs) (maskedFactors parts′ dealt′ i gs)
+          → cond b (maskedFirst parts dealt i g ∷ maskedSecond parts dealt i g ∷ maskedFactors parts dealt (i + 1)
+          gs) (maskedFactors parts dealt i gs)
+          ≡ cond b (maskedFirst parts′ dealt′ i g ∷ maskedSecond parts′ dealt′ i g ∷ maskedFactors parts′ dealt′
+          (i + 1) gs) (maskedFactors parts′ dealt′ i gs)
           → (j : ℕ) → j < conditionalCount (g ∷ gs)
-          → (maskedFactors parts dealt (i + 1) gs ≡ maskedFactors parts′ dealt′ (i + 1) gs → (j : ℕ) → j < conditionalCount gs → Agree (i + 1 + j) (nthConditional gs j))
-          → (maskedFactors parts dealt i gs ≡ maskedFactors parts′ dealt′ i gs → (j : ℕ) → j < conditionalCount gs → Agree (i + j) (nthConditional gs j))
+          → (maskedFactors parts dealt (i + 1) gs ≡ maskedFactors parts′ dealt′ (i + 1) gs → (j : ℕ) → j
+          < conditionalCount gs → Agree (i + 1 + j) (nthConditional gs j))
+          → (maskedFactors parts dealt i gs ≡ maskedFactors parts′ dealt′ i gs → (j : ℕ) → j < conditionalCount gs
+          → Agree (i + j) (nthConditional gs j))
           → Agree (i + j) (nthConditional (g ∷ gs) j)
       go true is e zero l more none = rw (nth-first g gs is, add-zero i) (cc, cc)
       go true is e (suc j) l more none =
           let c = count-mark g gs in
           let o = mark-one g is in
           let a : i + 1 + j ≡ i + suc j = omega arith in
-          subst (λ (h : Gate). Agree (i + suc j) h) (sym (nth-behind g gs j is)) (subst (λ (m : ℕ). Agree m (nthConditional gs j)) a (more (cc) j (omega arith)))
-      go false is e j l more none = subst (λ (h : Gate). Agree (i + j) h) (sym (nth-passed g gs j is)) (none e j (omega (arith, count-mark g gs, mark-none g is)))
+          subst (λ (h : Gate). Agree (i + suc j) h) (sym (nth-behind g gs j is))
+          (subst (λ (m : ℕ). Agree m (nthConditional gs j)) a (more (cc) j (omega arith)))
+      go false is e j l more none = subst (λ (h : Gate). Agree (i + j) h) (sym (nth-passed g gs j is))
+          (none e j (omega (arith, count-mark g gs, mark-none g is)))

@@ -18,7 +18,12 @@ module _ (size : ℕ) (f : Held) where
   pub length-joined : (t : ℕ) → ((p : ℕ) → p < t → length (f p) ≡ size) → length (joined t f) ≡ t * size
   unfolding joined
   length-joined zero e = omega arith
-  length-joined (suc t) e = omega (arith, length-append (joined t f) (f t), length-joined t (λ (p : ℕ) h. e p (omega arith)), e t (omega arith))
+  length-joined (suc t) e = omega (
+    arith,
+    length-append (joined t f) (f t),
+    length-joined t (λ (p : ℕ) h. e p (omega arith)),
+    e t (omega arith),
+  )
 
   -- the pieces of a table of pieces
   pub piece-joined : (t : ℕ) → ((p : ℕ) → p < t → length (f p) ≡ size) → (p : ℕ) → p < t → piece size (joined t f) p ≡ f p
@@ -26,7 +31,8 @@ module _ (size : ℕ) (f : Held) where
   piece-joined zero e p h = absurd (omega arith)
   piece-joined (suc t) e p h = go (eqb p t) refl (piece-joined t (λ (q : ℕ) l. e q (omega arith)) p)
     where
-      go : (b : Bool) → eqb p t ≡ b → (p < t → take size (drop (p * size) (joined t f)) ≡ f p) → take size (drop (p * size) (joined t f ++ f t)) ≡ f p
+      go : (b : Bool) → eqb p t ≡ b → (p < t → take size (drop (p * size) (joined t f)) ≡ f p)
+          → take size (drop (p * size) (joined t f ++ f t)) ≡ f p
       go true is rest =
           let l = length-joined t (λ (q : ℕ) l. e q (omega arith)) in
           let s : t ≡ p = sym (eqb-true p t is) in

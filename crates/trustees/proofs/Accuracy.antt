@@ -42,7 +42,9 @@ wires-split : (t : ℕ) (gs : List Gate) (xs : List ℕ) (d : Dealing) → 1 ≤
     → Split t (wire (wiresOf xs gs)) (wirePartsOf t (length xs) gs d) (length xs + length gs)
 unfolding wirePartsOf ballotsOf
 wires-split t gs xs d least good bits g =
-    parts-split t least (dealtOf gs d) (wire (wiresOf xs gs)) (wire-bit (wiresOf xs gs) (wires-bits xs gs good bits)) (length xs) 0 gs (ballotsOf (length xs) d) good (wires-hold xs gs good)
+    parts-split t least (dealtOf gs d) (wire (wiresOf xs gs))
+    (wire-bit (wiresOf xs gs) (wires-bits xs gs good bits)) (length xs) 0 gs (ballotsOf (length xs) d) good
+    (wires-hold xs gs good)
     (λ (j : ℕ) l h. g .products j (omega arith))
     (record {
       sizes = λ (p : ℕ) h. length-piece t (length xs) (d .ballotParts) p (g .ballot-size) h;
@@ -72,26 +74,33 @@ module _ (c : Call) where
     ready = call-ready c (sizeOf gs) refl p
 
     pub good-list : AllGood (length (c .ballots)) gs
-    good-list = subst (λ (n : ℕ). AllGood n gs) (add-zero (length (c .ballots))) (all-good (length (c .ballots)) 0 gs (ready .evaluate .good))
+    good-list = subst (λ (n : ℕ). AllGood n gs) (add-zero (length (c .ballots)))
+        (all-good (length (c .ballots)) 0 gs (ready .evaluate .good))
 
     split : Split (c .trustees) (wire (wiresOf (c .ballots) gs)) (wirePartsIn c) (length (c .ballots) + length gs)
-    split = wires-split (c .trustees) gs (c .ballots) (c .lent .dealing) (omega (arith, p .parts .least)) good-list (p .ballotsPassed .bits) (passed-dealing c p)
+    split = wires-split (c .trustees) gs (c .ballots) (c .lent .dealing) (omega (arith, p .parts .least)) good-list
+        (p .ballotsPassed .bits) (passed-dealing c p)
 
     pub outputs-long : length (outputsOf (c .shape .candidates) (wiresOf (c .ballots) gs)) ≡ c .shape .candidates
-    outputs-long = length-outputs (c .shape .candidates) (wiresOf (c .ballots) gs) (omega (arith, length-wires (c .ballots) gs, ready .evaluate .enough))
+    outputs-long = length-outputs (c .shape .candidates) (wiresOf (c .ballots) gs)
+        (omega (arith, length-wires (c .ballots) gs, ready .evaluate .enough))
 
     -- a closing bit opens to its wire
-    bit-opens : (j : ℕ) → j < c .shape .candidates → opened (c .trustees) (λ q. part (closingParts (c .shape .candidates) (wirePartsIn c q)) j) ≡ getD (outputsOf (c .shape .candidates) (wiresOf (c .ballots) gs)) j 0
+    bit-opens : (j : ℕ) → j < c .shape .candidates
+        → opened (c .trustees) (λ q. part (closingParts (c .shape .candidates) (wirePartsIn c q)) j)
+        ≡ getD (outputsOf (c .shape .candidates) (wiresOf (c .ballots) gs)) j 0
     bit-opens j h =
         let k = c .shape .candidates in
         let n = length (c .ballots) + length gs in
         let enough = ready .evaluate .enough in
         let lw = length-wires (c .ballots) gs in
-        opened-same (c .trustees) (λ q. part (closingParts k (wirePartsIn c q)) j) (λ q. part (wirePartsIn c q) (n - k + j)) (λ (q : ℕ) l. at q l)
+        opened-same (c .trustees) (λ q. part (closingParts k (wirePartsIn c q)) j)
+        (λ q. part (wirePartsIn c q) (n - k + j)) (λ (q : ℕ) l. at q l)
         ∙ split .sums (n - k + j) (omega arith)
         ∙ ap (λ (m : ℕ). wire (wiresOf (c .ballots) gs) (m - k + j)) (sym lw) ∙ sym (output-is k (wiresOf (c .ballots) gs) j)
       where
-        at : (q : ℕ) → q < c .trustees → part (closingParts (c .shape .candidates) (wirePartsIn c q)) j ≡ part (wirePartsIn c q) (length (c .ballots) + length gs - c .shape .candidates + j)
+        at : (q : ℕ) → q < c .trustees → part (closingParts (c .shape .candidates) (wirePartsIn c q)) j
+            ≡ part (wirePartsIn c q) (length (c .ballots) + length gs - c .shape .candidates + j)
         at q l =
             unfold part closingParts in
             (getD-drop (length (wirePartsIn c q) - c .shape .candidates) (wirePartsIn c q) j 0
@@ -102,7 +111,9 @@ module _ (c : Call) where
     closing-is =
         let k = c .shape .candidates in
         ap (λ (r : TrusteesResult). r .closing) (result-by c none (none-applies)) ∙ after
-        ∙ ap eightBytes (tabulate-cong k (λ j. opened (c .trustees) (λ q. part (closingParts k (wirePartsIn c q)) j)) (λ j. getD (outputsOf k (wiresOf (c .ballots) gs)) j 0) bit-opens
+        ∙ ap eightBytes (tabulate-cong k
+        (λ j. opened (c .trustees) (λ q. part (closingParts k (wirePartsIn c q)) j))
+        (λ j. getD (outputsOf k (wiresOf (c .ballots) gs)) j 0) bit-opens
         ∙ tabulate-getD (outputsOf k (wiresOf (c .ballots) gs)) k 0 outputs-long)
       where
         none-applies : firstOf (trusteesReasons c) ≡ none
@@ -120,7 +131,8 @@ module _ (c : Call) where
         every-wire = split p .sums;
         last-wires = closing-is p;
         plain-run = λ tape wires board run f.
-            let r = run-passed (c .shape) (c .table) (c .ballots) tape wires board (ran-accepted (c .shape) (c .table) (c .ballots) wires board tape run f .0) in
+            let r = run-passed (c .shape) (c .table) (c .ballots) tape wires board
+            (ran-accepted (c .shape) (c .table) (c .ballots) wires board tape run f .0) in
             closing-is p ∙ ap eightBytes (sym (run-closing (c .shape) (c .table) (c .ballots) wires board tape r tape (r .mask)));
       }
 

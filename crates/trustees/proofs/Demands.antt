@@ -38,7 +38,10 @@ test-all s table = (unless-fine numbers _ 1 tt, (list-fine numbers _ tt (λ g. t
 
 ballots-all : (s : Shape) (xs : List ℕ) → All numbers (ballotReasons s xs)
 unfolding All ballotReasons hasNumberIn reasonAt numbers
-ballots-all s xs = (unless-fine numbers _ 4 tt, (found-fine numbers 5 _ (λ i. tt), kind-fine numbers s xs (isRanking s) (λ i. tt) (λ i. tt) (λ b. tt)))
+ballots-all s xs = (
+  unless-fine numbers _ 4 tt,
+  (found-fine numbers 5 _ (λ i. tt), kind-fine numbers s xs (isRanking s) (λ i. tt) (λ i. tt) (λ b. tt)),
+)
 
 parts-all : (k : ℕ) (size : Size) (ballots : List ℕ) (t : ℕ) (lent : PartTables) → All numbers (partReasons k size ballots t lent)
 unfolding All partReasons hasNumberIn reasonAt numbers
@@ -53,8 +56,10 @@ module _ (c : Call) where
   all-fine : All numbers (trusteesReasons c)
   unfolding trusteesReasons
   all-fine =
-      both numbers (testReasons (c .shape) (c .table) ++ ballotReasons (c .shape) (c .ballots)) (partReasons (c .shape .candidates) (sizeOf (gatesOf (c .table))) (c .ballots) (c .trustees) (c .lent))
-      (both numbers (testReasons (c .shape) (c .table)) (ballotReasons (c .shape) (c .ballots)) (test-all (c .shape) (c .table)) (ballots-all (c .shape) (c .ballots)))
+      both numbers (testReasons (c .shape) (c .table) ++ ballotReasons (c .shape) (c .ballots))
+      (partReasons (c .shape .candidates) (sizeOf (gatesOf (c .table))) (c .ballots) (c .trustees) (c .lent))
+      (both numbers (testReasons (c .shape) (c .table)) (ballotReasons (c .shape) (c .ballots))
+      (test-all (c .shape) (c .table)) (ballots-all (c .shape) (c .ballots)))
       (parts-all (c .shape .candidates) (sizeOf (gatesOf (c .table))) (c .ballots) (c .trustees) (c .lent))
 
   pub number : (r : Reason) → trusteesResult c .answer ≡ refused r → T (hasNumberIn (1 ∷ 2 ∷ 3 ∷ 4 ∷ 5 ∷ 6 ∷ 11 ∷ 12 ∷ 16 ∷ 17 ∷ 18 ∷ []) r)
@@ -79,17 +84,23 @@ module _ (c : Call) where
       × (trusteesResult c .closing ≡ replicate 8 0)
   refusal r e =
       let o = firstOf (trusteesReasons c) in
-      let q = after-refusal o r (sym (ap (λ (z : TrusteesResult). z .answer) whole) ∙ e) in
-      (ap (λ (z : TrusteesResult). z .wireParts) whole ∙ q .0, ap (λ (z : TrusteesResult). z .published) whole ∙ q .1, ap (λ (z : TrusteesResult). z .closing) whole ∙ q .2)
+      let q = after-refusal o r (sym (ap (λ (z : TrusteesResult). z .answer) whole) ∙ e) in (
+        ap (λ (z : TrusteesResult). z .wireParts) whole ∙ q .0,
+        ap (λ (z : TrusteesResult). z .published) whole
+            ∙ q .1,
+        ap (λ (z : TrusteesResult). z .closing) whole ∙ q .2,
+      )
 
-  empties : (size : Size) → trusteesResult c .answer ≡ accepted size → trusteesResult c .wireParts ≡ replicate (length (c .lent .wireParts)) 0
+  empties : (size : Size) → trusteesResult c .answer ≡ accepted size → trusteesResult c .wireParts
+      ≡ replicate (length (c .lent .wireParts)) 0
   unfolding trusteesResultAfter
   empties size e =
       ap (λ (z : TrusteesResult). z .wireParts) (result-by c none (call-accepted c size e .0))
 
   -- no call changes a length
   lengths : (o : Option Reason) → firstOf (trusteesReasons c) ≡ o
-      → (length (trusteesResult c .wireParts) ≡ length (c .lent .wireParts)) × (length (trusteesResult c .published) ≡ length (c .lent .published))
+      → (length (trusteesResult c .wireParts) ≡ length (c .lent .wireParts))
+      × (length (trusteesResult c .published) ≡ length (c .lent .published))
   unfolding trusteesResultAfter
   lengths (some r) e =
       let f = result-by c (some r) e in

@@ -89,7 +89,8 @@ module _ (inputs k : ℕ) (size : Size) (t : ℕ) (lent : PartTables) where
       )
 
 module _ (k : ℕ) (size : Size) (ballots : List ℕ) (t : ℕ) (lent : PartTables) where
-  pub part-by : (a b c : Bool) → (leb 2 t && leb t 5) ≡ a → tablesFit (length ballots) k size t lent ≡ b → dealtWell t (size .conditional) ballots (lent .dealing) ≡ c
+  pub part-by : (a b c : Bool) → (leb 2 t && leb t 5) ≡ a → tablesFit (length ballots) k size t lent ≡ b
+      → dealtWell t (size .conditional) ballots (lent .dealing) ≡ c
       → firstOf (partReasons k size ballots t lent) ≡ partFound a b c
   unfolding partReasons partFound
   part-by a b c e f g = rw (e, f, g)
@@ -130,19 +131,23 @@ module _ (k : ℕ) (size : Size) (ballots : List ℕ) (t : ℕ) (lent : PartTabl
 
 module _ (c : Call) where
   pub first-reason : firstOf (trusteesReasons c)
-      ≡ firstOfThree (firstOf (testReasons (c .shape) (c .table))) (firstOf (ballotReasons (c .shape) (c .ballots))) (firstOf (partReasons (c .shape .candidates) (sizeOf (gatesOf (c .table))) (c .ballots) (c .trustees) (c .lent)))
+      ≡ firstOfThree (firstOf (testReasons (c .shape) (c .table))) (firstOf (ballotReasons (c .shape) (c .ballots)))
+      (firstOf (partReasons (c .shape .candidates) (sizeOf (gatesOf (c .table))) (c .ballots) (c .trustees) (c .lent)))
   unfolding trusteesReasons firstOfThree
   first-reason =
       let parts = partReasons (c .shape .candidates) (sizeOf (gatesOf (c .table))) (c .ballots) (c .trustees) (c .lent) in
       first-append (testReasons (c .shape) (c .table) ++ ballotReasons (c .shape) (c .ballots)) parts
-      ∙ ap (λ (r : Option Reason). orElse r (firstOf parts)) (first-append (testReasons (c .shape) (c .table)) (ballotReasons (c .shape) (c .ballots)))
+      ∙ ap (λ (r : Option Reason). orElse r (firstOf parts))
+      (first-append (testReasons (c .shape) (c .table)) (ballotReasons (c .shape) (c .ballots)))
 
   -- the answer by the first group in which a test applies
   pub by-test : (r : Reason) → testOutcome (c .shape) (c .table) ≡ refused r → firstOf (trusteesReasons c) ≡ some r
   unfolding testOutcome firstOfThree orElse
   by-test r e =
       first-reason
-      ∙ ap (λ (o : Option Reason). firstOfThree o (firstOf (ballotReasons (c .shape) (c .ballots))) (firstOf (partReasons (c .shape .candidates) (sizeOf (gatesOf (c .table))) (c .ballots) (c .trustees) (c .lent))))
+      ∙ ap (λ (o : Option Reason). firstOfThree o (firstOf (ballotReasons (c .shape) (c .ballots)))
+      (firstOf (partReasons (c .shape .candidates) (sizeOf (gatesOf (c .table))) (c .ballots) (c .trustees)
+      (c .lent))))
       (outcome-refused (firstOf (testReasons (c .shape) (c .table))) (sizeOf (gatesOf (c .table))) r e)
 
   module _ (p : firstOf (testReasons (c .shape) (c .table)) ≡ none) where
@@ -150,11 +155,15 @@ module _ (c : Call) where
     unfolding firstOfThree orElse
     by-ballots r e = first-reason ∙ rw (p, e)
 
-    pub by-parts : (size : Size) (o : Option Reason) → size ≡ sizeOf (gatesOf (c .table)) → firstOf (ballotReasons (c .shape) (c .ballots)) ≡ none
+    pub by-parts : (size : Size) (o : Option Reason) → size ≡ sizeOf (gatesOf (c .table))
+        → firstOf (ballotReasons (c .shape) (c .ballots)) ≡ none
         → firstOf (partReasons (c .shape .candidates) size (c .ballots) (c .trustees) (c .lent)) ≡ o → firstOf (trusteesReasons c) ≡ o
     unfolding firstOfThree orElse
     by-parts size o f b e =
-        first-reason ∙ rw (p, b) (ap (λ (z : Size). firstOf (partReasons (c .shape .candidates) z (c .ballots) (c .trustees) (c .lent))) (sym f) ∙ e)
+        first-reason
+        ∙ rw (p, b)
+        (ap (λ (z : Size). firstOf (partReasons (c .shape .candidates) z (c .ballots) (c .trustees) (c .lent)))
+        (sym f) ∙ e)
 
   -- an accepted call, as facts
   pub record CallPassed : Type 0 where
@@ -166,7 +175,10 @@ module _ (c : Call) where
   unfolding testOutcome outcome
   call-passed e =
       let size = sizeOf (gatesOf (c .table)) in
-      let q = three-passed (firstOf (testReasons (c .shape) (c .table))) (firstOf (ballotReasons (c .shape) (c .ballots))) (firstOf (partReasons (c .shape .candidates) size (c .ballots) (c .trustees) (c .lent))) (sym first-reason ∙ e) in
+      let q = three-passed (firstOf (testReasons (c .shape) (c .table)))
+      (firstOf (ballotReasons (c .shape) (c .ballots)))
+      (firstOf (partReasons (c .shape .candidates) size (c .ballots) (c .trustees) (c .lent)))
+      (sym first-reason ∙ e) in
       let p = test-passed (c .shape) (c .table) size (ap (λ (r : Option Reason). outcome r size) (q .0)) in
       record {
         test = p;
@@ -194,10 +206,12 @@ module _ (c : Call) where
   pub passed-dealing : CallPassed → GoodDealing (c .trustees) (gatesOf (c .table)) (c .ballots) (c .lent .dealing)
   unfolding sizeOf
   passed-dealing r =
-      dealt-good (c .trustees) (gatesOf (c .table)) (c .ballots) (c .lent .dealing) (r .parts .tables .ballot-length) (r .parts .tables .dealer-length) (r .parts .dealt)
+      dealt-good (c .trustees) (gatesOf (c .table)) (c .ballots) (c .lent .dealing)
+      (r .parts .tables .ballot-length) (r .parts .tables .dealer-length) (r .parts .dealt)
 
   -- and another one for the same tables
-  pub other-dealing : CallPassed → (e : Dealing) → GoodDealing (c .trustees) (gatesOf (c .table)) (c .ballots) e → PartsPassed (c .shape .candidates) (sizeOf (gatesOf (c .table))) (c .ballots) (c .trustees) (dealtAs c e .lent)
+  pub other-dealing : CallPassed → (e : Dealing) → GoodDealing (c .trustees) (gatesOf (c .table)) (c .ballots) e
+      → PartsPassed (c .shape .candidates) (sizeOf (gatesOf (c .table))) (c .ballots) (c .trustees) (dealtAs c e .lent)
   unfolding sizeOf
   other-dealing r e g =
       record {

@@ -34,13 +34,16 @@ use Rattle.trustees.proofs.Reasons.{CallPassed}
 -- bytes below k, and 0 from k on
 pub eight-tabulated : (k : ℕ) (f : ℕ → ℕ) → tabulate 8 (upTo k f (λ i. 0)) ≡ eightBytes (tabulate k f)
 eight-tabulated k f =
-    ext-getD 0 (tabulate 8 (upTo k f (λ i. 0))) (eightBytes (tabulate k f)) (length-tabulate 8 (upTo k f (λ i. 0)) ∙ sym (eight-length (tabulate k f)))
+    ext-getD 0 (tabulate 8 (upTo k f (λ i. 0))) (eightBytes (tabulate k f))
+    (length-tabulate 8 (upTo k f (λ i. 0)) ∙ sym (eight-length (tabulate k f)))
     (λ j l. at j (omega (arith, length-tabulate 8 (upTo k f (λ i. 0)))))
   where
     entry : (j : ℕ) → upTo k f (λ i. 0) j ≡ getD (tabulate k f) j 0
     entry j =
         ⊎-elim (λ l. upTo-new k j f (λ i. 0) l ∙ sym (getD-tabulate k j f 0 l))
-        (λ l. upTo-old k j f (λ i. 0) l ∙ sym (List·getD-eq-default (tabulate k f) 0 {n = j} (omega (arith, length-tabulate k f)))) (below-or-not j k)
+        (λ l. upTo-old k j f (λ i. 0) l
+        ∙ sym (List·getD-eq-default (tabulate k f) 0 {n = j} (omega (arith, length-tabulate k f))))
+        (below-or-not j k)
 
     at : (j : ℕ) → j < 8 → getD (tabulate 8 (upTo k f (λ i. 0))) j 0 ≡ getD (eightBytes (tabulate k f)) j 0
     at j l = getD-tabulate 8 j (upTo k f (λ i. 0)) 0 l ∙ entry j ∙ sym (eight-at (tabulate k f) j l)
@@ -57,7 +60,8 @@ module _ (c : Call) where
   ready-own : CallPassed c → Ready c (sizeOf (gatesOf (c .table)))
   unfolding sizeOf
   ready-own p =
-      let f = accepted-list (ballotBytes (c .shape)) (c .shape .candidates) (c .table) (length (gatesOf (c .table))) (conditionalCount (gatesOf (c .table))) (p .test .tests) in
+      let f = accepted-list (ballotBytes (c .shape)) (c .shape .candidates) (c .table) (length (gatesOf (c .table)))
+      (conditionalCount (gatesOf (c .table))) (p .test .tests) in
       let w = bounds (c .shape) (p .test .within) in
       let n = p .ballotsPassed .size in
       let l = p .parts .tables in
@@ -89,28 +93,46 @@ module _ (c : Call) where
     parts-long : (p : ℕ) → p < c .trustees → length (parts p) ≡ length (c .ballots) + length (gatesOf (c .table))
     unfolding parts wirePartsOf ballotsOf
     parts-long p h =
-        length-parts (c .trustees) (dealtOf (gatesOf (c .table)) (c .lent .dealing)) (gatesOf (c .table)) (piece (length (c .ballots)) (c .lent .dealing .ballotParts)) 0 (length (c .ballots)) p (length-piece (c .trustees) (length (c .ballots)) (c .lent .dealing .ballotParts) p (r .evaluate .ballot-length) h)
+        length-parts (c .trustees) (dealtOf (gatesOf (c .table)) (c .lent .dealing)) (gatesOf (c .table))
+        (piece (length (c .ballots)) (c .lent .dealing .ballotParts)) 0 (length (c .ballots)) p
+        (length-piece (c .trustees) (length (c .ballots)) (c .lent .dealing .ballotParts) p
+        (r .evaluate .ballot-length) h)
 
     closing-long : (p : ℕ) → p < c .trustees → length (closingParts (c .shape .candidates) (parts p)) ≡ c .shape .candidates
     unfolding closingParts
     closing-long p h = omega (arith, length-drop (length (parts p) - c .shape .candidates) (parts p), parts-long p h, r .evaluate .enough)
 
-    factors-long : (p : ℕ) → length (maskedFactors (parts p) (dealtOf (gatesOf (c .table)) (c .lent .dealing) p) 0 (gatesOf (c .table))) ≡ 2 * size .conditional
-    factors-long p = omega (arith, length-masked (parts p) (dealtOf (gatesOf (c .table)) (c .lent .dealing) p) 0 (gatesOf (c .table)), r .evaluate .conditional-is)
+    factors-long : (p : ℕ) → length
+        (maskedFactors (parts p) (dealtOf (gatesOf (c .table)) (c .lent .dealing) p) 0 (gatesOf (c .table))) ≡ 2
+        * size .conditional
+    factors-long p = omega (
+      arith,
+      length-masked (parts p) (dealtOf (gatesOf (c .table)) (c .lent .dealing) p) 0 (gatesOf (c .table)),
+      r .evaluate .conditional-is,
+    )
 
     pub published-long : (p : ℕ) → p < c .trustees → length (publishedIn c p) ≡ 2 * size .conditional + c .shape .candidates
     unfolding publishedOf parts
     published-long p h =
-        omega (arith, length-append (maskedFactors (parts p) (dealtOf (gatesOf (c .table)) (c .lent .dealing) p) 0 (gatesOf (c .table))) (closingParts (c .shape .candidates) (parts p)), factors-long p, closing-long p h)
+        omega (
+          arith,
+          length-append (maskedFactors (parts p) (dealtOf (gatesOf (c .table)) (c .lent .dealing) p) 0
+              (gatesOf (c .table))) (closingParts (c .shape .candidates) (parts p)),
+          factors-long p,
+          closing-long p h,
+        )
 
     pub opened-closing : (after : List ℕ) → after ≡ joined (c .trustees) (publishedIn c)
-        → eightBytes (tabulate (c .shape .candidates) (λ j. opened (c .trustees) (λ p. part (piece (2 * size .conditional + c .shape .candidates) after p) (2 * size .conditional + j))))
+        → eightBytes (tabulate (c .shape .candidates)
+        (λ j. opened (c .trustees) (λ p. part (piece (2 * size .conditional + c .shape .candidates) after p)
+        (2 * size .conditional + j))))
         ≡ closingSums (c .trustees) (c .shape .candidates) (wirePartsIn c)
     unfolding closingSums parts
     opened-closing after e =
         let k = c .shape .candidates in
         let m = 2 * size .conditional in
-        ap eightBytes (tabulate-cong k (λ j. opened (c .trustees) (λ p. part (piece (m + k) after p) (m + j))) (λ j. opened (c .trustees) (λ p. part (closingParts k (parts p)) j))
+        ap eightBytes (tabulate-cong k (λ j. opened (c .trustees) (λ p. part (piece (m + k) after p) (m + j)))
+        (λ j. opened (c .trustees) (λ p. part (closingParts k (parts p)) j))
         (λ j l. opened-same (c .trustees) (λ p. part (piece (m + k) after p) (m + j)) (λ p. part (closingParts k (parts p)) j)
         (λ (p : ℕ) h.
         ap (λ (xs : List ℕ). part (piece (m + k) xs p) (m + j)) e
@@ -119,5 +141,7 @@ module _ (c : Call) where
         behind : (p j : ℕ) → part (publishedIn c p) (2 * size .conditional + j) ≡ part (closingParts (c .shape .candidates) (parts p)) j
         behind p j =
             unfold publishedOf part parts in
-            (ap (λ (n : ℕ). getD (maskedFactors (parts p) (dealtOf (gatesOf (c .table)) (c .lent .dealing) p) 0 (gatesOf (c .table)) ++ closingParts (c .shape .candidates) (parts p)) (n + j) 0) (sym (factors-long p))
-            ∙ getD-append-add (maskedFactors (parts p) (dealtOf (gatesOf (c .table)) (c .lent .dealing) p) 0 (gatesOf (c .table))) (closingParts (c .shape .candidates) (parts p)) j 0)
+            (ap (λ (n : ℕ). getD (maskedFactors (parts p) (dealtOf (gatesOf (c .table)) (c .lent .dealing) p) 0
+            (gatesOf (c .table)) ++ closingParts (c .shape .candidates) (parts p)) (n + j) 0) (sym (factors-long p))
+            ∙ getD-append-add (maskedFactors (parts p) (dealtOf (gatesOf (c .table)) (c .lent .dealing) p) 0
+            (gatesOf (c .table))) (closingParts (c .shape .candidates) (parts p)) j 0)

@@ -46,13 +46,15 @@ free-order n = tabulate-up (n - 1) 1 suc (λ j. omega arith)
 all-up : (p : ℕ → Bool) (m i : ℕ) → ((j : ℕ) → i ≤ j → j < i + m → p j ≡ true) → all p (upFrom m i) ≡ true
 unfolding all upFrom
 all-up p zero i h = refl
-all-up p (suc m) i h = and-both (p i) (all p (upFrom m (suc i))) (h i (omega arith) (omega arith)) (all-up p m (suc i) (λ j a b. h j (omega arith) (omega arith)))
+all-up p (suc m) i h = and-both (p i) (all p (upFrom m (suc i))) (h i (omega arith) (omega arith))
+    (all-up p m (suc i) (λ j a b. h j (omega arith) (omega arith)))
 
 -- a smaller number is not among them
 below-up : (m i j : ℕ) → j < i → member j (upFrom m i) ≡ false
 unfolding member upFrom
 below-up zero i j h = refl
-below-up (suc m) i j h = ap (λ (t : Bool). t || member j (upFrom m (suc i))) (ne-eqb j i (λ e. omega arith)) ∙ below-up m (suc i) j (omega arith)
+below-up (suc m) i j h = ap (λ (t : Bool). t || member j (upFrom m (suc i))) (ne-eqb j i (λ e. omega arith))
+    ∙ below-up m (suc i) j (omega arith)
 
 distinct-up : (m i : ℕ) → distinct (upFrom m i) ≡ true
 unfolding distinct upFrom
@@ -66,7 +68,8 @@ all-fit n h =
     let e = free-order n in
     record {
       least = h;
-      inside = ap (all (inUrn n)) e ∙ all-up (inUrn n) (n - 1) 1 (λ j a b. and-both (ltb 0 j) (ltb j n) (lt-ltb 0 j (omega arith)) (lt-ltb j n (omega arith)));
+      inside = ap (all (inUrn n)) e ∙ all-up (inUrn n) (n - 1) 1
+          (λ j a b. and-both (ltb 0 j) (ltb j n) (lt-ltb 0 j (omega arith)) (lt-ltb j n (omega arith)));
       once = ap distinct e ∙ distinct-up (n - 1) 1;
       covered = member-all (λ i. member i (tabulate (n - 1) suc)) (tabulate (n - 1) suc) (λ i m. m);
     }
@@ -83,7 +86,9 @@ zero-slots b (suc n) =
     let z = slotBytes b in
     let front : List ℕ = replicate z 0 in
     let back : List ℕ = replicate (n * z) 0 in
-    let cut : replicate (suc n * z) 0 ≡ front ++ back = ap (λ (m : ℕ). replicate m 0) {x = suc n * z} {y = z + n * z} (omega (arith, suc-mul n z)) ∙ sym (replicate-append-replicate z (n * z) 0) in
+    let cut : replicate (suc n * z) 0 ≡ front ++ back =
+    ap (λ (m : ℕ). replicate m 0) {x = suc n * z} {y = z + n * z} (omega (arith, suc-mul n z))
+    ∙ sym (replicate-append-replicate z (n * z) 0) in
     ap (slotsOf b (suc n)) cut
     ∙ ap (λ (xs : List ℕ). slotOf xs ∷ slotsOf b n (drop z (front ++ back))) (take-at front back z (length-replicate z 0))
     ∙ ap (λ (xs : List ℕ). slotOf front ∷ slotsOf b n xs) (drop-at front back z (length-replicate z 0))
@@ -94,7 +99,8 @@ zero-slots b (suc n) =
 free-other : (b : ℕ) (is : List ℕ) (S : List Slot) (i : ℕ) → member i is ≡ false → slotAt (withFree b is S) i ≡ slotAt S i
 unfolding withFree
 free-other b [] S i h = refl
-free-other b (j ∷ is) S i h = at-other (withFree b is S) j i (freeSlot b (firstFree is)) (λ e. not-first i j is h (sym e)) ∙ free-other b is S i (apart-rest i j is h)
+free-other b (j ∷ is) S i h = at-other (withFree b is S) j i (freeSlot b (firstFree is))
+    (λ e. not-first i j is h (sym e)) ∙ free-other b is S i (apart-rest i j is h)
 
 same-at : (b n i : ℕ) → i < n → slotAt (replicate n (freeSlot b 0)) i ≡ freeSlot b 0
 unfolding slotAt
@@ -126,7 +132,8 @@ up-step n i slot e h =
     ap (λ (m : ℕ). i ∷ upFrom (n - slot) m) (sym e)
     ∙ ap (λ (m : ℕ). upFrom m i) {x = suc (n - slot)} {y = n - i} (omega arith)
 
-pub freed-go : (b n : ℕ) (urn : List ℕ) (i slot first : ℕ) → suc i ≡ slot → 1 ≤ i → Freed b n urn slot first → Freed b n (set urn (i * slotBytes b) first) i i
+pub freed-go : (b n : ℕ) (urn : List ℕ) (i slot first : ℕ) → suc i ≡ slot → 1 ≤ i → Freed b n urn slot first
+    → Freed b n (set urn (i * slotBytes b) first) i i
 unfolding withFree firstFree freeSlot
 freed-go b n urn i slot first e p f =
     let l : i < n = omega (arith, f .most) in
@@ -134,7 +141,8 @@ freed-go b n urn i slot first e p f =
     let R = replicate n (freeSlot b 0) in
     let S = slotsOf b n urn in
     let up = up-step n i slot e (f .most) in
-    let here : slotAt S i ≡ freeSlot b 0 = ap (λ (ss : List Slot). slotAt ss i) (f .linked) ∙ free-other b is R i (below-up (n - slot) slot i (omega arith)) ∙ same-at b n i l in
+    let here : slotAt S i ≡ freeSlot b 0 = ap (λ (ss : List Slot). slotAt ss i) (f .linked)
+    ∙ free-other b is R i (below-up (n - slot) slot i (omega arith)) ∙ same-at b n i l in
     record {
       least = p;
       most = omega arith;
@@ -155,7 +163,8 @@ freed-done b n urn first h f =
     let is = upFrom (n - 1) 1 in
     let R = replicate n (freeSlot b 0) in
     let S = slotsOf b n urn in
-    let here : slotAt S 0 ≡ freeSlot b 0 = ap (λ (ss : List Slot). slotAt ss 0) (f .linked) ∙ free-other b is R 0 (below-up (n - 1) 1 0 (omega arith)) ∙ same-at b n 0 (omega arith) in
+    let here : slotAt S 0 ≡ freeSlot b 0 = ap (λ (ss : List Slot). slotAt ss 0) (f .linked)
+    ∙ free-other b is R 0 (below-up (n - 1) 1 0 (omega arith)) ∙ same-at b n 0 (omega arith) in
     let slots : slotsOf b n (set urn 1 first) ≡ layout n b [] (tabulate (n - 1) suc) =
     set-head-juror b n urn first (f .size) (omega arith)
     ∙ ap (λ (s : Slot). set S 0 (record { next = s .next; juror = first; ballot = s .ballot })) here

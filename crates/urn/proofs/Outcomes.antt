@@ -33,10 +33,15 @@ first-cons none xs ys e = e
 first-cons (some r) xs ys e = refl
 
 pub admit-first : (k d : ℕ) (f : Facts) (j : ℕ) (x : List ℕ) →
-    firstOf (admitReasons k d f j x) ≡ admitFirst (gradedShape k d) (f .sound) (goodJuror j && not (f .present)) (firstOf (ballotReasons (juryOfOne k d) x)) (not (f .full))
+    firstOf (admitReasons k d f j x)
+    ≡ admitFirst (gradedShape k d) (f .sound) (goodJuror j && not (f .present))
+    (firstOf (ballotReasons (juryOfOne k d) x)) (not (f .full))
 unfolding admitReasons admitFirst
 admit-first k d f j x =
-    first-cons (unless (gradedShape k d) 1) _ _ (first-cons (unless (f .sound) 13) _ _ (first-cons (unless (goodJuror j && not (f .present)) 14) _ _ (first-append (ballotReasons (juryOfOne k d) x) (unless (not (f .full)) 15))))
+    first-cons (unless (gradedShape k d) 1) _ _
+    (first-cons (unless (f .sound) 13) _ _
+    (first-cons (unless (goodJuror j && not (f .present)) 14) _ _
+    (first-append (ballotReasons (juryOfOne k d) x) (unless (not (f .full)) 15))))
 
 -- What an accepted admission has passed.
 pub record Passed (k d : ℕ) (f : Facts) (j : ℕ) (x : List ℕ) : Type 0 where
@@ -46,7 +51,8 @@ pub record Passed (k d : ℕ) (f : Facts) (j : ℕ) (x : List ℕ) : Type 0 wher
   pub ballot : goodBallot k d x ≡ true
   pub free : not (f .full) ≡ true
 
-passed : (a b c : Bool) (o : Option Reason) (g : Bool) → admitFirst a b c o g ≡ none → (a ≡ true) × (b ≡ true) × (c ≡ true) × (noReason o ≡ true) × (g ≡ true)
+passed : (a b c : Bool) (o : Option Reason) (g : Bool) → admitFirst a b c o g ≡ none → (a ≡ true) × (b ≡ true)
+    × (c ≡ true) × (noReason o ≡ true) × (g ≡ true)
 unfolding admitFirst firstOf unless noReason
 passed false b c o g h = let z : _≡_ {A = ℕ} 0 1 = cc in absurd (omega arith)
 passed true false c o g h = let z : _≡_ {A = ℕ} 0 1 = cc in absurd (omega arith)
@@ -57,7 +63,8 @@ passed true true true none true h = (refl, refl, refl, refl, refl)
 
 pub admissible : (k d : ℕ) (f : Facts) (j : ℕ) (x : List ℕ) → firstOf (admitReasons k d f j x) ≡ none → Passed k d f j x
 admissible k d f j x e =
-    let p = passed (gradedShape k d) (f .sound) (goodJuror j && not (f .present)) (firstOf (ballotReasons (juryOfOne k d) x)) (not (f .full)) (sym (admit-first k d f j x) ∙ e) in
+    let p = passed (gradedShape k d) (f .sound) (goodJuror j && not (f .present))
+    (firstOf (ballotReasons (juryOfOne k d) x)) (not (f .full)) (sym (admit-first k d f j x) ∙ e) in
     record { graded = p .0; isSound = p .1; juror = p .2; ballot = good-graded k d x (true-T (gradedShape k d) (p .0)) ∙ p .3; free = p .4 }
 
 pub withdrawFirst : Bool → Bool → Bool → Option Reason
@@ -162,10 +169,12 @@ module _ (a b c : Bool) where
   unfolding withdrawFirst firstOf unless
   withdraw-none h i j = rw (h, i, j)
 
-pub withdraw-first : (k d : ℕ) (f : Facts) (j : ℕ) → firstOf (withdrawReasons k d f j) ≡ withdrawFirst (gradedShape k d) (f .sound) (goodJuror j && f .present)
+pub withdraw-first : (k d : ℕ) (f : Facts) (j : ℕ) → firstOf (withdrawReasons k d f j)
+    ≡ withdrawFirst (gradedShape k d) (f .sound) (goodJuror j && f .present)
 unfolding withdrawReasons withdrawFirst
 withdraw-first k d f j = refl
 
 -- the answer and the urn, as what a call leaves
-pub both-parts : {a b : Outcome ℕ} {u v : List ℕ} → a ≡ b → u ≡ v → _≡_ {A = UrnResult} (record { answer = a; urn = u }) (record { answer = b; urn = v })
+pub both-parts : {a b : Outcome ℕ} {u v : List ℕ} → a ≡ b → u ≡ v
+    → _≡_ {A = UrnResult} (record { answer = a; urn = u }) (record { answer = b; urn = v })
 both-parts e f = cc

@@ -33,8 +33,14 @@ admitting = 1 ∷ 13 ∷ 14 ∷ 4 ∷ 5 ∷ 6 ∷ 15 ∷ []
 -- for a graded jury
 ballots-fine : (s : Shape) (xs : List ℕ) → isRanking s ≡ false → All admitting (ballotReasons s xs)
 unfolding All ballotReasons gradedReasons hasNumberIn reasonAt admitting
-ballots-fine s xs graded =
-    (unless-fine admitting _ 4 tt, (found-fine admitting 5 _ (λ i. tt), subst (λ (t : Bool). All admitting (cond t (rankedReasons s xs) (gradedReasons s xs))) (sym graded) (found-fine admitting 6 _ (λ i. tt), tt)))
+ballots-fine s xs graded = (
+  unless-fine admitting _ 4 tt,
+  (
+    found-fine admitting 5 _ (λ i. tt),
+    subst (λ (t : Bool). All admitting (cond t (rankedReasons s xs) (gradedReasons s xs))) (sym graded)
+        (found-fine admitting 6 _ (λ i. tt), tt),
+  ),
+)
 
 admit-fine : (k d : ℕ) (f : Facts) (j : ℕ) (x : List ℕ) → gradedShape k d ≡ true → All admitting (admitReasons k d f j x)
 unfolding All admitReasons hasNumberIn reasonAt admitting
@@ -44,7 +50,9 @@ admit-fine k d f j x e = (
     unless-fine admitting _ 13 tt,
     (
       unless-fine admitting _ 14 tt,
-      both admitting (ballotReasons (juryOfOne k d) x) _ (ballots-fine (juryOfOne k d) x (graded-is (juryOfOne k d) (within (juryOfOne k d) e))) (unless-fine admitting _ 15 tt, tt),
+      both admitting (ballotReasons (juryOfOne k d) x) _
+          (ballots-fine (juryOfOne k d) x (graded-is (juryOfOne k d) (within (juryOfOne k d) e)))
+          (unless-fine admitting _ 15 tt, tt),
     ),
   ),
 )
@@ -54,29 +62,39 @@ first-of : (t : Bool) (rest : List (Option Reason)) → t ≡ false → Fine adm
 unfolding Fine hasNumberIn reasonAt admitting unless firstOf
 first-of t rest e = subst (λ (t : Bool). Fine admitting (firstOf (unless t 1 ∷ rest))) (sym e) tt
 
-admit-first : (k d : ℕ) (f : Facts) (j : ℕ) (x : List ℕ) (t : Bool) → gradedShape k d ≡ t → Fine admitting (firstOf (admitReasons k d f j x))
+admit-first : (k d : ℕ) (f : Facts) (j : ℕ) (x : List ℕ) (t : Bool) → gradedShape k d ≡ t
+    → Fine admitting (firstOf (admitReasons k d f j x))
 unfolding admitReasons
 admit-first k d f j x false e = first-of (gradedShape k d) _ e
 admit-first k d f j x true e = first-fine admitting (admitReasons k d f j x) (admit-fine k d f j x e)
 
-admit-numbered : (k d : ℕ) (f : Facts) (j : ℕ) (x : List ℕ) (r : Reason) → admitAnswer k d f j x ≡ refused r → T (hasNumberIn (1 ∷ 13 ∷ 14 ∷ 4 ∷ 5 ∷ 6 ∷ 15 ∷ []) r)
+admit-numbered : (k d : ℕ) (f : Facts) (j : ℕ) (x : List ℕ) (r : Reason) → admitAnswer k d f j x ≡ refused r
+    → T (hasNumberIn (1 ∷ 13 ∷ 14 ∷ 4 ∷ 5 ∷ 6 ∷ 15 ∷ []) r)
 unfolding admitAnswer admitting
-admit-numbered k d f j x r e = refused-fine admitting (admitAnswer k d f j x) r (outcome-fine admitting _ _ (admit-first k d f j x (gradedShape k d) refl)) e
+admit-numbered k d f j x r e =
+    refused-fine admitting (admitAnswer k d f j x) r
+    (outcome-fine admitting _ _ (admit-first k d f j x (gradedShape k d) refl)) e
 
 withdraw-numbered : (k d : ℕ) (f : Facts) (j : ℕ) (r : Reason) → withdrawAnswer k d f j ≡ refused r → T (hasNumberIn (1 ∷ 13 ∷ 14 ∷ []) r)
 unfolding withdrawAnswer withdrawReasons All hasNumberIn reasonAt
 withdraw-numbered k d f j r e =
     let ns : List ℕ = 1 ∷ 13 ∷ 14 ∷ [] in
-    refused-fine ns (withdrawAnswer k d f j) r (outcome-fine ns _ _ (first-fine ns (withdrawReasons k d f j) (unless-fine ns _ 1 tt, (unless-fine ns _ 13 tt, (unless-fine ns _ 14 tt, tt))))) e
+    refused-fine ns (withdrawAnswer k d f j) r
+    (outcome-fine ns _ _ (first-fine ns (withdrawReasons k d f j)
+    (unless-fine ns _ 1 tt, (unless-fine ns _ 13 tt, (unless-fine ns _ 14 tt, tt))))) e
 
 empty-numbered : (k d : ℕ) (table : List ℕ) (r : Reason) → emptyOutcome k d table ≡ refused r → T (hasNumberIn (1 ∷ 13 ∷ []) r)
 unfolding emptyOutcome emptyReasons All hasNumberIn reasonAt
 empty-numbered k d table r e =
     let ns : List ℕ = 1 ∷ 13 ∷ [] in
-    refused-fine ns (emptyOutcome k d table) r (outcome-fine ns _ _ (first-fine ns (emptyReasons k d table) (unless-fine ns _ 1 tt, (unless-fine ns _ 13 tt, tt)))) e
+    refused-fine ns (emptyOutcome k d table) r
+    (outcome-fine ns _ _ (first-fine ns (emptyReasons k d table)
+    (unless-fine ns _ 1 tt, (unless-fine ns _ 13 tt, tt)))) e
 
 -- the length is the same after a refusal and after an accepted call
-kept : (o : Option Reason) (v : ℕ) (new old : List ℕ) → ((count : ℕ) → outcome o v ≡ accepted count → length (afterwards o new old) ≡ length old) → length (afterwards o new old) ≡ length old
+kept : (o : Option Reason) (v : ℕ) (new old : List ℕ)
+    → ((count : ℕ) → outcome o v ≡ accepted count → length (afterwards o new old) ≡ length old)
+    → length (afterwards o new old) ≡ length old
 unfolding outcome afterwards
 kept none v new old f = f v refl
 kept (some r) v new old f = refl
@@ -95,7 +113,8 @@ lent-urn numbers o v new old fine size =
       lengths = (size, tt);
     }
 
-lent-nothing : (numbers : List ℕ) (answer : Outcome ℕ) → ((r : Reason) → answer ≡ refused r → T (hasNumberIn numbers r)) → KeepsMemory numbers answer [] []
+lent-nothing : (numbers : List ℕ) (answer : Outcome ℕ)
+    → ((r : Reason) → answer ≡ refused r → T (hasNumberIn numbers r)) → KeepsMemory numbers answer [] []
 unfolding Each
 lent-nothing numbers answer fine = record { number = fine; refusal = λ r e. tt; empties = λ values e. tt; lengths = tt }
 
@@ -105,15 +124,20 @@ urn-memory =
     record {
       empty = λ k d table.
           let o = firstOf (emptyReasons k d table) in
-          lent-urn (1 ∷ 13 ∷ []) o 0 _ table (empty-numbered k d table) (kept o 0 _ table (λ count h. urn-holds .emptying k d table count h .same-length));
+          lent-urn (1 ∷ 13 ∷ []) o 0 _ table (empty-numbered k d table)
+          (kept o 0 _ table (λ count h. urn-holds .emptying k d table count h .same-length));
       admit = λ k d urn j x.
           let f = factsOf k d urn j in
           let o = firstOf (admitReasons k d f j x) in
-          lent-urn (1 ∷ 13 ∷ 14 ∷ 4 ∷ 5 ∷ 6 ∷ 15 ∷ []) o (f .ballots + 1) _ urn (admit-numbered k d f j x) (kept o (f .ballots + 1) _ urn (λ count h. urn-holds .admission k d urn j x count h .same-length));
+          lent-urn (1 ∷ 13 ∷ 14 ∷ 4 ∷ 5 ∷ 6 ∷ 15 ∷ []) o (f .ballots + 1) _ urn (admit-numbered k d f j x)
+          (kept o (f .ballots + 1) _ urn (λ count h. urn-holds .admission k d urn j x count h .same-length));
       withdraw = λ k d urn j.
           let f = factsOf k d urn j in
           let o = firstOf (withdrawReasons k d f j) in
-          lent-urn (1 ∷ 13 ∷ 14 ∷ []) o (f .ballots - 1) _ urn (withdraw-numbered k d f j) (kept o (f .ballots - 1) _ urn (λ count h. urn-holds .withdrawal k d urn j count h .same-length));
-      preview-admit = λ k d urn j x. lent-nothing (1 ∷ 13 ∷ 14 ∷ 4 ∷ 5 ∷ 6 ∷ 15 ∷ []) (admitAnswer k d (factsOf k d urn j) j x) (admit-numbered k d (factsOf k d urn j) j x);
-      preview-withdraw = λ k d urn j. lent-nothing (1 ∷ 13 ∷ 14 ∷ []) (withdrawAnswer k d (factsOf k d urn j) j) (withdraw-numbered k d (factsOf k d urn j) j);
+          lent-urn (1 ∷ 13 ∷ 14 ∷ []) o (f .ballots - 1) _ urn (withdraw-numbered k d f j)
+          (kept o (f .ballots - 1) _ urn (λ count h. urn-holds .withdrawal k d urn j count h .same-length));
+      preview-admit = λ k d urn j x. lent-nothing (1 ∷ 13 ∷ 14 ∷ 4 ∷ 5 ∷ 6 ∷ 15 ∷ [])
+          (admitAnswer k d (factsOf k d urn j) j x) (admit-numbered k d (factsOf k d urn j) j x);
+      preview-withdraw = λ k d urn j. lent-nothing (1 ∷ 13 ∷ 14 ∷ []) (withdrawAnswer k d (factsOf k d urn j) j)
+          (withdraw-numbered k d (factsOf k d urn j) j);
     }

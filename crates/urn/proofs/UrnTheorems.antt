@@ -48,7 +48,9 @@ module _ (k d : ℕ) (urn : List ℕ) (e : sound k d urn ≡ true) where
   long = written k d (length (urnSlots k d urn)) (entriesOf k d urn) (freeOf k d urn) urn (laid-out k d urn e) .size
 
 -- chains with one ballot more, from the first free slot
-more-good : (k d n : ℕ) (x : Entry) (es : List Entry) (is : List ℕ) → Good k d n es (x .slot ∷ is) → goodJuror (x .juror) ≡ true → member (x .juror) (jurorsOf es) ≡ false → goodBallot k d (x .ballot) ≡ true → Good k d n (x ∷ es) is
+more-good : (k d n : ℕ) (x : Entry) (es : List Entry) (is : List ℕ) → Good k d n es (x .slot ∷ is)
+    → goodJuror (x .juror) ≡ true → member (x .juror) (jurorsOf es) ≡ false → goodBallot k d (x .ballot) ≡ true
+    → Good k d n (x ∷ es) is
 unfolding jurorsOf
 more-good k d n x es is g j m y =
     record {
@@ -63,35 +65,62 @@ unfolding jurorsOf
 map-append [] ys = refl
 map-append (x ∷ xs) ys = ap (λ (zs : List ℕ). x .juror ∷ zs) (map-append xs ys)
 
-less-good : (k d n : ℕ) (pre : List Entry) (x : Entry) (post : List Entry) (is : List ℕ) → Good k d n (pre ++ (x ∷ post)) is → Good k d n (pre ++ post) (x .slot ∷ is)
+less-good : (k d n : ℕ) (pre : List Entry) (x : Entry) (post : List Entry) (is : List ℕ)
+    → Good k d n (pre ++ (x ∷ post)) is → Good k d n (pre ++ post) (x .slot ∷ is)
 unfolding jurorsOf
 less-good k d n pre x post is g =
     record {
       fit = fit-withdraw n pre x post is (g .fit);
-      jurors = all-rest (λ (z : Entry). goodJuror (z .juror)) x (pre ++ post) (sym (all-move (λ (z : Entry). goodJuror (z .juror)) pre x post) ∙ g .jurors);
-      jurors-once = ap distinct (map-append pre post) ∙ distinct-rest (x .juror) (jurorsOf pre ++ jurorsOf post) (sym (distinct-move (jurorsOf pre) (x .juror) (jurorsOf post)) ∙ ap distinct (sym (map-append pre (x ∷ post))) ∙ g .jurors-once);
-      ballots = all-rest (λ (z : Entry). goodBallot k d (z .ballot)) x (pre ++ post) (sym (all-move (λ (z : Entry). goodBallot k d (z .ballot)) pre x post) ∙ g .ballots);
+      jurors = all-rest (λ (z : Entry). goodJuror (z .juror)) x (pre ++ post)
+          (sym (all-move (λ (z : Entry). goodJuror (z .juror)) pre x post) ∙ g .jurors);
+      jurors-once = ap distinct (map-append pre post)
+          ∙ distinct-rest (x .juror) (jurorsOf pre ++ jurorsOf post)
+          (sym (distinct-move (jurorsOf pre) (x .juror) (jurorsOf post))
+          ∙ ap distinct (sym (map-append pre (x ∷ post))) ∙ g .jurors-once);
+      ballots = all-rest (λ (z : Entry). goodBallot k d (z .ballot)) x (pre ++ post)
+          (sym (all-move (λ (z : Entry). goodBallot k d (z .ballot)) pre x post) ∙ g .ballots);
     }
 
 -- the ballots around that of a juror who has one
-juror-split : (j : ℕ) (es : List Entry) → member j (jurorsOf es) ≡ true → (pre : List Entry) × (x : Entry) × (post : List Entry) × (es ≡ pre ++ (x ∷ post)) × (without j es ≡ pre ++ post) × (slotOfJuror j es ≡ x .slot)
+juror-split : (j : ℕ) (es : List Entry) → member j (jurorsOf es) ≡ true → (pre : List Entry) × (x : Entry)
+    × (post : List Entry) × (es ≡ pre ++ (x ∷ post)) × (without j es ≡ pre ++ post) × (slotOfJuror j es ≡ x .slot)
 unfolding jurorsOf member without slotOfJuror
 juror-split j [] m = let z : _≡_ {A = ℕ} 0 1 = cc in absurd (omega arith)
 juror-split j (x ∷ es) m =
     ⊎-elim
     (λ t. ([], x, es, refl, ap (λ (u : Bool). cond u es (x ∷ without j es)) t, ap (λ (u : Bool). cond u (x .slot) (slotOfJuror j es)) t))
-    (λ t. let r = juror-split j es (ap (λ (u : Bool). u || member j (jurorsOf es)) (sym (eqb-sym j (x .juror) ∙ t)) ∙ m) in
-    (x ∷ r .0, r .1, r .2, ap (λ (xs : List Entry). x ∷ xs) (r .3), ap (λ (u : Bool). cond u es (x ∷ without j es)) t ∙ ap (λ (xs : List Entry). x ∷ xs) (r .4), ap (λ (u : Bool). cond u (x .slot) (slotOfJuror j es)) t ∙ r .5))
+    (λ t. let r = juror-split j es (ap (λ (u : Bool). u || member j (jurorsOf es)) (sym (eqb-sym j (x .juror) ∙ t)) ∙ m) in (
+      x ∷ r .0,
+      r .1,
+      r .2,
+      ap (λ (xs : List Entry). x ∷ xs) (r .3),
+      ap (λ (u : Bool). cond u es (x ∷ without j es)) t ∙ ap (λ (xs : List Entry). x ∷ xs) (r .4),
+      ap (λ (u : Bool). cond u (x .slot) (slotOfJuror j es)) t ∙ r .5,
+    ))
     (true-or-false (eqb (x .juror) j))
 
-juror-absent-is : (k d : ℕ) (urn : List ℕ) (j : ℕ) → sound k d urn ≡ true → not (factsOf k d urn j .present) ≡ true → member j (jurorsOf (ballotChain (urnSlots k d urn))) ≡ false
+juror-absent-is : (k d : ℕ) (urn : List ℕ) (j : ℕ) → sound k d urn ≡ true → not (factsOf k d urn j .present) ≡ true
+    → member j (jurorsOf (ballotChain (urnSlots k d urn))) ≡ false
 unfolding factsOf
-juror-absent-is k d urn j e h = not-true (member j (jurorsOf (ballotChain (urnSlots k d urn)))) (ap (λ (t : Bool). not (cond {A = Facts} t (record { sound = true; ballots = length (ballotChain (urnSlots k d urn)); present = member j (jurorsOf (ballotChain (urnSlots k d urn))); full = isEmpty (freeChain (urnSlots k d urn)) }) (record { sound = false; ballots = 0; present = false; full = false }) .present)) (sym e) ∙ h)
+juror-absent-is k d urn j e h =
+    not-true (member j (jurorsOf (ballotChain (urnSlots k d urn))))
+    (ap (λ (t : Bool). not (cond {A = Facts} t
+    (record {
+      sound = true;
+      ballots = length (ballotChain (urnSlots k d urn));
+      present =
+          member j (jurorsOf (ballotChain (urnSlots k d urn)));
+      full = isEmpty (freeChain (urnSlots k d urn));
+    })
+    (record { sound = false; ballots = 0; present = false; full = false }) .present)) (sym e) ∙ h)
 
 -- withdrawing the ballot that was admitted last
 undo : (k d : ℕ) (urn : List ℕ) → T (gradedLimits (juryOfOne k d)) → sound k d urn ≡ true → (j : ℕ) (x u : List ℕ) (is : List ℕ) →
-    Written k d (length (urnSlots k d urn)) (record { slot = firstFree (freeChain (urnSlots k d urn)); juror = j; ballot = x } ∷ ballotChain (urnSlots k d urn)) is u →
-    gradedShape k d ≡ true → goodJuror j ≡ true → freeChain (urnSlots k d urn) ≡ firstFree (freeChain (urnSlots k d urn)) ∷ is → withdrawn k d u j ≡ urn
+    Written k d (length (urnSlots k d urn))
+    (record { slot = firstFree (freeChain (urnSlots k d urn)); juror = j; ballot = x } ∷ ballotChain
+    (urnSlots k d urn)) is u →
+    gradedShape k d ≡ true → goodJuror j ≡ true → freeChain (urnSlots k d urn)
+    ≡ firstFree (freeChain (urnSlots k d urn)) ∷ is → withdrawn k d u j ≡ urn
 unfolding withdrawn withoutBallot without slotOfJuror jurorsOf member
 undo k d urn w e j x u is wr a gj cut =
     let S = urnSlots k d urn in
@@ -99,14 +128,22 @@ undo k d urn w e j x u is wr a gj cut =
     let i = firstFree (freeChain S) in
     let y : Entry = record { slot = i; juror = j; ballot = x } in
     let f = facts-are k d u w (wr .isSound) j in
-    let inn : member j (jurorsOf (ballotChain (urnSlots k d u))) ≡ true = ap (λ (xs : List Entry). member j (jurorsOf xs)) (wr .ballots) ∙ or-first (eqb j j) (member j (jurorsOf es)) (eq-eqb j j refl) in
-    let o : firstOf (withdrawReasons k d (factsOf k d u j) j) ≡ none = withdraw-first k d (factsOf k d u j) j ∙ withdraw-none (gradedShape k d) (factsOf k d u j .sound) (goodJuror j && factsOf k d u j .present) a (ap (λ (z : Facts). z .sound) f) (and-both (goodJuror j) (factsOf k d u j .present) gj (ap (λ (z : Facts). z .present) f ∙ inn)) in
+    let inn : member j (jurorsOf (ballotChain (urnSlots k d u))) ≡ true =
+    ap (λ (xs : List Entry). member j (jurorsOf xs)) (wr .ballots)
+    ∙ or-first (eqb j j) (member j (jurorsOf es)) (eq-eqb j j refl) in
+    let o : firstOf (withdrawReasons k d (factsOf k d u j) j) ≡ none = withdraw-first k d (factsOf k d u j) j
+    ∙ withdraw-none (gradedShape k d) (factsOf k d u j .sound) (goodJuror j && factsOf k d u j .present) a
+    (ap (λ (z : Facts). z .sound) f)
+    (and-both (goodJuror j) (factsOf k d u j .present) gj (ap (λ (z : Facts). z .present) f ∙ inn)) in
     let size : length (urnSlots k d u) ≡ length S = ap length (wr .slots) ∙ layout-length (length S) (k * d) (y ∷ es) is in
     none-new (firstOf (withdrawReasons k d (factsOf k d u j) j)) (bytesOf (withoutBallot (k * d) (urnSlots k d u) j)) u o
-    ∙ ap (λ (m : ℕ). bytesOf (layout m (k * d) (without j (ballotChain (urnSlots k d u))) (slotOfJuror j (ballotChain (urnSlots k d u)) ∷ freeChain (urnSlots k d u)))) size
-    ∙ ap (λ (xs : List Entry). bytesOf (layout (length S) (k * d) (without j xs) (slotOfJuror j xs ∷ freeChain (urnSlots k d u)))) (wr .ballots)
+    ∙ ap (λ (m : ℕ). bytesOf (layout m (k * d) (without j (ballotChain (urnSlots k d u)))
+    (slotOfJuror j (ballotChain (urnSlots k d u)) ∷ freeChain (urnSlots k d u)))) size
+    ∙ ap (λ (xs : List Entry). bytesOf
+    (layout (length S) (k * d) (without j xs) (slotOfJuror j xs ∷ freeChain (urnSlots k d u)))) (wr .ballots)
     ∙ ap (λ (ks : List ℕ). bytesOf (layout (length S) (k * d) (without j (y ∷ es)) (slotOfJuror j (y ∷ es) ∷ ks))) (wr .free)
-    ∙ ap (λ (t : Bool). bytesOf (layout (length S) (k * d) (cond t es (y ∷ without j es)) (cond t i (slotOfJuror j es) ∷ is))) (eq-eqb j j refl)
+    ∙ ap (λ (t : Bool). bytesOf (layout (length S) (k * d) (cond t es (y ∷ without j es))
+    (cond t i (slotOfJuror j es) ∷ is))) (eq-eqb j j refl)
     ∙ ap (λ (ks : List ℕ). bytesOf (layout (length S) (k * d) es ks)) (sym cut)
     ∙ sym (laid-out k d urn e .bytes)
 
@@ -116,7 +153,8 @@ unfolding outcome
 count-outcome none v count e = cc
 count-outcome (some r) v count e = let z : _≡_ {A = ℕ} 0 1 = cc in absurd (omega arith)
 
-after-admission : (k d : ℕ) (urn : List ℕ) (j : ℕ) (x : List ℕ) (count : ℕ) → admitAnswer k d (factsOf k d urn j) j x ≡ accepted count → AfterAdmission k d urn j x count
+after-admission : (k d : ℕ) (urn : List ℕ) (j : ℕ) (x : List ℕ) (count : ℕ)
+    → admitAnswer k d (factsOf k d urn j) j x ≡ accepted count → AfterAdmission k d urn j x count
 unfolding admitAnswer admitted withBallot withdrawn withoutBallot
 after-admission k d urn j x count h =
     let f = factsOf k d urn j in
@@ -131,7 +169,8 @@ after-admission k d urn j x count h =
     let cut = not-empty is (facts-free k d urn j e (p .free)) in
     let y : Entry = record { slot = firstFree is; juror = j; ballot = x } in
     let gj = and-first (goodJuror j) (not (f .present)) (p .juror) in
-    let g = more-good k d n y es (drop 1 is) (subst (λ (ks : List ℕ). Good k d n es ks) cut (good k d urn e)) gj (juror-absent-is k d urn j e (and-second (goodJuror j) (not (f .present)) (p .juror))) (p .ballot) in
+    let g = more-good k d n y es (drop 1 is) (subst (λ (ks : List ℕ). Good k d n es ks) cut (good k d urn e)) gj
+    (juror-absent-is k d urn j e (and-second (goodJuror j) (not (f .present)) (p .juror))) (p .ballot) in
     let u = bytesOf (layout n (k * d) (y ∷ es) (drop 1 is)) in
     let wr = bytes-written k d n (y ∷ es) (drop 1 is) (laid-out k d urn e .least) (laid-out k d urn e .most) g in
     let new = none-new (firstOf (admitReasons k d f j x)) u urn o in
@@ -172,8 +211,10 @@ after-emptying k d table count h =
     }
 
 -- an admission takes the first free slot
-again : (k d : ℕ) (urn : List ℕ) (es : List Entry) (s : ℕ) (is : List ℕ) → ballotChain (urnSlots k d urn) ≡ es → freeChain (urnSlots k d urn) ≡ s ∷ is → (j : ℕ) (x : List ℕ) (count : ℕ) → AfterAdmission k d urn j x count →
-    (ballotChain (urnSlots k d (admitted k d urn j x)) ≡ record { slot = s; juror = j; ballot = x } ∷ es) × (freeChain (urnSlots k d (admitted k d urn j x)) ≡ is)
+again : (k d : ℕ) (urn : List ℕ) (es : List Entry) (s : ℕ) (is : List ℕ) → ballotChain (urnSlots k d urn) ≡ es
+    → freeChain (urnSlots k d urn) ≡ s ∷ is → (j : ℕ) (x : List ℕ) (count : ℕ) → AfterAdmission k d urn j x count →
+    (ballotChain (urnSlots k d (admitted k d urn j x)) ≡ record { slot = s; juror = j; ballot = x } ∷ es)
+    × (freeChain (urnSlots k d (admitted k d urn j x)) ≡ is)
 unfolding firstFree
 again k d urn es s is e f j x count a = (
   a .ballots
@@ -182,7 +223,8 @@ again k d urn es s is e f j x count a = (
   a .free ∙ ap (drop 1) f,
 )
 
-after-withdrawal : (k d : ℕ) (urn : List ℕ) (j count : ℕ) → withdrawAnswer k d (factsOf k d urn j) j ≡ accepted count → AfterWithdrawal k d urn j count
+after-withdrawal : (k d : ℕ) (urn : List ℕ) (j count : ℕ) → withdrawAnswer k d (factsOf k d urn j) j
+    ≡ accepted count → AfterWithdrawal k d urn j count
 unfolding withdrawAnswer withdrawn withoutBallot
 after-withdrawal k d urn j count h =
     let f = factsOf k d urn j in
@@ -196,7 +238,8 @@ after-withdrawal k d urn j count h =
     let is = freeChain S in
     let r = juror-split j es (facts-present k d urn j e (and-second (goodJuror j) (f .present) (p .juror))) in
     let g₀ = less-good k d n (r .0) (r .1) (r .2) is (subst (λ (xs : List Entry). Good k d n xs is) (r .3) (good k d urn e)) in
-    let g = subst (λ (s : ℕ). Good k d n (without j es) (s ∷ is)) (sym (r .5)) (subst (λ (xs : List Entry). Good k d n xs (r .1 .slot ∷ is)) (sym (r .4)) g₀) in
+    let g = subst (λ (s : ℕ). Good k d n (without j es) (s ∷ is)) (sym (r .5))
+    (subst (λ (xs : List Entry). Good k d n xs (r .1 .slot ∷ is)) (sym (r .4)) g₀) in
     let u = bytesOf (layout n (k * d) (without j es) (slotOfJuror j es ∷ is)) in
     let wr = bytes-written k d n (without j es) (slotOfJuror j es ∷ is) (laid-out k d urn e .least) (laid-out k d urn e .most) g in
     let new = none-new (firstOf (withdrawReasons k d f j)) u urn o in
@@ -204,7 +247,8 @@ after-withdrawal k d urn j count h =
     let chain = ap (λ (v : List ℕ). ballotChain (urnSlots k d v)) new ∙ wr .ballots in
     let free = ap (λ (v : List ℕ). freeChain (urnSlots k d v)) new ∙ wr .free in
     let with-one : length es ≡ length (r .0) + suc (length (r .2)) = ap length (r .3) ∙ length-append (r .0) (r .1 ∷ r .2) in
-    let after : length (ballotChain (urnSlots k d (withdrawn k d urn j))) ≡ length (r .0) + length (r .2) = ap length (chain ∙ r .4) ∙ length-append (r .0) (r .2) in
+    let after : length (ballotChain (urnSlots k d (withdrawn k d urn j))) ≡ length (r .0) + length (r .2) =
+    ap length (chain ∙ r .4) ∙ length-append (r .0) (r .2) in
     record {
       stays-sound = ap (sound k d) new ∙ wr .isSound;
       same-length = ap length new ∙ wr .size ∙ sym (long k d urn e);
@@ -217,4 +261,9 @@ after-withdrawal k d urn j count h =
     }
 
 pub urn-holds : UrnHolds
-urn-holds = record { sound-means = sound-is-laid-out; emptying = after-emptying; admission = after-admission; withdrawal = after-withdrawal }
+urn-holds = record {
+  sound-means = sound-is-laid-out;
+  emptying = after-emptying;
+  admission = after-admission;
+  withdrawal = after-withdrawal;
+}

@@ -45,7 +45,14 @@ pub slots-sized : (b n : ℕ) (urn : List ℕ) → length urn ≡ n * slotBytes 
 unfolding slotsOf slotOf
 slots-sized b zero urn e = none
 slots-sized b (suc n) urn e =
-    more {s = slotOf (take (slotBytes b) urn)} (omega (arith, length-drop 2 (take (slotBytes b) urn), length-take (slotBytes b) urn, size-is b, suc-mul n (slotBytes b)))
+    more {s = slotOf (take (slotBytes b) urn)}
+    (omega (
+      arith,
+      length-drop 2 (take (slotBytes b) urn),
+      length-take (slotBytes b) urn,
+      size-is b,
+      suc-mul n (slotBytes b),
+    ))
     (slots-sized b n (drop (slotBytes b) urn) (omega (arith, length-drop (slotBytes b) urn, suc-mul n (slotBytes b))))
 
 -- bytes to slots and back
@@ -60,8 +67,12 @@ unfolding slotsOf bytesOf
 bytes-back b zero [] e = refl
 bytes-back b zero (x ∷ urn) e = absurd (omega (arith, zero-mul (slotBytes b)))
 bytes-back b (suc n) urn e =
-    ap (λ (xs : List ℕ). xs ++ bytesOf (slotsOf b n (drop (slotBytes b) urn))) (slot-back (take (slotBytes b) urn) (omega (arith, length-take (slotBytes b) urn, size-is b, suc-mul n (slotBytes b))))
-    ∙ ap (λ (xs : List ℕ). take (slotBytes b) urn ++ xs) (bytes-back b n (drop (slotBytes b) urn) (omega (arith, length-drop (slotBytes b) urn, suc-mul n (slotBytes b))))
+    ap (λ (xs : List ℕ). xs ++ bytesOf (slotsOf b n (drop (slotBytes b) urn)))
+    (slot-back (take (slotBytes b) urn)
+    (omega (arith, length-take (slotBytes b) urn, size-is b, suc-mul n (slotBytes b))))
+    ∙ ap (λ (xs : List ℕ). take (slotBytes b) urn ++ xs)
+    (bytes-back b n (drop (slotBytes b) urn)
+    (omega (arith, length-drop (slotBytes b) urn, suc-mul n (slotBytes b))))
     ∙ take-append-drop (slotBytes b) urn
 
 -- slots to bytes and back
@@ -73,7 +84,13 @@ pub bytes-length : (b : ℕ) (slots : List Slot) → Sized b slots → length (b
 unfolding bytesOf
 bytes-length b [] none = sym (zero-mul (slotBytes b))
 bytes-length b (s ∷ slots) (more e k) =
-    omega (arith, length-append (bytesOfSlot s) (bytesOf slots), slot-bytes b s e, bytes-length b slots k, suc-mul (length slots) (slotBytes b))
+    omega (
+      arith,
+      length-append (bytesOfSlot s) (bytesOf slots),
+      slot-bytes b s e,
+      bytes-length b slots k,
+      suc-mul (length slots) (slotBytes b),
+    )
 
 slot-same : (t : Slot) → slotOf (bytesOfSlot t) ≡ t
 unfolding slotOf bytesOfSlot
@@ -84,35 +101,44 @@ unfolding bytesOf slotsOf
 slots-back b [] none = refl
 slots-back b (s ∷ slots) (more e k) =
     let size = slot-bytes b s e in
-    ap (λ (xs : List ℕ). slotOf xs ∷ slotsOf b (length slots) (drop (slotBytes b) (bytesOfSlot s ++ bytesOf slots))) (take-at (bytesOfSlot s) (bytesOf slots) (slotBytes b) size)
-    ∙ ap (λ (xs : List ℕ). slotOf (bytesOfSlot s) ∷ slotsOf b (length slots) xs) (drop-at (bytesOfSlot s) (bytesOf slots) (slotBytes b) size)
+    ap (λ (xs : List ℕ). slotOf xs ∷ slotsOf b (length slots) (drop (slotBytes b) (bytesOfSlot s ++ bytesOf slots)))
+    (take-at (bytesOfSlot s) (bytesOf slots) (slotBytes b) size)
+    ∙ ap (λ (xs : List ℕ). slotOf (bytesOfSlot s) ∷ slotsOf b (length slots) xs)
+    (drop-at (bytesOfSlot s) (bytesOf slots) (slotBytes b) size)
     ∙ ap (λ (ss : List Slot). slotOf (bytesOfSlot s) ∷ ss) (slots-back b slots k)
     ∙ ap (λ (t : Slot). t ∷ slots) (slot-same s)
 
 -- a good ballot has k times d bytes
 pub good-length : (k d : ℕ) (xs : List ℕ) → goodBallot k d xs ≡ true → length xs ≡ k * d
 unfolding goodBallot
-good-length k d xs e = eqb-true (length xs) (k * d) (and-first (eqb (length xs) (k * d)) (noReason (firstOf (ballotReasons (juryOfOne k d) xs))) e)
+good-length k d xs e = eqb-true (length xs) (k * d)
+    (and-first (eqb (length xs) (k * d)) (noReason (firstOf (ballotReasons (juryOfOne k d) xs))) e)
 
 -- the slots of good ballots, and free ones, have ballots of one length
-ballots-sized : (k d b : ℕ) (es : List Entry) (slots : List Slot) → k * d ≡ b → all (λ (e : Entry). goodBallot k d (e .ballot)) es ≡ true → Sized b slots → Sized b (withBallots es slots)
+ballots-sized : (k d b : ℕ) (es : List Entry) (slots : List Slot) → k * d ≡ b
+    → all (λ (e : Entry). goodBallot k d (e .ballot)) es ≡ true → Sized b slots → Sized b (withBallots es slots)
 unfolding withBallots entrySlot
 ballots-sized k d b [] slots q h z = z
 ballots-sized k d b (e ∷ es) slots q h z =
-    sized-set b (withBallots es slots) (e .slot) (entrySlot e es) (good-length k d (e .ballot) (all-first (λ (x : Entry). goodBallot k d (x .ballot)) e es h) ∙ q)
+    sized-set b (withBallots es slots) (e .slot) (entrySlot e es)
+    (good-length k d (e .ballot) (all-first (λ (x : Entry). goodBallot k d (x .ballot)) e es h) ∙ q)
     (ballots-sized k d b es slots q (all-rest (λ (x : Entry). goodBallot k d (x .ballot)) e es h) z)
 
 free-sized : (b : ℕ) (is : List ℕ) (slots : List Slot) → Sized b slots → Sized b (withFree b is slots)
 unfolding withFree freeSlot
 free-sized b [] slots z = z
-free-sized b (i ∷ is) slots z = sized-set b (withFree b is slots) i (freeSlot b (firstFree is)) (length-replicate b 0) (free-sized b is slots z)
+free-sized b (i ∷ is) slots z =
+    sized-set b (withFree b is slots) i (freeSlot b (firstFree is)) (length-replicate b 0) (free-sized b is slots z)
 
-pub layout-sized : (k d n : ℕ) (es : List Entry) (is : List ℕ) → all (λ (e : Entry). goodBallot k d (e .ballot)) es ≡ true → Sized (k * d) (layout n (k * d) es is)
+pub layout-sized : (k d n : ℕ) (es : List Entry) (is : List ℕ) → all (λ (e : Entry). goodBallot k d (e .ballot)) es
+    ≡ true → Sized (k * d) (layout n (k * d) es is)
 unfolding layout headSlot freeSlot
 layout-sized k d n es is h =
-    sized-set (k * d) (withBallots es (withFree (k * d) is (replicate n (freeSlot (k * d) 0)))) 0 (headSlot (k * d) es is) (length-replicate (k * d) 0)
+    sized-set (k * d) (withBallots es (withFree (k * d) is (replicate n (freeSlot (k * d) 0)))) 0
+    (headSlot (k * d) es is) (length-replicate (k * d) 0)
     (ballots-sized k d (k * d) es (withFree (k * d) is (replicate n (freeSlot (k * d) 0))) refl h
-    (free-sized (k * d) is (replicate n (freeSlot (k * d) 0)) (sized-replicate (k * d) n (freeSlot (k * d) 0) (length-replicate (k * d) 0))))
+    (free-sized (k * d) is (replicate n (freeSlot (k * d) 0))
+    (sized-replicate (k * d) n (freeSlot (k * d) 0) (length-replicate (k * d) 0))))
 
 -- the number of slots in the bytes of n slots is n
 pub count-is : (b n m : ℕ) → m ≡ n * slotBytes b → slotCount b m ≡ n
@@ -137,12 +163,16 @@ length-good b n m l u e =
 pub table-is : (b m : ℕ) → urnLength b m ≡ true → m ≡ slotCount b m * slotBytes b
 unfolding urnLength slotCount
 table-is b m e =
-    let r = eqb-true (m % slotBytes b) 0 (and-first (eqb (m % slotBytes b) 0) (leb 2 (slotCount b m)) (and-first (eqb (m % slotBytes b) 0 && leb 2 (slotCount b m)) (leb (slotCount b m) 256) e)) in
+    let r = eqb-true (m % slotBytes b) 0
+    (and-first (eqb (m % slotBytes b) 0) (leb 2 (slotCount b m))
+    (and-first (eqb (m % slotBytes b) 0 && leb 2 (slotCount b m)) (leb (slotCount b m) 256) e)) in
     omega (arith, div-add-mod' m (slotBytes b))
 
 pub count-least : (b m : ℕ) → urnLength b m ≡ true → 2 ≤ slotCount b m
 unfolding urnLength
-count-least b m e = leb-true 2 (slotCount b m) (and-second (eqb (m % slotBytes b) 0) (leb 2 (slotCount b m)) (and-first (eqb (m % slotBytes b) 0 && leb 2 (slotCount b m)) (leb (slotCount b m) 256) e))
+count-least b m e = leb-true 2 (slotCount b m)
+    (and-second (eqb (m % slotBytes b) 0) (leb 2 (slotCount b m))
+    (and-first (eqb (m % slotBytes b) 0 && leb 2 (slotCount b m)) (leb (slotCount b m) 256) e))
 
 pub count-most : (b m : ℕ) → urnLength b m ≡ true → slotCount b m ≤ 256
 unfolding urnLength
@@ -150,7 +180,10 @@ count-most b m e = leb-true (slotCount b m) 256 (and-second (eqb (m % slotBytes 
 
 pub length-rest : (b m : ℕ) → (m % slotBytes b ≡ 0 → ⊥) → urnLength b m ≡ false
 unfolding urnLength
-length-rest b m n = never-true (urnLength b m) (λ e. n (eqb-true (m % slotBytes b) 0 (and-first (eqb (m % slotBytes b) 0) (leb 2 (slotCount b m)) (and-first (eqb (m % slotBytes b) 0 && leb 2 (slotCount b m)) (leb (slotCount b m) 256) e))))
+length-rest b m n = never-true (urnLength b m)
+    (λ e. n (eqb-true (m % slotBytes b) 0
+    (and-first (eqb (m % slotBytes b) 0) (leb 2 (slotCount b m))
+    (and-first (eqb (m % slotBytes b) 0 && leb 2 (slotCount b m)) (leb (slotCount b m) 256) e))))
 
 pub length-few : (b m : ℕ) → slotCount b m < 2 → urnLength b m ≡ false
 length-few b m h = never-true (urnLength b m) (λ e. omega (arith, count-least b m e))
@@ -160,4 +193,6 @@ length-many b m h = never-true (urnLength b m) (λ e. omega (arith, count-most b
 
 pub length-all : (b m : ℕ) → m % slotBytes b ≡ 0 → 2 ≤ slotCount b m → slotCount b m ≤ 256 → urnLength b m ≡ true
 unfolding urnLength
-length-all b m r l u = and-both (eqb (m % slotBytes b) 0 && leb 2 (slotCount b m)) (leb (slotCount b m) 256) (and-both (eqb (m % slotBytes b) 0) (leb 2 (slotCount b m)) (eq-eqb (m % slotBytes b) 0 r) (le-leb 2 (slotCount b m) l)) (le-leb (slotCount b m) 256 u)
+length-all b m r l u = and-both (eqb (m % slotBytes b) 0 && leb 2 (slotCount b m)) (leb (slotCount b m) 256)
+    (and-both (eqb (m % slotBytes b) 0) (leb 2 (slotCount b m)) (eq-eqb (m % slotBytes b) 0 r)
+    (le-leb 2 (slotCount b m) l)) (le-leb (slotCount b m) 256 u)

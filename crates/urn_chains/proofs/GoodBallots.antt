@@ -37,7 +37,8 @@ unfolding noReason
 no-reason none e = refl
 no-reason (some r) e = let z : _≡_ {A = ℕ} 0 1 = cc in absurd (omega arith)
 
-pub good-graded : (k d : ℕ) (xs : List ℕ) → T (gradedLimits (juryOfOne k d)) → goodBallot k d xs ≡ noReason (firstOf (ballotReasons (juryOfOne k d) xs))
+pub good-graded : (k d : ℕ) (xs : List ℕ) → T (gradedLimits (juryOfOne k d)) → goodBallot k d xs
+    ≡ noReason (firstOf (ballotReasons (juryOfOne k d) xs))
 unfolding goodBallot
 good-graded k d xs h = by (noReason o) refl
   where
@@ -49,7 +50,8 @@ good-graded k d xs h = by (noReason o) refl
 
     long : noReason o ≡ true → length xs ≡ k * d
     long e =
-        accepted s xs (graded-within s (T-true (gradedLimits s) h)) (no-reason o e) .size ∙ bytes-are s (within-T s h) ∙ unfold juryOfOne in (ap (λ (m : ℕ). m * d) (one-mul k))
+        accepted s xs (graded-within s (T-true (gradedLimits s) h)) (no-reason o e) .size
+        ∙ bytes-are s (within-T s h) ∙ unfold juryOfOne in (ap (λ (m : ℕ). m * d) (one-mul k))
 
     by : (t : Bool) → noReason o ≡ t → (eqb (length xs) (k * d) && noReason o) ≡ noReason o
     by true e = and-both (eqb (length xs) (k * d)) (noReason o) (eq-eqb (length xs) (k * d) (long e)) e ∙ sym e

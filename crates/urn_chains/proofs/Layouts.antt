@@ -40,7 +40,8 @@ layout-length n b es is =
     ∙ length-replicate n (freeSlot b 0)
 
 -- the ballots are linked where they were put, and free slots stay linked
-put-linked : (n : ℕ) (es : List Entry) (slots : List Slot) → length slots ≡ n → all (inUrn n) (slotsIn es) ≡ true → distinct (slotsIn es) ≡ true → Linked (withBallots es slots) es
+put-linked : (n : ℕ) (es : List Entry) (slots : List Slot) → length slots ≡ n → all (inUrn n) (slotsIn es) ≡ true
+    → distinct (slotsIn es) ≡ true → Linked (withBallots es slots) es
 unfolding withBallots
 put-linked n [] slots q h d = none
 put-linked n (e ∷ es) slots q h d =
@@ -49,7 +50,8 @@ put-linked n (e ∷ es) slots q h d =
     (linked-set (withBallots es slots) (e .slot) (entrySlot e es) es (distinct-first (e .slot) (slotsIn es) d)
     (put-linked n es slots q (all-rest (inUrn n) (e .slot) (slotsIn es) h) (distinct-rest (e .slot) (slotsIn es) d)))
 
-put-free : (n b : ℕ) (is : List ℕ) (slots : List Slot) → length slots ≡ n → all (inUrn n) is ≡ true → distinct is ≡ true → FreeLinked b (withFree b is slots) is
+put-free : (n b : ℕ) (is : List ℕ) (slots : List Slot) → length slots ≡ n → all (inUrn n) is ≡ true → distinct is
+    ≡ true → FreeLinked b (withFree b is slots) is
 unfolding withFree
 put-free n b [] slots q h d = none
 put-free n b (i ∷ is) slots q h d =
@@ -58,11 +60,14 @@ put-free n b (i ∷ is) slots q h d =
     (free-set b (withFree b is slots) i (freeSlot b (firstFree is)) is (distinct-first i is d)
     (put-free n b is slots q (all-rest (inUrn n) i is h) (distinct-rest i is d)))
 
-keep-free : (b : ℕ) (es : List Entry) (slots : List Slot) (is : List ℕ) → ((x : ℕ) → member x (slotsIn es) ≡ true → member x is ≡ false) → FreeLinked b slots is → FreeLinked b (withBallots es slots) is
+keep-free : (b : ℕ) (es : List Entry) (slots : List Slot) (is : List ℕ)
+    → ((x : ℕ) → member x (slotsIn es) ≡ true → member x is ≡ false) → FreeLinked b slots is
+    → FreeLinked b (withBallots es slots) is
 unfolding withBallots member
 keep-free b [] slots is f l = l
 keep-free b (e ∷ es) slots is f l =
-    free-set b (withBallots es slots) (e .slot) (entrySlot e es) is (f (e .slot) (or-first (eqb (e .slot) (e .slot)) (member (e .slot) (slotsIn es)) (eq-eqb (e .slot) (e .slot) refl)))
+    free-set b (withBallots es slots) (e .slot) (entrySlot e es) is
+    (f (e .slot) (or-first (eqb (e .slot) (e .slot)) (member (e .slot) (slotsIn es)) (eq-eqb (e .slot) (e .slot) refl)))
     (keep-free b es slots is (λ x h. f x (or-second (eqb x (e .slot)) (member x (slotsIn es)) h)) l)
 
 -- Chains that have each slot from 1 on once.
@@ -83,35 +88,49 @@ module _ (n b : ℕ) (es : List Entry) (is : List ℕ) (fit : Fit n es is) where
   unfolding layout
   layout-linked =
       linked-set (withBallots es (withFree b is (replicate n (freeSlot b 0)))) 0 (headSlot b es is) es (no-zero n (slotsIn es) in-ballots)
-      (put-linked n es (withFree b is (replicate n (freeSlot b 0))) (free-length b is (replicate n (freeSlot b 0)) ∙ length-replicate n (freeSlot b 0)) in-ballots (distinct-left (slotsIn es) is (fit .once)))
+      (put-linked n es (withFree b is (replicate n (freeSlot b 0)))
+      (free-length b is (replicate n (freeSlot b 0)) ∙ length-replicate n (freeSlot b 0)) in-ballots
+      (distinct-left (slotsIn es) is (fit .once)))
 
   pub layout-free : FreeLinked b (layout n b es is) is
   unfolding layout
   layout-free =
       free-set b (withBallots es (withFree b is (replicate n (freeSlot b 0)))) 0 (headSlot b es is) is (no-zero n is in-free)
       (keep-free b es (withFree b is (replicate n (freeSlot b 0))) is (λ x h. distinct-apart x (slotsIn es) is (fit .once) h)
-      (put-free n b is (replicate n (freeSlot b 0)) (length-replicate n (freeSlot b 0)) in-free (distinct-right (slotsIn es) is (fit .once))))
+      (put-free n b is (replicate n (freeSlot b 0)) (length-replicate n (freeSlot b 0)) in-free
+      (distinct-right (slotsIn es) is (fit .once))))
 
   pub layout-head : slotAt (layout n b es is) 0 ≡ headSlot b es is
   unfolding layout
   layout-head =
       at-set (withBallots es (withFree b is (replicate n (freeSlot b 0)))) 0 (headSlot b es is)
-      (omega (arith, ballots-length es (withFree b is (replicate n (freeSlot b 0))), free-length b is (replicate n (freeSlot b 0)), length-replicate n (freeSlot b 0), fit .least))
+      (omega (
+        arith,
+        ballots-length es (withFree b is (replicate n (freeSlot b 0))),
+        free-length b is (replicate n (freeSlot b 0)),
+        length-replicate n (freeSlot b 0),
+        fit .least,
+      ))
 
   -- no other slots hold these chains
-  pub layout-unique : (S : List Slot) → length S ≡ n → slotAt S 0 ≡ headSlot b es is → Linked S es → FreeLinked b S is → S ≡ layout n b es is
+  pub layout-unique : (S : List Slot) → length S ≡ n → slotAt S 0 ≡ headSlot b es is → Linked S es
+      → FreeLinked b S is → S ≡ layout n b es is
   unfolding slotAt
   layout-unique S q h l f = ext-getD _ S (layout n b es is) (q ∙ sym (layout-length n b es is)) (λ i k. at i (omega arith))
     where
       at : (i : ℕ) → i < n → slotAt S i ≡ slotAt (layout n b es is) i
       at zero k = h ∙ sym layout-head
       at (suc i) k =
-          ⊎-elim (λ m. linked-agree S (layout n b es is) es (suc i) l layout-linked m) (λ m. free-agree b S (layout n b es is) is (suc i) f layout-free m)
-          (or-either (member (suc i) (slotsIn es)) (member (suc i) is) (sym (member-append (suc i) (slotsIn es) is) ∙ tabulate-all (λ j. member j (slotsIn es ++ is)) (n - 1) suc (fit .covered) i (omega arith)))
+          ⊎-elim (λ m. linked-agree S (layout n b es is) es (suc i) l layout-linked m)
+          (λ m. free-agree b S (layout n b es is) is (suc i) f layout-free m)
+          (or-either (member (suc i) (slotsIn es)) (member (suc i) is)
+          (sym (member-append (suc i) (slotsIn es) is)
+          ∙ tabulate-all (λ j. member j (slotsIn es ++ is)) (n - 1) suc (fit .covered) i (omega arith)))
 
   -- the chains that are read are those that were written
   few : length es + length is ≤ n - 1
-  few = let h = once-most n (slotsIn es ++ is) (omega (arith, fit .least)) (fit .inside) (fit .once) in omega (arith, length-append (slotsIn es) is, length-map es (λ (e : Entry). e .slot))
+  few = let h = once-most n (slotsIn es ++ is) (omega (arith, fit .least)) (fit .inside) (fit .once) in
+      omega (arith, length-append (slotsIn es) is, length-map es (λ (e : Entry). e .slot))
 
   pub read-slots : ballotSlots (layout n b es is) ≡ slotsIn es
   unfolding ballotSlots headSlot
@@ -156,7 +175,8 @@ chains-fit k d n es is h e =
     }
 
 -- an urn that is written from good chains is sound
-pub layout-sound : (k d n b : ℕ) (es : List Entry) (is : List ℕ) → 2 ≤ n → goodChains k d n es is ≡ true → soundSlots k d (layout n b es is) ≡ true
+pub layout-sound : (k d n b : ℕ) (es : List Entry) (is : List ℕ) → 2 ≤ n → goodChains k d n es is ≡ true
+    → soundSlots k d (layout n b es is) ≡ true
 unfolding soundSlots headSlot
 layout-sound k d n b es is h e =
     let f = chains-fit k d n es is h e in

@@ -43,18 +43,23 @@ at-other slots i j s h = getD-set-other slots i j s _ h
 -- what is not in a list is not its first
 pub not-first : (x y : ℕ) (ys : List ℕ) → member x (y ∷ ys) ≡ false → y ≢ x
 unfolding member
-not-first x y ys e q = let t = sym (or-first (eqb x y) (member x ys) (eq-eqb x y (sym q))) ∙ e in let z : _≡_ {A = ℕ} 0 1 = cc in omega arith
+not-first x y ys e q = let t = sym (or-first (eqb x y) (member x ys) (eq-eqb x y (sym q))) ∙ e in
+    let z : _≡_ {A = ℕ} 0 1 = cc in omega arith
 
 pub apart-rest : (x y : ℕ) (ys : List ℕ) → member x (y ∷ ys) ≡ false → member x ys ≡ false
 unfolding member
-apart-rest x y ys e = never-true (member x ys) (λ h. let t = sym (or-second (eqb x y) (member x ys) h) ∙ e in let z : _≡_ {A = ℕ} 0 1 = cc in omega arith)
+apart-rest x y ys e = never-true (member x ys)
+    (λ h. let t = sym (or-second (eqb x y) (member x ys) h) ∙ e in let z : _≡_ {A = ℕ} 0 1 = cc in omega arith)
 
-pub linked-set : (slots : List Slot) (x : ℕ) (s : Slot) (es : List Entry) → member x (slotsIn es) ≡ false → Linked slots es → Linked (set slots x s) es
+pub linked-set : (slots : List Slot) (x : ℕ) (s : Slot) (es : List Entry) → member x (slotsIn es) ≡ false
+    → Linked slots es → Linked (set slots x s) es
 linked-set slots x s [] h none = none
 linked-set slots x s (e ∷ es) h (more q l) =
-    more (at-other slots x (e .slot) s (not-first x (e .slot) (slotsIn es) h) ∙ q) (linked-set slots x s es (apart-rest x (e .slot) (slotsIn es) h) l)
+    more (at-other slots x (e .slot) s (not-first x (e .slot) (slotsIn es) h) ∙ q)
+    (linked-set slots x s es (apart-rest x (e .slot) (slotsIn es) h) l)
 
-pub free-set : (b : ℕ) (slots : List Slot) (x : ℕ) (s : Slot) (is : List ℕ) → member x is ≡ false → FreeLinked b slots is → FreeLinked b (set slots x s) is
+pub free-set : (b : ℕ) (slots : List Slot) (x : ℕ) (s : Slot) (is : List ℕ) → member x is ≡ false
+    → FreeLinked b slots is → FreeLinked b (set slots x s) is
 free-set b slots x s [] h none = none
 free-set b slots x s (i ∷ is) h (more q l) =
     more (at-other slots x i s (not-first x i is h) ∙ q) (free-set b slots x s is (apart-rest x i is h) l)
@@ -68,14 +73,18 @@ pub below : (n i : ℕ) → inUrn n i ≡ true → i < n
 unfolding inUrn
 below n i e = ltb-true i n (and-second (ltb 0 i) (ltb i n) e)
 
-pub linked-chain : (n : ℕ) (slots : List Slot) (es : List Entry) (most : ℕ) → all (inUrn n) (slotsIn es) ≡ true → length es ≤ most → Linked slots es → chain most (firstEntry es) slots ≡ slotsIn es
+pub linked-chain : (n : ℕ) (slots : List Slot) (es : List Entry) (most : ℕ) → all (inUrn n) (slotsIn es) ≡ true
+    → length es ≤ most → Linked slots es → chain most (firstEntry es) slots ≡ slotsIn es
 unfolding firstEntry entrySlot
 linked-chain n slots [] most h l none = chain-end most slots
 linked-chain n slots (e ∷ es) most h l (more q k) =
     chain-step most (e .slot) slots (omega arith) (positive n (e .slot) (all-first (inUrn n) (e .slot) (slotsIn es) h))
-    ∙ ap (λ (is : List ℕ). e .slot ∷ is) (ap (λ (s : Slot). chain (most - 1) (s .next) slots) q ∙ linked-chain n slots es (most - 1) (all-rest (inUrn n) (e .slot) (slotsIn es) h) (omega arith) k)
+    ∙ ap (λ (is : List ℕ). e .slot ∷ is)
+    (ap (λ (s : Slot). chain (most - 1) (s .next) slots) q
+    ∙ linked-chain n slots es (most - 1) (all-rest (inUrn n) (e .slot) (slotsIn es) h) (omega arith) k)
 
-pub linked-ends : (n : ℕ) (slots : List Slot) (es : List Entry) (most : ℕ) → all (inUrn n) (slotsIn es) ≡ true → length es ≤ most → Linked slots es → ends most (firstEntry es) slots ≡ true
+pub linked-ends : (n : ℕ) (slots : List Slot) (es : List Entry) (most : ℕ) → all (inUrn n) (slotsIn es) ≡ true
+    → length es ≤ most → Linked slots es → ends most (firstEntry es) slots ≡ true
 unfolding firstEntry entrySlot
 linked-ends n slots [] most h l none = ends-end most slots
 linked-ends n slots (e ∷ es) most h l (more q k) =
@@ -83,14 +92,18 @@ linked-ends n slots (e ∷ es) most h l (more q k) =
     ∙ ap (λ (s : Slot). ends (most - 1) (s .next) slots) q
     ∙ linked-ends n slots es (most - 1) (all-rest (inUrn n) (e .slot) (slotsIn es) h) (omega arith) k
 
-pub free-chain : (n b : ℕ) (slots : List Slot) (is : List ℕ) (most : ℕ) → all (inUrn n) is ≡ true → length is ≤ most → FreeLinked b slots is → chain most (firstFree is) slots ≡ is
+pub free-chain : (n b : ℕ) (slots : List Slot) (is : List ℕ) (most : ℕ) → all (inUrn n) is ≡ true → length is ≤ most
+    → FreeLinked b slots is → chain most (firstFree is) slots ≡ is
 unfolding firstFree freeSlot
 free-chain n b slots [] most h l none = chain-end most slots
 free-chain n b slots (i ∷ is) most h l (more q k) =
     chain-step most i slots (omega arith) (positive n i (all-first (inUrn n) i is h))
-    ∙ ap (λ (js : List ℕ). i ∷ js) (ap (λ (s : Slot). chain (most - 1) (s .next) slots) q ∙ free-chain n b slots is (most - 1) (all-rest (inUrn n) i is h) (omega arith) k)
+    ∙ ap (λ (js : List ℕ). i ∷ js)
+    (ap (λ (s : Slot). chain (most - 1) (s .next) slots) q
+    ∙ free-chain n b slots is (most - 1) (all-rest (inUrn n) i is h) (omega arith) k)
 
-pub free-ends : (n b : ℕ) (slots : List Slot) (is : List ℕ) (most : ℕ) → all (inUrn n) is ≡ true → length is ≤ most → FreeLinked b slots is → ends most (firstFree is) slots ≡ true
+pub free-ends : (n b : ℕ) (slots : List Slot) (is : List ℕ) (most : ℕ) → all (inUrn n) is ≡ true → length is ≤ most
+    → FreeLinked b slots is → ends most (firstFree is) slots ≡ true
 unfolding firstFree freeSlot
 free-ends n b slots [] most h l none = ends-end most slots
 free-ends n b slots (i ∷ is) most h l (more q k) =
@@ -118,7 +131,12 @@ unfolding chain ends entrySlot entryAt
 chain-linked zero i slots e = none
 chain-linked (suc most) zero slots e = none
 chain-linked (suc most) (suc i) slots e =
-    more (ap (λ (n : ℕ). record { next = n; juror = slotAt slots (suc i) .juror; ballot = slotAt slots (suc i) .ballot }) (sym (first-read most (slotAt slots (suc i) .next) slots e)))
+    more (ap (λ (n : ℕ). record {
+      next = n;
+      juror = slotAt slots (suc i) .juror;
+      ballot =
+          slotAt slots (suc i) .ballot;
+    }) (sym (first-read most (slotAt slots (suc i) .next) slots e)))
     (chain-linked most (slotAt slots (suc i) .next) slots e)
 
 pub free-first : (most i : ℕ) (slots : List Slot) → ends most i slots ≡ true → firstFree (chain most i slots) ≡ i
@@ -127,24 +145,31 @@ free-first zero i slots e = sym (eqb-true i 0 e)
 free-first (suc most) zero slots e = refl
 free-first (suc most) (suc i) slots e = refl
 
-pub chain-free : (b most i : ℕ) (slots : List Slot) → ends most i slots ≡ true → ((j : ℕ) → member j (chain most i slots) ≡ true → slotAt slots j ≡ freeSlot b (slotAt slots j .next)) → FreeLinked b slots (chain most i slots)
+pub chain-free : (b most i : ℕ) (slots : List Slot) → ends most i slots ≡ true
+    → ((j : ℕ) → member j (chain most i slots) ≡ true → slotAt slots j ≡ freeSlot b (slotAt slots j .next))
+    → FreeLinked b slots (chain most i slots)
 unfolding chain ends member
 chain-free b zero i slots e f = none
 chain-free b (suc most) zero slots e f = none
 chain-free b (suc most) (suc i) slots e f =
-    more (f (suc i) (or-first (eqb (suc i) (suc i)) (member (suc i) (chain most (slotAt slots (suc i) .next) slots)) (eq-eqb (suc i) (suc i) refl))
+    more (f (suc i) (or-first (eqb (suc i) (suc i)) (member (suc i) (chain most (slotAt slots (suc i) .next) slots))
+    (eq-eqb (suc i) (suc i) refl))
     ∙ ap (freeSlot b) (sym (free-first most (slotAt slots (suc i) .next) slots e)))
-    (chain-free b most (slotAt slots (suc i) .next) slots e (λ j h. f j (or-second (eqb j (suc i)) (member j (chain most (slotAt slots (suc i) .next) slots)) h)))
+    (chain-free b most (slotAt slots (suc i) .next) slots e
+    (λ j h. f j (or-second (eqb j (suc i)) (member j (chain most (slotAt slots (suc i) .next) slots)) h)))
 
 -- two urns that hold the same chain agree on its slots
-pub linked-agree : (S R : List Slot) (es : List Entry) (i : ℕ) → Linked S es → Linked R es → member i (slotsIn es) ≡ true → slotAt S i ≡ slotAt R i
+pub linked-agree : (S R : List Slot) (es : List Entry) (i : ℕ) → Linked S es → Linked R es → member i (slotsIn es)
+    ≡ true → slotAt S i ≡ slotAt R i
 unfolding member
 linked-agree S R [] i none none h = let z : _≡_ {A = ℕ} 0 1 = cc in absurd (omega arith)
 linked-agree S R (e ∷ es) i (more p k) (more q l) h =
-    ⊎-elim (λ t. ap (slotAt S) (eqb-true i (e .slot) t) ∙ p ∙ sym q ∙ ap (slotAt R) (sym (eqb-true i (e .slot) t))) (λ t. linked-agree S R es i k l t)
+    ⊎-elim (λ t. ap (slotAt S) (eqb-true i (e .slot) t) ∙ p ∙ sym q ∙ ap (slotAt R) (sym (eqb-true i (e .slot) t)))
+    (λ t. linked-agree S R es i k l t)
     (or-either (eqb i (e .slot)) (member i (slotsIn es)) h)
 
-pub free-agree : (b : ℕ) (S R : List Slot) (is : List ℕ) (i : ℕ) → FreeLinked b S is → FreeLinked b R is → member i is ≡ true → slotAt S i ≡ slotAt R i
+pub free-agree : (b : ℕ) (S R : List Slot) (is : List ℕ) (i : ℕ) → FreeLinked b S is → FreeLinked b R is
+    → member i is ≡ true → slotAt S i ≡ slotAt R i
 unfolding member
 free-agree b S R [] i none none h = let z : _≡_ {A = ℕ} 0 1 = cc in absurd (omega arith)
 free-agree b S R (j ∷ is) i (more p k) (more q l) h =

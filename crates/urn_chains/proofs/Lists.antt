@@ -55,7 +55,8 @@ all-map p f (x ∷ xs) = ap (λ (t : Bool). p (f x) && t) (all-map p f xs)
 pub all-weaken : {A : Type 0} (p q : A → Bool) (xs : List A) → ((x : A) → p x ≡ true → q x ≡ true) → all p xs ≡ true → all q xs ≡ true
 unfolding all
 all-weaken p q [] f e = refl
-all-weaken p q (x ∷ xs) f e = and-both (q x) (all q xs) (f x (and-first (p x) (all p xs) e)) (all-weaken p q xs f (and-second (p x) (all p xs) e))
+all-weaken p q (x ∷ xs) f e = and-both (q x) (all q xs) (f x (and-first (p x) (all p xs) e))
+    (all-weaken p q xs f (and-second (p x) (all p xs) e))
 
 pub all-both : {A : Type 0} (p q : A → Bool) (xs : List A) → all p xs ≡ true → all q xs ≡ true → all (λ x. p x && q x) xs ≡ true
 unfolding all
@@ -69,14 +70,16 @@ pub all-member : (p : ℕ → Bool) (i : ℕ) (is : List ℕ) → all p is ≡ t
 unfolding all member
 all-member p i [] e m = let z : _≡_ {A = ℕ} 0 1 = cc in absurd (omega arith)
 all-member p i (x ∷ is) e m =
-    ⊎-elim (λ h. ap p (eqb-true i x h) ∙ and-first (p x) (all p is) e) (λ h. all-member p i is (and-second (p x) (all p is) e) h) (or-either (eqb i x) (member i is) m)
+    ⊎-elim (λ h. ap p (eqb-true i x h) ∙ and-first (p x) (all p is) e)
+    (λ h. all-member p i is (and-second (p x) (all p is) e) h) (or-either (eqb i x) (member i is) m)
 
 -- and what holds for each holds for all
 pub member-all : (p : ℕ → Bool) (is : List ℕ) → ((i : ℕ) → member i is ≡ true → p i ≡ true) → all p is ≡ true
 unfolding all member
 member-all p [] f = refl
 member-all p (x ∷ is) f =
-    and-both (p x) (all p is) (f x (or-first (eqb x x) (member x is) (eq-eqb x x refl))) (member-all p is (λ i h. f i (or-second (eqb i x) (member i is) h)))
+    and-both (p x) (all p is) (f x (or-first (eqb x x) (member x is) (eq-eqb x x refl)))
+    (member-all p is (λ i h. f i (or-second (eqb i x) (member i is) h)))
 
 pub member-append : (i : ℕ) (xs ys : List ℕ) → member i (xs ++ ys) ≡ (member i xs || member i ys)
 unfolding member
@@ -130,14 +133,20 @@ unfolding member
 distinct-apart i [] ys e m = let z : _≡_ {A = ℕ} 0 1 = cc in absurd (omega arith)
 distinct-apart i (x ∷ xs) ys e m =
     ⊎-elim
-    (λ h. never-true (member i ys) (λ k. let z : _≡_ {A = Bool} true false = sym (member-append x xs ys ∙ or-second (member x xs) (member x ys) (ap (λ (j : ℕ). member j ys) (sym (eqb-true i x h)) ∙ k)) ∙ distinct-first x (xs ++ ys) e in let w : _≡_ {A = ℕ} 0 1 = cc in omega arith))
+    (λ h. never-true (member i ys)
+    (λ k. let z : _≡_ {A = Bool} true false = sym (member-append x xs ys
+    ∙ or-second (member x xs) (member x ys) (ap (λ (j : ℕ). member j ys) (sym (eqb-true i x h)) ∙ k))
+    ∙ distinct-first x (xs ++ ys) e in let w : _≡_ {A = ℕ} 0 1 = cc in omega arith))
     (λ h. distinct-apart i xs ys (distinct-rest x (xs ++ ys) e) h) (or-either (eqb i x) (member i xs) m)
 
 pub distinct-left : (xs ys : List ℕ) → distinct (xs ++ ys) ≡ true → distinct xs ≡ true
 unfolding distinct
 distinct-left [] ys e = refl
 distinct-left (x ∷ xs) ys e =
-    distinct-cons x xs (never-true (member x xs) (λ k. let z : _≡_ {A = Bool} true false = sym (member-append x xs ys ∙ or-first (member x xs) (member x ys) k) ∙ distinct-first x (xs ++ ys) e in let w : _≡_ {A = ℕ} 0 1 = cc in omega arith))
+    distinct-cons x xs (never-true (member x xs)
+    (λ k. let z : _≡_ {A = Bool} true false = sym (member-append x xs ys
+    ∙ or-first (member x xs) (member x ys) k) ∙ distinct-first x (xs ++ ys) e in let w : _≡_ {A = ℕ} 0 1 = cc in
+    omega arith))
     (distinct-left xs ys (distinct-rest x (xs ++ ys) e))
 
 pub distinct-right : (xs ys : List ℕ) → distinct (xs ++ ys) ≡ true → distinct ys ≡ true
@@ -148,10 +157,12 @@ distinct-right (x ∷ xs) ys e = distinct-right xs ys (distinct-rest x (xs ++ ys
 pub all-tabulate : {A : Type 0} (p : A → Bool) (n : ℕ) (f : ℕ → A) → ((i : ℕ) → i < n → p (f i) ≡ true) → all p (tabulate n f) ≡ true
 unfolding all tabulate
 all-tabulate p zero f h = refl
-all-tabulate p (suc n) f h = and-both (p (f 0)) (all p (tabulate n (λ i. f (suc i)))) (h 0 (omega arith)) (all-tabulate p n (λ i. f (suc i)) (λ i l. h (suc i) (omega arith)))
+all-tabulate p (suc n) f h = and-both (p (f 0)) (all p (tabulate n (λ i. f (suc i)))) (h 0 (omega arith))
+    (all-tabulate p n (λ i. f (suc i)) (λ i l. h (suc i) (omega arith)))
 
 pub tabulate-all : {A : Type 0} (p : A → Bool) (n : ℕ) (f : ℕ → A) → all p (tabulate n f) ≡ true → (i : ℕ) → i < n → p (f i) ≡ true
 unfolding all tabulate
 tabulate-all p zero f e i l = absurd (omega arith)
 tabulate-all p (suc n) f e zero l = and-first (p (f 0)) (all p (tabulate n (λ i. f (suc i)))) e
-tabulate-all p (suc n) f e (suc i) l = tabulate-all p n (λ j. f (suc j)) (and-second (p (f 0)) (all p (tabulate n (λ j. f (suc j)))) e) i (omega arith)
+tabulate-all p (suc n) f e (suc i) l =
+    tabulate-all p n (λ j. f (suc j)) (and-second (p (f 0)) (all p (tabulate n (λ j. f (suc j)))) e) i (omega arith)

@@ -21,7 +21,8 @@ use Rattle.urn_chains.proofs.Lists.{all-first, all-rest, all-weaken, al
 pub fresh-append : (xs ys : List ℕ) (m : List Bool) → fresh (xs ++ ys) m ≡ (fresh xs m && fresh ys (markAll xs m))
 unfolding fresh markAll
 fresh-append [] ys m = refl
-fresh-append (x ∷ xs) ys m = ap (λ (t : Bool). not (getD m x false) && t) (fresh-append xs ys (set m x true)) ∙ sym (and-assoc (not (getD m x false)) (fresh xs (set m x true)) (fresh ys (markAll xs (set m x true))))
+fresh-append (x ∷ xs) ys m = ap (λ (t : Bool). not (getD m x false) && t) (fresh-append xs ys (set m x true))
+    ∙ sym (and-assoc (not (getD m x false)) (fresh xs (set m x true)) (fresh ys (markAll xs (set m x true))))
 
 pub mark-length : (is : List ℕ) (m : List Bool) → length (markAll is m) ≡ length m
 unfolding markAll
@@ -32,15 +33,18 @@ mark-length (i ∷ is) m = mark-length is (set m i true) ∙ length-set m i true
 set-mark : (m : List Bool) (x i : ℕ) → x < length m → getD (set m x true) i false ≡ (eqb i x || getD m i false)
 set-mark m x i h =
     ⊎-elim
-    (λ e. ap (λ (j : ℕ). getD (set m x true) j false) e ∙ getD-set-same m x true false h ∙ ap (λ (t : Bool). t || getD m i false) (sym (eq-eqb i x e)))
+    (λ e. ap (λ (j : ℕ). getD (set m x true) j false) e ∙ getD-set-same m x true false h
+    ∙ ap (λ (t : Bool). t || getD m i false) (sym (eq-eqb i x e)))
     (λ e. getD-set-other m x i true false e ∙ ap (λ (t : Bool). t || getD m i false) (sym (ne-eqb i x e))) (same-or-not i x)
 
-pub marked-is : (is : List ℕ) (m : List Bool) (i : ℕ) → all (λ x. ltb x (length m)) is ≡ true → getD (markAll is m) i false ≡ (member i is || getD m i false)
+pub marked-is : (is : List ℕ) (m : List Bool) (i : ℕ) → all (λ x. ltb x (length m)) is ≡ true
+    → getD (markAll is m) i false ≡ (member i is || getD m i false)
 unfolding markAll member
 marked-is [] m i h = refl
 marked-is (x ∷ is) m i h =
     let l = ltb-true x (length m) (all-first (λ y. ltb y (length m)) x is h) in
-    marked-is is (set m x true) i (all-weaken (λ y. ltb y (length m)) (λ y. ltb y (length (set m x true))) is (λ y e. ap (ltb y) (length-set m x true) ∙ e) (all-rest (λ y. ltb y (length m)) x is h))
+    marked-is is (set m x true) i (all-weaken (λ y. ltb y (length m)) (λ y. ltb y (length (set m x true))) is
+    (λ y e. ap (ltb y) (length-set m x true) ∙ e) (all-rest (λ y. ltb y (length m)) x is h))
     ∙ ap (λ (t : Bool). member i is || t) (set-mark m x i l)
     ∙ swap (member i is) (eqb i x) (getD m i false)
   where
@@ -58,7 +62,8 @@ wider : (js : List ℕ) (m : List Bool) (x : ℕ) → all (λ y. ltb y (length m
 wider js m x e = all-weaken (λ y. ltb y (length m)) (λ y. ltb y (length (set m x true))) js (λ y q. ap (ltb y) (length-set m x true) ∙ q) e
 
 -- a number that is marked already is not fresh
-met-not-fresh : (is : List ℕ) (m : List Bool) (x : ℕ) → all (λ y. ltb y (length m)) is ≡ true → member x is ≡ true → getD m x false ≡ true → fresh is m ≡ false
+met-not-fresh : (is : List ℕ) (m : List Bool) (x : ℕ) → all (λ y. ltb y (length m)) is ≡ true → member x is ≡ true
+    → getD m x false ≡ true → fresh is m ≡ false
 unfolding fresh member
 met-not-fresh [] m x h e g = let z : _≡_ {A = ℕ} 0 1 = cc in absurd (omega arith)
 met-not-fresh (y ∷ is) m x h e g =
@@ -71,7 +76,8 @@ met-not-fresh (y ∷ is) m x h e g =
     (or-either (eqb x y) (member x is) e)
 
 -- fresh numbers are unmarked and without repetition
-pub fresh-is : (is : List ℕ) (m : List Bool) → all (λ x. ltb x (length m)) is ≡ true → ((i : ℕ) → member i is ≡ true → getD m i false ≡ false) → fresh is m ≡ distinct is
+pub fresh-is : (is : List ℕ) (m : List Bool) → all (λ x. ltb x (length m)) is ≡ true
+    → ((i : ℕ) → member i is ≡ true → getD m i false ≡ false) → fresh is m ≡ distinct is
 unfolding fresh distinct member
 fresh-is [] m h f = refl
 fresh-is (x ∷ is) m h f =
@@ -80,7 +86,10 @@ fresh-is (x ∷ is) m h f =
     ∙ met-not-fresh is (set m x true) x r k (getD-set-same m x true false l)
     ∙ sym (ap (λ (t : Bool). not t && distinct is) k))
     (λ k. ap (λ (t : Bool). not t && fresh is (set m x true)) (f x (or-first (eqb x x) (member x is) (eq-eqb x x refl)))
-    ∙ fresh-is is (set m x true) r (λ i e. set-mark m x i l ∙ ap (λ (t : Bool). t || getD m i false) (ne-eqb i x (λ q. let z : _≡_ {A = Bool} true false = sym (ap (λ (j : ℕ). member j is) (sym q) ∙ e) ∙ k in let w : _≡_ {A = ℕ} 0 1 = cc in omega arith)) ∙ f i (or-second (eqb i x) (member i is) e))
+    ∙ fresh-is is (set m x true) r
+    (λ i e. set-mark m x i l ∙ ap (λ (t : Bool). t || getD m i false)
+    (ne-eqb i x (λ q. let z : _≡_ {A = Bool} true false = sym (ap (λ (j : ℕ). member j is) (sym q) ∙ e) ∙ k in
+    let w : _≡_ {A = ℕ} 0 1 = cc in omega arith)) ∙ f i (or-second (eqb i x) (member i is) e))
     ∙ sym (ap (λ (t : Bool). not t && distinct is) k))
     (true-or-false (member x is))
   where
@@ -91,7 +100,9 @@ fresh-is (x ∷ is) m h f =
     r = wider is m x (all-rest (λ y. ltb y (length m)) x is h)
 
 none-marked : (n i : ℕ) → getD (replicate n false) i false ≡ false
-none-marked n i = ⊎-elim (λ l. getD-replicate n i false false l) (λ l. List·getD-eq-default (replicate n false) false {n = i} (omega (arith, length-replicate n false))) (below-or-not i n)
+none-marked n i = ⊎-elim (λ l. getD-replicate n i false false l)
+    (λ l. List·getD-eq-default (replicate n false) false {n = i} (omega (arith, length-replicate n false)))
+    (below-or-not i n)
 
 pub fresh-noMarks : (is : List ℕ) → all (λ x. ltb x 256) is ≡ true → fresh is noMarks ≡ distinct is
 unfolding noMarks
@@ -136,12 +147,14 @@ all-trues (true ∷ m) e (suc i) l = all-trues m (omega arith) i (omega arith)
 all-trues (false ∷ m) e i l = absurd (omega (arith, trues-most m))
 
 -- without repetition, as many marks are set as there are numbers
-trues-marked : (is : List ℕ) (m : List Bool) → all (λ x. ltb x (length m)) is ≡ true → fresh is m ≡ true → trues (markAll is m) ≡ length is + trues m
+trues-marked : (is : List ℕ) (m : List Bool) → all (λ x. ltb x (length m)) is ≡ true → fresh is m ≡ true
+    → trues (markAll is m) ≡ length is + trues m
 unfolding markAll fresh
 trues-marked [] m h f = omega arith
 trues-marked (x ∷ is) m h f =
     let l = ltb-true x (length m) (all-first (λ y. ltb y (length m)) x is h) in
-    let e = trues-marked is (set m x true) (wider is m x (all-rest (λ y. ltb y (length m)) x is h)) (and-second (not (getD m x false)) (fresh is (set m x true)) f) in
+    let e = trues-marked is (set m x true) (wider is m x (all-rest (λ y. ltb y (length m)) x is h))
+    (and-second (not (getD m x false)) (fresh is (set m x true)) f) in
     omega (arith, trues-set m x l (not-true (getD m x false) (and-first (not (getD m x false)) (fresh is (set m x true)) f)))
 
 -- marks of which the first is not set
@@ -151,13 +164,15 @@ first-missing [] h e = absurd (omega arith)
 first-missing (true ∷ m) h e = let z : _≡_ {A = ℕ} 0 1 = cc in absurd (omega arith)
 first-missing (false ∷ m) h e = let l = trues-most m in omega arith
 
-others-set : (m : List Bool) → 0 < length m → getD m 0 false ≡ false → ((i : ℕ) → suc i < length m → getD m (suc i) false ≡ true) → suc (trues m) ≡ length m
+others-set : (m : List Bool) → 0 < length m → getD m 0 false ≡ false
+    → ((i : ℕ) → suc i < length m → getD m (suc i) false ≡ true) → suc (trues m) ≡ length m
 unfolding trues
 others-set [] h e f = absurd (omega arith)
 others-set (true ∷ m) h e f = let z : _≡_ {A = ℕ} 0 1 = cc in absurd (omega arith)
 others-set (false ∷ m) h e f = ap suc (trues-all m (λ i l. f i (omega arith)))
 
-set-others : (m : List Bool) → 0 < length m → getD m 0 false ≡ false → suc (trues m) ≡ length m → (i : ℕ) → suc i < length m → getD m (suc i) false ≡ true
+set-others : (m : List Bool) → 0 < length m → getD m 0 false ≡ false → suc (trues m) ≡ length m → (i : ℕ) → suc i
+    < length m → getD m (suc i) false ≡ true
 unfolding trues
 set-others [] h e q i l = absurd (omega arith)
 set-others (true ∷ m) h e q i l = let z : _≡_ {A = ℕ} 0 1 = cc in absurd (omega arith)
@@ -167,7 +182,8 @@ set-others (false ∷ m) h e q i l = all-trues m (omega arith) i (omega arith)
 module _ (n : ℕ) (is : List ℕ) (p : 0 < n) (inside : all (inUrn n) is ≡ true) (once : distinct is ≡ true) where
   below : all (λ x. ltb x (length (replicate n false))) is ≡ true
   unfolding inUrn
-  below = all-weaken (inUrn n) (λ x. ltb x (length (replicate n false))) is (λ x e. ap (ltb x) (length-replicate n false) ∙ and-second (ltb 0 x) (ltb x n) e) inside
+  below = all-weaken (inUrn n) (λ x. ltb x (length (replicate n false))) is
+      (λ x e. ap (ltb x) (length-replicate n false) ∙ and-second (ltb 0 x) (ltb x n) e) inside
 
   set-marks : trues (markAll is (replicate n false)) ≡ length is
   set-marks =
@@ -182,17 +198,20 @@ module _ (n : ℕ) (is : List ℕ) (p : 0 < n) (inside : all (inUrn n) is ≡ tr
 
   first-unmarked : getD (markAll is (replicate n false)) 0 false ≡ false
   unfolding inUrn
-  first-unmarked = mark-at 0 ∙ never-true (member 0 is) (λ e. let h = ltb-true 0 0 (and-first (ltb 0 0) (ltb 0 n) (all-member (inUrn n) 0 is inside e)) in omega arith)
+  first-unmarked = mark-at 0 ∙ never-true (member 0 is)
+      (λ e. let h = ltb-true 0 0 (and-first (ltb 0 0) (ltb 0 n) (all-member (inUrn n) 0 is inside e)) in omega arith)
 
   pub once-most : length is ≤ n - 1
   once-most = let h = first-missing (markAll is (replicate n false)) (omega (arith, size)) first-unmarked in omega (arith, size, set-marks)
 
   pub once-all : all (λ i. member i is) (tabulate (n - 1) suc) ≡ true → length is ≡ n - 1
   once-all e =
-      let h = others-set (markAll is (replicate n false)) (omega (arith, size)) first-unmarked (λ i l. mark-at (suc i) ∙ tabulate-all (λ j. member j is) (n - 1) suc e i (omega (arith, size))) in
+      let h = others-set (markAll is (replicate n false)) (omega (arith, size)) first-unmarked
+      (λ i l. mark-at (suc i) ∙ tabulate-all (λ j. member j is) (n - 1) suc e i (omega (arith, size))) in
       omega (arith, size, set-marks)
 
   pub all-once : length is ≡ n - 1 → all (λ i. member i is) (tabulate (n - 1) suc) ≡ true
   all-once e =
       all-tabulate (λ j. member j is) (n - 1) suc
-      (λ i l. sym (mark-at (suc i)) ∙ set-others (markAll is (replicate n false)) (omega (arith, size)) first-unmarked (omega (arith, size, set-marks)) i (omega (arith, size)))
+      (λ i l. sym (mark-at (suc i)) ∙ set-others (markAll is (replicate n false)) (omega (arith, size))
+      first-unmarked (omega (arith, size, set-marks)) i (omega (arith, size)))

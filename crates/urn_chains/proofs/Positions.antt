@@ -25,7 +25,8 @@ pub record OnFind (slots : List Slot) (n first juror before count slot : ℕ) : 
   pub rest : positionOf slots juror before (chain (n - count) slot slots) ≡ positionOf slots juror 0 (chain n first slots)
   pub inside : all (inUrn n) (chain (n - count) slot slots) ≡ true
 
-pub find-start : (slots : List Slot) (n first juror slot : ℕ) → slot ≡ first → all (inUrn n) (chain n first slots) ≡ true → OnFind slots n first juror 0 0 slot
+pub find-start : (slots : List Slot) (n first juror slot : ℕ) → slot ≡ first → all (inUrn n) (chain n first slots)
+    ≡ true → OnFind slots n first juror 0 0 slot
 find-start slots n first juror slot e h =
     subst (λ (i : ℕ). OnFind slots n first juror 0 0 i) (sym e)
     (record {
@@ -43,17 +44,22 @@ module _ (slots : List Slot) (n first juror before count slot : ℕ) (on : OnFin
   pub find-below : count ≢ n → 0 < slot → slot < n
   find-below h p =
       let l : count < n = omega (arith, on .within) in
-      below n slot (all-first (inUrn n) slot (chain (n - (count + 1)) (slotAt slots slot .next) slots) (ap (all (inUrn n)) (sym (step l p)) ∙ on .inside))
+      below n slot (all-first (inUrn n) slot (chain (n - (count + 1)) (slotAt slots slot .next) slots)
+      (ap (all (inUrn n)) (sym (step l p)) ∙ on .inside))
 
-  pub find-here : count ≢ n → 0 < slot → slotAt slots slot .juror ≡ juror → Found before slot ≡ positionOf slots juror 0 (chain n first slots)
+  pub find-here : count ≢ n → 0 < slot → slotAt slots slot .juror ≡ juror → Found before slot
+      ≡ positionOf slots juror 0 (chain n first slots)
   unfolding positionOf
   find-here h p e =
       let l : count < n = omega (arith, on .within) in
-      ap (λ (t : Bool). cond t (Found before slot) (positionOf slots juror slot (chain (n - (count + 1)) (slotAt slots slot .next) slots))) (sym (eq-eqb (slotAt slots slot .juror) juror e))
+      ap (λ (t : Bool). cond t (Found before slot)
+      (positionOf slots juror slot (chain (n - (count + 1)) (slotAt slots slot .next) slots)))
+      (sym (eq-eqb (slotAt slots slot .juror) juror e))
       ∙ ap (positionOf slots juror before) (sym (step l p))
       ∙ on .rest
 
-  pub find-go : (next : ℕ) → next ≡ slotAt slots slot .next → count ≢ n → 0 < slot → (slotAt slots slot .juror ≡ juror → ⊥) → OnFind slots n first juror slot (count + 1) next
+  pub find-go : (next : ℕ) → next ≡ slotAt slots slot .next → count ≢ n → 0 < slot
+      → (slotAt slots slot .juror ≡ juror → ⊥) → OnFind slots n first juror slot (count + 1) next
   unfolding positionOf
   find-go next e h p f =
       let l : count < n = omega (arith, on .within) in
@@ -62,7 +68,8 @@ module _ (slots : List Slot) (n first juror before count slot : ℕ) (on : OnFin
       (record {
         within = omega arith;
         rest =
-            ap (λ (t : Bool). cond t (Found before slot) (positionOf slots juror slot rest)) (sym (ne-eqb (slotAt slots slot .juror) juror f))
+            ap (λ (t : Bool). cond t (Found before slot) (positionOf slots juror slot rest))
+            (sym (ne-eqb (slotAt slots slot .juror) juror f))
             ∙ ap (positionOf slots juror before) (sym (step l p))
             ∙ on .rest;
         inside = all-rest (inUrn n) slot rest (ap (all (inUrn n)) (sym (step l p)) ∙ on .inside);

@@ -41,7 +41,8 @@ module _ (b n : ℕ) (urn : List ℕ) (i : ℕ) (p : 0 < i) where
   free-out h = rw (slots-length b n urn, out-of-urn n i p h)
 
   pub ballot-by-bytes : (k d : ℕ) → i < n → length urn ≡ n * slotBytes b →
-      ballotAt k d (slotsOf b n urn) i ≡ (goodJuror (getD urn (i * slotBytes b + 1) 0) && goodBallot k d (take b (drop (i * slotBytes b + 2) urn)))
+      ballotAt k d (slotsOf b n urn) i
+      ≡ (goodJuror (getD urn (i * slotBytes b + 1) 0) && goodBallot k d (take b (drop (i * slotBytes b + 2) urn)))
   unfolding ballotAt
   ballot-by-bytes k d h e = rw (slots-length b n urn, in-urn n i p h, juror-is b n urn i h, ballot-is b n urn i h e)
 
@@ -54,13 +55,20 @@ module _ (b n : ℕ) (urn : List ℕ) (i : ℕ) (p : 0 < i) where
 pub ballot-below : (k d : ℕ) (slots : List Slot) (i : ℕ) → ballotAt k d slots i ≡ true → i < length slots
 unfolding ballotAt inUrn
 ballot-below k d slots i e =
-    ltb-true i (length slots) (and-second (ltb 0 i) (ltb i (length slots)) (and-first (inUrn (length slots) i) (goodJuror (slotAt slots i .juror)) (and-first (inUrn (length slots) i && goodJuror (slotAt slots i .juror)) (goodBallot k d (slotAt slots i .ballot)) e)))
+    ltb-true i (length slots) (and-second (ltb 0 i) (ltb i (length slots))
+    (and-first (inUrn (length slots) i) (goodJuror (slotAt slots i .juror))
+    (and-first (inUrn (length slots) i && goodJuror (slotAt slots i .juror))
+    (goodBallot k d (slotAt slots i .ballot)) e)))
 
 pub ballot-juror : (k d : ℕ) (slots : List Slot) (i : ℕ) → ballotAt k d slots i ≡ true → slotAt slots i .juror < 256
 unfolding ballotAt
 ballot-juror k d slots i e =
-    juror-most (slotAt slots i .juror) (and-second (inUrn (length slots) i) (goodJuror (slotAt slots i .juror)) (and-first (inUrn (length slots) i && goodJuror (slotAt slots i .juror)) (goodBallot k d (slotAt slots i .ballot)) e))
+    juror-most (slotAt slots i .juror)
+    (and-second (inUrn (length slots) i) (goodJuror (slotAt slots i .juror))
+    (and-first (inUrn (length slots) i && goodJuror (slotAt slots i .juror))
+    (goodBallot k d (slotAt slots i .ballot)) e))
 
 pub free-below : (slots : List Slot) (i : ℕ) → freeAt slots i ≡ true → i < length slots
 unfolding freeAt inUrn
-free-below slots i e = ltb-true i (length slots) (and-second (ltb 0 i) (ltb i (length slots)) (and-first (inUrn (length slots) i) (emptySlot (slotAt slots i)) e))
+free-below slots i e = ltb-true i (length slots)
+    (and-second (ltb 0 i) (ltb i (length slots)) (and-first (inUrn (length slots) i) (emptySlot (slotAt slots i)) e))

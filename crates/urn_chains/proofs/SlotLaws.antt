@@ -26,7 +26,8 @@ slot-is zero b (suc n) urn h = ap (λ (m : ℕ). slotOf (take (slotBytes b) (dro
 slot-is (suc i) b (suc n) urn h =
     slot-is i b n (drop (slotBytes b) urn) (omega arith)
     ∙ ap (λ (xs : List ℕ). slotOf (take (slotBytes b) xs)) (drop-drop (i * slotBytes b) (slotBytes b) urn)
-    ∙ ap (λ (m : ℕ). slotOf (take (slotBytes b) (drop m urn))) {x = slotBytes b + i * slotBytes b} {y = suc i * slotBytes b} (omega (arith, suc-mul i (slotBytes b)))
+    ∙ ap (λ (m : ℕ). slotOf (take (slotBytes b) (drop m urn))) {x = slotBytes b + i * slotBytes b}
+    {y = suc i * slotBytes b} (omega (arith, suc-mul i (slotBytes b)))
 
 pub size-is : (b : ℕ) → slotBytes b ≡ 2 + b
 unfolding slotBytes

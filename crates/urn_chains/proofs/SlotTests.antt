@@ -39,10 +39,12 @@ module _ (b n : ℕ) (urn : List ℕ) (t : SlotTable b n urn) where
   head-next = next-is b n urn 0 (omega (arith, t .least)) ∙ ap (λ (m : ℕ). getD urn m 0) (zero-mul (slotBytes b))
 
   pub head-juror : slotAt (slotsOf b n urn) 0 .juror ≡ getD urn 1 0
-  head-juror = juror-is b n urn 0 (omega (arith, t .least)) ∙ ap (λ (m : ℕ). getD urn m 0) {x = 0 * slotBytes b + 1} {y = 1} (omega (arith, zero-mul (slotBytes b)))
+  head-juror = juror-is b n urn 0 (omega (arith, t .least))
+      ∙ ap (λ (m : ℕ). getD urn m 0) {x = 0 * slotBytes b + 1} {y = 1} (omega (arith, zero-mul (slotBytes b)))
 
   pub head-ballot : slotAt (slotsOf b n urn) 0 .ballot ≡ take b (drop 2 urn)
-  head-ballot = ballot-is b n urn 0 (omega (arith, t .least)) (t .size) ∙ ap (λ (m : ℕ). take b (drop m urn)) {x = 0 * slotBytes b + 2} {y = 2} (omega (arith, zero-mul (slotBytes b)))
+  head-ballot = ballot-is b n urn 0 (omega (arith, t .least)) (t .size)
+      ∙ ap (λ (m : ℕ). take b (drop m urn)) {x = 0 * slotBytes b + 2} {y = 2} (omega (arith, zero-mul (slotBytes b)))
 
   pub slots-by-bytes : ballotSlots (slotsOf b n urn) ≡ chain n (getD urn 0 0) (slotsOf b n urn)
   unfolding ballotSlots
@@ -80,13 +82,21 @@ module _ (k d n : ℕ) (urn : List ℕ) (t : SlotTable (k * d) n urn) where
       parts-sound k d S (found-parts k d S many not-many
       (record {
         head = ap allZero (head-ballot (k * d) n urn t) ∙ f .head;
-        ballots = ap (λ (m : ℕ). ballotsFrom k d S m (slotAt S 0 .next) noMarks noMarks) (slots-length (k * d) n urn) ∙ ap (λ (i : ℕ). ballotsFrom k d S n i noMarks noMarks) (head-next (k * d) n urn t) ∙ f .ballots;
+        ballots = ap (λ (m : ℕ). ballotsFrom k d S m (slotAt S 0 .next) noMarks noMarks)
+            (slots-length (k * d) n urn) ∙ ap (λ (i : ℕ). ballotsFrom k d S n i noMarks noMarks)
+            (head-next (k * d) n urn t) ∙ f .ballots;
         free =
             ap (λ (m : ℕ). freeFrom S m (slotAt S 0 .juror) (markAll (ballotSlots S) noMarks)) (slots-length (k * d) n urn)
             ∙ ap (λ (i : ℕ). freeFrom S n i (markAll (ballotSlots S) noMarks)) (head-juror (k * d) n urn t)
             ∙ ap (λ (is : List ℕ). freeFrom S n (getD urn 1 0) (markAll is noMarks)) (slots-by-bytes (k * d) n urn t)
             ∙ f .free;
-        count = omega (arith, ap length (slots-by-bytes (k * d) n urn t), ap length (free-by-bytes (k * d) n urn t), slots-length (k * d) n urn, f .count);
+        count = omega (
+          arith,
+          ap length (slots-by-bytes (k * d) n urn t),
+          ap length (free-by-bytes (k * d) n urn t),
+          slots-length (k * d) n urn,
+          f .count,
+        );
       }))
 
   pub sound-tests : soundSlots k d (slotsOf (k * d) n urn) ≡ true → Tests k d n urn
@@ -95,13 +105,21 @@ module _ (k d n : ℕ) (urn : List ℕ) (t : SlotTable (k * d) n urn) where
       let f = parts-found k d S many not-many (sound-parts k d S e) in
       record {
         head = ap allZero (sym (head-ballot (k * d) n urn t)) ∙ f .head;
-        ballots = sym (ap (λ (m : ℕ). ballotsFrom k d S m (slotAt S 0 .next) noMarks noMarks) (slots-length (k * d) n urn) ∙ ap (λ (i : ℕ). ballotsFrom k d S n i noMarks noMarks) (head-next (k * d) n urn t)) ∙ f .ballots;
+        ballots = sym (ap (λ (m : ℕ). ballotsFrom k d S m (slotAt S 0 .next) noMarks noMarks)
+            (slots-length (k * d) n urn) ∙ ap (λ (i : ℕ). ballotsFrom k d S n i noMarks noMarks)
+            (head-next (k * d) n urn t)) ∙ f .ballots;
         free =
             sym (ap (λ (m : ℕ). freeFrom S m (slotAt S 0 .juror) (markAll (ballotSlots S) noMarks)) (slots-length (k * d) n urn)
             ∙ ap (λ (i : ℕ). freeFrom S n i (markAll (ballotSlots S) noMarks)) (head-juror (k * d) n urn t)
             ∙ ap (λ (is : List ℕ). freeFrom S n (getD urn 1 0) (markAll is noMarks)) (slots-by-bytes (k * d) n urn t))
             ∙ f .free;
-        count = omega (arith, ap length (slots-by-bytes (k * d) n urn t), ap length (free-by-bytes (k * d) n urn t), slots-length (k * d) n urn, f .count);
+        count = omega (
+          arith,
+          ap length (slots-by-bytes (k * d) n urn t),
+          ap length (free-by-bytes (k * d) n urn t),
+          slots-length (k * d) n urn,
+          f .count,
+        );
       }
 
 -- what the number of slots says about the length
@@ -117,7 +135,8 @@ module _ (t : Bool) (count r : ℕ) (is : r ≡ cond t count 0) where
 
 pub few-bytes : (k d : ℕ) → T (gradedLimits (juryOfOne k d)) → k * d ≤ 56
 unfolding juryOfOne
-few-bytes k d h = let w = within-T (juryOfOne k d) h in let l = mul-le-mul {n₁ = k} {m₁ = d} {n₂ = 8} {m₂ = 7} (w .k-most) (w .d-most) in omega arith
+few-bytes k d h = let w = within-T (juryOfOne k d) h in let l =
+    mul-le-mul {n₁ = k} {m₁ = d} {n₂ = 8} {m₂ = 7} (w .k-most) (w .d-most) in omega arith
 
 -- an urn of such a length is a table of slots
 pub table : (b : ℕ) (urn : List ℕ) (n : ℕ) → b ≤ 56 → urnLength b (length urn) ≡ true → n ≡ slotCount b (length urn) → SlotTable b n urn

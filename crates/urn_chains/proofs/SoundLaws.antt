@@ -97,7 +97,8 @@ sound-parts k d slots e =
       empty = and-second (a && b && g && z) f e;
     }
 
-pub chains-true : (k d : ℕ) (slots : List Slot) → Parts k d slots → goodChains k d (length slots) (ballotChain slots) (freeChain slots) ≡ true
+pub chains-true : (k d : ℕ) (slots : List Slot) → Parts k d slots
+    → goodChains k d (length slots) (ballotChain slots) (freeChain slots) ≡ true
 unfolding eachOnce
 chains-true k d slots p = rw (chains-by-slots k d slots, p .inside, p .once, p .covered, p .jurors, p .jurors-once, p .ballots)
 
@@ -114,13 +115,16 @@ pub record Found (k d : ℕ) (slots : List Slot) : Type 0 where
 
 below-256 : (n : ℕ) (is : List ℕ) → n ≤ 256 → all (inUrn n) is ≡ true → all (λ i. ltb i 256) is ≡ true
 unfolding inUrn
-below-256 n is h e = all-weaken (inUrn n) (λ i. ltb i 256) is (λ i f. let l = ltb-true i n (and-second (ltb 0 i) (ltb i n) f) in lt-ltb i 256 (omega arith)) e
+below-256 n is h e = all-weaken (inUrn n) (λ i. ltb i 256) is
+    (λ i f. let l = ltb-true i n (and-second (ltb 0 i) (ltb i n) f) in lt-ltb i 256 (omega arith)) e
 
-jurors-below : (slots : List Slot) (is : List ℕ) → all (λ i. goodJuror (slotAt slots i .juror)) is ≡ true → all (λ j. ltb j 256) (jurorsAt slots is) ≡ true
+jurors-below : (slots : List Slot) (is : List ℕ) → all (λ i. goodJuror (slotAt slots i .juror)) is ≡ true
+    → all (λ j. ltb j 256) (jurorsAt slots is) ≡ true
 unfolding jurorsAt
 jurors-below slots is e =
     all-map (λ j. ltb j 256) (λ i. slotAt slots i .juror) is
-    ∙ all-weaken (λ i. goodJuror (slotAt slots i .juror)) (λ i. ltb (slotAt slots i .juror) 256) is (λ i f. lt-ltb (slotAt slots i .juror) 256 (juror-most (slotAt slots i .juror) f)) e
+    ∙ all-weaken (λ i. goodJuror (slotAt slots i .juror)) (λ i. ltb (slotAt slots i .juror) 256) is
+    (λ i f. lt-ltb (slotAt slots i .juror) 256 (juror-most (slotAt slots i .juror) f)) e
 
 walk-ballots-true : (a b c e : Bool) → a ≡ true → b ≡ true → c ≡ true → e ≡ true → (a && b && c && e) ≡ true
 walk-ballots-true a b c e h i j l = rw (h, i, j, l)
@@ -139,7 +143,9 @@ module _ (k d : ℕ) (slots : List Slot) (least : 0 < length slots) (most : leng
       let in-xs = and-first (all (inUrn n) xs) (all (inUrn n) ys) in-both in
       let in-ys = and-second (all (inUrn n) xs) (all (inUrn n) ys) in-both in
       let met = sym (fresh-append xs ys noMarks) ∙ fresh-noMarks (xs ++ ys) (below-256 n (xs ++ ys) most (p .inside)) ∙ p .once in
-      let good-xs = all-both (λ i. inUrn n i && goodJuror (slotAt slots i .juror)) (λ i. goodBallot k d (slotAt slots i .ballot)) xs (all-both (inUrn n) (λ i. goodJuror (slotAt slots i .juror)) xs in-xs (p .jurors)) (p .ballots) in
+      let good-xs = all-both (λ i. inUrn n i && goodJuror (slotAt slots i .juror))
+      (λ i. goodBallot k d (slotAt slots i .ballot)) xs
+      (all-both (inUrn n) (λ i. goodJuror (slotAt slots i .juror)) xs in-xs (p .jurors)) (p .ballots) in
       let free-ys = all-both (inUrn n) (λ i. emptySlot (slotAt slots i)) ys in-ys (p .empty) in
       let js = fresh-noMarks (jurorsAt slots xs) (jurors-below slots xs (p .jurors)) ∙ p .jurors-once in
       record {
@@ -168,12 +174,19 @@ module _ (k d : ℕ) (slots : List Slot) (least : 0 < length slots) (most : leng
       let v₁ = and-first (a′ && b′) c′ (f .free) in
       let free-ys = and-second a′ b′ v₁ in
       let in-xs = all-weaken (λ i. inUrn n i && goodJuror (slotAt slots i .juror) && goodBallot k d (slotAt slots i .ballot)) (inUrn n) xs
-      (λ i q. and-first (inUrn n i) (goodJuror (slotAt slots i .juror)) (and-first (inUrn n i && goodJuror (slotAt slots i .juror)) (goodBallot k d (slotAt slots i .ballot)) q)) good-xs in
-      let in-ys = all-weaken (λ i. inUrn n i && emptySlot (slotAt slots i)) (inUrn n) ys (λ i q. and-first (inUrn n i) (emptySlot (slotAt slots i)) q) free-ys in
+      (λ i q. and-first (inUrn n i) (goodJuror (slotAt slots i .juror))
+      (and-first (inUrn n i && goodJuror (slotAt slots i .juror)) (goodBallot k d (slotAt slots i .ballot)) q))
+      good-xs in
+      let in-ys = all-weaken (λ i. inUrn n i && emptySlot (slotAt slots i)) (inUrn n) ys
+      (λ i q. and-first (inUrn n i) (emptySlot (slotAt slots i)) q) free-ys in
       let inside = all-append (inUrn n) xs ys ∙ and-both (all (inUrn n) xs) (all (inUrn n) ys) in-xs in-ys in
-      let once = sym (fresh-noMarks (xs ++ ys) (below-256 n (xs ++ ys) most inside)) ∙ fresh-append xs ys noMarks ∙ and-both c c′ (and-second (a && b) c w₂) (and-second (a′ && b′) c′ (f .free)) in
-      let jurors = all-weaken (λ i. inUrn n i && goodJuror (slotAt slots i .juror) && goodBallot k d (slotAt slots i .ballot)) (λ i. goodJuror (slotAt slots i .juror)) xs
-      (λ i q. and-second (inUrn n i) (goodJuror (slotAt slots i .juror)) (and-first (inUrn n i && goodJuror (slotAt slots i .juror)) (goodBallot k d (slotAt slots i .ballot)) q)) good-xs in
+      let once = sym (fresh-noMarks (xs ++ ys) (below-256 n (xs ++ ys) most inside)) ∙ fresh-append xs ys noMarks
+      ∙ and-both c c′ (and-second (a && b) c w₂) (and-second (a′ && b′) c′ (f .free)) in
+      let jurors = all-weaken (λ i. inUrn n i && goodJuror (slotAt slots i .juror) && goodBallot k d
+      (slotAt slots i .ballot)) (λ i. goodJuror (slotAt slots i .juror)) xs
+      (λ i q. and-second (inUrn n i) (goodJuror (slotAt slots i .juror))
+      (and-first (inUrn n i && goodJuror (slotAt slots i .juror)) (goodBallot k d (slotAt slots i .ballot)) q))
+      good-xs in
       record {
         ballots-end = and-first a b w₁;
         free-end = and-first a′ b′ v₁;
@@ -183,8 +196,10 @@ module _ (k d : ℕ) (slots : List Slot) (least : 0 < length slots) (most : leng
         jurors = jurors;
         jurors-once = sym (fresh-noMarks (jurorsAt slots xs) (jurors-below slots xs jurors)) ∙ and-second (a && b && c) e (f .ballots);
         ballots =
-            all-weaken (λ i. inUrn n i && goodJuror (slotAt slots i .juror) && goodBallot k d (slotAt slots i .ballot)) (λ i. goodBallot k d (slotAt slots i .ballot)) xs
+            all-weaken (λ i. inUrn n i && goodJuror (slotAt slots i .juror) && goodBallot k d
+            (slotAt slots i .ballot)) (λ i. goodBallot k d (slotAt slots i .ballot)) xs
             (λ i q. and-second (inUrn n i && goodJuror (slotAt slots i .juror)) (goodBallot k d (slotAt slots i .ballot)) q) good-xs;
         head = f .head;
-        empty = all-weaken (λ i. inUrn n i && emptySlot (slotAt slots i)) (λ i. emptySlot (slotAt slots i)) ys (λ i q. and-second (inUrn n i) (emptySlot (slotAt slots i)) q) free-ys;
+        empty = all-weaken (λ i. inUrn n i && emptySlot (slotAt slots i)) (λ i. emptySlot (slotAt slots i)) ys
+            (λ i q. and-second (inUrn n i) (emptySlot (slotAt slots i)) q) free-ys;
       }

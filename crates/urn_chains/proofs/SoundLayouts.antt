@@ -34,8 +34,12 @@ module _ (k d b : ℕ) (S : List Slot) (least : 2 ≤ length S) (p : Parts k d S
   free-slot i m =
       let e = all-member (λ j. emptySlot (slotAt S j)) i (freeChain S) (p .empty) m in
       let j = eqb-true (slotAt S i .juror) 0 (and-first (eqb (slotAt S i .juror) 0) (allZero (slotAt S i .ballot)) e) in
-      let l = below (length S) i (all-member (inUrn (length S)) i (freeChain S) (and-second (all (inUrn (length S)) (ballotSlots S)) (all (inUrn (length S)) (freeChain S)) (sym (all-append (inUrn (length S)) (ballotSlots S) (freeChain S)) ∙ p .inside)) m) in
-      let x = zero-zeros (slotAt S i .ballot) (and-second (eqb (slotAt S i .juror) 0) (allZero (slotAt S i .ballot)) e) ∙ ap (λ (n : ℕ). replicate n 0) (sized-at b S i l z) in
+      let l = below (length S) i (all-member (inUrn (length S)) i (freeChain S)
+      (and-second (all (inUrn (length S)) (ballotSlots S)) (all (inUrn (length S)) (freeChain S))
+      (sym (all-append (inUrn (length S)) (ballotSlots S) (freeChain S)) ∙ p .inside)) m) in
+      let x = zero-zeros (slotAt S i .ballot)
+      (and-second (eqb (slotAt S i .juror) 0) (allZero (slotAt S i .ballot)) e)
+      ∙ ap (λ (n : ℕ). replicate n 0) (sized-at b S i l z) in
       ap (λ (n : ℕ). record { next = slotAt S i .next; juror = n; ballot = slotAt S i .ballot }) j
       ∙ ap (λ (xs : List ℕ). record { next = slotAt S i .next; juror = 0; ballot = xs }) x
 
@@ -95,7 +99,12 @@ chains-good k d n es is h e =
     let v = all (λ (x : Entry). goodBallot k d (x .ballot)) es in
     let e₂ = and-first (o && j && u) v e in
     let e₁ = and-first (o && j) u e₂ in
-    record { fit = chains-fit k d n es is h e; jurors = and-second o j e₁; jurors-once = and-second (o && j) u e₂; ballots = and-second (o && j && u) v e }
+    record {
+      fit = chains-fit k d n es is h e;
+      jurors = and-second o j e₁;
+      jurors-once = and-second (o && j) u e₂;
+      ballots = and-second (o && j && u) v e;
+    }
 
 pub good-chains : (k d n : ℕ) (es : List Entry) (is : List ℕ) → Good k d n es is → goodChains k d n es is ≡ true
 unfolding goodChains eachOnce
@@ -109,7 +118,8 @@ pub record Written (k d n : ℕ) (es : List Entry) (is : List ℕ) (urn : List �
   pub ballots : entriesOf k d urn ≡ es
   pub free : freeOf k d urn ≡ is
 
-pub bytes-written : (k d n : ℕ) (es : List Entry) (is : List ℕ) → 2 ≤ n → n ≤ 256 → Good k d n es is → Written k d n es is (bytesOf (layout n (k * d) es is))
+pub bytes-written : (k d n : ℕ) (es : List Entry) (is : List ℕ) → 2 ≤ n → n ≤ 256 → Good k d n es is
+    → Written k d n es is (bytesOf (layout n (k * d) es is))
 unfolding sound urnSlots
 bytes-written k d n es is l m g =
     let b = k * d in
@@ -119,7 +129,9 @@ bytes-written k d n es is l m g =
     let c : slotCount b (length (bytesOf L)) ≡ n = count-is b n (length (bytesOf L)) q in
     let s : urnSlots k d (bytesOf L) ≡ L = ap (λ (x : ℕ). slotsOf b x (bytesOf L)) (c ∙ sym (layout-length n b es is)) ∙ slots-back b L z in
     record {
-      isSound = and-both (urnLength b (length (bytesOf L))) (soundSlots k d (urnSlots k d (bytesOf L))) (length-good b n (length (bytesOf L)) l m q) (ap (soundSlots k d) s ∙ layout-sound k d n b es is l (good-chains k d n es is g));
+      isSound = and-both (urnLength b (length (bytesOf L))) (soundSlots k d (urnSlots k d (bytesOf L)))
+          (length-good b n (length (bytesOf L)) l m q)
+          (ap (soundSlots k d) s ∙ layout-sound k d n b es is l (good-chains k d n es is g));
       size = q;
       slots = s;
       ballots = ap ballotChain s ∙ read-ballots n b es is (g .fit);
@@ -128,7 +140,8 @@ bytes-written k d n es is l m g =
 
 pub written : (k d n : ℕ) (es : List Entry) (is urn : List ℕ) → LaidOut k d n es is urn → Written k d n es is urn
 written k d n es is urn l =
-    subst (Written k d n es is) (sym (l .bytes)) (bytes-written k d n es is (l .least) (l .most) (chains-good k d n es is (l .least) (l .good)))
+    subst (Written k d n es is) (sym (l .bytes))
+    (bytes-written k d n es is (l .least) (l .most) (chains-good k d n es is (l .least) (l .good)))
 
 module _ (k d : ℕ) (urn : List ℕ) (e : sound k d urn ≡ true) where
   pub its-urn-length : urnLength (k * d) (length urn) ≡ true

@@ -17,11 +17,13 @@ use Rattle.urn_chains.specs.inner.Walk.{Walked, noMarks, markAll, fresh,
 use Rattle.basics.proofs.Cases.{below-or-not}
 
 -- a slot that is met first
-pub chain-step : (most i : ℕ) (slots : List Slot) → 0 < most → 0 < i → chain most i slots ≡ i ∷ chain (most - 1) (slotAt slots i .next) slots
+pub chain-step : (most i : ℕ) (slots : List Slot) → 0 < most → 0 < i → chain most i slots
+    ≡ i ∷ chain (most - 1) (slotAt slots i .next) slots
 unfolding chain
 chain-step zero i slots h p = absurd (omega arith)
 chain-step (suc most) zero slots h p = absurd (omega arith)
-chain-step (suc most) (suc i) slots h p = ap (λ (m : ℕ). suc i ∷ chain m (slotAt slots (suc i) .next) slots) {x = most} {y = suc most - 1} (omega arith)
+chain-step (suc most) (suc i) slots h p =
+    ap (λ (m : ℕ). suc i ∷ chain m (slotAt slots (suc i) .next) slots) {x = most} {y = suc most - 1} (omega arith)
 
 pub chain-most : (most i : ℕ) (slots : List Slot) → length (chain most i slots) ≤ most
 unfolding chain
@@ -33,7 +35,8 @@ pub ends-step : (most i : ℕ) (slots : List Slot) → 0 < most → 0 < i → en
 unfolding ends
 ends-step zero i slots h p = absurd (omega arith)
 ends-step (suc most) zero slots h p = absurd (omega arith)
-ends-step (suc most) (suc i) slots h p = ap (λ (m : ℕ). ends m (slotAt slots (suc i) .next) slots) {x = most} {y = suc most - 1} (omega arith)
+ends-step (suc most) (suc i) slots h p =
+    ap (λ (m : ℕ). ends m (slotAt slots (suc i) .next) slots) {x = most} {y = suc most - 1} (omega arith)
 
 pub chain-end : (most : ℕ) (slots : List Slot) → chain most 0 slots ≡ []
 unfolding chain
@@ -90,7 +93,8 @@ module _ (k d : ℕ) (slots : List Slot) (most i : ℕ) (marks jurors : List Boo
   pub ballots-twice : getD jurors (slotAt slots i .juror) false ≡ true → ballotsFrom k d slots most i marks jurors ≡ false
   ballots-twice g = ballots-step ∙ rw (g, first-false)
 
-pub ballots-stuck : (k d : ℕ) (slots : List Slot) (i : ℕ) (marks jurors : List Bool) → 0 < i → ballotsFrom k d slots 0 i marks jurors ≡ false
+pub ballots-stuck : (k d : ℕ) (slots : List Slot) (i : ℕ) (marks jurors : List Bool) → 0 < i
+    → ballotsFrom k d slots 0 i marks jurors ≡ false
 unfolding ballotsFrom
 ballots-stuck k d slots i marks jurors p = rw (ends-never i slots p)
 
@@ -120,7 +124,8 @@ ballots-begin k d slots n first =
     }
 
 pub ballots-start : (k d : ℕ) (slots : List Slot) (n first slot : ℕ) → slot ≡ first → OnBallots k d slots n first noMarks noMarks 0 slot
-ballots-start k d slots n first slot e = subst (λ (i : ℕ). OnBallots k d slots n first noMarks noMarks 0 i) (sym e) (ballots-begin k d slots n first)
+ballots-start k d slots n first slot e =
+    subst (λ (i : ℕ). OnBallots k d slots n first noMarks noMarks 0 i) (sym e) (ballots-begin k d slots n first)
 
 -- the slots of a chain marked, and counted, from one slot on
 mark-step : (n count slot : ℕ) (slots : List Slot) (marks : List Bool) → count < n → 0 < slot →
@@ -128,7 +133,8 @@ mark-step : (n count slot : ℕ) (slots : List Slot) (marks : List Bool) → cou
 unfolding markAll
 mark-step n count slot slots marks h p =
     ap (λ (is : List ℕ). markAll is marks) (chain-step (n - count) slot slots (omega arith) p)
-    ∙ ap (λ (m : ℕ). markAll (chain m (slotAt slots slot .next) slots) (set marks slot true)) {x = n - count - 1} {y = n - (count + 1)} (omega arith)
+    ∙ ap (λ (m : ℕ). markAll (chain m (slotAt slots slot .next) slots) (set marks slot true)) {x = n - count - 1}
+    {y = n - (count + 1)} (omega arith)
 
 count-step : (n count slot : ℕ) (slots : List Slot) → count < n → 0 < slot →
     length (chain (n - count) slot slots) ≡ suc (length (chain (n - (count + 1)) (slotAt slots slot .next) slots))
@@ -136,8 +142,10 @@ count-step n count slot slots h p =
     ap length (chain-step (n - count) slot slots (omega arith) p)
     ∙ ap (λ (m : ℕ). suc (length (chain m (slotAt slots slot .next) slots))) {x = n - count - 1} {y = n - (count + 1)} (omega arith)
 
-module _ (k d : ℕ) (slots : List Slot) (n first : ℕ) (marks jurors : List Bool) (count slot : ℕ) (on : OnBallots k d slots n first marks jurors count slot) where
-  ballots-on : count ≢ n → 0 < slot → ballotAt k d slots slot ≡ true → getD marks slot false ≡ false → getD jurors (slotAt slots slot .juror) false ≡ false →
+module _ (k d : ℕ) (slots : List Slot) (n first : ℕ) (marks jurors : List Bool) (count slot : ℕ)
+    (on : OnBallots k d slots n first marks jurors count slot) where
+  ballots-on : count ≢ n → 0 < slot → ballotAt k d slots slot ≡ true → getD marks slot false ≡ false
+      → getD jurors (slotAt slots slot .juror) false ≡ false →
       OnBallots k d slots n first (set marks slot true) (set jurors (slotAt slots slot .juror) true) (count + 1) (slotAt slots slot .next)
   ballots-on h p a f g =
       let l : count < n = omega (arith, on .within) in
@@ -148,25 +156,34 @@ module _ (k d : ℕ) (slots : List Slot) (n first : ℕ) (marks jurors : List Bo
         marks-size = length-set marks slot true ∙ on .marks-size;
         jurors-size = length-set jurors (slotAt slots slot .juror) true ∙ on .jurors-size;
         rest =
-            ap (λ (m : ℕ). ballotsFrom k d slots m (slotAt slots slot .next) (set marks slot true) (set jurors (slotAt slots slot .juror) true)) {x = n - (count + 1)} {y = n - count - 1} (omega arith)
+            ap (λ (m : ℕ). ballotsFrom k d slots m (slotAt slots slot .next) (set marks slot true)
+            (set jurors (slotAt slots slot .juror) true)) {x = n - (count + 1)} {y = n - count - 1} (omega arith)
             ∙ sym (ballots-well k d slots (n - count) slot marks jurors (omega arith) p a f g)
             ∙ on .rest;
         marked = sym s ∙ on .marked;
         counted = omega (arith, on .counted);
       }
 
-  pub ballots-go : (j next : ℕ) → j ≡ slotAt slots slot .juror → next ≡ slotAt slots slot .next → count ≢ n → 0 < slot → ballotAt k d slots slot ≡ true → getD marks slot false ≡ false → getD jurors j false ≡ false →
+  pub ballots-go : (j next : ℕ) → j ≡ slotAt slots slot .juror → next ≡ slotAt slots slot .next → count ≢ n → 0
+      < slot → ballotAt k d slots slot ≡ true → getD marks slot false ≡ false → getD jurors j false ≡ false →
       OnBallots k d slots n first (set marks slot true) (set jurors j true) (count + 1) next
   ballots-go j next ej en h p a f =
-      subst (λ (i : ℕ). getD jurors j false ≡ false → OnBallots k d slots n first (set marks slot true) (set jurors j true) (count + 1) i) (sym en)
-      (subst (λ (i : ℕ). getD jurors i false ≡ false → OnBallots k d slots n first (set marks slot true) (set jurors i true) (count + 1) (slotAt slots slot .next)) (sym ej) (ballots-on h p a f))
+      subst (λ (i : ℕ). getD jurors j false ≡ false
+      → OnBallots k d slots n first (set marks slot true) (set jurors j true) (count + 1) i) (sym en)
+      (subst (λ (i : ℕ). getD jurors i false ≡ false
+      → OnBallots k d slots n first (set marks slot true) (set jurors i true) (count + 1)
+      (slotAt slots slot .next)) (sym ej) (ballots-on h p a f))
 
-  pub ballots-fail : 0 < slot → (count < n → ballotsFrom k d slots (n - count) slot marks jurors ≡ false) → false ≡ ballotsFrom k d slots n first noMarks noMarks
+  pub ballots-fail : 0 < slot → (count < n → ballotsFrom k d slots (n - count) slot marks jurors ≡ false) → false
+      ≡ ballotsFrom k d slots n first noMarks noMarks
   ballots-fail p f =
       ⊎-elim (λ l. sym (f l) ∙ on .rest)
-      (λ l. sym (ballots-stuck k d slots slot marks jurors p) ∙ ap (λ (m : ℕ). ballotsFrom k d slots m slot marks jurors) {x = 0} {y = n - count} (omega arith) ∙ on .rest) (below-or-not count n)
+      (λ l. sym (ballots-stuck k d slots slot marks jurors p)
+      ∙ ap (λ (m : ℕ). ballotsFrom k d slots m slot marks jurors) {x = 0} {y = n - count} (omega arith)
+      ∙ on .rest) (below-or-not count n)
 
-  pub ballots-walked : slot ≡ 0 → Walked (ballotsFrom k d slots n first noMarks noMarks) (chain n first slots) noMarks (record { good = true; marks = marks; count = count })
+  pub ballots-walked : slot ≡ 0 → Walked (ballotsFrom k d slots n first noMarks noMarks) (chain n first slots)
+      noMarks (record { good = true; marks = marks; count = count })
   unfolding markAll
   ballots-walked e =
       let none = ap (λ (i : ℕ). chain (n - count) i slots) e ∙ chain-end (n - count) slots in
@@ -224,7 +241,8 @@ free-begin slots n first met e =
       counted = omega (arith, ap (λ (m : ℕ). length (chain m first slots)) (sub-zero n));
     }
 
-pub free-start : (slots : List Slot) (n first slot : ℕ) (met : List Bool) → length met ≡ 256 → slot ≡ first → OnFree slots n first met met 0 slot
+pub free-start : (slots : List Slot) (n first slot : ℕ) (met : List Bool) → length met ≡ 256 → slot ≡ first
+    → OnFree slots n first met met 0 slot
 free-start slots n first slot met l e = subst (λ (i : ℕ). OnFree slots n first met met 0 i) (sym e) (free-begin slots n first met l)
 
 module _ (slots : List Slot) (n first : ℕ) (met marks : List Bool) (count slot : ℕ) (on : OnFree slots n first met marks count slot) where
@@ -238,23 +256,28 @@ module _ (slots : List Slot) (n first : ℕ) (met marks : List Bool) (count slot
         within = omega arith;
         marks-size = length-set marks slot true ∙ on .marks-size;
         rest =
-            ap (λ (m : ℕ). freeFrom slots m (slotAt slots slot .next) (set marks slot true)) {x = n - (count + 1)} {y = n - count - 1} (omega arith)
+            ap (λ (m : ℕ). freeFrom slots m (slotAt slots slot .next) (set marks slot true)) {x = n - (count + 1)}
+            {y = n - count - 1} (omega arith)
             ∙ sym (free-well slots (n - count) slot marks (omega arith) p a f)
             ∙ on .rest;
         marked = sym s ∙ on .marked;
         counted = omega (arith, on .counted);
       }
 
-  pub free-go : (next : ℕ) → next ≡ slotAt slots slot .next → count ≢ n → 0 < slot → freeAt slots slot ≡ true → getD marks slot false ≡ false →
+  pub free-go : (next : ℕ) → next ≡ slotAt slots slot .next → count ≢ n → 0 < slot → freeAt slots slot ≡ true
+      → getD marks slot false ≡ false →
       OnFree slots n first met (set marks slot true) (count + 1) next
   free-go next en h p a f = subst (λ (i : ℕ). OnFree slots n first met (set marks slot true) (count + 1) i) (sym en) (free-on h p a f)
 
   pub free-fail : 0 < slot → (count < n → freeFrom slots (n - count) slot marks ≡ false) → false ≡ freeFrom slots n first met
   free-fail p f =
       ⊎-elim (λ l. sym (f l) ∙ on .rest)
-      (λ l. sym (free-stuck slots slot marks p) ∙ ap (λ (m : ℕ). freeFrom slots m slot marks) {x = 0} {y = n - count} (omega arith) ∙ on .rest) (below-or-not count n)
+      (λ l. sym (free-stuck slots slot marks p)
+      ∙ ap (λ (m : ℕ). freeFrom slots m slot marks) {x = 0} {y = n - count} (omega arith) ∙ on .rest)
+      (below-or-not count n)
 
-  pub free-walked : slot ≡ 0 → Walked (freeFrom slots n first met) (chain n first slots) met (record { good = true; marks = marks; count = count })
+  pub free-walked : slot ≡ 0 → Walked (freeFrom slots n first met) (chain n first slots) met
+      (record { good = true; marks = marks; count = count })
   unfolding markAll
   free-walked e =
       let none = ap (λ (i : ℕ). chain (n - count) i slots) e ∙ chain-end (n - count) slots in
@@ -268,7 +291,8 @@ module _ (slots : List Slot) (n first : ℕ) (met marks : List Bool) (count slot
       }
 
 -- after a walk that found something wrong, nothing is promised about the marks
-pub not-walked : (well : Bool) (is : List ℕ) (before marks : List Bool) (count : ℕ) → false ≡ well → Walked well is before (record { good = false; marks = marks; count = count })
+pub not-walked : (well : Bool) (is : List ℕ) (before marks : List Bool) (count : ℕ) → false ≡ well
+    → Walked well is before (record { good = false; marks = marks; count = count })
 not-walked well is before marks count f =
     record {
       told = f;

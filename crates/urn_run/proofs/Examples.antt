@@ -41,13 +41,15 @@ graded : gradedLimits oneBallot ≡ true
 unfolding oneBallot gradedLimits
 graded = refl
 
-better-run : (tape wires board : List ℕ) → urnRunResult oneBallot oneGate better tape wires board ≡ runResult oneBallot oneGate (1 ∷ 0 ∷ []) tape wires board
+better-run : (tape wires board : List ℕ) → urnRunResult oneBallot oneGate better tape wires board
+    ≡ runResult oneBallot oneGate (1 ∷ 0 ∷ []) tape wires board
 unfolding oneBallot
 better-run tape wires board =
     same-run oneBallot oneGate better tape wires board graded better-sound
     ∙ ap (λ (xs : List ℕ). runResult oneBallot oneGate xs tape wires board) better-ballots
 
-worse-run : (tape wires board : List ℕ) → urnRunResult oneBallot oneGate worse tape wires board ≡ runResult oneBallot oneGate (0 ∷ 1 ∷ []) tape wires board
+worse-run : (tape wires board : List ℕ) → urnRunResult oneBallot oneGate worse tape wires board
+    ≡ runResult oneBallot oneGate (0 ∷ 1 ∷ []) tape wires board
 unfolding oneBallot
 worse-run tape wires board =
     same-run oneBallot oneGate worse tape wires board graded worse-sound

@@ -52,7 +52,8 @@ module _ (k d m n : ℕ) (xs ys : List ℕ) (g : Good k d m xs) (h : Good k d n 
   both-bits i =
       ⊎-elim
       (λ l. let e = List·getD-append xs ys 0 i l in omega (arith, g .bits i))
-      (λ l. let e = ap (λ (j : ℕ). getD (xs ++ ys) j 0) {x = i} {y = length xs + (i - length xs)} (omega arith) ∙ getD-append-add xs ys (i - length xs) 0 in omega (arith, h .bits (i - length xs)))
+      (λ l. let e = ap (λ (j : ℕ). getD (xs ++ ys) j 0) {x = i} {y = length xs + (i - length xs)} (omega arith)
+      ∙ getD-append-add xs ys (i - length xs) 0 in omega (arith, h .bits (i - length xs)))
       (below-or-not i (length xs))
 
   first-row : (r : ℕ) → r < m * k → ones (take d (drop (r * d) (xs ++ ys))) ≡ 1
@@ -75,7 +76,8 @@ module _ (k d m n : ℕ) (xs ys : List ℕ) (g : Good k d m xs) (h : Good k d n 
   both-rows r l =
       ⊎-elim
       (λ u. first-row r u)
-      (λ u. ap (λ (j : ℕ). ones (take d (drop (j * d) (xs ++ ys)))) {x = r} {y = m * k + (r - m * k)} (omega arith) ∙ later-row (r - m * k) (omega (arith, add-mul m n k)))
+      (λ u. ap (λ (j : ℕ). ones (take d (drop (j * d) (xs ++ ys)))) {x = r} {y = m * k + (r - m * k)} (omega arith)
+      ∙ later-row (r - m * k) (omega (arith, add-mul m n k)))
       (below-or-not r (m * k))
 
   pub good-both : Good k d (m + n) (xs ++ ys)
@@ -91,7 +93,8 @@ pub good-one : (k d : ℕ) (x : List ℕ) → gradedLimits (juryOfOne k d) ≡ t
 unfolding goodBallot juryOfOne
 good-one k d x w e =
     let o = firstOf (ballotReasons (juryOfOne k d) x) in
-    let a = ballots-laws.accepted (juryOfOne k d) x (graded-within (juryOfOne k d) w) (no-reason o (and-second (eqb (length x) (k * d)) (noReason o) e)) in
+    let a = ballots-laws.accepted (juryOfOne k d) x (graded-within (juryOfOne k d) w)
+    (no-reason o (and-second (eqb (length x) (k * d)) (noReason o) e)) in
     let b = ballots-laws.graded (juryOfOne k d) x a w in
     record {
       size = b .size ∙ bytes-are (juryOfOne k d) (within (juryOfOne k d) w) ∙ mul-assoc 1 k d;
@@ -100,7 +103,8 @@ good-one k d x w e =
     }
 
 -- the ballots in these slots
-pub good-along : (k d : ℕ) (S : List Slot) (is : List ℕ) → gradedLimits (juryOfOne k d) ≡ true → all (λ i. goodBallot k d (slotAt S i .ballot)) is ≡ true
+pub good-along : (k d : ℕ) (S : List Slot) (is : List ℕ) → gradedLimits (juryOfOne k d) ≡ true
+    → all (λ i. goodBallot k d (slotAt S i .ballot)) is ≡ true
     → Good k d (length is) (joined (map (entryAt S) is))
 unfolding joined entryAt
 good-along k d S [] w e = good-none k d
@@ -112,7 +116,8 @@ good-along k d S (i ∷ is) w e =
     (good-both k d 1 (length is) x rest (good-one k d x w (all-first p i is e)) (good-along k d S is w (all-rest p i is e)))
 
 -- good ballots, as many as n says, are accepted
-pub good-accepted : (s : Shape) (xs : List ℕ) → gradedLimits s ≡ true → Good (s .candidates) (s .grades) (s .ballots) xs → AcceptedBallots s xs
+pub good-accepted : (s : Shape) (xs : List ℕ) → gradedLimits s ≡ true
+    → Good (s .candidates) (s .grades) (s .ballots) xs → AcceptedBallots s xs
 good-accepted s xs w g =
     record {
       within = graded-within s w;

@@ -31,8 +31,10 @@ pub copied : (src ws last : List ℕ) (at : ℕ) → at + length src ≤ length 
     → last ≡ take (length src) src ++ drop (length src) (take (length ws - at) (drop at ws))
     → take at ws ++ (last ++ drop (length ws - at) (drop at ws)) ≡ sets ws at src
 copied src ws last at h e =
-    let part : take (length ws - at) (drop at ws) ≡ drop at ws = take-all (length ws - at) (drop at ws) (omega (arith, length-drop at ws)) in
-    let none : drop (length ws - at) (drop at ws) ≡ [] = drop-of-length-le (drop at ws) {i = length ws - at} (omega (arith, length-drop at ws)) in
+    let part : take (length ws - at) (drop at ws) ≡ drop at ws =
+    take-all (length ws - at) (drop at ws) (omega (arith, length-drop at ws)) in
+    let none : drop (length ws - at) (drop at ws) ≡ [] =
+    drop-of-length-le (drop at ws) {i = length ws - at} (omega (arith, length-drop at ws)) in
     let is : last ≡ src ++ drop (at + length src) ws =
     e ∙ ap (λ (l : List ℕ). l ++ drop (length src) (take (length ws - at) (drop at ws))) (take-length src)
     ∙ ap (λ (l : List ℕ). src ++ drop (length src) l) part
@@ -59,7 +61,8 @@ pub record OnLoad (S : List Slot) (n b size : ℕ) (final ws : List ℕ) (count 
   pub room : count * b + length (along S (chain (n - count) slot S)) ≤ length ws
   pub kept : length ws ≡ size
 
-pub load-start : (S : List Slot) (n b first slot : ℕ) (ws : List ℕ) → slot ≡ first → ends n first S ≡ true → all (inUrn n) (chain n first S) ≡ true
+pub load-start : (S : List Slot) (n b first slot : ℕ) (ws : List ℕ) → slot ≡ first → ends n first S ≡ true
+    → all (inUrn n) (chain n first S) ≡ true
     → length (along S (chain n first S)) ≤ length ws → OnLoad S n b (length ws) (sets ws 0 (along S (chain n first S))) ws 0 slot
 load-start S n b first slot ws e g i r =
     subst (λ (j : ℕ). OnLoad S n b (length ws) (sets ws 0 (along S (chain n first S))) ws 0 j) (sym e)
@@ -67,7 +70,8 @@ load-start S n b first slot ws e g i r =
       within = omega arith;
       goes = ap (λ (m : ℕ). ends m first S) (sub-zero n) ∙ g;
       inside = ap (λ (m : ℕ). all (inUrn n) (chain m first S)) (sub-zero n) ∙ i;
-      left = ap (λ (m : ℕ). sets ws m (along S (chain (n - 0) first S))) (zero-mul b) ∙ ap (λ (m : ℕ). sets ws 0 (along S (chain m first S))) (sub-zero n);
+      left = ap (λ (m : ℕ). sets ws m (along S (chain (n - 0) first S))) (zero-mul b)
+          ∙ ap (λ (m : ℕ). sets ws 0 (along S (chain m first S))) (sub-zero n);
       room = omega (arith, zero-mul b, ap (λ (m : ℕ). length (along S (chain m first S))) (sub-zero n));
       kept = refl;
     })
@@ -82,7 +86,8 @@ module _ (S : List Slot) (n b size : ℕ) (final ws : List ℕ) (count slot : �
       where
         not-all : (count < n) ⊎ (n ≤ count) → ends 0 slot S ≡ false → count < n
         not-all (inl l) t = l
-        not-all (inr l) t = absurd (clash (ends 0 slot S) (ap (λ (m : ℕ). ends m slot S) {x = 0} {y = n - count} (omega (arith, on .within)) ∙ on .goes) t)
+        not-all (inr l) t = absurd (clash (ends 0 slot S)
+            (ap (λ (m : ℕ). ends m slot S) {x = 0} {y = n - count} (omega (arith, on .within)) ∙ on .goes) t)
 
     pub here : chain (n - count) slot S ≡ slot ∷ chain (n - (count + 1)) (slotAt S slot .next) S
     here =
@@ -90,16 +95,23 @@ module _ (S : List Slot) (n b size : ℕ) (final ws : List ℕ) (count slot : �
         ∙ ap (λ (m : ℕ). slot ∷ chain m (slotAt S slot .next) S) {x = n - count - 1} {y = n - (count + 1)} (omega arith)
 
     pub slot-below : slot < n
-    slot-below = below n slot (all-first (inUrn n) slot (chain (n - (count + 1)) (slotAt S slot .next) S) (ap (all (inUrn n)) (sym here) ∙ on .inside))
+    slot-below = below n slot (all-first (inUrn n) slot (chain (n - (count + 1)) (slotAt S slot .next) S)
+        (ap (all (inUrn n)) (sym here) ∙ on .inside))
 
     all-here : along S (chain (n - count) slot S) ≡ slotAt S slot .ballot ++ along S (chain (n - (count + 1)) (slotAt S slot .next) S)
     all-here = ap (along S) here ∙ along-step S slot (chain (n - (count + 1)) (slotAt S slot .next) S)
 
     -- the next ballot has room
     pub fits : length (slotAt S slot .ballot) ≡ b → count * b + b ≤ length ws
-    fits e = omega (arith, on .room, ap length all-here, length-append (slotAt S slot .ballot) (along S (chain (n - (count + 1)) (slotAt S slot .next) S)))
+    fits e = omega (
+      arith,
+      on .room,
+      ap length all-here,
+      length-append (slotAt S slot .ballot) (along S (chain (n - (count + 1)) (slotAt S slot .next) S)),
+    )
 
-    pub load-go : (ws′ : List ℕ) (j : ℕ) → length (slotAt S slot .ballot) ≡ b → ws′ ≡ sets ws (count * b) (slotAt S slot .ballot) → j ≡ slotAt S slot .next
+    pub load-go : (ws′ : List ℕ) (j : ℕ) → length (slotAt S slot .ballot) ≡ b → ws′
+        ≡ sets ws (count * b) (slotAt S slot .ballot) → j ≡ slotAt S slot .next
         → OnLoad S n b size final ws′ (count + 1) j
     load-go ws′ j e q f =
         let x = slotAt S slot .ballot in
@@ -139,38 +151,54 @@ module _ (k d : ℕ) (urn : List ℕ) (w : T (gradedLimits (juryOfOne k d))) (e 
       ∙ ap (λ (m : ℕ). ends m (slotAt S 0 .next) S) (sym (its-length k d urn e))
       ∙ its-parts k d urn e .ballots-end
 
-  pub its-ballots : chainBallots k d urn ≡ along (slotsOf (k * d) (slotCount (k * d) (length urn)) urn) (chain (slotCount (k * d) (length urn)) (getD urn 0 0) (slotsOf (k * d) (slotCount (k * d) (length urn)) urn))
+  pub its-ballots : chainBallots k d urn
+      ≡ along (slotsOf (k * d) (slotCount (k * d) (length urn)) urn)
+      (chain (slotCount (k * d) (length urn)) (getD urn 0 0) (slotsOf (k * d) (slotCount (k * d) (length urn)) urn))
   unfolding chainBallots ballotChain urnSlots
   its-ballots =
       let n = slotCount (k * d) (length urn) in
       ap (along (slotsOf (k * d) n urn)) (slots-by-bytes (k * d) n urn (its-table k d urn w e))
 
   -- the bytes of a slot's ballot
-  pub ballot-size : (i : ℕ) → i < slotCount (k * d) (length urn) → length (slotAt (slotsOf (k * d) (slotCount (k * d) (length urn)) urn) i .ballot) ≡ k * d
+  pub ballot-size : (i : ℕ) → i < slotCount (k * d) (length urn)
+      → length (slotAt (slotsOf (k * d) (slotCount (k * d) (length urn)) urn) i .ballot) ≡ k * d
   unfolding slotBytes
   ballot-size i h =
       let n = slotCount (k * d) (length urn) in
       let t = its-table k d urn w e in
-      omega (arith, ap length (ballot-is (k * d) n urn i h (t .size)), length-take (k * d) (drop (i * (2 + k * d) + 2) urn), length-drop (i * (2 + k * d) + 2) urn, slot-within i n (k * d) h, t .size)
+      omega (
+        arith,
+        ap length (ballot-is (k * d) n urn i h (t .size)),
+        length-take (k * d) (drop (i * (2 + k * d) + 2) urn),
+        length-drop (i * (2 + k * d) + 2) urn,
+        slot-within i n (k * d) h,
+        t .size,
+      )
 
   -- in the end the table begins with the ballots, and is unchanged after them
   pub loaded : (ws last : List ℕ) → length (chainBallots k d urn) ≤ length ws
-      → last ≡ sets ws 0 (along (slotsOf (k * d) (slotCount (k * d) (length urn)) urn) (chain (slotCount (k * d) (length urn)) (getD urn 0 0) (slotsOf (k * d) (slotCount (k * d) (length urn)) urn)))
+      → last ≡ sets ws 0 (along (slotsOf (k * d) (slotCount (k * d) (length urn)) urn)
+      (chain (slotCount (k * d) (length urn)) (getD urn 0 0) (slotsOf (k * d) (slotCount (k * d) (length urn)) urn)))
       → last ≡ chainBallots k d urn ++ drop (length (chainBallots k d urn)) ws
   loaded ws last r q =
       q ∙ ap (sets ws 0) (sym its-ballots) ∙ sets-eq (chainBallots k d urn) ws 0 (omega arith)
-      ∙ ap (λ (m : ℕ). chainBallots k d urn ++ drop m ws) {x = 0 + length (chainBallots k d urn)} {y = length (chainBallots k d urn)} (omega arith)
+      ∙ ap (λ (m : ℕ). chainBallots k d urn ++ drop m ws) {x = 0 + length (chainBallots k d urn)}
+      {y = length (chainBallots k d urn)} (omega arith)
 
   pub load-begin : (ws : List ℕ) (slot : ℕ) → length (chainBallots k d urn) ≤ length ws → slot ≡ getD urn 0 0
       → OnLoad (slotsOf (k * d) (slotCount (k * d) (length urn)) urn) (slotCount (k * d) (length urn)) (k * d) (length ws)
-      (sets ws 0 (along (slotsOf (k * d) (slotCount (k * d) (length urn)) urn) (chain (slotCount (k * d) (length urn)) (getD urn 0 0) (slotsOf (k * d) (slotCount (k * d) (length urn)) urn)))) ws 0 slot
+      (sets ws 0 (along (slotsOf (k * d) (slotCount (k * d) (length urn)) urn)
+      (chain (slotCount (k * d) (length urn)) (getD urn 0 0)
+      (slotsOf (k * d) (slotCount (k * d) (length urn)) urn)))) ws 0 slot
   load-begin ws slot r q =
       let n = slotCount (k * d) (length urn) in
-      load-start (slotsOf (k * d) n urn) n (k * d) (getD urn 0 0) slot ws q its-end (can-find k d urn w e) (omega (arith, ap length its-ballots))
+      load-start (slotsOf (k * d) n urn) n (k * d) (getD urn 0 0) slot ws q its-end (can-find k d urn w e)
+      (omega (arith, ap length its-ballots))
 
   -- one turn reads inside the urn and writes inside the table
   module _ (size : ℕ) (final ws : List ℕ) (count slot : ℕ)
-      (on : OnLoad (slotsOf (k * d) (slotCount (k * d) (length urn)) urn) (slotCount (k * d) (length urn)) (k * d) size final ws count slot) (p : 0 < slot) where
+      (on : OnLoad (slotsOf (k * d) (slotCount (k * d) (length urn)) urn) (slotCount (k * d) (length urn)) (k * d)
+      size final ws count slot) (p : 0 < slot) where
     turn-below : slot < slotCount (k * d) (length urn)
     turn-below = let n = slotCount (k * d) (length urn) in slot-below (slotsOf (k * d) n urn) n (k * d) size final ws count slot on p
 
@@ -186,7 +214,8 @@ module _ (k d : ℕ) (urn : List ℕ) (w : T (gradedLimits (juryOfOne k d))) (e 
         omega arith
 
     pub turn-room : count * (k * d) + k * d ≤ length ws
-    turn-room = let n = slotCount (k * d) (length urn) in fits (slotsOf (k * d) n urn) n (k * d) size final ws count slot on p (ballot-size slot turn-below)
+    turn-room = let n = slotCount (k * d) (length urn) in
+        fits (slotsOf (k * d) n urn) n (k * d) size final ws count slot on p (ballot-size slot turn-below)
 
     -- the bytes that are copied
     abbrev pub source : List ℕ
@@ -196,13 +225,15 @@ module _ (k d : ℕ) (urn : List ℕ) (w : T (gradedLimits (juryOfOne k d))) (e 
     unfolding slotBytes
     source-is =
         let n = slotCount (k * d) (length urn) in
-        ap (λ (m : ℕ). take m (drop (slot * (2 + k * d) + 2) urn)) {x = slot * (2 + k * d) + (2 + k * d) - (slot * (2 + k * d) + 2)} {y = k * d} (omega arith)
+        ap (λ (m : ℕ). take m (drop (slot * (2 + k * d) + 2) urn))
+        {x = slot * (2 + k * d) + (2 + k * d) - (slot * (2 + k * d) + 2)} {y = k * d} (omega arith)
         ∙ sym (ballot-is (k * d) n urn slot turn-below (its-table k d urn w e .size))
 
     pub source-length : length source ≡ k * d
     source-length = ap length source-is ∙ ballot-size slot turn-below
 
-    pub turn-on : (last : List ℕ) (next : ℕ) → last ≡ take (length source) source ++ drop (length source) (take (length ws - count * (k * d)) (drop (count * (k * d)) ws))
+    pub turn-on : (last : List ℕ) (next : ℕ) → last ≡ take (length source) source
+        ++ drop (length source) (take (length ws - count * (k * d)) (drop (count * (k * d)) ws))
         → next ≡ getD urn (slot * (2 + k * d)) 0
         → OnLoad (slotsOf (k * d) (slotCount (k * d) (length urn)) urn) (slotCount (k * d) (length urn)) (k * d) size final
         (take (count * (k * d)) ws ++ (last ++ drop (length ws - count * (k * d)) (drop (count * (k * d)) ws))) (count + 1) next
@@ -216,4 +247,10 @@ module _ (k d : ℕ) (urn : List ℕ) (w : T (gradedLimits (juryOfOne k d))) (e 
 
     -- the copy has room
     pub copy-fits : length source ≤ length (take (length ws - count * (k * d)) (drop (count * (k * d)) ws))
-    copy-fits = omega (arith, source-length, turn-room, length-take (length ws - count * (k * d)) (drop (count * (k * d)) ws), length-drop (count * (k * d)) ws)
+    copy-fits = omega (
+      arith,
+      source-length,
+      turn-room,
+      length-take (length ws - count * (k * d)) (drop (count * (k * d)) ws),
+      length-drop (count * (k * d)) ws,
+    )

@@ -60,7 +60,15 @@ module _ (s : Shape) (g : gradedLimits s ≡ true) where
   one-within =
       let w = within s g in
       within-back (juryOfOne (s .candidates) (s .grades))
-      (record { k-least = w .k-least; k-most = w .k-most; d-least = w .d-least; d-most = w .d-most; n-least = omega arith; n-most = omega arith })
+      (record {
+        k-least = w .k-least;
+        k-most = w .k-most;
+        d-least = w .d-least;
+        d-most = w .d-most;
+        n-least =
+            omega arith;
+        n-most = omega arith;
+      })
 
   pub one-T : T (gradedLimits (juryOfOne (s .candidates) (s .grades)))
   one-T = true-T (gradedLimits (juryOfOne (s .candidates) (s .grades))) one-within
@@ -78,7 +86,8 @@ module _ (s : Shape) (g : gradedLimits s ≡ true) where
 
   module _ (urn : List ℕ) (e : sound (s .candidates) (s .grades) urn ≡ true) where
     -- the ballots of a sound urn are good, and their number gives their length
-    pub chain-good : Good (s .candidates) (s .grades) (ballotsIn (s .candidates) (s .grades) urn) (chainBallots (s .candidates) (s .grades) urn)
+    pub chain-good : Good (s .candidates) (s .grades) (ballotsIn (s .candidates) (s .grades) urn)
+        (chainBallots (s .candidates) (s .grades) urn)
     unfolding chainBallots ballotsIn ballotChain
     chain-good =
         let k = s .candidates in
@@ -87,26 +96,30 @@ module _ (s : Shape) (g : gradedLimits s ≡ true) where
         subst (λ (m : ℕ). Good k d m (joined (map (entryAt S) (ballotSlots S)))) (sym (length-map (ballotSlots S) (entryAt S)))
         (good-along k d S (ballotSlots S) one-within (its-parts k d urn e .ballots))
 
-    pub chain-accepted : ballotsIn (s .candidates) (s .grades) urn ≡ s .ballots → AcceptedBallots s (chainBallots (s .candidates) (s .grades) urn)
+    pub chain-accepted : ballotsIn (s .candidates) (s .grades) urn ≡ s .ballots
+        → AcceptedBallots s (chainBallots (s .candidates) (s .grades) urn)
     chain-accepted n =
         let k = s .candidates in
         let d = s .grades in
         good-accepted s (chainBallots k d urn) g (subst (λ (m : ℕ). Good k d m (chainBallots k d urn)) n chain-good)
 
-    other-length : ballotsIn (s .candidates) (s .grades) urn ≢ s .ballots → length (chainBallots (s .candidates) (s .grades) urn) ≢ ballotBytes s
+    other-length : ballotsIn (s .candidates) (s .grades) urn ≢ s .ballots
+        → length (chainBallots (s .candidates) (s .grades) urn) ≢ ballotBytes s
     other-length n q =
         let k = s .candidates in
         let d = s .grades in
         let w = within s g in
         let p : 0 < k * d = mul-pos (w .k-least) (omega (arith, w .d-least)) in
-        n (eq-of-mul-eq-mul-right (k * d) p (ballotsIn k d urn) (s .ballots) (sym (chain-good .size) ∙ q ∙ bytes-are s w ∙ mul-assoc (s .ballots) k d))
+        n (eq-of-mul-eq-mul-right (k * d) p (ballotsIn k d urn) (s .ballots)
+        (sym (chain-good .size) ∙ q ∙ bytes-are s w ∙ mul-assoc (s .ballots) k d))
 
     -- so of the tests of ballots only 4 can apply, and does if n is not their number
     four : (xs : List ℕ) → length xs ≢ ballotBytes s → firstOf (ballotReasons s xs) ≡ some (reasonAt 4 0)
     unfolding judged unless firstOf
     four xs n = judged-by s xs false (firstAboveOne 0 xs) (kindReason s xs) (ne-eqb (length xs) (ballotBytes s) n) refl refl
 
-    pub ballots-first : firstOf (ballotReasons s (chainBallots (s .candidates) (s .grades) urn)) ≡ unless (eqb (ballotsIn (s .candidates) (s .grades) urn) (s .ballots)) 4
+    pub ballots-first : firstOf (ballotReasons s (chainBallots (s .candidates) (s .grades) urn))
+        ≡ unless (eqb (ballotsIn (s .candidates) (s .grades) urn) (s .ballots)) 4
     unfolding unless
     ballots-first =
         let k = s .candidates in
@@ -140,18 +153,22 @@ module _ (s : Shape) (table urn tape wires board : List ℕ) where
       pub by-list : (r : Reason) → testOutcome s table ≡ refused r → firstOf (urnRunReasons s table urn tape wires board) ≡ some r
       unfolding firstOnUrn orElse unless testOutcome
       by-list r q =
-          let t : listReason (tested (ballotBytes s) (s .candidates) table) ≡ some r = sym (list-first s g table) ∙ outcome-refused (firstOf (testReasons s table)) (sizeOf (gatesOf table)) r q in
+          let t : listReason (tested (ballotBytes s) (s .candidates) table) ≡ some r = sym (list-first s g table)
+          ∙ outcome-refused (firstOf (testReasons s table)) (sizeOf (gatesOf table)) r q in
           urn-first ∙ rw (g, e, t)
 
       module _ (p : firstOf (testReasons s table) ≡ none) where
-        pub by-4 : ballotsIn (s .candidates) (s .grades) urn ≢ s .ballots → firstOf (urnRunReasons s table urn tape wires board) ≡ some (reasonAt 4 0)
+        pub by-4 : ballotsIn (s .candidates) (s .grades) urn ≢ s .ballots
+            → firstOf (urnRunReasons s table urn tape wires board) ≡ some (reasonAt 4 0)
         unfolding firstOnUrn orElse unless
         by-4 n =
             let t : listReason (tested (ballotBytes s) (s .candidates) table) ≡ none = sym (list-first s g table) ∙ p in
             urn-first ∙ rw (g, e, t, ne-eqb (ballotsIn (s .candidates) (s .grades) urn) (s .ballots) n)
 
-        pub by-lent : (size : Size) (o : Option Reason) → size ≡ sizeOf (gatesOf table) → ballotsIn (s .candidates) (s .grades) urn ≡ s .ballots
-            → firstOf (bufferReasons (ballotBytes s) (s .candidates) size tape wires board) ≡ o → firstOf (urnRunReasons s table urn tape wires board) ≡ o
+        pub by-lent : (size : Size) (o : Option Reason) → size ≡ sizeOf (gatesOf table)
+            → ballotsIn (s .candidates) (s .grades) urn ≡ s .ballots
+            → firstOf (bufferReasons (ballotBytes s) (s .candidates) size tape wires board) ≡ o
+            → firstOf (urnRunReasons s table urn tape wires board) ≡ o
         unfolding firstOnUrn orElse unless
         by-lent size o f n q =
             let t : listReason (tested (ballotBytes s) (s .candidates) table) ≡ none = sym (list-first s g table) ∙ p in
@@ -159,29 +176,38 @@ module _ (s : Shape) (table urn tape wires board : List ℕ) where
             (ap (λ (z : Size). firstOf (bufferReasons (ballotBytes s) (s .candidates) z tape wires board)) (sym f) ∙ q)
 
       -- the reasons are those of the run on the ballots of the chain
-      pub same-reasons : firstOf (urnRunReasons s table urn tape wires board) ≡ firstOf (runReasons s table (chainBallots (s .candidates) (s .grades) urn) tape wires board)
+      pub same-reasons : firstOf (urnRunReasons s table urn tape wires board)
+          ≡ firstOf (runReasons s table (chainBallots (s .candidates) (s .grades) urn) tape wires board)
       same-reasons =
           let lent = firstOf (bufferReasons (ballotBytes s) (s .candidates) (sizeOf (gatesOf table)) tape wires board) in
           urn-first ∙ opened (listReason (tested (ballotBytes s) (s .candidates) table)) _ lent
-          ∙ ap (λ (o : Option Reason). firstOfThree o (unless (eqb (ballotsIn (s .candidates) (s .grades) urn) (s .ballots)) 4) lent) (sym (list-first s g table))
+          ∙ ap (λ (o : Option Reason). firstOfThree o
+          (unless (eqb (ballotsIn (s .candidates) (s .grades) urn) (s .ballots)) 4) lent)
+          (sym (list-first s g table))
           ∙ ap (λ (o : Option Reason). firstOfThree (firstOf (testReasons s table)) o lent) (sym (ballots-first s g urn e))
           ∙ sym (run-first s table (chainBallots (s .candidates) (s .grades) urn) tape wires board)
         where
-          opened : (list number lent : Option Reason) → firstOnUrn (gradedLimits s) (sound (s .candidates) (s .grades) urn) list number lent ≡ firstOfThree list number lent
+          opened : (list number lent : Option Reason)
+              → firstOnUrn (gradedLimits s) (sound (s .candidates) (s .grades) urn) list number lent
+              ≡ firstOfThree list number lent
           opened list number lent = unfold firstOnUrn firstOfThree orElse unless in (rw (g, e) (unfold orElse in or-assoc list number lent))
 
-      pub same-run : urnRunResult s table urn tape wires board ≡ runResult s table (chainBallots (s .candidates) (s .grades) urn) tape wires board
+      pub same-run : urnRunResult s table urn tape wires board
+          ≡ runResult s table (chainBallots (s .candidates) (s .grades) urn) tape wires board
       unfolding urnRunResult
       same-run =
           let xs = chainBallots (s .candidates) (s .grades) urn in
           let o = firstOf (runReasons s table xs tape wires board) in
-          ap (λ (r : Option Reason). runResultAfter r s (gatesOf table) xs tape wires board) same-reasons ∙ sym (ran-by s table xs tape wires board o refl)
+          ap (λ (r : Option Reason). runResultAfter r s (gatesOf table) xs tape wires board) same-reasons
+          ∙ sym (ran-by s table xs tape wires board o refl)
 
   -- what a call leaves, by its first reason
   pub ran-on-urn-by : (o : Option Reason) → firstOf (urnRunReasons s table urn tape wires board) ≡ o
-      → urnRunResult s table urn tape wires board ≡ runResultAfter o s (gatesOf table) (chainBallots (s .candidates) (s .grades) urn) tape wires board
+      → urnRunResult s table urn tape wires board
+      ≡ runResultAfter o s (gatesOf table) (chainBallots (s .candidates) (s .grades) urn) tape wires board
   unfolding urnRunResult
-  ran-on-urn-by o e = ap (λ (r : Option Reason). runResultAfter r s (gatesOf table) (chainBallots (s .candidates) (s .grades) urn) tape wires board) e
+  ran-on-urn-by o e = ap (λ (r : Option Reason). runResultAfter r s (gatesOf table)
+      (chainBallots (s .candidates) (s .grades) urn) tape wires board) e
 
   -- what an accepted run on an urn has passed
   pub record UrnRunPassed : Type 0 where
@@ -197,7 +223,13 @@ module _ (s : Shape) (table urn tape wires board : List ℕ) where
 
       inside : gradedLimits s ≡ true → (b : Bool) → sound (s .candidates) (s .grades) urn ≡ b → UrnRunPassed
       inside g true f =
-          record { graded = g; isSound = f; run = run-passed s table (chainBallots (s .candidates) (s .grades) urn) tape wires board (sym (same-reasons g f) ∙ e) }
+          record {
+            graded = g;
+            isSound = f;
+            run =
+                run-passed s table (chainBallots (s .candidates) (s .grades) urn) tape wires board
+                (sym (same-reasons g f) ∙ e);
+          }
       inside g false f = no (reasonAt 13 0) (by-13 g f)
 
       shape : (b : Bool) → gradedLimits s ≡ b → UrnRunPassed
@@ -213,7 +245,8 @@ module _ (s : Shape) (table urn tape wires board : List ℕ) where
     chain-room = omega (arith, chain-length, p .run .wiresLength)
 
     -- what the evaluation asks once they are there
-    pub finish-ready : (loaded : List ℕ) → length loaded ≡ length wires → FinishReady (ballotBytes s) table (s .candidates) tape loaded board
+    pub finish-ready : (loaded : List ℕ) → length loaded ≡ length wires
+        → FinishReady (ballotBytes s) table (s .candidates) tape loaded board
     finish-ready loaded l =
         let f = run-ready s table (chainBallots (s .candidates) (s .grades) urn) tape wires board (p .run) in
         record {
@@ -224,13 +257,15 @@ module _ (s : Shape) (table urn tape wires board : List ℕ) where
           boardLength = f .boardLength;
         }
 
-    pub loaded-front : (loaded : List ℕ) → loaded ≡ chainBallots (s .candidates) (s .grades) urn ++ drop (length (chainBallots (s .candidates) (s .grades) urn)) wires
+    pub loaded-front : (loaded : List ℕ) → loaded ≡ chainBallots (s .candidates) (s .grades) urn
+        ++ drop (length (chainBallots (s .candidates) (s .grades) urn)) wires
         → take (ballotBytes s) loaded ≡ chainBallots (s .candidates) (s .grades) urn
     loaded-front loaded q =
         let xs = chainBallots (s .candidates) (s .grades) urn in
         ap (take (ballotBytes s)) q ∙ take-at xs (drop (length xs) wires) (ballotBytes s) chain-length
 
-    pub loaded-length : (loaded : List ℕ) → loaded ≡ chainBallots (s .candidates) (s .grades) urn ++ drop (length (chainBallots (s .candidates) (s .grades) urn)) wires → length loaded ≡ length wires
+    pub loaded-length : (loaded : List ℕ) → loaded ≡ chainBallots (s .candidates) (s .grades) urn
+        ++ drop (length (chainBallots (s .candidates) (s .grades) urn)) wires → length loaded ≡ length wires
     loaded-length loaded q =
         let xs = chainBallots (s .candidates) (s .grades) urn in
         omega (arith, ap length q, length-append xs (drop (length xs) wires), length-drop (length xs) wires, chain-room)
@@ -240,5 +275,7 @@ pub outside-urn-run : (s : Shape) → withinLimits s ≡ false → (table urn ta
     → urnRunResult s table urn tape wires board ≡ record { answer = refused (reasonAt 1 0); wires = wires; board = board }
 unfolding runResultAfter
 outside-urn-run s w table urn tape wires board =
-    let graded : gradedLimits s ≡ false = never-true (gradedLimits s) (λ g. let z : _≡_ {A = Bool} true false = sym (graded-within s g) ∙ w in let y : _≡_ {A = ℕ} 0 1 = cc in omega arith) in
+    let graded : gradedLimits s ≡ false =
+    never-true (gradedLimits s) (λ g. let z : _≡_ {A = Bool} true false = sym (graded-within s g) ∙ w in
+    let y : _≡_ {A = ℕ} 0 1 = cc in omega arith) in
     ran-on-urn-by s table urn tape wires board (some (reasonAt 1 0)) (by-1 s table urn tape wires board graded)

@@ -32,37 +32,45 @@ use Rattle.urn_run.proofs.Reasons.{by-1, by-13, by-4, same-run, ran-on-
 
 -- a call that is refused
 module _ (s : Shape) (table urn tape wires board : List ℕ) where
-  refusal-is : (r : Reason) → firstOf (urnRunReasons s table urn tape wires board) ≡ some r → urnRunResult s table urn tape wires board .answer ≡ refused r
+  refusal-is : (r : Reason) → firstOf (urnRunReasons s table urn tape wires board) ≡ some r
+      → urnRunResult s table urn tape wires board .answer ≡ refused r
   unfolding runResultAfter
   refusal-is r e = ap (λ (z : RunResult). z .answer) (ran-on-urn-by s table urn tape wires board (some r) e)
 
   -- a call by its answer
-  after-refusal : (o : Option Reason) (r : Reason) → firstOf (urnRunReasons s table urn tape wires board) ≡ o → urnRunResult s table urn tape wires board .answer ≡ refused r
+  after-refusal : (o : Option Reason) (r : Reason) → firstOf (urnRunReasons s table urn tape wires board) ≡ o
+      → urnRunResult s table urn tape wires board .answer ≡ refused r
       → (urnRunResult s table urn tape wires board .wires ≡ wires) × (urnRunResult s table urn tape wires board .board ≡ board)
   unfolding runResultAfter
-  after-refusal none r e q = never (sizeOf (gatesOf table)) r (sym q ∙ ap (λ (z : RunResult). z .answer) (ran-on-urn-by s table urn tape wires board none e))
+  after-refusal none r e q = never (sizeOf (gatesOf table)) r
+      (sym q ∙ ap (λ (z : RunResult). z .answer) (ran-on-urn-by s table urn tape wires board none e))
   after-refusal (some r′) r e q =
       let f = ran-on-urn-by s table urn tape wires board (some r′) e in
       (ap (λ (z : RunResult). z .wires) f, ap (λ (z : RunResult). z .board) f)
 
-  answered : (o : Option Reason) (size : Size) → firstOf (urnRunReasons s table urn tape wires board) ≡ o → urnRunResult s table urn tape wires board .answer ≡ accepted size
+  answered : (o : Option Reason) (size : Size) → firstOf (urnRunReasons s table urn tape wires board) ≡ o
+      → urnRunResult s table urn tape wires board .answer ≡ accepted size
       → firstOf (urnRunReasons s table urn tape wires board) ≡ none
   unfolding runResultAfter
   answered none size e q = e
-  answered (some r) size e q = never size r (sym (ap (λ (z : RunResult). z .answer) (ran-on-urn-by s table urn tape wires board (some r) e)) ∙ q)
+  answered (some r) size e q = never size r
+      (sym (ap (λ (z : RunResult). z .answer) (ran-on-urn-by s table urn tape wires board (some r) e)) ∙ q)
 
   -- an accepted run on an urn has passed its tests
   passed : (size : Size) → urnRunResult s table urn tape wires board .answer ≡ accepted size → UrnRunPassed s table urn tape wires board
   passed size q = urn-run-passed s table urn tape wires board (answered (firstOf (urnRunReasons s table urn tape wires board)) size refl q)
 
-  emptied : (o : Option Reason) (size : Size) → firstOf (urnRunReasons s table urn tape wires board) ≡ o → urnRunResult s table urn tape wires board .answer ≡ accepted size
+  emptied : (o : Option Reason) (size : Size) → firstOf (urnRunReasons s table urn tape wires board) ≡ o
+      → urnRunResult s table urn tape wires board .answer ≡ accepted size
       → urnRunResult s table urn tape wires board .wires ≡ replicate (length wires) 0
   unfolding runResultAfter
   emptied none size e q = ap (λ (z : RunResult). z .wires) (ran-on-urn-by s table urn tape wires board none e)
-  emptied (some r) size e q = never size r (sym (ap (λ (z : RunResult). z .answer) (ran-on-urn-by s table urn tape wires board (some r) e)) ∙ q)
+  emptied (some r) size e q = never size r
+      (sym (ap (λ (z : RunResult). z .answer) (ran-on-urn-by s table urn tape wires board (some r) e)) ∙ q)
 
   same-lengths : (o : Option Reason) → firstOf (urnRunReasons s table urn tape wires board) ≡ o
-      → (length (urnRunResult s table urn tape wires board .wires) ≡ length wires) × (length (urnRunResult s table urn tape wires board .board) ≡ length board)
+      → (length (urnRunResult s table urn tape wires board .wires) ≡ length wires)
+      × (length (urnRunResult s table urn tape wires board .board) ≡ length board)
   unfolding runResultAfter
   same-lengths (some r) e =
       let f = ran-on-urn-by s table urn tape wires board (some r) e in
@@ -84,10 +92,19 @@ lent-all i k size tape wires board =
 
 urn-run-all : (s : Shape) (table urn tape wires board : List ℕ) → All numbers (urnRunReasons s table urn tape wires board)
 unfolding All urnRunReasons hasNumberIn reasonAt numbers
-urn-run-all s table urn tape wires board =
-    (unless-fine numbers _ 1 tt, (unless-fine numbers _ 13 tt, (list-fine numbers _ tt (λ g. tt), (unless-fine numbers _ 4 tt, lent-all (ballotBytes s) (s .candidates) (sizeOf (gatesOf table)) tape wires board))))
+urn-run-all s table urn tape wires board = (
+  unless-fine numbers _ 1 tt,
+  (
+    unless-fine numbers _ 13 tt,
+    (
+      list-fine numbers _ tt (λ g. tt),
+      (unless-fine numbers _ 4 tt, lent-all (ballotBytes s) (s .candidates) (sizeOf (gatesOf table)) tape wires board),
+    ),
+  ),
+)
 
-ran-fine : (o : Option Reason) (s : Shape) (gs : List Gate) (ballots tape wires board : List ℕ) → Fine numbers o → FineSaid numbers (runResultAfter o s gs ballots tape wires board .answer)
+ran-fine : (o : Option Reason) (s : Shape) (gs : List Gate) (ballots tape wires board : List ℕ) → Fine numbers o
+    → FineSaid numbers (runResultAfter o s gs ballots tape wires board .answer)
 unfolding Fine FineSaid runResultAfter
 ran-fine none s gs ballots tape wires board f = tt
 ran-fine (some r) s gs ballots tape wires board f = f
@@ -97,16 +114,20 @@ has-number : (s : Shape) (table urn tape wires board : List ℕ) (r : Reason) �
 unfolding urnRunResult numbers
 has-number s table urn tape wires board r e =
     refused-fine numbers (urnRunResult s table urn tape wires board .answer) r
-    (ran-fine _ s (gatesOf table) (ballotsFor s urn) tape wires board (first-fine numbers (urnRunReasons s table urn tape wires board) (urn-run-all s table urn tape wires board))) e
+    (ran-fine _ s (gatesOf table) (ballotsFor s urn) tape wires board
+    (first-fine numbers (urnRunReasons s table urn tape wires board) (urn-run-all s table urn tape wires board))) e
 
 same-as-run : SameAsRun
 same-as-run =
     record {
       on-chain = λ s table urn tape wires board g e. same-run s table urn tape wires board g e;
       good-ballots = λ s urn u. chain-accepted s (u .graded) urn (u .isSound) (u .number);
-      other-number = λ s table urn tape wires board size g e t n. refusal-is s table urn tape wires board (reasonAt 4 0) (by-4 s table urn tape wires board g e (test-passed s table size t .reasons) n);
-      unsound = λ s table urn tape wires board g e. refusal-is s table urn tape wires board (reasonAt 13 0) (by-13 s table urn tape wires board g e);
-      other-shape = λ s table urn tape wires board g. refusal-is s table urn tape wires board (reasonAt 1 0) (by-1 s table urn tape wires board g);
+      other-number = λ s table urn tape wires board size g e t n. refusal-is s table urn tape wires board
+          (reasonAt 4 0) (by-4 s table urn tape wires board g e (test-passed s table size t .reasons) n);
+      unsound = λ s table urn tape wires board g e. refusal-is s table urn tape wires board (reasonAt 13 0)
+          (by-13 s table urn tape wires board g e);
+      other-shape = λ s table urn tape wires board g. refusal-is s table urn tape wires board (reasonAt 1 0)
+          (by-1 s table urn tape wires board g);
     }
 
 memory : UrnRunMemory
@@ -130,22 +151,29 @@ module _ (s : Shape) (table : List ℕ) (size : Size) (a : RunAccuracy s table s
   unfolding reasonAt
   other-reason n r e two three = let q : r .number ≡ n = ap (λ (z : Reason). z .number) e in (λ h. two (sym q ∙ h), λ h. three (sym q ∙ h))
 
-  same-reason : (r r′ : Reason) (urn tape wires board : List ℕ) → urnRunResult s list urn tape wires board .answer ≡ refused r → urnRunResult s list urn tape wires board .answer ≡ refused r′ → r ≡ r′
+  same-reason : (r r′ : Reason) (urn tape wires board : List ℕ) → urnRunResult s list urn tape wires board .answer
+      ≡ refused r → urnRunResult s list urn tape wires board .answer ≡ refused r′ → r ≡ r′
   same-reason r r′ urn tape wires board e f = let q : _≡_ {A = Outcome Size} (refused r) (refused r′) = sym e ∙ f in cc
 
-  not-2-or-3 : (urn tape wires board : List ℕ) (r : Reason) → urnRunResult s list urn tape wires board .answer ≡ refused r → (r .number ≢ 2) × (r .number ≢ 3)
+  not-2-or-3 : (urn tape wires board : List ℕ) (r : Reason) → urnRunResult s list urn tape wires board .answer
+      ≡ refused r → (r .number ≢ 2) × (r .number ≢ 3)
   unfolding list
   not-2-or-3 urn tape wires board r e = shape (gradedLimits s) refl
     where
       inside : gradedLimits s ≡ true → (b : Bool) → sound (s .candidates) (s .grades) urn ≡ b → (r .number ≢ 2) × (r .number ≢ 3)
-      inside g true f = a .never-2-or-3 (ballotsFor s urn) tape wires board r (sym (ap (λ (z : RunResult). z .answer) (same-run s list urn tape wires board g f)) ∙ e)
+      inside g true f = a .never-2-or-3 (ballotsFor s urn) tape wires board r
+          (sym (ap (λ (z : RunResult). z .answer) (same-run s list urn tape wires board g f)) ∙ e)
       inside g false f =
-          other-reason 13 r (same-reason r (reasonAt 13 0) urn tape wires board e (refusal-is s list urn tape wires board (reasonAt 13 0) (by-13 s list urn tape wires board g f))) (λ h. omega arith) (λ h. omega arith)
+          other-reason 13 r (same-reason r (reasonAt 13 0) urn tape wires board e
+          (refusal-is s list urn tape wires board (reasonAt 13 0) (by-13 s list urn tape wires board g f)))
+          (λ h. omega arith) (λ h. omega arith)
 
       shape : (b : Bool) → gradedLimits s ≡ b → (r .number ≢ 2) × (r .number ≢ 3)
       shape true g = inside g (sound (s .candidates) (s .grades) urn) refl
       shape false g =
-          other-reason 1 r (same-reason r (reasonAt 1 0) urn tape wires board e (refusal-is s list urn tape wires board (reasonAt 1 0) (by-1 s list urn tape wires board g))) (λ h. omega arith) (λ h. omega arith)
+          other-reason 1 r (same-reason r (reasonAt 1 0) urn tape wires board e
+          (refusal-is s list urn tape wires board (reasonAt 1 0) (by-1 s list urn tape wires board g)))
+          (λ h. omega arith) (λ h. omega arith)
 
   module _ (urn tape wires board : List ℕ) (answer : Size) (e : urnRunResult s list urn tape wires board .answer ≡ accepted answer) where
     xs : List ℕ
@@ -158,7 +186,8 @@ module _ (s : Shape) (table : List ℕ) (size : Size) (a : RunAccuracy s table s
     run-answers : runResult s list xs tape wires board .answer ≡ accepted answer
     run-answers = sym (ap (λ (z : RunResult). z .answer) is-run) ∙ e
 
-    same-closing : closingBytes s (urnRunResult s list urn tape wires board .board) ≡ closingBytes s (runResult s list xs tape wires board .board)
+    same-closing : closingBytes s (urnRunResult s list urn tape wires board .board)
+        ≡ closingBytes s (runResult s list xs tape wires board .board)
     same-closing = ap (λ (z : RunResult). closingBytes s (z .board)) is-run
 
   urn-accuracy : UrnAccuracy s table size
@@ -170,7 +199,8 @@ module _ (s : Shape) (table : List ℕ) (size : Size) (a : RunAccuracy s table s
             ap (λ (z : RunResult). z .answer) (same-run s (listIn s size table) urn tape wires board (u .graded) (u .isSound))
             ∙ a .runs (ballotsFor s urn) tape wires board (chain-accepted s (u .graded) urn (u .isSound) (u .number)) m w b;
         plain = λ urn tape wires board answer e.
-            same-closing urn tape wires board answer e ∙ a .plain (ballotsFor s urn) tape wires board answer (run-answers urn tape wires board answer e);
+            same-closing urn tape wires board answer e
+            ∙ a .plain (ballotsFor s urn) tape wires board answer (run-answers urn tape wires board answer e);
         says-who-wins = λ urn tape wires board answer e.
             subst (SaysWhoWins s (ballotsFor s urn)) (sym (same-closing urn tape wires board answer e))
             (a .says-who-wins (ballotsFor s urn) tape wires board answer (run-answers urn tape wires board answer e));
@@ -187,13 +217,16 @@ module _ (s : Shape) (table one other vs ws bs ds : List ℕ)
   board-other : (t v b : List ℕ) → urnRunResult s table other t v b .board ≡ runResult s table (ballotsFor s other) t v b .board
   board-other t v b = ap (λ (z : RunResult). z .board) (second-is t v b)
 
-  urn-hidden : BoardsHide s table (ballotsFor s one) (ballotsFor s other) (urnRunResult s table one) (urnRunResult s table other) vs ws bs ds
+  urn-hidden : BoardsHide s table (ballotsFor s one) (ballotsFor s other) (urnRunResult s table one)
+      (urnRunResult s table other) vs ws bs ds
   urn-hidden =
       record {
         first-answer = λ t m. ap (λ (z : RunResult). z .answer) (first-is t vs bs) ∙ h .first-answer t m;
-        first-board = λ t m. subst (Finished (wiresOf (ballotsFor s one) (gatesOf table)) (gatesOf table) (s .candidates) t) (sym (board-one t vs bs)) (h .first-board t m);
+        first-board = λ t m. subst (Finished (wiresOf (ballotsFor s one) (gatesOf table)) (gatesOf table)
+            (s .candidates) t) (sym (board-one t vs bs)) (h .first-board t m);
         second-answer = λ t m. ap (λ (z : RunResult). z .answer) (second-is t ws ds) ∙ h .second-answer t m;
-        second-board = λ t m. subst (Finished (wiresOf (ballotsFor s other) (gatesOf table)) (gatesOf table) (s .candidates) t) (sym (board-other t ws ds)) (h .second-board t m);
+        second-board = λ t m. subst (Finished (wiresOf (ballotsFor s other) (gatesOf table)) (gatesOf table)
+            (s .candidates) t) (sym (board-other t ws ds)) (h .second-board t m);
         same-board = λ (t : List ℕ) m.
             let o = h .same-board t m in (
               o .0,
@@ -210,12 +243,16 @@ tells-no-more : UrnTellsNoMore
 tells-no-more s table one other t u vs ws bs ds first second e f closing =
     let p = passed s table one t vs bs first e in
     let q = passed s table other u ws ds second f in
-    let first-is : (t v b : List ℕ) → urnRunResult s table one t v b ≡ runResult s table (ballotsFor s one) t v b = λ t v b. same-run s table one t v b (p .graded) (p .isSound) in
-    let second-is : (t v b : List ℕ) → urnRunResult s table other t v b ≡ runResult s table (ballotsFor s other) t v b = λ t v b. same-run s table other t v b (q .graded) (q .isSound) in
+    let first-is : (t v b : List ℕ) → urnRunResult s table one t v b ≡ runResult s table (ballotsFor s one) t v b =
+    λ t v b. same-run s table one t v b (p .graded) (p .isSound) in
+    let second-is : (t v b : List ℕ) → urnRunResult s table other t v b
+    ≡ runResult s table (ballotsFor s other) t v b =
+    λ t v b. same-run s table other t v b (q .graded) (q .isSound) in
     let h = board-tells-no-more s table (ballotsFor s one) (ballotsFor s other) t u vs ws bs ds first second
     (sym (ap (λ (z : RunResult). z .answer) (first-is t vs bs)) ∙ e)
     (sym (ap (λ (z : RunResult). z .answer) (second-is u ws ds)) ∙ f)
-    (sym (ap (λ (z : RunResult). closingBytes s (z .board)) (first-is t vs bs)) ∙ closing ∙ ap (λ (z : RunResult). closingBytes s (z .board)) (second-is u ws ds)) in
+    (sym (ap (λ (z : RunResult). closingBytes s (z .board)) (first-is t vs bs)) ∙ closing
+    ∙ ap (λ (z : RunResult). closingBytes s (z .board)) (second-is u ws ds)) in
     (h .0, h .1, urn-hidden s table one other vs ws bs ds first-is second-is (h .2))
 
 pub urn-run-holds : UrnRunHolds

@@ -21,12 +21,16 @@ wires-requires c κs = search needs
 board-requires : tie.Need-board-requires
 board-requires c κs = search needs
 
+-- The stages of the function, seen from later ones.
+abbrev rehearse-from-shape : tie.After-shape → tie.After-rehearse
+rehearse-from-shape c = c .before .before .before .before .before
+
 -- the closing bytes end on the board
 ends : (c : tie.After-known-told2) → c .before .shape .given .0 .1 .0 + c .before .shape .given .0 .0 .candidates
-    ≤ length (c .before .before .before .before .before .before .rehearse .last .1 .1 .1 .1 .0)
+    ≤ length ((rehearse-from-shape (c .before)) .rehearse .last .1 .1 .1 .1 .0)
 unfolding endOn
 ends c =
-    let r = c .before .before .before .before .before .before in
+    let r = (rehearse-from-shape (c .before)) in
     omega (arith, r .rehearse .ensures .on-board, ap endOn (c .before .shape .given .1))
 
 slice-aggregate-read-full : tie.Need-slice-aggregate-read-full
@@ -80,7 +84,7 @@ slice-aggregate-print-bytes c = search needs
 add-print-bytes : tie.Need-add-print-bytes
 add-print-bytes c =
     let told = c .before .before .before in
-    let r = told .before .before .before .before .before .before in
+    let r = (rehearse-from-shape (told .before)) in
     record { fits = omega (arith, ends told, r .rehearse .kept .1 .1 .1 .1 .0) }
 
 sub-print-bytes : tie.Need-sub-print-bytes

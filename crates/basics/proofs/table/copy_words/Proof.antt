@@ -11,7 +11,8 @@ use Rattle.basics.proofs.table.copy_words.Statement.{statement}
 use Rattle.basics.proofs.table.copy_words.Tie as tie
 
 -- one word more
-more : (from to : List ℕ) (i : ℕ) → i < length from → i < length to → set (take i from ++ drop i to) i (getD from i 0) ≡ take (suc i) from ++ drop (suc i) to
+more : (from to : List ℕ) (i : ℕ) → i < length from → i < length to
+    → set (take i from ++ drop i to) i (getD from i 0) ≡ take (suc i) from ++ drop (suc i) to
 more from to i h l =
     ap (λ (r : List ℕ). set (take i from ++ r) i (getD from i 0)) (drop-cons to i 0 l)
     ∙ set-at (take i from) (getD to i 0) (drop (suc i) to) (getD from i 0) i (length-take-le i from (omega arith))

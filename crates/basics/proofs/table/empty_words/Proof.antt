@@ -47,4 +47,5 @@ returns : tie.Need-returns Inv-loop μ-loop
 returns c = let l = c .before .loop in l .inv .2 ∙ all-emptied (l .i) _ (omega arith)
 
 pub empty-words-spec : {M : Type 1} → statement M
-empty-words-spec = tie.close (tie.spec Inv-loop μ-loop loop-holds mul-words slice-write-words add-i loop-less loop-again same-length returns)
+empty-words-spec = tie.close (tie.spec Inv-loop μ-loop loop-holds mul-words slice-write-words add-i loop-less
+    loop-again same-length returns)

@@ -42,7 +42,8 @@ loop-again c =
     let words = at .before .args .words .now in
     let word = getD words (l .i) 0 in (
       omega arith,
-      λ j h. subst (λ (n : ℕ). RowLane j words (bitOr (l .once) word) (bitOr (l .twice) (bitAnd (l .once) word)) n) (sym (add-one (l .i))) (row-turn j words (l .once) (l .twice) (l .i) (omega arith) (l .inv .1 j h)),
+      λ j h. subst (λ (n : ℕ). RowLane j words (bitOr (l .once) word) (bitOr (l .twice) (bitAnd (l .once) word)) n)
+          (sym (add-one (l .i))) (row-turn j words (l .once) (l .twice) (l .i) (omega arith) (l .inv .1 j h)),
     )
 
 returns : tie.Need-returns Inv-loop μ-loop

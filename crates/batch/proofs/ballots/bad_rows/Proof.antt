@@ -28,7 +28,9 @@ use Rattle.basics.proofs.Arithmetic.{row-within}
 abbrev Inv-loop : tie.InvT-loop
 Inv-loop words d rows faults₀ row₀ at₀ faults row at =
     (row ≤ rows) × (at ≡ row * d)
-    × ((j : ℕ) → j < laneCount → max (lane j faults) (foundBit (firstBadRow row (rowsOf d (rows - row) (drop at (laneOf j words))))) ≡ foundBit (firstBadRow 0 (rowsOf d rows (laneOf j words))))
+    × ((j : ℕ) → j < laneCount → max (lane j faults)
+    (foundBit (firstBadRow row (rowsOf d (rows - row) (drop at (laneOf j words)))))
+    ≡ foundBit (firstBadRow 0 (rowsOf d rows (laneOf j words))))
 
 abbrev μ-loop : tie.MeasureT-loop
 μ-loop words d rows faults₀ row₀ at₀ faults row at = rows - row
@@ -45,7 +47,8 @@ loop-holds c =
     )
 
 -- a turn's row lies within the words
-end-within : (c : tie.In-loop Inv-loop μ-loop) → c .before .loop .at + c .before .before .before .args .d ≤ length (c .before .before .before .args .words .now)
+end-within : (c : tie.In-loop Inv-loop μ-loop) → c .before .loop .at + c .before .before .before .args .d
+    ≤ length (c .before .before .before .args .words .now)
 end-within c =
     let at = c .before in
     let start = at .before .before in
@@ -77,7 +80,8 @@ loop-less c = omega arith
 
 -- what the call says about a lane of the row
 row-says : (c : tie.After-bad-row Inv-loop μ-loop) → let at = c .before .before .before in let a = at .before .before .args in
-    (j : ℕ) → j < laneCount → lane j (c .bad-row .result) ≡ cond (eqb (ones (take (a .d) (drop (at .loop .at) (laneOf j (a .words .now))))) 1) 0 1
+    (j : ℕ) → j < laneCount → lane j (c .bad-row .result)
+    ≡ cond (eqb (ones (take (a .d) (drop (at .loop .at) (laneOf j (a .words .now))))) 1) 0 1
 row-says c =
     let at = c .before .before .before in
     let a = at .before .before .args in
@@ -101,7 +105,8 @@ loop-again c =
           let xs = laneOf j (start .args .words .now) in
           let new = lane j (bitOr (at .loop .faults) fault) in
           ap (λ (n : ℕ). max new (foundBit (firstBadRow n (rowsOf d (rows - n) (drop (at .loop .at + d) xs))))) (add-one row)
-          ∙ ap (λ (ys : List ℕ). max new (foundBit (firstBadRow (suc row) (rowsOf d (rows - suc row) ys)))) (sym (drop-drop d (at .loop .at) xs))
+          ∙ ap (λ (ys : List ℕ). max new (foundBit (firstBadRow (suc row) (rowsOf d (rows - suc row) ys))))
+          (sym (drop-drop d (at .loop .at) xs))
           ∙ rows-turn j d row rows (at .loop .faults) fault (drop (at .loop .at) xs) (omega arith) (row-says c j h)
           ∙ at .loop .inv .2 j h,
     )
@@ -114,7 +119,8 @@ returns c =
     λ j h.
     sym (max-zero (lane j (at .loop .faults)))
     ∙ ap (λ (p : Place). max (lane j (at .loop .faults)) (foundBit p))
-    (sym (bad-end (start .args .d) (at .loop .row) (start .args .rows) (drop (at .loop .at) (laneOf j (start .args .words .now))) (omega arith)))
+    (sym (bad-end (start .args .d) (at .loop .row) (start .args .rows)
+    (drop (at .loop .at) (laneOf j (start .args .words .now))) (omega arith)))
     ∙ at .loop .inv .2 j h
 
 pub bad-rows-spec : {M : Type 1} → statement M

@@ -30,10 +30,13 @@ size-known : (c : tie.Else1) → length (c .before .before .before .args .ballot
 size-known c = c .if1 .left ∙ c .before .ballot-bytes .ensures
 
 -- so the answer is that of the tests of the kind
-by-kind : (c : tie.Else1) → let a = c .before .before .before .args in firstOf (wordBallotReasons (a .shape) (a .ballots .now)) ≡ wordKind (a .shape) (a .ballots .now)
+by-kind : (c : tie.Else1) → let a = c .before .before .before .args in
+    firstOf (wordBallotReasons (a .shape) (a .ballots .now)) ≡ wordKind (a .shape) (a .ballots .now)
 by-kind c =
     let a = c .before .before .before .args in
-    ballots-by (a .shape) (a .ballots .now) true (eq-eqb (length (a .ballots .now)) (ballotBytes (a .shape)) (size-known c)) ∙ found-kind (wordKind (a .shape) (a .ballots .now))
+    ballots-by (a .shape) (a .ballots .now) true
+    (eq-eqb (length (a .ballots .now)) (ballotBytes (a .shape)) (size-known c))
+    ∙ found-kind (wordKind (a .shape) (a .ballots .now))
 
 is-ranking-requires : tie.Need-is-ranking-requires
 is-ranking-requires c κs = search needs
@@ -61,13 +64,15 @@ returns-2 : tie.Need-returns-2
 returns-2 c =
     let passed = c .before .before .before in
     let a = passed .before .before .before .args in
-    c .test-rankings .ensures ∙ sym (ranked-kind (a .shape) (a .ballots .now) (ranking (c .before .before) ∙ c .before .if2 .taken)) ∙ sym (by-kind passed)
+    c .test-rankings .ensures ∙ sym (ranked-kind (a .shape) (a .ballots .now)
+    (ranking (c .before .before) ∙ c .before .if2 .taken)) ∙ sym (by-kind passed)
 
 returns-3 : tie.Need-returns-3
 returns-3 c =
     let passed = c .before .before .before in
     let a = passed .before .before .before .args in
-    c .test-grades .ensures ∙ sym (graded-kind (a .shape) (a .ballots .now) (ranking (c .before .before) ∙ c .before .if2 .left)) ∙ sym (by-kind passed)
+    c .test-grades .ensures ∙ sym (graded-kind (a .shape) (a .ballots .now)
+    (ranking (c .before .before) ∙ c .before .if2 .left)) ∙ sym (by-kind passed)
 
 pub test-spec : {M : Type 1} → statement M
 test-spec =

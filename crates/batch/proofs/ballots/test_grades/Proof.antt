@@ -38,7 +38,8 @@ unfolding firstJury
 found c =
     let start = c .before .before .before .before in
     let b = c .before .bad-rows in
-    c .first-jury .ensures ∙ first-by-bits (b .result) (λ j. badRow (start .args .shape) (laneOf j (start .args .ballots .now))) (b .ensures)
+    c .first-jury .ensures ∙ first-by-bits (b .result)
+    (λ j. badRow (start .args .shape) (laneOf j (start .args .ballots .now))) (b .ensures)
 
 returns : tie.Need-returns
 unfolding refusedFor wordGradedReasons reasonOf foundAt firstOf

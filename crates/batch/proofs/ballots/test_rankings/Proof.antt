@@ -41,13 +41,15 @@ unfolding refusedFor wordRankedReasons reasonOf foundAt firstOf both
 returns c =
     let searched = c .before .before .before in
     let a = searched .before .before .before .args in
-    sym (ap (λ (p : Place). both p (firstJury (notWeakOrder (a .shape)) (a .ballots .now))) (sym (clash-found searched) ∙ c .before .j .given .1))
+    sym (ap (λ (p : Place). both p (firstJury (notWeakOrder (a .shape)) (a .ballots .now)))
+    (sym (clash-found searched) ∙ c .before .j .given .1))
 
 enum-told : tie.Need-enum-told
 enum-told c = search needs
 
 -- 11 finds nothing in any jury
-no-clash : (c : tie.After-enum-told) → let a = c .before .before .before .before .before .args in firstJury (clash (a .shape)) (a .ballots .now) ≡ Nowhere
+no-clash : (c : tie.After-enum-told) → let a = c .before .before .before .before .before .args in
+    firstJury (clash (a .shape)) (a .ballots .now) ≡ Nowhere
 no-clash c = sym (clash-found (c .before .before)) ∙ c .enum-told .given .1
 
 not-weak-order-requires : tie.Need-not-weak-order-requires
@@ -69,7 +71,8 @@ unfolding firstJury
 gap-found c =
     let start = c .before .before .before .before .before .before .before in
     let b = c .before .not-weak-order in
-    c .first-jury2 .ensures ∙ first-by-bits (b .result) (λ j. notWeakOrder (start .args .shape) (laneOf j (start .args .ballots .now))) (b .ensures)
+    c .first-jury2 .ensures ∙ first-by-bits (b .result)
+    (λ j. notWeakOrder (start .args .shape) (laneOf j (start .args .ballots .now))) (b .ensures)
 
 returns-2 : tie.Need-returns-2
 unfolding refusedFor wordRankedReasons reasonOf foundAt firstOf both
@@ -77,7 +80,8 @@ returns-2 c =
     let searched = c .before .before .before in
     let passed = searched .before .before in
     let a = passed .before .before .before .before .before .args in
-    sym (ap (λ (p : Place). both p (firstJury (notWeakOrder (a .shape)) (a .ballots .now))) (no-clash passed) ∙ ap (both Nowhere) (sym (gap-found searched) ∙ c .before .j2 .given .1))
+    sym (ap (λ (p : Place). both p (firstJury (notWeakOrder (a .shape)) (a .ballots .now))) (no-clash passed)
+    ∙ ap (both Nowhere) (sym (gap-found searched) ∙ c .before .j2 .given .1))
 
 returns-3 : tie.Need-returns-3
 unfolding refusedFor wordRankedReasons foundAt firstOf both
@@ -85,7 +89,8 @@ returns-3 c =
     let searched = c .before .before in
     let passed = searched .before .before in
     let a = passed .before .before .before .before .before .args in
-    sym (ap (λ (p : Place). both p (firstJury (notWeakOrder (a .shape)) (a .ballots .now))) (no-clash passed) ∙ ap (both Nowhere) (sym (gap-found searched) ∙ c .enum-told2 .given .1))
+    sym (ap (λ (p : Place). both p (firstJury (notWeakOrder (a .shape)) (a .ballots .now))) (no-clash passed)
+    ∙ ap (both Nowhere) (sym (gap-found searched) ∙ c .enum-told2 .given .1))
 
 pub test-rankings-spec : {M : Type 1} → statement M
 test-rankings-spec =

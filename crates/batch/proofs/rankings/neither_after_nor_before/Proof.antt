@@ -14,7 +14,9 @@ use Rattle.batch.proofs.rankings.neither_after_nor_before.Statement.{st
 use Rattle.batch.proofs.rankings.neither_after_nor_before.Tie as tie
 
 abbrev Inv-loop : tie.InvT-loop
-Inv-loop words k b i j found₀ l₀ found l = (l ≤ k) × ((u : ℕ) → u < laneCount → lane u found ≡ bit (someBelow l (λ l. not (before k (laneOf u words) b i l) && not (before k (laneOf u words) b l j))))
+Inv-loop words k b i j found₀ l₀ found l = (l ≤ k)
+    × ((u : ℕ) → u < laneCount → lane u found
+    ≡ bit (someBelow l (λ l. not (before k (laneOf u words) b i l) && not (before k (laneOf u words) b l j))))
 
 abbrev μ-loop : tie.MeasureT-loop
 μ-loop words k b i j found₀ l₀ found l = k - l
@@ -54,7 +56,13 @@ loop-again c =
     let j = start .args .j in
     let l = at .loop .l in (
       omega arith,
-      λ u h. some-more u l (λ l. not (before k (laneOf u words) b i l) && not (before k (laneOf u words) b l j)) (at .loop .found) _ (at .loop .inv .1 u h) (both-lane u _ _ (not (before k (laneOf u words) b i l)) (not (before k (laneOf u words) b l j)) (not-lane u (first .puts-before .result) (before k (laneOf u words) b i l) h (first .puts-before .ensures u h)) (not-lane u (second .puts-before2 .result) (before k (laneOf u words) b l j) h (second .puts-before2 .ensures u h))),
+      λ u h. some-more u l (λ l. not (before k (laneOf u words) b i l) && not (before k (laneOf u words) b l j))
+          (at .loop .found) _ (at .loop .inv .1 u h)
+          (both-lane u _ _ (not (before k (laneOf u words) b i l)) (not (before k (laneOf u words) b l j))
+          (not-lane u (first .puts-before .result) (before k (laneOf u words) b i l) h
+          (first .puts-before .ensures u h))
+          (not-lane u (second .puts-before2 .result) (before k (laneOf u words) b l j) h
+          (second .puts-before2 .ensures u h))),
     )
 
 returns : tie.Need-returns Inv-loop μ-loop
@@ -67,7 +75,11 @@ returns c =
     let b = start .args .b in
     let i = start .args .i in
     let j = start .args .j in
-    λ u h. at .loop .inv .1 u h ∙ ap (λ (m : ℕ). bit (someBelow m (λ l. not (before k (laneOf u words) b i l) && not (before k (laneOf u words) b l j)))) {x = at .loop .l} {y = k} (omega arith)
+    λ u h. at .loop .inv .1 u h ∙ ap (λ (m : ℕ). bit
+    (someBelow m (λ l. not (before k (laneOf u words) b i l) && not (before k (laneOf u words) b l j))))
+    {x = at .loop .l} {y = k} (omega arith)
 
 pub neither-after-nor-before-spec : {M : Type 1} → statement M
-neither-after-nor-before-spec = tie.close (tie.spec Inv-loop μ-loop loop-holds puts-before-requires puts-before-requires-2 add-l loop-less loop-again returns)
+neither-after-nor-before-spec =
+    tie.close (tie.spec Inv-loop μ-loop loop-holds puts-before-requires puts-before-requires-2 add-l loop-less
+    loop-again returns)

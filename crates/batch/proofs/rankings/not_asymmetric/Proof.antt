@@ -13,7 +13,8 @@ use Rattle.batch.proofs.rankings.not_asymmetric.Statement.{statement}
 use Rattle.batch.proofs.rankings.not_asymmetric.Tie as tie
 
 abbrev Inv-loop : tie.InvT-loop
-Inv-loop words k n faults₀ b₀ faults b = (b ≤ n) × ((u : ℕ) → u < laneCount → lane u faults ≡ foundBit (firstOver b (notAsymmetricInBallot k (laneOf u words))))
+Inv-loop words k n faults₀ b₀ faults b = (b ≤ n)
+    × ((u : ℕ) → u < laneCount → lane u faults ≡ foundBit (firstOver b (notAsymmetricInBallot k (laneOf u words))))
 
 abbrev μ-loop : tie.MeasureT-loop
 μ-loop words k n faults₀ b₀ faults b = n - b
@@ -48,7 +49,8 @@ loop-again c =
     let n = start .args .n in
     let b = at .loop .b in (
       omega arith,
-      λ u h. found-more u b (notAsymmetricInBallot k (laneOf u words)) (at .loop .faults) _ (at .loop .inv .1 u h) (called .not-asymmetric-in-ballot .ensures u h),
+      λ u h. found-more u b (notAsymmetricInBallot k (laneOf u words)) (at .loop .faults) _ (at .loop .inv .1 u h)
+          (called .not-asymmetric-in-ballot .ensures u h),
     )
 
 returns : tie.Need-returns Inv-loop μ-loop
@@ -59,7 +61,8 @@ returns c =
     let words = start .args .words .now in
     let k = start .args .k in
     let n = start .args .n in
-    λ u h. at .loop .inv .1 u h ∙ ap (λ (m : ℕ). foundBit (firstOver m (notAsymmetricInBallot k (laneOf u words)))) {x = at .loop .b} {y = n} (omega arith)
+    λ u h. at .loop .inv .1 u h ∙ ap (λ (m : ℕ). foundBit (firstOver m (notAsymmetricInBallot k (laneOf u words))))
+    {x = at .loop .b} {y = n} (omega arith)
 
 pub not-asymmetric-spec : {M : Type 1} → statement M
 not-asymmetric-spec = tie.close (tie.spec Inv-loop μ-loop loop-holds not-asymmetric-in-ballot-requires add-b loop-less loop-again returns)

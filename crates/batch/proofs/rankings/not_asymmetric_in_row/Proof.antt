@@ -13,7 +13,8 @@ use Rattle.batch.proofs.rankings.not_asymmetric_in_row.Statement.{state
 use Rattle.batch.proofs.rankings.not_asymmetric_in_row.Tie as tie
 
 abbrev Inv-loop : tie.InvT-loop
-Inv-loop words k b i faults₀ j₀ faults j = (j ≤ k) × ((u : ℕ) → u < laneCount → lane u faults ≡ foundBit (firstOver j (notAsymmetricAt k (laneOf u words) b i)))
+Inv-loop words k b i faults₀ j₀ faults j = (j ≤ k)
+    × ((u : ℕ) → u < laneCount → lane u faults ≡ foundBit (firstOver j (notAsymmetricAt k (laneOf u words) b i)))
 
 abbrev μ-loop : tie.MeasureT-loop
 μ-loop words k b i faults₀ j₀ faults j = k - j
@@ -52,7 +53,10 @@ loop-again c =
     let i = start .args .i in
     let j = at .loop .j in (
       omega arith,
-      λ u h. found-more u j (notAsymmetricAt k (laneOf u words) b i) (at .loop .faults) _ (at .loop .inv .1 u h) (clash-lane u (first .puts-before .result) (second .puts-before2 .result) (rankPlace k b i j) (before k (laneOf u words) b i j) (before k (laneOf u words) b j i) (first .puts-before .ensures u h) (second .puts-before2 .ensures u h)),
+      λ u h. found-more u j (notAsymmetricAt k (laneOf u words) b i) (at .loop .faults) _ (at .loop .inv .1 u h)
+          (clash-lane u (first .puts-before .result) (second .puts-before2 .result) (rankPlace k b i j)
+          (before k (laneOf u words) b i j) (before k (laneOf u words) b j i) (first .puts-before .ensures u h)
+          (second .puts-before2 .ensures u h)),
     )
 
 returns : tie.Need-returns Inv-loop μ-loop
@@ -64,7 +68,9 @@ returns c =
     let k = start .args .k in
     let b = start .args .b in
     let i = start .args .i in
-    λ u h. at .loop .inv .1 u h ∙ ap (λ (m : ℕ). foundBit (firstOver m (notAsymmetricAt k (laneOf u words) b i))) {x = at .loop .j} {y = k} (omega arith)
+    λ u h. at .loop .inv .1 u h ∙ ap (λ (m : ℕ). foundBit (firstOver m (notAsymmetricAt k (laneOf u words) b i)))
+    {x = at .loop .j} {y = k} (omega arith)
 
 pub not-asymmetric-in-row-spec : {M : Type 1} → statement M
-not-asymmetric-in-row-spec = tie.close (tie.spec Inv-loop μ-loop loop-holds puts-before-requires puts-before-requires-2 add-j loop-less loop-again returns)
+not-asymmetric-in-row-spec = tie.close
+    (tie.spec Inv-loop μ-loop loop-holds puts-before-requires puts-before-requires-2 add-j loop-less loop-again returns)

@@ -15,7 +15,9 @@ use Rattle.batch.proofs.rankings.not_weak_order.Statement.{statement}
 use Rattle.batch.proofs.rankings.not_weak_order.Tie as tie
 
 abbrev Inv-loop : tie.InvT-loop
-Inv-loop words k n faults₀ b₀ faults b = (b ≤ n) × ((u : ℕ) → u < laneCount → lane u faults ≡ foundBit (firstOver b (λ b. cond (notWeakOrder k (laneOf u words) b) (At b) Nowhere)))
+Inv-loop words k n faults₀ b₀ faults b = (b ≤ n)
+    × ((u : ℕ) → u < laneCount → lane u faults
+    ≡ foundBit (firstOver b (λ b. cond (notWeakOrder k (laneOf u words) b) (At b) Nowhere)))
 
 abbrev μ-loop : tie.MeasureT-loop
 μ-loop words k n faults₀ b₀ faults b = n - b
@@ -50,7 +52,9 @@ loop-again c =
     let n = start .args .n in
     let b = at .loop .b in (
       omega arith,
-      λ u h. found-more u b (λ b. cond (notWeakOrder k (laneOf u words) b) (At b) Nowhere) (at .loop .faults) _ (at .loop .inv .1 u h) (called .not-weak-order-in-ballot .ensures u h ∙ test-found (notWeakOrder k (laneOf u words) b) b),
+      λ u h. found-more u b (λ b. cond (notWeakOrder k (laneOf u words) b) (At b) Nowhere) (at .loop .faults) _
+          (at .loop .inv .1 u h) (called .not-weak-order-in-ballot .ensures u h
+          ∙ test-found (notWeakOrder k (laneOf u words) b) b),
     )
 
 returns : tie.Need-returns Inv-loop μ-loop
@@ -61,7 +65,9 @@ returns c =
     let words = start .args .words .now in
     let k = start .args .k in
     let n = start .args .n in
-    λ u h. at .loop .inv .1 u h ∙ ap (λ (m : ℕ). foundBit (firstOver m (λ b. cond (notWeakOrder k (laneOf u words) b) (At b) Nowhere))) {x = at .loop .b} {y = n} (omega arith)
+    λ u h. at .loop .inv .1 u h ∙ ap (λ (m : ℕ). foundBit
+    (firstOver m (λ b. cond (notWeakOrder k (laneOf u words) b) (At b) Nowhere))) {x = at .loop .b} {y = n}
+    (omega arith)
 
 pub not-weak-order-spec : {M : Type 1} → statement M
 not-weak-order-spec = tie.close (tie.spec Inv-loop μ-loop loop-holds not-weak-order-in-ballot-requires add-b loop-less loop-again returns)

@@ -14,7 +14,9 @@ use Rattle.batch.proofs.rankings.not_weak_order_after.Statement.{statem
 use Rattle.batch.proofs.rankings.not_weak_order_after.Tie as tie
 
 abbrev Inv-loop : tie.InvT-loop
-Inv-loop words k b i faults₀ j₀ faults j = (j ≤ k) × ((u : ℕ) → u < laneCount → lane u faults ≡ bit (someBelow j (λ j. before k (laneOf u words) b i j && neitherAfterNorBefore k (laneOf u words) b i j)))
+Inv-loop words k b i faults₀ j₀ faults j = (j ≤ k)
+    × ((u : ℕ) → u < laneCount → lane u faults
+    ≡ bit (someBelow j (λ j. before k (laneOf u words) b i j && neitherAfterNorBefore k (laneOf u words) b i j)))
 
 abbrev μ-loop : tie.MeasureT-loop
 μ-loop words k b i faults₀ j₀ faults j = k - j
@@ -52,7 +54,11 @@ loop-again c =
     let i = start .args .i in
     let j = at .loop .j in (
       omega arith,
-      λ u h. some-more u j (λ j. before k (laneOf u words) b i j && neitherAfterNorBefore k (laneOf u words) b i j) (at .loop .faults) _ (at .loop .inv .1 u h) (both-lane u (first .puts-before .result) (second .neither-after-nor-before .result) (before k (laneOf u words) b i j) (neitherAfterNorBefore k (laneOf u words) b i j) (first .puts-before .ensures u h) (second .neither-after-nor-before .ensures u h)),
+      λ u h. some-more u j (λ j. before k (laneOf u words) b i j && neitherAfterNorBefore k (laneOf u words) b i j)
+          (at .loop .faults) _ (at .loop .inv .1 u h)
+          (both-lane u (first .puts-before .result) (second .neither-after-nor-before .result)
+          (before k (laneOf u words) b i j) (neitherAfterNorBefore k (laneOf u words) b i j)
+          (first .puts-before .ensures u h) (second .neither-after-nor-before .ensures u h)),
     )
 
 returns : tie.Need-returns Inv-loop μ-loop
@@ -64,7 +70,11 @@ returns c =
     let k = start .args .k in
     let b = start .args .b in
     let i = start .args .i in
-    λ u h. at .loop .inv .1 u h ∙ ap (λ (m : ℕ). bit (someBelow m (λ j. before k (laneOf u words) b i j && neitherAfterNorBefore k (laneOf u words) b i j))) {x = at .loop .j} {y = k} (omega arith)
+    λ u h. at .loop .inv .1 u h ∙ ap (λ (m : ℕ). bit
+    (someBelow m (λ j. before k (laneOf u words) b i j && neitherAfterNorBefore k (laneOf u words) b i j)))
+    {x = at .loop .j} {y = k} (omega arith)
 
 pub not-weak-order-after-spec : {M : Type 1} → statement M
-not-weak-order-after-spec = tie.close (tie.spec Inv-loop μ-loop loop-holds puts-before-requires neither-after-nor-before-requires add-j loop-less loop-again returns)
+not-weak-order-after-spec = tie.close
+    (tie.spec Inv-loop μ-loop loop-holds puts-before-requires neither-after-nor-before-requires add-j loop-less
+    loop-again returns)

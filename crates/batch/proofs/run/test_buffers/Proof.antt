@@ -20,7 +20,8 @@ abbrev size : tie.Start → Size
 size c = record { gates = c .args .gates; conditional = c .args .conditional }
 
 -- the outcomes of the tests
-tape-test : (c : tie.After-has-length) → let a = c .before .before .before .before .args in eqb (length (a .tape .now)) (a .conditional) ≡ c .has-length .result
+tape-test : (c : tie.After-has-length) → let a = c .before .before .before .before .args in
+    eqb (length (a .tape .now)) (a .conditional) ≡ c .has-length .result
 tape-test c =
     let a = c .before .before .before .before .args in
     ap (eqb (length (a .tape .now))) (sym (add-zero (a .conditional))) ∙ sym (c .has-length .ensures)
@@ -28,7 +29,8 @@ tape-test c =
 tape-long : (c : tie.Else1) → let a = c .before .before .before .before .before .args in eqb (length (a .tape .now)) (a .conditional) ≡ true
 tape-long c = tape-test (c .before) ∙ not-false (c .before .has-length .result) (c .if1 .left)
 
-wires-long : (c : tie.Else2) → let a = c .before .before .before .before .before .before .before .args in eqb (length (a .wires .now)) (a .inputs + a .gates) ≡ true
+wires-long : (c : tie.Else2) → let a = c .before .before .before .before .before .before .before .args in
+    eqb (length (a .wires .now)) (a .inputs + a .gates) ≡ true
 wires-long c = sym (c .before .has-length2 .ensures) ∙ not-false (c .before .has-length2 .result) (c .if2 .left)
 
 has-length-requires : tie.Need-has-length-requires
@@ -39,7 +41,8 @@ unfolding refusedFor reasonOf lentFound unless firstOf
 returns c =
     let start = c .before .before .before .before .before in
     let a = start .args in
-    sym (lent-by (a .inputs) (a .outputs) (size start) (a .tape .now) (a .wires .now) (a .board .now) false _ _ (tape-test (c .before) ∙ not-true (c .before .has-length .result) (c .if1 .taken)) refl refl)
+    sym (lent-by (a .inputs) (a .outputs) (size start) (a .tape .now) (a .wires .now) (a .board .now) false _ _
+    (tape-test (c .before) ∙ not-true (c .before .has-length .result) (c .if1 .taken)) refl refl)
 
 has-length-requires-2 : tie.Need-has-length-requires-2
 has-length-requires-2 c κs = search needs
@@ -63,7 +66,8 @@ returns-3 c =
     let tape = wires .before .before in
     let start = tape .before .before .before .before .before in
     let a = start .args in
-    sym (lent-by (a .inputs) (a .outputs) (size start) (a .tape .now) (a .wires .now) (a .board .now) true true false (tape-long tape) (wires-long wires)
+    sym (lent-by (a .inputs) (a .outputs) (size start) (a .tape .now) (a .wires .now) (a .board .now) true true
+    false (tape-long tape) (wires-long wires)
     (sym (c .before .has-length3 .ensures) ∙ not-true (c .before .has-length3 .result) (c .if3 .taken)))
 
 returns-4 : tie.Need-returns-4
@@ -73,7 +77,8 @@ returns-4 c =
     let tape = wires .before .before in
     let start = tape .before .before .before .before .before in
     let a = start .args in
-    sym (lent-by (a .inputs) (a .outputs) (size start) (a .tape .now) (a .wires .now) (a .board .now) true true true (tape-long tape) (wires-long wires)
+    sym (lent-by (a .inputs) (a .outputs) (size start) (a .tape .now) (a .wires .now) (a .board .now) true true true
+    (tape-long tape) (wires-long wires)
     (sym (c .before .has-length3 .ensures) ∙ not-false (c .before .has-length3 .result) (c .if3 .left)))
 
 pub test-buffers-spec : {M : Type 1} → statement M

@@ -20,20 +20,27 @@ module _ (ws board last : List ℕ) (outputs shown : ℕ) (fits : outputs ≤ le
 
   from-is : from ≡ drop (length ws - outputs) ws
   unfolding from
-  from-is = take-all (length ws - (length ws - outputs)) (drop (length ws - outputs) ws) (omega (arith, length-drop (length ws - outputs) ws))
+  from-is = take-all (length ws - (length ws - outputs)) (drop (length ws - outputs) ws)
+      (omega (arith, length-drop (length ws - outputs) ws))
 
   from-long : length from ≡ outputs
   unfolding from
-  from-long = omega (arith, length-take (length ws - (length ws - outputs)) (drop (length ws - outputs) ws), length-drop (length ws - outputs) ws)
+  from-long = omega (
+    arith,
+    length-take (length ws - (length ws - outputs)) (drop (length ws - outputs) ws),
+    length-drop (length ws - outputs) ws,
+  )
 
   to-long : length to ≤ outputs
   unfolding to
   to-long = omega (arith, length-take (length board - shown) (drop shown board))
 
-  closed : last ≡ from ++ drop (length from) to → take shown board ++ (last ++ drop (length board - shown) (drop shown board)) ≡ take shown board ++ drop (length ws - outputs) ws
+  closed : last ≡ from ++ drop (length from) to → take shown board
+      ++ (last ++ drop (length board - shown) (drop shown board)) ≡ take shown board ++ drop (length ws - outputs) ws
   closed e =
       let none : drop (length from) to ≡ [] = drop-of-length-le to {i = length from} (omega (arith, from-long, to-long)) in
-      let rest : drop (length board - shown) (drop shown board) ≡ [] = drop-of-length-le (drop shown board) {i = length board - shown} (omega (arith, length-drop shown board)) in
+      let rest : drop (length board - shown) (drop shown board) ≡ [] =
+      drop-of-length-le (drop shown board) {i = length board - shown} (omega (arith, length-drop shown board)) in
       ap (λ (l : List ℕ). take shown board ++ (last ++ l)) rest
       ∙ ap (λ (l : List ℕ). take shown board ++ l) (append-nil last ∙ e ∙ ap (λ (l : List ℕ). from ++ l) none ∙ append-nil from ∙ from-is)
 
@@ -74,7 +81,8 @@ returns : tie.Need-returns
 unfolding from to
 returns c =
     let s = c .before .before .before .before .before .before .before in
-    closed (s .args .wires .now) (s .args .board .now) (c .before .before .copy-words .last .1 .0) (s .args .outputs) (s .args .shown) (s .pre .enough) (s .pre .room) (c .before .before .copy-words .ensures)
+    closed (s .args .wires .now) (s .args .board .now) (c .before .before .copy-words .last .1 .0)
+    (s .args .outputs) (s .args .shown) (s .pre .enough) (s .pre .room) (c .before .before .copy-words .ensures)
 
 pub close-spec : {M : Type 1} → statement M
 close-spec =

@@ -20,7 +20,8 @@ step-requires : tie.Need-step-requires
 step-requires c κs =
     let s = copied-from (c .before .before .before .before) in
     let a = s .args in
-    step-ready (a .inputs .now) (a .table .now) (a .outputs) (a .tape .now) (a .wires .now) (a .board .now) (s .pre) _ (c .before .before .before .before .copy-words .ensures)
+    step-ready (a .inputs .now) (a .table .now) (a .outputs) (a .tape .now) (a .wires .now) (a .board .now) (s .pre)
+    _ (c .before .before .before .before .copy-words .ensures)
 
 close-requires : tie.Need-close-requires
 close-requires c κs =
@@ -28,8 +29,10 @@ close-requires c κs =
     let s = copied-from (stepped-from stepped) in
     let a = s .args in
     let r = stepped .step in
-    let q = can-close (a .inputs .now) (a .table .now) (a .outputs) (a .tape .now) (a .wires .now) (a .board .now) (s .pre) _ (stepped-from stepped .copy-words .ensures)
-    (r .result) (r .last .1 .1 .1 .1 .1 .1 .0) (r .last .1 .1 .1 .1 .1 .1 .1 .0) (r .ensures .shown-is) (r .kept .1 .1 .1 .1 .1 .1 .0) (r .kept .1 .1 .1 .1 .1 .1 .1 .0) in
+    let q = can-close (a .inputs .now) (a .table .now) (a .outputs) (a .tape .now) (a .wires .now) (a .board .now)
+    (s .pre) _ (stepped-from stepped .copy-words .ensures)
+    (r .result) (r .last .1 .1 .1 .1 .1 .1 .0) (r .last .1 .1 .1 .1 .1 .1 .1 .0) (r .ensures .shown-is)
+    (r .kept .1 .1 .1 .1 .1 .1 .0) (r .kept .1 .1 .1 .1 .1 .1 .1 .0) in
     record { enough = q .0; room = q .1 }
 
 same-length : tie.Need-same-length
@@ -47,8 +50,12 @@ returns c =
     let r = stepped .step in
     let f = stepped-from stepped .copy-words .ensures in
     record {
-      wires-are = final-wires (a .inputs .now) (a .table .now) (a .outputs) (a .tape .now) (a .wires .now) (a .board .now) (s .pre) _ f (r .result) _ _ (r .ensures .shown-is) (r .kept .1 .1 .1 .1 .1 .1 .0) (r .kept .1 .1 .1 .1 .1 .1 .1 .0) (r .ensures .wires-are) (r .ensures .board-is);
-      board-is = final-board (a .inputs .now) (a .table .now) (a .outputs) (a .tape .now) (a .wires .now) (a .board .now) (s .pre) _ f (r .result) _ _ (r .ensures .shown-is) (r .kept .1 .1 .1 .1 .1 .1 .0) (r .kept .1 .1 .1 .1 .1 .1 .1 .0) (r .ensures .wires-are) (r .ensures .board-is) _ (closed .close .ensures);
+      wires-are = final-wires (a .inputs .now) (a .table .now) (a .outputs) (a .tape .now) (a .wires .now)
+          (a .board .now) (s .pre) _ f (r .result) _ _ (r .ensures .shown-is) (r .kept .1 .1 .1 .1 .1 .1 .0)
+          (r .kept .1 .1 .1 .1 .1 .1 .1 .0) (r .ensures .wires-are) (r .ensures .board-is);
+      board-is = final-board (a .inputs .now) (a .table .now) (a .outputs) (a .tape .now) (a .wires .now)
+          (a .board .now) (s .pre) _ f (r .result) _ _ (r .ensures .shown-is) (r .kept .1 .1 .1 .1 .1 .1 .0)
+          (r .kept .1 .1 .1 .1 .1 .1 .1 .0) (r .ensures .wires-are) (r .ensures .board-is) _ (closed .close .ensures);
     }
 
 pub run-spec : {M : Type 1} → statement M

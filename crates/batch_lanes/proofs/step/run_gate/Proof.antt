@@ -16,7 +16,8 @@ use Rattle.batch_lanes.proofs.step.run_gate.Statement.{statement}
 use Rattle.batch_lanes.proofs.step.run_gate.Tie as tie
 
 good : (c : tie.Start) → let a = c .args in
-    GoodGate (a .own) (gate (getD (a .table .now) (4 * a .g) 0) (getD (a .table .now) (4 * a .g + 1) 0) (getD (a .table .now) (4 * a .g + 2) 0) (getD (a .table .now) (4 * a .g + 3) 0))
+    GoodGate (a .own) (gate (getD (a .table .now) (4 * a .g) 0) (getD (a .table .now) (4 * a .g + 1) 0)
+    (getD (a .table .now) (4 * a .g + 2) 0) (getD (a .table .now) (4 * a .g + 3) 0))
 good c = good-numbers (c .args .table .now) (c .args .g) (c .args .own) (c .pre .ready .good)
 
 -- The stages: the value is computed; its mark is known, and the gate shows a word.
@@ -69,28 +70,42 @@ shared-slice-read-c-wire : tie.Need-shared-slice-read-c-wire
 shared-slice-read-c-wire c = search needs
 
 cast-c-wire : tie.Need-cast-c-wire
-cast-c-wire c = omega (arith, c .shared-slice-known6 .given (4 * c .before .before .before .before .before .before .before .before .args .g + 3))
+cast-c-wire c = omega (
+  arith,
+  c .shared-slice-known6 .given
+      (4 * c .before .before .before .before .before .before .before .before .args .g + 3),
+)
 
 mul-a : tie.Need-mul-a
 mul-a c = let s = c .before .before .before .before .before .before .before .before in omega (arith, good s .a-most, s .pre .ready .inWires)
 
 slice-read-a : tie.Need-slice-read-a
-slice-read-a c = let read = c .before in let s = read .before .before .before .before .before .before .before .before in omega (arith, good s .a-most, s .pre .ready .inWires)
+slice-read-a c = let read = c .before in let s =
+    read .before .before .before .before .before .before .before .before in
+    omega (arith, good s .a-most, s .pre .ready .inWires)
 
 mul-b : tie.Need-mul-b
-mul-b c = let read = c .before in let s = read .before .before .before .before .before .before .before .before in omega (arith, good s .b-most, s .pre .ready .inWires)
+mul-b c = let read = c .before in let s = read .before .before .before .before .before .before .before .before in
+    omega (arith, good s .b-most, s .pre .ready .inWires)
 
 slice-read-b : tie.Need-slice-read-b
-slice-read-b c = let read = c .before .before in let s = read .before .before .before .before .before .before .before .before in omega (arith, good s .b-most, s .pre .ready .inWires)
+slice-read-b c = let read = c .before .before in let s =
+    read .before .before .before .before .before .before .before .before in
+    omega (arith, good s .b-most, s .pre .ready .inWires)
 
 mul-c : tie.Need-mul-c
-mul-c c = let read = c .before .before in let s = read .before .before .before .before .before .before .before .before in omega (arith, good s .c-most, s .pre .ready .inWires)
+mul-c c = let read = c .before .before in let s =
+    read .before .before .before .before .before .before .before .before in
+    omega (arith, good s .c-most, s .pre .ready .inWires)
 
 slice-read-c : tie.Need-slice-read-c
-slice-read-c c = let read = c .before .before .before in let s = read .before .before .before .before .before .before .before .before in omega (arith, good s .c-most, s .pre .ready .inWires)
+slice-read-c c = let read = c .before .before .before in let s =
+    read .before .before .before .before .before .before .before .before in
+    omega (arith, good s .c-most, s .pre .ready .inWires)
 
 value-requires : tie.Need-value-requires
-value-requires c κs = let read = c .before .before .before in good (read .before .before .before .before .before .before .before .before) .known
+value-requires c κs = let read = c .before .before .before in
+    good (read .before .before .before .before .before .before .before .before) .known
 
 mul-wires : tie.Need-mul-wires
 mul-wires c = search needs
@@ -105,7 +120,8 @@ conditional-requires c κs = search needs
 shows : (c : tie.Then1) → let a = shown-from c .args in conditionalCount (gateAt (a .table .now) (a .g) ∷ []) ≡ 1
 shows c =
     let a = shown-from c .args in
-    count-is (a .table .now) (a .g) (c .before .conditional .result) (c .before .conditional .ensures) ∙ ap (λ (b : Bool). cond {A = ℕ} b 1 0) (c .if1 .taken)
+    count-is (a .table .now) (a .g) (c .before .conditional .result) (c .before .conditional .ensures)
+    ∙ ap (λ (b : Bool). cond {A = ℕ} b 1 0) (c .if1 .taken)
 
 mul-board : tie.Need-mul-board
 mul-board c = omega (arith, shows c, shown-from c .pre .ready .inTape)
@@ -138,7 +154,8 @@ returns c =
     record {
       shown-is = omega (arith, shows t);
       wires-are = λ j h. gate-wires (a .table .now) (a .g) j (a .wires .now) (a .own) (v .result) (v .ensures j h);
-      board-is = λ j h. with-word (a .table .now) (a .g) (m .result) (m .ensures) (t .if1 .taken) j (a .wires .now) (a .tape .now) (a .board .now) (a .shown);
+      board-is = λ j h. with-word (a .table .now) (a .g) (m .result) (m .ensures) (t .if1 .taken) j (a .wires .now)
+          (a .tape .now) (a .board .now) (a .shown);
     }
 
 same-length-3 : tie.Need-same-length-3
@@ -154,7 +171,8 @@ returns-2 c =
     record {
       shown-is = omega (arith, n);
       wires-are = λ j h. gate-wires (a .table .now) (a .g) j (a .wires .now) (a .own) (v .result) (v .ensures j h);
-      board-is = λ j h. without-word (a .table .now) (a .g) (m .result) (m .ensures) (c .if1 .left) j (a .wires .now) (a .tape .now) (a .board .now) (a .shown);
+      board-is = λ j h. without-word (a .table .now) (a .g) (m .result) (m .ensures) (c .if1 .left) j
+          (a .wires .now) (a .tape .now) (a .board .now) (a .shown);
     }
 
 pub run-gate-spec : {M : Type 1} → statement M

@@ -10,7 +10,8 @@ use Rattle.batch_lanes.proofs.step.step.Statement.{statement}
 use Rattle.batch_lanes.proofs.step.step.Tie as tie
 
 abbrev Inv-loop : tie.InvT-loop
-Inv-loop inputs table from to tape shown wires₀ board₀ marks next₀ g₀ wires board next g = LanesLeft inputs table from to tape shown wires₀ board₀ wires board next g
+Inv-loop inputs table from to tape shown wires₀ board₀ marks next₀ g₀ wires board next g =
+    LanesLeft inputs table from to tape shown wires₀ board₀ wires board next g
 
 abbrev μ-loop : tie.MeasureT-loop
 μ-loop inputs table from to tape shown wires₀ board₀ marks next₀ g₀ wires board next g = to - g
@@ -35,7 +36,9 @@ run-gate-requires c κs =
     let l = c .before .before .before .before .loop in
     record {
       marks-are = refl;
-      ready = gate-ready (a .inputs) (a .table .now) (a .from) (a .to) (a .tape .now) (a .shown) (a .wires .now) (a .board .now) (s .pre) (l .wires) (l .board) (l .next) (l .g) (l .inv) (c .before .before .before .loop-test .taken);
+      ready = gate-ready (a .inputs) (a .table .now) (a .from) (a .to) (a .tape .now) (a .shown) (a .wires .now)
+          (a .board .now) (s .pre) (l .wires) (l .board) (l .next) (l .g) (l .inv)
+          (c .before .before .before .loop-test .taken);
     }
 
 add-g : tie.Need-add-g Inv-loop μ-loop
@@ -51,8 +54,10 @@ loop-again c =
     let a = s .args in
     let l = turn .before .loop in
     let r = c .before .before .before .before .run-gate in
-    lanes-turn (a .inputs) (a .table .now) (a .from) (a .to) (a .tape .now) (a .shown) (a .wires .now) (a .board .now) (s .pre) (l .wires) (l .board) (l .next) (l .g) (l .inv)
-    (turn .loop-test .taken) _ _ _ _ (add-one (l .g)) (r .ensures .shown-is) (r .kept .1 .1 .1 .1 .1 .1 .0) (r .kept .1 .1 .1 .1 .1 .1 .1 .0) (r .ensures .wires-are) (r .ensures .board-is)
+    lanes-turn (a .inputs) (a .table .now) (a .from) (a .to) (a .tape .now) (a .shown) (a .wires .now)
+    (a .board .now) (s .pre) (l .wires) (l .board) (l .next) (l .g) (l .inv)
+    (turn .loop-test .taken) _ _ _ _ (add-one (l .g)) (r .ensures .shown-is) (r .kept .1 .1 .1 .1 .1 .1 .0)
+    (r .kept .1 .1 .1 .1 .1 .1 .1 .0) (r .ensures .wires-are) (r .ensures .board-is)
 
 same-length : tie.Need-same-length Inv-loop μ-loop
 same-length c = c .before .loop .inv .wiresLength
@@ -65,7 +70,8 @@ returns c =
     let s = c .before .before .before .before .before .before in
     let a = s .args in
     let l = c .before .loop in
-    let e = lanes-end (a .inputs) (a .table .now) (a .from) (a .to) (a .tape .now) (a .shown) (a .wires .now) (a .board .now) (s .pre) (l .wires) (l .board) (l .next) (l .g) (l .inv) (c .loop-test .left) in
+    let e = lanes-end (a .inputs) (a .table .now) (a .from) (a .to) (a .tape .now) (a .shown) (a .wires .now)
+    (a .board .now) (s .pre) (l .wires) (l .board) (l .next) (l .g) (l .inv) (c .loop-test .left) in
     record { shown-is = e .0; wires-are = e .1; board-is = e .2 }
 
 pub step-spec : {M : Type 1} → statement M

@@ -44,11 +44,15 @@ put-requires c κs = search needs
 same-length : tie.Need-same-length
 same-length c = search needs
 
+-- The stages of the function, seen from later ones.
+abbrev start-from-answer : tie.After-answer → tie.Start
+start-from-answer c = c .before .before .before .before .before
+
 returns : tie.Need-returns
 unfolding statusOf
 returns c =
-    let a = c .before .before .before .before .before .before .args in
-    let told = eight (a .t3) (omega (arith, c .before .before .before .before .before .before .good)) in
+    let a = (start-from-answer (c .before)) .args in
+    let told = eight (a .t3) (omega (arith, (start-from-answer (c .before)) .good)) in
     record {
       returns = refl;
       writes = c .before .before .put .ensures ∙ ap (λ (r : List ℕ). (a .reason ∷ a .place ∷ r) ++ drop 10 (a .answer .now)) told;

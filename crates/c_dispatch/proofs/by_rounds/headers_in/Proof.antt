@@ -37,7 +37,13 @@ header-at-requires-8 c κs = search needs
 
 returns : tie.Need-returns
 unfolding headersIn
-returns c = cons _ _ _ _ (c .before .before .before .before .before .before .before .header-at .ensures) (cons _ _ _ _ (c .before .before .before .before .before .before .header-at2 .ensures) (cons _ _ _ _ (c .before .before .before .before .before .header-at3 .ensures) (cons _ _ _ _ (c .before .before .before .before .header-at4 .ensures) (cons _ _ _ _ (c .before .before .before .header-at5 .ensures) (cons _ _ _ _ (c .before .before .header-at6 .ensures) (cons _ _ _ _ (c .before .header-at7 .ensures) (cons _ _ _ _ (c .header-at8 .ensures) (refl))))))))
+returns c = cons _ _ _ _ (c .before .before .before .before .before .before .before .header-at .ensures)
+    (cons _ _ _ _ (c .before .before .before .before .before .before .header-at2 .ensures)
+    (cons _ _ _ _ (c .before .before .before .before .before .header-at3 .ensures)
+    (cons _ _ _ _ (c .before .before .before .before .header-at4 .ensures)
+    (cons _ _ _ _ (c .before .before .before .header-at5 .ensures)
+    (cons _ _ _ _ (c .before .before .header-at6 .ensures)
+    (cons _ _ _ _ (c .before .header-at7 .ensures) (cons _ _ _ _ (c .header-at8 .ensures) (refl))))))))
 
 pub headers-in-spec : {M : Type 1} → statement M
 headers-in-spec =

@@ -50,9 +50,11 @@ returns-2 c =
     let s = shapeOf (a .candidates) (a .grades) (a .ballots) in
     let outside = outside-is (withinLimits s) s (sym (made .new .ensures .result) ∙ told .enum-told .given .1) in
     let r = levelsResult s (a .table .now) (a .levels .now) in
-    let left = call-refused s (a .table .now) (a .levels .now) (reasonAt 1 0) (of-list s (a .table .now) (a .levels .now) (reasonAt 1 0) (outside-list s (a .table .now) outside)) in
+    let left = call-refused s (a .table .now) (a .levels .now) (reasonAt 1 0)
+    (of-list s (a .table .now) (a .levels .now) (reasonAt 1 0) (outside-list s (a .table .now) outside)) in
     put-call depthAnswer (a .answer .now) (long .if1 .left) (depthNumbers (r .answer)) _ _ _ (c .before .before .put-depths .ensures)
-    (ap (λ (z : LevelsResult). depthNumbers (z .answer)) left) (a .levels .now ∷ []) (r .levels ∷ []) _ (ap (λ (z : LevelsResult). z .levels ∷ []) left)
+    (ap (λ (z : LevelsResult). depthNumbers (z .answer)) left) (a .levels .now ∷ []) (r .levels ∷ []) _
+    (ap (λ (z : LevelsResult). z .levels ∷ []) left)
 
 write-requires : tie.Need-write-requires
 write-requires c κs = search needs
@@ -79,7 +81,8 @@ returns-3 c =
     let r = levelsResult s (a .table .now) (a .levels .now) in
     let left = outcome .write .ensures ∙ ap (λ (z : Shape). levelsResult z (a .table .now) (a .levels .now)) same in
     put-call depthAnswer (a .answer .now) (long .if1 .left) (depthNumbers (r .answer)) _ _ _ (c .before .before .put-depths2 .ensures)
-    (ap (λ (z : LevelsResult). depthNumbers (z .answer)) left) (a .levels .now ∷ []) (r .levels ∷ []) _ (ap (λ (z : LevelsResult). z .levels ∷ []) left)
+    (ap (λ (z : LevelsResult). depthNumbers (z .answer)) left) (a .levels .now ∷ []) (r .levels ∷ []) _
+    (ap (λ (z : LevelsResult). z .levels ∷ []) left)
 
 pub jugy-levels-spec : {M : Type 1} → statement M
 jugy-levels-spec =

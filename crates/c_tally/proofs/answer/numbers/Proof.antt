@@ -55,10 +55,29 @@ array-read-wide-8 c = search needs
 wide-requires-8 : tie.Need-wide-requires-8
 wide-requires-8 c κs = search needs
 
+-- The stages of the function, seen from later ones.
+abbrev start-from-wide8 : tie.After-wide8 → tie.Start
+start-from-wide8 c = c .before .before .before .before .before .before .before .before
+
+abbrev wide-from-wide8 : tie.After-wide8 → tie.After-wide
+wide-from-wide8 c = c .before .before .before .before .before .before .before
+
+abbrev wide2-from-wide8 : tie.After-wide8 → tie.After-wide2
+wide2-from-wide8 c = c .before .before .before .before .before .before
+
+abbrev wide3-from-wide8 : tie.After-wide8 → tie.After-wide3
+wide3-from-wide8 c = c .before .before .before .before .before
+
 returns : tie.Need-returns
 returns c =
-    let start = c .before .before .before .before .before .before .before .before in
-    cons _ _ _ _ (c .before .before .before .before .before .before .before .wide .ensures) (cons _ _ _ _ (c .before .before .before .before .before .before .wide2 .ensures) (cons _ _ _ _ (c .before .before .before .before .before .wide3 .ensures) (cons _ _ _ _ (c .before .before .before .before .wide4 .ensures) (cons _ _ _ _ (c .before .before .before .wide5 .ensures) (cons _ _ _ _ (c .before .before .wide6 .ensures) (cons _ _ _ _ (c .before .wide7 .ensures) (cons _ _ _ _ (c .wide8 .ensures) refl)))))))
+    let start = (start-from-wide8 c) in
+    cons _ _ _ _ ((wide-from-wide8 c) .wide .ensures)
+    (cons _ _ _ _ ((wide2-from-wide8 c) .wide2 .ensures)
+    (cons _ _ _ _ ((wide3-from-wide8 c) .wide3 .ensures)
+    (cons _ _ _ _ (c .before .before .before .before .wide4 .ensures)
+    (cons _ _ _ _ (c .before .before .before .wide5 .ensures)
+    (cons _ _ _ _ (c .before .before .wide6 .ensures)
+    (cons _ _ _ _ (c .before .wide7 .ensures) (cons _ _ _ _ (c .wide8 .ensures) refl)))))))
     ∙ eight (start .args .t1) (omega (arith, start .good))
 
 pub numbers-spec : {M : Type 1} → statement M

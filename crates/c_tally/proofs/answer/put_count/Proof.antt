@@ -58,7 +58,8 @@ returns-2 c =
     let why = reasonOf (told .verdict .given .0 .0) in
     let e = ap (λ (v : Verdict). answerNumbers (refusedFor v) (a .counted .closing)) (told .verdict .given .1) in
     puts-same
-    (two (number .number .result) (place .place .result) (why .number) (why .place) (made .numbers .result) (number .number .ensures) (place .place .ensures)
+    (two (number .number .result) (place .place .result) (why .number) (why .place) (made .numbers .result)
+    (number .number .ensures) (place .place .ensures)
     ∙ ap (λ (l : List ℕ). why .number ∷ why .place ∷ l) (made .numbers .ensures) ∙ sym e)
     (c .before .before .put-eight2 .ensures)
 

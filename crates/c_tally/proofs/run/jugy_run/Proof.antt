@@ -16,11 +16,22 @@ use Rattle.c_answers.proofs.Answering.{short-call, put-call}
 use Rattle.c_tally.proofs.run.jugy_run.Statement.{statement}
 use Rattle.c_tally.proofs.run.jugy_run.Tie as tie
 
+-- The stages of the function, seen from later ones.
+abbrev start-from-else1 : tie.Else1 → tie.Start
+start-from-else1 c = c .before .before .before .before .before .before .before
+
+abbrev start-from-then1 : tie.Then1 → tie.Start
+start-from-then1 c = c .before .before .before .before .before .before .before
+
+abbrev run-from-answer2 : tie.After-answer2 → tie.After-run
+run-from-answer2 c = c .before .before .before .before .before .before .before
+
 returns : tie.Need-returns
 unfolding shapeOf
 returns c =
-    let a = c .before .before .before .before .before .before .before .args in
-    let r = runResult (shapeOf (a .candidates) (a .grades) (a .ballots)) (a .table .now) (a .bytes .now) (a .tape .now) (a .wires .now) (a .board .now) in
+    let a = (start-from-then1 c) .args in
+    let r = runResult (shapeOf (a .candidates) (a .grades) (a .ballots)) (a .table .now) (a .bytes .now)
+    (a .tape .now) (a .wires .now) (a .board .now) in
     short-call 4 (a .answer .now) (c .if1 .taken) (sizeNumbers (r .answer)) (a .wires .now ∷ a .board .now ∷ []) (r .wires ∷ r .board ∷ [])
 
 new-requires : tie.Need-new-requires
@@ -44,7 +55,7 @@ returns-2 c =
     let told = c .before .before .before .before in
     let made = told .before .before in
     let long = made .before in
-    let a = long .before .before .before .before .before .before .before .args in
+    let a = (start-from-else1 long) .args in
     let s = shapeOf (a .candidates) (a .grades) (a .ballots) in
     let outside = outside-is (withinLimits s) s (sym (made .new .ensures .result) ∙ told .enum-told .given .1) in
     let r = runResult s (a .table .now) (a .bytes .now) (a .tape .now) (a .wires .now) (a .board .now) in
@@ -71,15 +82,17 @@ same-length-4 c = search needs
 returns-3 : tie.Need-returns-3
 unfolding shapeOf
 returns-3 c =
-    let outcome = c .before .before .before .before .before .before .before .before in
+    let outcome = (run-from-answer2 (c .before)) in
     let known = outcome .before .before .before .before in
     let made = known .before .before in
     let long = made .before in
-    let a = long .before .before .before .before .before .before .before .args in
+    let a = (start-from-else1 long) .args in
     let s = shapeOf (a .candidates) (a .grades) (a .ballots) in
     let same = shape-is (withinLimits s) s (known .shape .given .0 .0) (sym (made .new .ensures .result) ∙ known .shape .given .1) in
     let r = runResult s (a .table .now) (a .bytes .now) (a .tape .now) (a .wires .now) (a .board .now) in
-    let left = outcome .run .ensures ∙ ap (λ (z : Shape). runResult z (a .table .now) (a .bytes .now) (a .tape .now) (a .wires .now) (a .board .now)) same in
+    let left = outcome .run .ensures
+    ∙ ap (λ (z : Shape). runResult z (a .table .now) (a .bytes .now) (a .tape .now) (a .wires .now)
+    (a .board .now)) same in
     put-call 4 (a .answer .now) (long .if1 .left) (sizeNumbers (r .answer)) _ _ _ (c .before .before .put-size2 .ensures)
     (ap (λ (z : RunResult). sizeNumbers (z .answer)) left) (a .wires .now ∷ a .board .now ∷ []) (r .wires ∷ r .board ∷ []) _
     (ap (λ (z : RunResult). z .wires ∷ z .board ∷ []) left)

@@ -20,7 +20,8 @@ returns : tie.Need-returns
 unfolding shapeOf
 returns c =
     let a = c .before .before .before .args in
-    short-call 4 (a .answer .now) (c .if1 .taken) (sizeNumbers (testOutcome (shapeOf (a .candidates) (a .grades) (a .ballots)) (a .table .now))) [] []
+    short-call 4 (a .answer .now) (c .if1 .taken)
+    (sizeNumbers (testOutcome (shapeOf (a .candidates) (a .grades) (a .ballots)) (a .table .now))) [] []
 
 new-requires : tie.Need-new-requires
 new-requires c κs = search needs
@@ -68,7 +69,8 @@ returns-3 c =
     let a = long .before .before .before .args in
     let s = shapeOf (a .candidates) (a .grades) (a .ballots) in
     let same = shape-is (withinLimits s) s (known .shape .given .0 .0) (sym (made .new .ensures .result) ∙ known .shape .given .1) in
-    put-call 4 (a .answer .now) (long .if1 .left) (sizeNumbers (testOutcome s (a .table .now))) _ _ _ (c .before .before .put-size2 .ensures)
+    put-call 4 (a .answer .now) (long .if1 .left) (sizeNumbers (testOutcome s (a .table .now))) _ _ _
+    (c .before .before .put-size2 .ensures)
     (ap sizeNumbers (outcome .test .ensures ∙ ap (λ (z : Shape). testOutcome z (a .table .now)) same)) [] [] [] refl
 
 pub jugy-test-spec : {M : Type 1} → statement M

@@ -25,7 +25,8 @@ returns c =
     let a = c .before .before .before .args in
     let s = shapeOf (a .candidates) (a .grades) (a .ballots) in
     record {
-      leaves = short-call 4 (a .answer .now) (c .if1 .taken) (sizeNumbers (writeOutcome s (a .table .now))) (a .table .now ∷ []) (writeResult s (a .table .now) ∷ []);
+      leaves = short-call 4 (a .answer .now) (c .if1 .taken) (sizeNumbers (writeOutcome s (a .table .now)))
+          (a .table .now ∷ []) (writeResult s (a .table .now) ∷ []);
       holds = λ t. own-list-holds s (T-true (withinLimits s) t);
     }
 
@@ -55,8 +56,10 @@ returns-2 c =
     let outside = outside-is (withinLimits s) s (sym (made .new .ensures .result) ∙ told .enum-told .given .1) in
     let refusal = write-refused s (a .table .now) (reasonAt 1 0) (outside-write s (a .table .now) outside) in
     record {
-      leaves = put-call 4 (a .answer .now) (long .if1 .left) (sizeNumbers (writeOutcome s (a .table .now))) _ _ _ (c .before .before .put-size .ensures)
-          (ap sizeNumbers (sym (refusal .0))) (a .table .now ∷ []) (writeResult s (a .table .now) ∷ []) _ (ap (λ (z : List ℕ). z ∷ []) (sym (refusal .1)));
+      leaves = put-call 4 (a .answer .now) (long .if1 .left) (sizeNumbers (writeOutcome s (a .table .now))) _ _ _
+          (c .before .before .put-size .ensures)
+          (ap sizeNumbers (sym (refusal .0))) (a .table .now ∷ []) (writeResult s (a .table .now) ∷ []) _
+          (ap (λ (z : List ℕ). z ∷ []) (sym (refusal .1)));
       holds = λ t. own-list-holds s (T-true (withinLimits s) t);
     }
 
@@ -72,10 +75,14 @@ same-length-2 c = search needs
 same-length-3 : tie.Need-same-length-3
 same-length-3 c = search needs
 
+-- The stages of the function, seen from later ones.
+abbrev write-from-answer2 : tie.After-answer2 → tie.After-write
+write-from-answer2 c = c .before .before .before .before .before
+
 returns-3 : tie.Need-returns-3
 unfolding shapeOf
 returns-3 c =
-    let outcome = c .before .before .before .before .before .before in
+    let outcome = (write-from-answer2 (c .before)) in
     let known = outcome .before .before .before in
     let made = known .before .before in
     let long = made .before in
@@ -84,8 +91,10 @@ returns-3 c =
     let same = shape-is (withinLimits s) s (known .shape .given .0 .0) (sym (made .new .ensures .result) ∙ known .shape .given .1) in
     let wrote = outcome .write .ensures in
     record {
-      leaves = put-call 4 (a .answer .now) (long .if1 .left) (sizeNumbers (writeOutcome s (a .table .now))) _ _ _ (c .before .before .put-size2 .ensures)
-          (ap sizeNumbers (wrote .answers ∙ ap (λ (z : Shape). writeOutcome z (a .table .now)) same)) (a .table .now ∷ []) (writeResult s (a .table .now) ∷ []) _
+      leaves = put-call 4 (a .answer .now) (long .if1 .left) (sizeNumbers (writeOutcome s (a .table .now))) _ _ _
+          (c .before .before .put-size2 .ensures)
+          (ap sizeNumbers (wrote .answers ∙ ap (λ (z : Shape). writeOutcome z (a .table .now)) same))
+          (a .table .now ∷ []) (writeResult s (a .table .now) ∷ []) _
           (ap (λ (z : List ℕ). z ∷ []) (wrote .leaves ∙ ap (λ (z : Shape). writeResult z (a .table .now)) same));
       holds = λ t. own-list-holds s (T-true (withinLimits s) t);
     }

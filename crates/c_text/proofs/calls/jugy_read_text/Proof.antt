@@ -78,7 +78,8 @@ returns-3 c =
     let r = readTextResult s (a .text .now) (a .output .now) in
     let left = outcome .read .ensures ∙ ap (λ (z : Shape). readTextResult z (a .text .now) (a .output .now)) same in
     put-call 3 (a .answer .now) (long .if1 .left) (oneNumber (r .answer)) _ _ _ (c .before .before .put-length2 .ensures)
-    (ap (λ (z : TextResult). oneNumber (z .answer)) left) (a .output .now ∷ []) (r .output ∷ []) _ (ap (λ (z : TextResult). z .output ∷ []) left)
+    (ap (λ (z : TextResult). oneNumber (z .answer)) left) (a .output .now ∷ []) (r .output ∷ []) _
+    (ap (λ (z : TextResult). z .output ∷ []) left)
 
 pub jugy-read-text-spec : {M : Type 1} → statement M
 jugy-read-text-spec =

@@ -50,7 +50,8 @@ returns-2 c =
     let s = shapeOf (a .candidates) (a .grades) (a .ballots) in
     let outside = outside-is (withinLimits s) s (sym (made .new .ensures .result) ∙ told .enum-told .given .1) in
     let r = writeTextResult s (a .table .now) (a .output .now) in
-    let left = text-refused s (a .table .now) (a .output .now) (reasonAt 1 0) (text-of-list s (a .table .now) (a .output .now) (reasonAt 1 0) (outside-list s (a .table .now) outside)) in
+    let left = text-refused s (a .table .now) (a .output .now) (reasonAt 1 0)
+    (text-of-list s (a .table .now) (a .output .now) (reasonAt 1 0) (outside-list s (a .table .now) outside)) in
     put-call 3 (a .answer .now) (long .if1 .left) (oneNumber (r .answer)) _ _ _ (c .before .before .put-length .ensures)
     (ap oneNumber (left .0)) (a .output .now ∷ []) (r .output ∷ []) _ (ap (λ (z : List ℕ). z ∷ []) (left .1))
 
@@ -79,7 +80,8 @@ returns-3 c =
     let r = writeTextResult s (a .table .now) (a .output .now) in
     let left = outcome .write .ensures ∙ ap (λ (z : Shape). writeTextResult z (a .table .now) (a .output .now)) same in
     put-call 3 (a .answer .now) (long .if1 .left) (oneNumber (r .answer)) _ _ _ (c .before .before .put-length2 .ensures)
-    (ap (λ (z : TextResult). oneNumber (z .answer)) left) (a .output .now ∷ []) (r .output ∷ []) _ (ap (λ (z : TextResult). z .output ∷ []) left)
+    (ap (λ (z : TextResult). oneNumber (z .answer)) left) (a .output .now ∷ []) (r .output ∷ []) _
+    (ap (λ (z : TextResult). z .output ∷ []) left)
 
 pub jugy-write-text-spec : {M : Type 1} → statement M
 jugy-write-text-spec =

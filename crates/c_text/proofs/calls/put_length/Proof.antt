@@ -48,7 +48,8 @@ returns-2 c =
     let told = number .before .before in
     let why = textReasonOf (told .outcome2 .given .0 .0) in
     puts-same
-    (two (number .number .result) (place .place .result) (why .number) (why .place) (0 ∷ []) (number .number .ensures) (place .place .ensures)
+    (two (number .number .result) (place .place .result) (why .number) (why .place) (0 ∷ [])
+    (number .number .ensures) (place .place .ensures)
     ∙ sym (ap (λ (s : Answer). oneNumber (lengthOutcome s)) (told .outcome2 .given .1)))
     (c .before .before .put-one2 .ensures)
 

@@ -66,7 +66,8 @@ returns-2 c =
     let r = left-by (started long) in
     let left = outside-finish s outside (a .table .now) (a .wires .now) in
     put-call sizeAnswer (a .answer .now) (long .if1 .left) (sizeNumbers (r .answer)) _ _ _ (c .before .before .put-size .ensures)
-    (ap (λ (z : FinishResult). sizeNumbers (z .answer)) (sym left)) (a .wires .now ∷ []) (r .wires ∷ []) _ (ap (λ (z : FinishResult). z .wires ∷ []) (sym left))
+    (ap (λ (z : FinishResult). sizeNumbers (z .answer)) (sym left)) (a .wires .now ∷ []) (r .wires ∷ []) _
+    (ap (λ (z : FinishResult). z .wires ∷ []) (sym left))
 
 finish-requires : tie.Need-finish-requires
 finish-requires c κs = search needs
@@ -93,7 +94,8 @@ returns-3 c =
     let r = left-by (started long) in
     let left = outcome .finish .ensures ∙ ap (λ (z : Shape). left-for z (started long)) same in
     put-call sizeAnswer (a .answer .now) (long .if1 .left) (sizeNumbers (r .answer)) _ _ _ (c .before .before .put-size2 .ensures)
-    (ap (λ (z : FinishResult). sizeNumbers (z .answer)) left) (a .wires .now ∷ []) (r .wires ∷ []) _ (ap (λ (z : FinishResult). z .wires ∷ []) left)
+    (ap (λ (z : FinishResult). sizeNumbers (z .answer)) left) (a .wires .now ∷ []) (r .wires ∷ []) _
+    (ap (λ (z : FinishResult). z .wires ∷ []) left)
 
 pub jugy-trustee-finish-spec : {M : Type 1} → statement M
 jugy-trustee-finish-spec =

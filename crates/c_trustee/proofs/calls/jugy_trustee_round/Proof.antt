@@ -22,7 +22,8 @@ use Rattle.c_trustee.proofs.calls.jugy_trustee_round.Tie as tie
 abbrev left-for : Shape → tie.Start → OwnResult Depths
 left-for s start =
     let a = start .args in
-    roundResult s (a .table .now) (a .trustees) (a .trustee) (a .round) (a .levels .now) (a .dealt .now) (a .heard .now) (a .wires .now) (a .published .now)
+    roundResult s (a .table .now) (a .trustees) (a .trustee) (a .round) (a .levels .now) (a .dealt .now)
+    (a .heard .now) (a .wires .now) (a .published .now)
 
 abbrev left-by : tie.Start → OwnResult Depths
 left-by start = left-for (shapeOf (start .args .candidates) (start .args .grades) (start .args .ballots)) start
@@ -39,7 +40,8 @@ unfolding shapeOf
 returns c =
     let a = started-short c .args in
     let r = left-by (started-short c) in
-    short-call depthAnswer (a .answer .now) (c .if1 .taken) (depthNumbers (r .answer)) (a .wires .now ∷ a .published .now ∷ []) (r .wires ∷ r .published ∷ [])
+    short-call depthAnswer (a .answer .now) (c .if1 .taken) (depthNumbers (r .answer))
+    (a .wires .now ∷ a .published .now ∷ []) (r .wires ∷ r .published ∷ [])
 
 new-requires : tie.Need-new-requires
 new-requires c κs = search needs
@@ -66,9 +68,11 @@ returns-2 c =
     let s = shapeOf (a .candidates) (a .grades) (a .ballots) in
     let outside = outside-is (withinLimits s) s (sym (made .new .ensures .result) ∙ told .enum-told .given .1) in
     let r = left-by (started long) in
-    let left = outside-round s outside (a .table .now) (a .trustees) (a .trustee) (a .round) (a .levels .now) (a .dealt .now) (a .heard .now) (a .wires .now) (a .published .now) in
+    let left = outside-round s outside (a .table .now) (a .trustees) (a .trustee) (a .round) (a .levels .now)
+    (a .dealt .now) (a .heard .now) (a .wires .now) (a .published .now) in
     put-call depthAnswer (a .answer .now) (long .if1 .left) (depthNumbers (r .answer)) _ _ _ (c .before .before .put-depths .ensures)
-    (ap (λ (z : OwnResult Depths). depthNumbers (z .answer)) (sym left)) (a .wires .now ∷ a .published .now ∷ []) (r .wires ∷ r .published ∷ []) _ (ap (λ (z : OwnResult Depths). z .wires ∷ z .published ∷ []) (sym left))
+    (ap (λ (z : OwnResult Depths). depthNumbers (z .answer)) (sym left)) (a .wires .now ∷ a .published .now ∷ [])
+    (r .wires ∷ r .published ∷ []) _ (ap (λ (z : OwnResult Depths). z .wires ∷ z .published ∷ []) (sym left))
 
 round-requires : tie.Need-round-requires
 round-requires c κs = search needs
@@ -98,7 +102,8 @@ returns-3 c =
     let r = left-by (started long) in
     let left = outcome .round .ensures ∙ ap (λ (z : Shape). left-for z (started long)) same in
     put-call depthAnswer (a .answer .now) (long .if1 .left) (depthNumbers (r .answer)) _ _ _ (c .before .before .put-depths2 .ensures)
-    (ap (λ (z : OwnResult Depths). depthNumbers (z .answer)) left) (a .wires .now ∷ a .published .now ∷ []) (r .wires ∷ r .published ∷ []) _ (ap (λ (z : OwnResult Depths). z .wires ∷ z .published ∷ []) left)
+    (ap (λ (z : OwnResult Depths). depthNumbers (z .answer)) left) (a .wires .now ∷ a .published .now ∷ [])
+    (r .wires ∷ r .published ∷ []) _ (ap (λ (z : OwnResult Depths). z .wires ∷ z .published ∷ []) left)
 
 pub jugy-trustee-round-spec : {M : Type 1} → statement M
 jugy-trustee-round-spec =

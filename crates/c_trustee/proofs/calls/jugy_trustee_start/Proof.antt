@@ -38,7 +38,8 @@ unfolding shapeOf
 returns c =
     let a = started-short c .args in
     let r = left-by (started-short c) in
-    short-call sizeAnswer (a .answer .now) (c .if1 .taken) (sizeNumbers (r .answer)) (a .wires .now ∷ a .published .now ∷ []) (r .wires ∷ r .published ∷ [])
+    short-call sizeAnswer (a .answer .now) (c .if1 .taken) (sizeNumbers (r .answer))
+    (a .wires .now ∷ a .published .now ∷ []) (r .wires ∷ r .published ∷ [])
 
 new-requires : tie.Need-new-requires
 new-requires c κs = search needs
@@ -65,9 +66,11 @@ returns-2 c =
     let s = shapeOf (a .candidates) (a .grades) (a .ballots) in
     let outside = outside-is (withinLimits s) s (sym (made .new .ensures .result) ∙ told .enum-told .given .1) in
     let r = left-by (started long) in
-    let left = outside-start s outside (a .table .now) (a .trustees) (a .trustee) (a .parts .now) (a .dealt .now) (a .wires .now) (a .published .now) in
+    let left = outside-start s outside (a .table .now) (a .trustees) (a .trustee) (a .parts .now) (a .dealt .now)
+    (a .wires .now) (a .published .now) in
     put-call sizeAnswer (a .answer .now) (long .if1 .left) (sizeNumbers (r .answer)) _ _ _ (c .before .before .put-size .ensures)
-    (ap (λ (z : OwnResult Size). sizeNumbers (z .answer)) (sym left)) (a .wires .now ∷ a .published .now ∷ []) (r .wires ∷ r .published ∷ []) _ (ap (λ (z : OwnResult Size). z .wires ∷ z .published ∷ []) (sym left))
+    (ap (λ (z : OwnResult Size). sizeNumbers (z .answer)) (sym left)) (a .wires .now ∷ a .published .now ∷ [])
+    (r .wires ∷ r .published ∷ []) _ (ap (λ (z : OwnResult Size). z .wires ∷ z .published ∷ []) (sym left))
 
 start-requires : tie.Need-start-requires
 start-requires c κs = search needs
@@ -97,7 +100,8 @@ returns-3 c =
     let r = left-by (started long) in
     let left = outcome .start .ensures ∙ ap (λ (z : Shape). left-for z (started long)) same in
     put-call sizeAnswer (a .answer .now) (long .if1 .left) (sizeNumbers (r .answer)) _ _ _ (c .before .before .put-size2 .ensures)
-    (ap (λ (z : OwnResult Size). sizeNumbers (z .answer)) left) (a .wires .now ∷ a .published .now ∷ []) (r .wires ∷ r .published ∷ []) _ (ap (λ (z : OwnResult Size). z .wires ∷ z .published ∷ []) left)
+    (ap (λ (z : OwnResult Size). sizeNumbers (z .answer)) left) (a .wires .now ∷ a .published .now ∷ [])
+    (r .wires ∷ r .published ∷ []) _ (ap (λ (z : OwnResult Size). z .wires ∷ z .published ∷ []) left)
 
 pub jugy-trustee-start-spec : {M : Type 1} → statement M
 jugy-trustee-start-spec =

@@ -108,7 +108,8 @@ returns-3 c =
     let made = known .before .before in
     let long = made .before in
     let of = call (started long) in
-    let same = shape-is (withinLimits (of .shape)) (of .shape) (known .shape .given .0 .0) (sym (made .new .ensures .result) ∙ known .shape .given .1) in
+    let same = shape-is (withinLimits (of .shape)) (of .shape) (known .shape .given .0 .0)
+    (sym (made .new .ensures .result) ∙ known .shape .given .1) in
     let r = trusteesResult of in
     let left = outcome .run .ensures ∙ ap (λ (z : Shape). trusteesResult (call-for z (started long))) same in
     put-call tallyAnswer (started long .args .answer .now) (long .if1 .left) (tallyNumbers (r .answer) (r .closing)) _ _ _

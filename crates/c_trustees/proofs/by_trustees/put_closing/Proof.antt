@@ -11,7 +11,8 @@ use Rattle.c_trustees.proofs.by_trustees.put_closing.Statement.{stateme
 use Rattle.c_trustees.proofs.by_trustees.put_closing.Tie as tie
 
 abbrev Inv-loop : tie.InvT-loop
-Inv-loop answer₀ closing i₀ answer i = (i ≤ 8) × (length answer ≡ length answer₀) × (sets answer (4 + i) (drop i closing) ≡ sets answer₀ 4 closing)
+Inv-loop answer₀ closing i₀ answer i = (i ≤ 8) × (length answer ≡ length answer₀)
+    × (sets answer (4 + i) (drop i closing) ≡ sets answer₀ 4 closing)
 
 abbrev μ-loop : tie.MeasureT-loop
 μ-loop answer₀ closing i₀ answer i = 8 - i

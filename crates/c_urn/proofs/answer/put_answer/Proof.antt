@@ -51,7 +51,8 @@ returns-2 c =
     let e = ap (λ (s : Answer). oneNumber (countedBy s)) (refused .outcome2 .given .1) in
     let number = put .before .before .before .number in
     let place = put .before .before .place in
-    puts-same (two (number .result) (place .result) (why .number) (why .place) (0 ∷ []) (number .ensures) (place .ensures) ∙ sym e) (put .put-one2 .ensures)
+    puts-same (two (number .result) (place .result) (why .number) (why .place) (0 ∷ []) (number .ensures)
+    (place .ensures) ∙ sym e) (put .put-one2 .ensures)
 
 pub put-answer-spec : {M : Type 1} → statement M
 put-answer-spec =

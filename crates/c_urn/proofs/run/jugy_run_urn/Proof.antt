@@ -21,7 +21,8 @@ returns : tie.Need-returns
 unfolding shapeOf
 returns c =
     let a = c .before .before .before .before .before .before .before .args in
-    let r = urnRunResult (shapeOf (a .candidates) (a .grades) (a .ballots)) (a .table .now) (a .urn .now) (a .tape .now) (a .wires .now) (a .board .now) in
+    let r = urnRunResult (shapeOf (a .candidates) (a .grades) (a .ballots)) (a .table .now) (a .urn .now)
+    (a .tape .now) (a .wires .now) (a .board .now) in
     short-call 4 (a .answer .now) (c .if1 .taken) (sizeNumbers (r .answer)) (a .wires .now ∷ a .board .now ∷ []) (r .wires ∷ r .board ∷ [])
 
 new-requires : tie.Need-new-requires
@@ -80,7 +81,9 @@ returns-3 c =
     let s = shapeOf (a .candidates) (a .grades) (a .ballots) in
     let same = shape-is (withinLimits s) s (known .shape .given .0 .0) (sym (made .new .ensures .result) ∙ known .shape .given .1) in
     let r = urnRunResult s (a .table .now) (a .urn .now) (a .tape .now) (a .wires .now) (a .board .now) in
-    let left = outcome .run-on-urn .ensures ∙ ap (λ (z : Shape). urnRunResult z (a .table .now) (a .urn .now) (a .tape .now) (a .wires .now) (a .board .now)) same in
+    let left = outcome .run-on-urn .ensures
+    ∙ ap (λ (z : Shape). urnRunResult z (a .table .now) (a .urn .now) (a .tape .now) (a .wires .now)
+    (a .board .now)) same in
     put-call 4 (a .answer .now) (long .if1 .left) (sizeNumbers (r .answer)) _ _ _ (c .before .before .put-size2 .ensures)
     (ap (λ (z : RunResult). sizeNumbers (z .answer)) left) (a .wires .now ∷ a .board .now ∷ []) (r .wires ∷ r .board ∷ []) _
     (ap (λ (z : RunResult). z .wires ∷ z .board ∷ []) left)

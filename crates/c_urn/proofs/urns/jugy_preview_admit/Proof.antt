@@ -15,7 +15,8 @@ use Rattle.c_urn.proofs.urns.jugy_preview_admit.Tie as tie
 returns : tie.Need-returns
 returns c =
     let a = c .before .before .before .before .args in
-    short-call 3 (a .answer .now) (c .if1 .taken) (oneNumber (admitOutcome (a .candidates) (a .grades) (a .urn .now) (a .juror) (a .ballot .now))) [] []
+    short-call 3 (a .answer .now) (c .if1 .taken)
+    (oneNumber (admitOutcome (a .candidates) (a .grades) (a .urn .now) (a .juror) (a .ballot .now))) [] []
 
 preview-requires : tie.Need-preview-requires
 preview-requires c κs = search needs
@@ -31,7 +32,9 @@ returns-2 c =
     let called = c .before .before .before .before in
     let long = called .before in
     let a = long .before .before .before .before .args in
-    put-call 3 (a .answer .now) (long .if1 .left) (oneNumber (admitOutcome (a .candidates) (a .grades) (a .urn .now) (a .juror) (a .ballot .now))) _ _ _ (c .before .before .put-answer .ensures)
+    put-call 3 (a .answer .now) (long .if1 .left)
+    (oneNumber (admitOutcome (a .candidates) (a .grades) (a .urn .now) (a .juror) (a .ballot .now))) _ _ _
+    (c .before .before .put-answer .ensures)
     (ap (λ (z : Outcome ℕ). oneNumber z) (called .preview .ensures)) [] [] [] refl
 
 pub jugy-preview-admit-spec : {M : Type 1} → statement M

@@ -31,7 +31,9 @@ returns-2 c =
     let called = c .before .before .before .before in
     let long = called .before in
     let a = long .before .before .before .args in
-    put-call 3 (a .answer .now) (long .if1 .left) (oneNumber (withdrawOutcome (a .candidates) (a .grades) (a .urn .now) (a .juror))) _ _ _ (c .before .before .put-answer .ensures)
+    put-call 3 (a .answer .now) (long .if1 .left)
+    (oneNumber (withdrawOutcome (a .candidates) (a .grades) (a .urn .now) (a .juror))) _ _ _
+    (c .before .before .put-answer .ensures)
     (ap (λ (z : Outcome ℕ). oneNumber z) (called .preview .ensures)) [] [] [] refl
 
 pub jugy-preview-withdraw-spec : {M : Type 1} → statement M

@@ -148,7 +148,12 @@ room c =
     let t = passed c in
     let of = call (begun (tested t)) in
     let fin = c .run-rounds .ensures in
-    omega (arith, tested t .test-juries .ensures .wires (passes t), ap length (fin .state .wiresAre), wires-room (fin .done * of .quantum) 0 (juriesIn of) (of .tables) (no-reason t))
+    omega (
+      arith,
+      tested t .test-juries .ensures .wires (passes t),
+      ap length (fin .state .wiresAre),
+      wires-room (fin .done * of .quantum) 0 (juriesIn of) (of .tables) (no-reason t),
+    )
 
 slice-relend-prefix-empty : tie.Need-slice-relend-prefix-empty
 slice-relend-prefix-empty c = omega (arith, room (c .before .before .before .before))

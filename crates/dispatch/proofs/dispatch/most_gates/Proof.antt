@@ -53,7 +53,8 @@ loop-again c =
     let l = c .before .before .before .loop in
     let ss = take (s .args .count) (s .args .t2) in
     let test = c .before .before .loop-test .taken in
-    let first = ap mostGates (left-cons (s .args .count) (l .j) (s .args .t2) blank test (enough s)) ∙ most-first (getD (s .args .t2) (l .j) blank) (drop (suc (l .j)) ss) in
+    let first = ap mostGates (left-cons (s .args .count) (l .j) (s .args .t2) blank test (enough s))
+    ∙ most-first (getD (s .args .t2) (l .j) blank) (drop (suc (l .j)) ss) in
     (omega arith, omega (arith, c .larger .ensures, first, ap (λ (x : ℕ). mostGates (drop x ss)) (add-one (l .j)), l .inv .1))
 
 returns : tie.Need-returns Inv-loop μ-loop
@@ -61,7 +62,9 @@ returns c =
     let s = c .before .before in
     let l = c .before .loop in
     let ss = take (s .args .count) (s .args .t2) in
-    let none-left : drop (l .j) ss ≡ [] = drop-of-length-le ss {i = l .j} (omega (arith, length-take-le (s .args .count) (s .args .t2) (enough s), c .loop-test .left)) in
+    let none-left : drop (l .j) ss ≡ [] =
+    drop-of-length-le ss {i = l .j}
+    (omega (arith, length-take-le (s .args .count) (s .args .t2) (enough s), c .loop-test .left)) in
     omega (arith, ap mostGates none-left, most-none, l .inv .1)
 
 pub most-gates-spec : {M : Type 1} → statement M

@@ -27,7 +27,9 @@ rate quantum s p = roundsFor (s .gates) quantum
 abbrev Inv-loop : tie.InvT-loop
 Inv-loop count quantum headers rounds₀ j₀ rounds j =
     (j ≤ count)
-    × ((t : Tables) → (u : Tables) × Upto (oneOf unknown) (oneOf (rate quantum)) (padding (take count headers)) (drop j (take count headers)) u j rounds (eightOf (rate quantum) (take count headers) t))
+    × ((t : Tables) → (u : Tables)
+    × Upto (oneOf unknown) (oneOf (rate quantum)) (padding (take count headers)) (drop j (take count headers)) u
+    j rounds (eightOf (rate quantum) (take count headers) t))
 
 abbrev μ-loop : tie.MeasureT-loop
 μ-loop count quantum headers rounds₀ j₀ rounds j = count - j
@@ -53,9 +55,11 @@ few c =
       s .pre .gates-most,
     )
 
-start : (ss : List JuryHeader) (t : Tables) (quantum : ℕ) → length ss ≤ 8 → Upto (oneOf unknown) (oneOf (rate quantum)) (padding ss) ss t 0 (replicate 8 0) (eightOf (rate quantum) ss t)
+start : (ss : List JuryHeader) (t : Tables) (quantum : ℕ) → length ss ≤ 8
+    → Upto (oneOf unknown) (oneOf (rate quantum)) (padding ss) ss t 0 (replicate 8 0) (eightOf (rate quantum) ss t)
 unfolding eightOf
-start ss t quantum few = upto-start (oneOf unknown) (oneOf (rate quantum)) (padding ss) ss t (replicate 8 0) (sym (eight-zeros unknown (λ (s : JuryHeader) (p : Tables). refl) ss t few))
+start ss t quantum few = upto-start (oneOf unknown) (oneOf (rate quantum)) (padding ss) ss t (replicate 8 0)
+    (sym (eight-zeros unknown (λ (s : JuryHeader) (p : Tables). refl) ss t few))
 
 loop-holds : tie.Need-loop-holds Inv-loop μ-loop
 loop-holds c =
@@ -91,9 +95,11 @@ loop-less : tie.Need-loop-less Inv-loop μ-loop
 loop-less c = omega arith
 
 -- the jury's number put in its place
-next : (c : tie.In-loop Inv-loop μ-loop) (t : Tables) → let s = c .before .before in let l = c .before .loop in let ss = take (s .args .count) (s .args .t2) in
+next : (c : tie.In-loop Inv-loop μ-loop) (t : Tables) → let s = c .before .before in let l = c .before .loop in
+    let ss = take (s .args .count) (s .args .t2) in
     (u : Tables) × Upto (oneOf unknown) (oneOf (rate (s .args .quantum))) (padding ss) (drop (l .j + 1) ss) u (l .j + 1)
-    (set (l .rounds) (l .j) ((getD (s .args .t2) (l .j) blank .gates + (s .args .quantum - 1)) / s .args .quantum)) (eightOf (rate (s .args .quantum)) ss t)
+    (set (l .rounds) (l .j) ((getD (s .args .t2) (l .j) blank .gates + (s .args .quantum - 1)) / s .args .quantum))
+    (eightOf (rate (s .args .quantum)) ss t)
 unfolding roundsFor
 next c t =
     let s = c .before .before in
@@ -102,13 +108,16 @@ next c t =
     let x = getD (s .args .t2) (l .j) blank in
     let final = eightOf (rate (s .args .quantum)) ss t in
     let u = l .inv .1 t in
-    let first = subst (λ (left : List JuryHeader). Upto (oneOf unknown) (oneOf (rate (s .args .quantum))) (padding ss) left (u .0) (l .j) (l .rounds) final)
+    let first = subst (λ (left : List JuryHeader). Upto (oneOf unknown) (oneOf (rate (s .args .quantum)))
+    (padding ss) left (u .0) (l .j) (l .rounds) final)
     (left-cons (s .args .count) (l .j) (s .args .t2) blank (c .loop-test .taken) (enough s)) (u .1) in (
       behind x (u .0),
-      subst (λ (left : List JuryHeader). Upto (oneOf unknown) (oneOf (rate (s .args .quantum))) (padding ss) left (behind x (u .0)) (l .j + 1)
+      subst (λ (left : List JuryHeader). Upto (oneOf unknown) (oneOf (rate (s .args .quantum))) (padding ss) left
+          (behind x (u .0)) (l .j + 1)
           (set (l .rounds) (l .j) ((x .gates + (s .args .quantum - 1)) / s .args .quantum)) final)
           (ap (λ (i : ℕ). drop i ss) (sym (add-one (l .j))))
-          (upto-set unknown (rate (s .args .quantum)) (padding ss) x (drop (suc (l .j)) ss) (u .0) (l .j) (l .rounds) final first ((x .gates + (s .args .quantum - 1)) / s .args .quantum) refl),
+          (upto-set unknown (rate (s .args .quantum)) (padding ss) x (drop (suc (l .j)) ss) (u .0) (l .j)
+          (l .rounds) final first ((x .gates + (s .args .quantum - 1)) / s .args .quantum) refl),
     )
 
 loop-again : tie.Need-loop-again Inv-loop μ-loop
@@ -122,11 +131,15 @@ returns c =
     let s = c .before .before in
     let l = c .before .loop in
     let ss = take (s .args .count) (s .args .t2) in
-    let none-left : drop (l .j) ss ≡ [] = drop-of-length-le ss {i = l .j} (omega (arith, length-take-le (s .args .count) (s .args .t2) (enough s), c .loop-test .left)) in
+    let none-left : drop (l .j) ss ≡ [] =
+    drop-of-length-le ss {i = l .j}
+    (omega (arith, length-take-le (s .args .count) (s .args .t2) (enough s), c .loop-test .left)) in
     λ (t : Tables).
     let u = l .inv .1 t in
-    upto-end (oneOf unknown) (oneOf (rate (s .args .quantum))) (padding ss) (u .0) (l .j) (l .rounds) (eightOf (rate (s .args .quantum)) ss t)
-    (subst (λ (left : List JuryHeader). Upto (oneOf unknown) (oneOf (rate (s .args .quantum))) (padding ss) left (u .0) (l .j) (l .rounds) (eightOf (rate (s .args .quantum)) ss t)) none-left (u .1))
+    upto-end (oneOf unknown) (oneOf (rate (s .args .quantum))) (padding ss) (u .0) (l .j) (l .rounds)
+    (eightOf (rate (s .args .quantum)) ss t)
+    (subst (λ (left : List JuryHeader). Upto (oneOf unknown) (oneOf (rate (s .args .quantum))) (padding ss) left
+    (u .0) (l .j) (l .rounds) (eightOf (rate (s .args .quantum)) ss t)) none-left (u .1))
 
 pub rounds-of-spec : {M : Type 1} → statement M
 rounds-of-spec =

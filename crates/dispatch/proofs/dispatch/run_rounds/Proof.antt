@@ -53,7 +53,8 @@ loop-holds c =
     let a = s .args in
     let ss = take (a .count) (a .headers) in
     let short : length ss ≤ 8 = omega (arith, length-take (a .count) (a .headers), s .pre .few) in (
-      subst (λ (n : ℕ). RoundState n ss (all s) (a .conditional) (a .wires .now) (a .boards .now) (replicate 8 0)) (sym (zero-mul (a .quantum)))
+      subst (λ (n : ℕ). RoundState n ss (all s) (a .conditional) (a .wires .now) (a .boards .now) (replicate 8 0))
+          (sym (zero-mul (a .quantum)))
           (state-start ss (all s) (a .conditional) short (s .pre .accepted) (s .pre .conditionalAre)),
       refl,
       refl,
@@ -64,7 +65,11 @@ loop-holds c =
 mul-loop : tie.Need-mul-loop Inv-loop μ-loop
 mul-loop c =
     let s = c .before .before .before .before .before .before .before in
-    omega (arith, mul-le-mul {n₁ = c .loop .done} {m₁ = s .args .quantum} {n₂ = 1048576} {m₂ = 65536} (omega (arith, c .loop .inv .3, few c)) (s .pre .quantum-most))
+    omega (
+      arith,
+      mul-le-mul {n₁ = c .loop .done} {m₁ = s .args .quantum} {n₂ = 1048576} {m₂ = 65536}
+          (omega (arith, c .loop .inv .3, few c)) (s .pre .quantum-most),
+    )
 
 round-requires : tie.Need-round-requires Inv-loop μ-loop
 round-requires c κs =
@@ -101,12 +106,16 @@ loop-again c =
     let a = s .args in
     let l = c .before .before .before .before .before .before .before .before .loop in
     let r = c .before .before .before .before .round in (
-      subst (λ (n : ℕ). RoundState (n * a .quantum) (take (a .count) (a .headers)) (all s) (a .conditional) (r .last .1 .1 .1 .1 .1 .1 .1 .1 .1 .0) (r .last .1 .1 .1 .1 .1 .1 .1 .1 .1 .1 .0) (r .result)) (sym (add-one (l .done)))
+      subst (λ (n : ℕ). RoundState (n * a .quantum) (take (a .count) (a .headers)) (all s) (a .conditional)
+          (r .last .1 .1 .1 .1 .1 .1 .1 .1 .1 .0) (r .last .1 .1 .1 .1 .1 .1 .1 .1 .1 .1 .0) (r .result))
+          (sym (add-one (l .done)))
           (r .ensures (a .wires .now) (a .boards .now) (l .inv .0)),
       r .kept .1 .1 .1 .1 .1 .1 .1 .1 .1 .0 ∙ l .inv .1,
       r .kept .1 .1 .1 .1 .1 .1 .1 .1 .1 .1 .0 ∙ l .inv .2,
       omega (arith, needed (c .before .before .before .before .before .before .before)),
-      further (a .quantum) ((c .before .before .before .before .before .before .before) .before .before .most-gates .result) (l .done) (l .inv .4) (c .before .before .before .before .before .before .before .loop-test .taken),
+      further (a .quantum)
+          ((c .before .before .before .before .before .before .before) .before .before .most-gates .result) (l .done)
+          (l .inv .4) (c .before .before .before .before .before .before .before .loop-test .taken),
     )
   where
     further : (quantum most done : ℕ) → ((r : ℕ) → r < done → r * quantum < most) → done * quantum < most

@@ -48,7 +48,8 @@ here c = from (c .before .loop .at) (all (c .before .before .before .before .bef
 
 -- in a turn, a jury is left
 ahead : (c : tie.In-loop Inv-loop μ-loop) → let s = c .before .before .before .before .before .before .before in let l = c .before .loop in
-    TestedSoFar (take (s .args .count) (s .args .t2)) (all s) (l .j) (jury c ∷ drop (suc (l .j)) (take (s .args .count) (s .args .t2))) (l .at) (l .conditional)
+    TestedSoFar (take (s .args .count) (s .args .t2)) (all s) (l .j)
+    (jury c ∷ drop (suc (l .j)) (take (s .args .count) (s .args .t2))) (l .at) (l .conditional)
 ahead c =
     let s = c .before .before .before .before .before .before .before in
     let l = c .before .loop in
@@ -64,7 +65,8 @@ found c =
     let at = i .before .loop .at in
     c .test-jury .ensures
     ∙ ap (λ (x : Tables). outcome (firstOf (reasonsOf (jury i) x)) (sizeOf (gatesOf (listOf (jury i) x))))
-    (lent-same _ _ _ _ _ _ _ _ _ _ (rest-is (at .lists) (s .args .lists .now)) (rest-is (at .ballots) (s .args .ballots .now)) (rest-is (at .tapes) (s .args .tapes .now))
+    (lent-same _ _ _ _ _ _ _ _ _ _ (rest-is (at .lists) (s .args .lists .now))
+    (rest-is (at .ballots) (s .args .ballots .now)) (rest-is (at .tapes) (s .args .tapes .now))
     (rest-is (at .wires) (s .args .wires .now)) (rest-is (at .boards) (s .args .boards .now)))
 
 -- From the test of a jury back to the start of its turn.
@@ -77,14 +79,18 @@ well : (c : tie.After-known-told Inv-loop μ-loop) → let i = in-turn (c .befor
 unfolding conditionalIn
 well c =
     let i = in-turn (c .before .before .before) in
-    accepted-mark (c .before .before .before .test-jury .result) (firstOf (reasonsOf (jury i) (here i))) (gatesOf (listOf (jury i) (here i))) (c .before .answer .given .0 .0) (c .before .answer .given .0 .1 .0)
+    accepted-mark (c .before .before .before .test-jury .result) (firstOf (reasonsOf (jury i) (here i)))
+    (gatesOf (listOf (jury i) (here i))) (c .before .answer .given .0 .0) (c .before .answer .given .0 .1 .0)
     (found (c .before .before .before)) (c .before .answer .given .1)
 
 loop-holds : tie.Need-loop-holds Inv-loop μ-loop
 loop-holds c =
     let s = c .before .before .before .before .before in
-    let a = s .args in
-    (omega arith, tested-start (take (a .count) (a .t2)) (a .lists .now) (a .ballots .now) (a .tapes .now) (a .wires .now) (a .boards .now) (omega (arith, length-take-le (a .count) (a .t2) (enough s), s .pre)))
+    let a = s .args in (
+      omega arith,
+      tested-start (take (a .count) (a .t2)) (a .lists .now) (a .ballots .now) (a .tapes .now)
+          (a .wires .now) (a .boards .now) (omega (arith, length-take-le (a .count) (a .t2) (enough s), s .pre)),
+    )
 
 mul-header : tie.Need-mul-header Inv-loop μ-loop
 mul-header c = omega arith
@@ -162,11 +168,13 @@ returns c =
     let l = i .before .loop in
     let o = firstOf (reasonsOf (jury i) (here i)) in
     let r = reasonOf (told .enum-told .given .0 .0) in
-    let is : refusalIn (t .test-jury .result) ≡ o = refusal-is (t .test-jury .result) o (sizeOf (gatesOf (listOf (jury i) (here i)))) (found t) in
+    let is : refusalIn (t .test-jury .result) ≡ o =
+    refusal-is (t .test-jury .result) o (sizeOf (gatesOf (listOf (jury i) (here i)))) (found t) in
     let bad : o ≡ some r = sym is ∙ ap refusalIn (told .enum-told .given .1) in
     let named-so = c .verdict-of .ensures ∙ ap (atJury (l .j)) is ∙ ap (atJury (l .j)) bad in
     record {
-      reason = named-so ∙ sym (bad-jury (jury i) (here i) (l .j) (drop (suc (l .j)) (take (s .args .count) (s .args .t2))) r bad) ∙ ahead i .reasons;
+      reason = named-so ∙ sym (bad-jury (jury i) (here i) (l .j)
+          (drop (suc (l .j)) (take (s .args .count) (s .args .t2))) r bad) ∙ ahead i .reasons;
       conditional = λ e. at-jury-some (l .j) r (sym named-so ∙ e);
       wires = λ e. at-jury-some (l .j) r (sym named-so ∙ e);
     }
@@ -211,9 +219,11 @@ loop-again c =
     let ss = take (s .args .count) (s .args .t2) in
     let test = i .loop-test .taken in (
       omega arith,
-      tested-as ss (all s) (suc (l .j)) (l .j + 1) (drop (suc (l .j)) ss) (drop (l .j + 1) ss) _ (c .after .result) _ (add-one (l .j)) (ap (λ (x : ℕ). drop x ss) (add-one (l .j)))
+      tested-as ss (all s) (suc (l .j)) (l .j + 1) (drop (suc (l .j)) ss) (drop (l .j + 1) ss) _ (c .after .result)
+          _ (add-one (l .j)) (ap (λ (x : ℕ). drop x ss) (add-one (l .j)))
           (c .after .ensures ∙ ap (placesAfter (l .at) (jury i)) (w .1))
-          (tested-next ss (all s) (l .j) (jury i) (drop (suc (l .j)) ss) (l .at) (l .conditional) (k .before .answer .given .0 .1 .0) (ahead i) (w .0) (w .1)),
+          (tested-next ss (all s) (l .j) (jury i) (drop (suc (l .j)) ss) (l .at) (l .conditional)
+          (k .before .answer .given .0 .1 .0) (ahead i) (w .0) (w .1)),
     )
 
 returns-2 : tie.Need-returns-2 Inv-loop μ-loop
@@ -222,8 +232,12 @@ returns-2 c =
     let s = c .before .before .before .before .before .before .before in
     let l = c .before .loop in
     let ss = take (s .args .count) (s .args .t2) in
-    let none-left : drop (l .j) ss ≡ [] = drop-of-length-le ss {i = l .j} (omega (arith, length-take-le (s .args .count) (s .args .t2) (enough s), c .loop-test .left)) in
-    let e = tested-end ss (all s) (l .j) (l .at) (l .conditional) (subst (λ (left : List JuryHeader). TestedSoFar ss (all s) (l .j) left (l .at) (l .conditional)) none-left (l .inv .1)) in
+    let none-left : drop (l .j) ss ≡ [] =
+    drop-of-length-le ss {i = l .j}
+    (omega (arith, length-take-le (s .args .count) (s .args .t2) (enough s), c .loop-test .left)) in
+    let e = tested-end ss (all s) (l .j) (l .at) (l .conditional)
+    (subst (λ (left : List JuryHeader). TestedSoFar ss (all s) (l .j) left (l .at) (l .conditional)) none-left
+    (l .inv .1)) in
     record { reason = e .0; conditional = λ x. e .1; wires = λ x. e .2 }
 
 pub test-juries-spec : {M : Type 1} → statement M

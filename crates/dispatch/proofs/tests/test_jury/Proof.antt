@@ -65,7 +65,8 @@ unfolding outcome
 refuses s r e = sym (ap (λ (o : Option Reason). outcome o (sizeOf (gatesOf (listOf (s .args .header) (all s))))) e)
 
 -- the test of the list, on its piece
-list-outcome : (c : tie.After-test) → let s = to-start c in outcomeOf (c .test .result) ≡ testOutcome (shapeOf (s .args .header)) (pieces s .lists)
+list-outcome : (c : tie.After-test) → let s = to-start c in outcomeOf (c .test .result)
+    ≡ testOutcome (shapeOf (s .args .header)) (pieces s .lists)
 list-outcome c =
     let s = to-start c in
     let n = c .before .before .numbers-fitting in
@@ -78,18 +79,22 @@ passed : (c : tie.After-known-told) → let s = listed c in TestPassed (shapeOf 
 unfolding outcomeOf size
 passed c =
     let s = listed c in
-    test-passed (shapeOf (s .args .header)) (pieces s .lists) (size c) (sym (list-outcome (to-list-test c)) ∙ ap outcomeOf (c .before .answer .given .1))
+    test-passed (shapeOf (s .args .header)) (pieces s .lists) (size c)
+    (sym (list-outcome (to-list-test c)) ∙ ap outcomeOf (c .before .answer .given .1))
 
 -- the test of the ballots, on theirs
-ballots-outcome : (c : tie.After-test2) → let s = listed (to-list-passed c) in refusedFor (c .test2 .result) ≡ firstOf (ballotReasons (shapeOf (s .args .header)) (pieces s .ballots))
+ballots-outcome : (c : tie.After-test2) → let s = listed (to-list-passed c) in refusedFor (c .test2 .result)
+    ≡ firstOf (ballotReasons (shapeOf (s .args .header)) (pieces s .ballots))
 ballots-outcome c =
     let s = listed (to-list-passed c) in
     let n = c .before .before .bytes-fitting in
     let i = c .before .before .before .ballot-bytes in
     c .test2 .ensures
-    ∙ ap (λ (x : List ℕ). firstOf (ballotReasons (shapeOf (s .args .header)) x)) (ballots-piece (s .args .header) (all s) (i .result) (n .result) (i .ensures) (n .ensures))
+    ∙ ap (λ (x : List ℕ). firstOf (ballotReasons (shapeOf (s .args .header)) x))
+    (ballots-piece (s .args .header) (all s) (i .result) (n .result) (i .ensures) (n .ensures))
 
-no-reason : (c : tie.After-enum-told2) → let s = listed (balloted c) in firstOf (ballotReasons (shapeOf (s .args .header)) (pieces s .ballots)) ≡ none
+no-reason : (c : tie.After-enum-told2) → let s = listed (balloted c) in
+    firstOf (ballotReasons (shapeOf (s .args .header)) (pieces s .ballots)) ≡ none
 unfolding refusedFor
 no-reason c = sym (ballots-outcome (to-ballots-test c)) ∙ ap refusedFor (c .enum-told2 .given .1)
 
@@ -100,7 +105,8 @@ slice-aggregate-test : tie.Need-slice-aggregate-test
 slice-aggregate-test c =
     let s = c .before .before .before .before .before .before .before in
     let n = c .before .numbers-fitting in
-    sym (length-take-le (n .result) (s .args .lists .now) (omega (arith, n .ensures, fitting-most (4 * s .args .header .gates) (length (s .args .lists .now)))))
+    sym (length-take-le (n .result) (s .args .lists .now)
+    (omega (arith, n .ensures, fitting-most (4 * s .args .header .gates) (length (s .args .lists .now)))))
 
 test-requires : tie.Need-test-requires
 test-requires c κs = search needs
@@ -118,7 +124,8 @@ returns c =
     let p = pieces s in
     let r = reasonOf (c .enum-told .given .0 .0) in
     let e = ap outcomeOf (c .enum-told .given .1) in
-    e ∙ refuses s r (by-test (shapeOf (s .args .header)) (p .lists) (p .ballots) (p .tapes) (p .wires) (p .boards) r (sym (list-outcome (c .before .before)) ∙ e))
+    e ∙ refuses s r (by-test (shapeOf (s .args .header)) (p .lists) (p .ballots) (p .tapes) (p .wires) (p .boards) r
+    (sym (list-outcome (c .before .before)) ∙ e))
 
 ballot-bytes-requires : tie.Need-ballot-bytes-requires
 ballot-bytes-requires c κs = true-T (withinLimits (shapeOf (listed c .args .header))) (passed c .within)
@@ -131,10 +138,12 @@ slice-aggregate-test-2 c =
     let s = listed (c .before .before .before) in
     let n = c .before .bytes-fitting in
     let i = c .before .before .ballot-bytes in
-    sym (length-take-le (n .result) (s .args .ballots .now) (omega (arith, n .ensures, fitting-most (i .result + 0) (length (s .args .ballots .now)))))
+    sym (length-take-le (n .result) (s .args .ballots .now)
+    (omega (arith, n .ensures, fitting-most (i .result + 0) (length (s .args .ballots .now)))))
 
 test-requires-2 : tie.Need-test-requires-2
-test-requires-2 c κs = true-T (withinLimits (shapeOf (listed (c .before .before .before) .args .header))) (passed (c .before .before .before) .within)
+test-requires-2 c κs = true-T (withinLimits (shapeOf (listed (c .before .before .before) .args .header)))
+    (passed (c .before .before .before) .within)
 
 enum-known-reason : tie.Need-enum-known-reason
 enum-known-reason c = search needs
@@ -146,7 +155,8 @@ returns-2 c =
     let s = listed (to-list-passed t) in
     let p = pieces s in
     let r = reasonOf (c .before .reason .given .0 .0) in
-    refuses s r (by-ballots (shapeOf (s .args .header)) (p .lists) (p .ballots) (p .tapes) (p .wires) (p .boards) (passed (to-list-passed t) .reasons) r (sym (ballots-outcome t) ∙ ap refusedFor (c .before .reason .given .1)))
+    refuses s r (by-ballots (shapeOf (s .args .header)) (p .lists) (p .ballots) (p .tapes) (p .wires) (p .boards)
+    (passed (to-list-passed t) .reasons) r (sym (ballots-outcome t) ∙ ap refusedFor (c .before .reason .given .1)))
 
 enum-told-2 : tie.Need-enum-told-2
 enum-told-2 c = search needs
@@ -165,21 +175,41 @@ unfolding size
 slice-aggregate-test-buffers c =
     let s = listed (balloted (c .before .before .before .before)) in
     let n = c .before .before .before .bytes-fitting2 in
-    sym (length-take-le (n .result) (s .args .tapes .now) (omega (arith, n .ensures, fitting-most (size (balloted (c .before .before .before .before)) .conditional + 0) (length (s .args .tapes .now)))))
+    sym (length-take-le (n .result) (s .args .tapes .now)
+    (omega (
+      arith,
+      n .ensures,
+      fitting-most (size (balloted (c .before .before .before .before)) .conditional + 0)
+          (length (s .args .tapes .now)),
+    )))
 
 slice-aggregate-test-buffers-2 : tie.Need-slice-aggregate-test-buffers-2
 unfolding size
 slice-aggregate-test-buffers-2 c =
     let s = listed (balloted (c .before .before .before .before .before)) in
     let n = c .before .before .before .bytes-fitting3 in
-    sym (length-take-le (n .result) (s .args .wires .now) (omega (arith, n .ensures, fitting-most (to-ballots-test (c .before .before .before .before .before) .before .before .before .ballot-bytes .result + size (balloted (c .before .before .before .before .before)) .gates) (length (s .args .wires .now)))))
+    sym (length-take-le (n .result) (s .args .wires .now)
+    (omega (
+      arith,
+      n .ensures,
+      fitting-most
+          (to-ballots-test (c .before .before .before .before .before) .before .before .before .ballot-bytes .result
+          + size (balloted (c .before .before .before .before .before)) .gates) (length (s .args .wires .now)),
+    )))
 
 slice-aggregate-test-buffers-3 : tie.Need-slice-aggregate-test-buffers-3
 unfolding size
 slice-aggregate-test-buffers-3 c =
     let s = listed (balloted (c .before .before .before .before .before .before)) in
     let n = c .before .before .before .bytes-fitting4 in
-    sym (length-take-le (n .result) (s .args .boards .now) (omega (arith, n .ensures, fitting-most (size (balloted (c .before .before .before .before .before .before)) .conditional + s .args .header .candidates) (length (s .args .boards .now)))))
+    sym (length-take-le (n .result) (s .args .boards .now)
+    (omega (
+      arith,
+      n .ensures,
+      fitting-most
+          (size (balloted (c .before .before .before .before .before .before)) .conditional + s .args .header .candidates)
+          (length (s .args .boards .now)),
+    )))
 
 test-buffers-requires : tie.Need-test-buffers-requires
 test-buffers-requires c κs = search needs
@@ -192,7 +222,9 @@ enum-told-3 c = search needs
 
 -- the tests of the buffers, on their pieces
 lent-outcome : (c : tie.After-test-buffers) → let s = listed (buffered c) in let p = pieces s in
-    refusedFor (c .test-buffers .result) ≡ firstOf (bufferReasons (ballotBytes (shapeOf (s .args .header))) (s .args .header .candidates) (size (buffered c)) (p .tapes) (p .wires) (p .boards))
+    refusedFor (c .test-buffers .result)
+    ≡ firstOf (bufferReasons (ballotBytes (shapeOf (s .args .header))) (s .args .header .candidates)
+    (size (buffered c)) (p .tapes) (p .wires) (p .boards))
 unfolding size
 lent-outcome c =
     let told = buffered c in
@@ -207,19 +239,28 @@ lent-outcome c =
     let o = c .before .before .before .before .bytes-fitting4 in
     let facts = stated-size st (all s) z (passed told) in
     c .test-buffers .ensures
-    ∙ ap (λ (x : ℕ). firstOf (bufferReasons x k z (take (n .result) (s .args .tapes .now)) (take (v .result) (s .args .wires .now)) (take (o .result) (s .args .boards .now)))) (i .ensures)
-    ∙ ap (λ (x : List ℕ). firstOf (bufferReasons (ballotBytes (shapeOf st)) k z x (take (v .result) (s .args .wires .now)) (take (o .result) (s .args .boards .now)))) (tape-piece st (all s) (z .conditional) (n .result) (facts .1) (n .ensures))
-    ∙ ap (λ (x : List ℕ). firstOf (bufferReasons (ballotBytes (shapeOf st)) k z (p .tapes) x (take (o .result) (s .args .boards .now)))) (wires-piece st (all s) (i .result) (z .gates) (v .result) (i .ensures) (facts .0) (v .ensures))
-    ∙ ap (λ (x : List ℕ). firstOf (bufferReasons (ballotBytes (shapeOf st)) k z (p .tapes) (p .wires) x)) (board-piece st (all s) (z .conditional) (o .result) (facts .1) (o .ensures))
+    ∙ ap (λ (x : ℕ). firstOf (bufferReasons x k z (take (n .result) (s .args .tapes .now))
+    (take (v .result) (s .args .wires .now)) (take (o .result) (s .args .boards .now)))) (i .ensures)
+    ∙ ap (λ (x : List ℕ). firstOf (bufferReasons (ballotBytes (shapeOf st)) k z x
+    (take (v .result) (s .args .wires .now)) (take (o .result) (s .args .boards .now))))
+    (tape-piece st (all s) (z .conditional) (n .result) (facts .1) (n .ensures))
+    ∙ ap (λ (x : List ℕ). firstOf (bufferReasons (ballotBytes (shapeOf st)) k z (p .tapes) x
+    (take (o .result) (s .args .boards .now))))
+    (wires-piece st (all s) (i .result) (z .gates) (v .result) (i .ensures) (facts .0) (v .ensures))
+    ∙ ap (λ (x : List ℕ). firstOf (bufferReasons (ballotBytes (shapeOf st)) k z (p .tapes) (p .wires) x))
+    (board-piece st (all s) (z .conditional) (o .result) (facts .1) (o .ensures))
 
 -- what they answer is the answer of the whole
-whole-outcome : (c : tie.After-test-buffers) → let s = listed (buffered c) in firstOf (reasonsOf (s .args .header) (all s)) ≡ refusedFor (c .test-buffers .result)
+whole-outcome : (c : tie.After-test-buffers) → let s = listed (buffered c) in
+    firstOf (reasonsOf (s .args .header) (all s)) ≡ refusedFor (c .test-buffers .result)
 unfolding reasonsOf
 whole-outcome c =
     let told = buffered c in
     let s = listed (buffered c) in
     let p = pieces s in
-    by-lent (shapeOf (s .args .header)) (p .lists) (p .ballots) (p .tapes) (p .wires) (p .boards) (passed told .reasons) (size told) (refusedFor (c .test-buffers .result)) (passed told .size) (no-reason (to-ballots-passed c)) (sym (lent-outcome c))
+    by-lent (shapeOf (s .args .header)) (p .lists) (p .ballots) (p .tapes) (p .wires) (p .boards)
+    (passed told .reasons) (size told) (refusedFor (c .test-buffers .result)) (passed told .size)
+    (no-reason (to-ballots-passed c)) (sym (lent-outcome c))
 
 returns-3 : tie.Need-returns-3
 unfolding outcomeOf refusedFor

@@ -25,7 +25,8 @@ returns : tie.Need-returns
 returns c =
     let a = c .before .before .before .before .before .before .before .args in
     copied (c .before .before .copy .ensures)
-    ∙ ap (λ (x : Bool). cond x (loaded (a .ballots .now) (a .wires .now)) (a .wires .now)) (sym (eq-eqb (a .given) 0 (c .before .before .before .before .if1 .taken)))
+    ∙ ap (λ (x : Bool). cond x (loaded (a .ballots .now) (a .wires .now)) (a .wires .now))
+    (sym (eq-eqb (a .given) 0 (c .before .before .before .before .if1 .taken)))
 
 returns-2 : tie.Need-returns-2
 returns-2 c =

@@ -24,7 +24,8 @@ abbrev Inv-loop : tie.InvT-loop
 Inv-loop count done quantum lists ballots tapes wires₀ boards₀ headers conditional given shown₀ at₀ j₀ wires boards shown at j =
     (j ≤ count)
     × ((ws bs : List ℕ) → RoundState given (take count headers) (lent lists ballots tapes ws bs) conditional wires₀ boards₀ shown₀
-    → Mid (take count headers) (lent lists ballots tapes ws bs) given (given + quantum) conditional j (drop j (take count headers)) at wires boards shown)
+    → Mid (take count headers) (lent lists ballots tapes ws bs) given (given + quantum) conditional j
+    (drop j (take count headers)) at wires boards shown)
     × (length wires ≡ length wires₀)
     × (length boards ≡ length boards₀)
 
@@ -55,7 +56,8 @@ given s = s .args .done * s .args .quantum
 
 abbrev Entry : tie.Start Inv-loop μ-loop → List ℕ → List ℕ → Type 0
 Entry s ws bs =
-    RoundState (given s) (take (s .args .count) (s .args .t2)) (lentTo s ws bs) (s .args .t3) (s .args .wires .now) (s .args .boards .now) (s .args .before)
+    RoundState (given s) (take (s .args .count) (s .args .t2)) (lentTo s ws bs) (s .args .t3) (s .args .wires .now)
+    (s .args .boards .now) (s .args .before)
 
 enough : (s : tie.Start Inv-loop μ-loop) → s .args .count ≤ length (s .args .t2)
 enough s = omega (arith, s .pre .few, s .good .1 .0 .1 .0 .1)
@@ -67,30 +69,51 @@ abbrev here : (c : tie.In-loop Inv-loop μ-loop) → List ℕ → List ℕ → T
 here c ws bs = from (c .before .loop .at) (lentTo (c .before .before .before .before .before .before .before) ws bs)
 
 -- in a turn, a jury is left
-mid : (c : tie.In-loop Inv-loop μ-loop) (ws bs : List ℕ) → Entry (c .before .before .before .before .before .before .before) ws bs → let s = c .before .before .before .before .before .before .before in let l = c .before .loop in
+mid : (c : tie.In-loop Inv-loop μ-loop) (ws bs : List ℕ)
+    → Entry (c .before .before .before .before .before .before .before) ws bs → let s =
+    c .before .before .before .before .before .before .before in let l = c .before .loop in
     Mid (take (s .args .count) (s .args .t2)) (lentTo s ws bs) (given s) (given s + s .args .quantum) (s .args .t3) (l .j)
     (jury c ∷ drop (suc (l .j)) (take (s .args .count) (s .args .t2))) (l .at) (l .wires) (l .boards) (l .shown)
 mid c ws bs st =
     let s = c .before .before .before .before .before .before .before in
     let l = c .before .loop in
-    subst (λ (left : List JuryHeader). Mid (take (s .args .count) (s .args .t2)) (lentTo s ws bs) (given s) (given s + s .args .quantum) (s .args .t3) (l .j) left (l .at) (l .wires) (l .boards) (l .shown))
+    subst (λ (left : List JuryHeader). Mid (take (s .args .count) (s .args .t2)) (lentTo s ws bs) (given s)
+    (given s + s .args .quantum) (s .args .t3) (l .j) left (l .at) (l .wires) (l .boards) (l .shown))
     (left-cons (s .args .count) (l .j) (s .args .t2) blank (c .loop-test .taken) (enough s)) (l .inv .1 ws bs st)
 
 -- what is known of it, whatever the wires and boards held
 record Turn (c : tie.In-loop Inv-loop μ-loop) (ws bs : List ℕ) : Type 0 where
   pub passed : Passed (jury c) (here c ws bs)
-  pub mark : getD (c .before .before .before .before .before .before .before .args .t3) (c .before .loop .j) 0 ≡ conditionalIn (jury c) (here c ws bs)
+  pub mark : getD (c .before .before .before .before .before .before .before .args .t3) (c .before .loop .j) 0
+      ≡ conditionalIn (jury c) (here c ws bs)
   pub inside : Inside (c .before .loop .at) (lentTo (c .before .before .before .before .before .before .before) ws bs)
-  pub inside-after : Inside (placesAfter (c .before .loop .at) (jury c) (conditionalIn (jury c) (here c ws bs))) (lentTo (c .before .before .before .before .before .before .before) ws bs)
-  pub wires : take (ballotBytes (shapeOf (jury c)) + jury c .gates) (drop (c .before .loop .at .wires) (c .before .loop .wires)) ≡ juryWires (given (c .before .before .before .before .before .before .before)) (jury c) (piecesOf (jury c) (here c ws bs))
+  pub inside-after : Inside (placesAfter (c .before .loop .at) (jury c) (conditionalIn (jury c) (here c ws bs)))
+      (lentTo (c .before .before .before .before .before .before .before) ws bs)
+  pub wires : take (ballotBytes (shapeOf (jury c)) + jury c .gates)
+      (drop (c .before .loop .at .wires) (c .before .loop .wires))
+      ≡ juryWires (given (c .before .before .before .before .before .before .before)) (jury c)
+      (piecesOf (jury c) (here c ws bs))
   pub wires-room : c .before .loop .at .wires + (ballotBytes (shapeOf (jury c)) + jury c .gates) ≤ length (c .before .loop .wires)
-  pub boards : take (conditionalIn (jury c) (here c ws bs) + jury c .candidates) (drop (c .before .loop .at .boards) (c .before .loop .boards)) ≡ juryBoard (given (c .before .before .before .before .before .before .before)) (jury c) (piecesOf (jury c) (here c ws bs))
-  pub boards-room : c .before .loop .at .boards + (conditionalIn (jury c) (here c ws bs) + jury c .candidates) ≤ length (c .before .loop .boards)
-  pub shown : getD (c .before .loop .shown) (c .before .loop .j) 0 ≡ juryShown (given (c .before .before .before .before .before .before .before)) (jury c) (piecesOf (jury c) (here c ws bs))
-  pub stands : JuryState (given (c .before .before .before .before .before .before .before)) (jury c) (piecesOf (jury c) (here c ws bs)) (juryWires (given (c .before .before .before .before .before .before .before)) (jury c) (piecesOf (jury c) (here c ws bs)))
-      (juryBoard (given (c .before .before .before .before .before .before .before)) (jury c) (piecesOf (jury c) (here c ws bs))) (juryShown (given (c .before .before .before .before .before .before .before)) (jury c) (piecesOf (jury c) (here c ws bs)))
+  pub boards : take (conditionalIn (jury c) (here c ws bs) + jury c .candidates)
+      (drop (c .before .loop .at .boards) (c .before .loop .boards))
+      ≡ juryBoard (given (c .before .before .before .before .before .before .before)) (jury c)
+      (piecesOf (jury c) (here c ws bs))
+  pub boards-room : c .before .loop .at .boards + (conditionalIn (jury c) (here c ws bs) + jury c .candidates)
+      ≤ length (c .before .loop .boards)
+  pub shown : getD (c .before .loop .shown) (c .before .loop .j) 0
+      ≡ juryShown (given (c .before .before .before .before .before .before .before)) (jury c)
+      (piecesOf (jury c) (here c ws bs))
+  pub stands : JuryState (given (c .before .before .before .before .before .before .before)) (jury c)
+      (piecesOf (jury c) (here c ws bs))
+      (juryWires (given (c .before .before .before .before .before .before .before)) (jury c)
+      (piecesOf (jury c) (here c ws bs)))
+      (juryBoard (given (c .before .before .before .before .before .before .before)) (jury c)
+      (piecesOf (jury c) (here c ws bs)))
+      (juryShown (given (c .before .before .before .before .before .before .before)) (jury c)
+      (piecesOf (jury c) (here c ws bs)))
 
-in-turn : (c : tie.In-loop Inv-loop μ-loop) (ws bs : List ℕ) → Entry (c .before .before .before .before .before .before .before) ws bs → Turn c ws bs
+in-turn : (c : tie.In-loop Inv-loop μ-loop) (ws bs : List ℕ)
+    → Entry (c .before .before .before .before .before .before .before) ws bs → Turn c ws bs
 in-turn c ws bs st =
     let s = c .before .before .before .before .before .before .before in
     let l = c .before .loop in
@@ -115,22 +138,32 @@ in-turn c ws bs st =
     }
 
 -- the same for the contents that the contract names
-abbrev known : (c : tie.In-loop Inv-loop μ-loop) → Turn c (c .before .before .before .before .before .before .before .pre .wires-lent) (c .before .before .before .before .before .before .before .pre .boards-lent)
-known c = let s = c .before .before .before .before .before .before .before in in-turn c (s .pre .wires-lent) (s .pre .boards-lent) (s .pre .state)
+abbrev known : (c : tie.In-loop Inv-loop μ-loop)
+    → Turn c (c .before .before .before .before .before .before .before .pre .wires-lent)
+    (c .before .before .before .before .before .before .before .pre .boards-lent)
+known c = let s = c .before .before .before .before .before .before .before in in-turn c (s .pre .wires-lent)
+    (s .pre .boards-lent) (s .pre .state)
 
 -- the places after the jury
 places-are : (c : tie.After-after Inv-loop μ-loop) (ws bs : List ℕ) → Turn (c .before .before) ws bs
-    → c .after .result ≡ placesAfter (c .before .before .before .loop .at) (jury (c .before .before)) (conditionalIn (jury (c .before .before)) (here (c .before .before) ws bs))
+    → c .after .result ≡ placesAfter (c .before .before .before .loop .at) (jury (c .before .before))
+    (conditionalIn (jury (c .before .before)) (here (c .before .before) ws bs))
 places-are c ws bs k = c .after .ensures ∙ ap (placesAfter (c .before .before .before .loop .at) (jury (c .before .before))) (k .mark)
 
 abbrev places : (c : tie.After-after Inv-loop μ-loop) → let s = begun (in-loop c) in
-    c .after .result ≡ placesAfter (c .before .before .before .loop .at) (jury (c .before .before)) (conditionalIn (jury (c .before .before)) (here (c .before .before) (s .pre .wires-lent) (s .pre .boards-lent)))
+    c .after .result ≡ placesAfter (c .before .before .before .loop .at) (jury (c .before .before))
+    (conditionalIn (jury (c .before .before)) (here (c .before .before) (s .pre .wires-lent) (s .pre .boards-lent)))
 places c = let s = begun (in-loop c) in places-are c (s .pre .wires-lent) (s .pre .boards-lent) (known (c .before .before))
 
 mul-given : tie.Need-mul-given Inv-loop μ-loop
 mul-given c =
     let s = c .before .before .before .before .before in
-    omega (arith, mul-le-mul {n₁ = s .args .done} {m₁ = s .args .quantum} {n₂ = 1048576} {m₂ = 65536} (s .pre .done-most) (s .pre .quantum-most), s .pre .done-most)
+    omega (
+      arith,
+      mul-le-mul {n₁ = s .args .done} {m₁ = s .args .quantum} {n₂ = 1048576} {m₂ = 65536}
+          (s .pre .done-most) (s .pre .quantum-most),
+      s .pre .done-most,
+    )
 
 loop-holds : tie.Need-loop-holds Inv-loop μ-loop
 loop-holds c =
@@ -138,7 +171,8 @@ loop-holds c =
     let a = s .args in (
       omega arith,
       λ (ws bs : List ℕ) st.
-          mid-start (given s) (given s + a .quantum) (take (a .count) (a .t2)) (a .lists .now) (a .ballots .now) (a .tapes .now) ws bs (a .t3) (a .wires .now) (a .boards .now) (a .before) st,
+          mid-start (given s) (given s + a .quantum) (take (a .count) (a .t2)) (a .lists .now) (a .ballots .now)
+          (a .tapes .now) ws bs (a .t3) (a .wires .now) (a .boards .now) (a .before) st,
       refl,
       refl,
     )
@@ -194,7 +228,8 @@ part-turn-start-2 : tie.Need-part-turn-start-2 Inv-loop μ-loop
 part-turn-start-2 c = omega (arith, ap (λ (x : Places). x .ballots) (places (c .before)))
 
 part-turn-end-2 : tie.Need-part-turn-end-2 Inv-loop μ-loop
-part-turn-end-2 c = let k = known (c .before .before .before) in omega (arith, ap (λ (x : Places). x .ballots) (places (c .before)), k .inside-after .ballots)
+part-turn-end-2 c = let k = known (c .before .before .before) in
+    omega (arith, ap (λ (x : Places). x .ballots) (places (c .before)), k .inside-after .ballots)
 
 sub-turn-3 : tie.Need-sub-turn-3 Inv-loop μ-loop
 sub-turn-3 c = omega (arith, ap (λ (x : Places). x .tapes) (places (c .before .before)))
@@ -203,7 +238,8 @@ part-turn-start-3 : tie.Need-part-turn-start-3 Inv-loop μ-loop
 part-turn-start-3 c = omega (arith, ap (λ (x : Places). x .tapes) (places (c .before .before)))
 
 part-turn-end-3 : tie.Need-part-turn-end-3 Inv-loop μ-loop
-part-turn-end-3 c = let k = known (c .before .before .before .before) in omega (arith, ap (λ (x : Places). x .tapes) (places (c .before .before)), k .inside-after .tapes)
+part-turn-end-3 c = let k = known (c .before .before .before .before) in
+    omega (arith, ap (λ (x : Places). x .tapes) (places (c .before .before)), k .inside-after .tapes)
 
 sub-turn-4 : tie.Need-sub-turn-4 Inv-loop μ-loop
 sub-turn-4 c = omega (arith, ap (λ (x : Places). x .wires) (places (c .before .before .before)))
@@ -212,7 +248,8 @@ part-turn-start-4 : tie.Need-part-turn-start-4 Inv-loop μ-loop
 part-turn-start-4 c = omega (arith, ap (λ (x : Places). x .wires) (places (c .before .before .before)))
 
 part-turn-end-4 : tie.Need-part-turn-end-4 Inv-loop μ-loop
-part-turn-end-4 c = let k = known (c .before .before .before .before .before) in omega (arith, ap (λ (x : Places). x .wires) (places (c .before .before .before)), k .wires-room)
+part-turn-end-4 c = let k = known (c .before .before .before .before .before) in
+    omega (arith, ap (λ (x : Places). x .wires) (places (c .before .before .before)), k .wires-room)
 
 sub-turn-5 : tie.Need-sub-turn-5 Inv-loop μ-loop
 sub-turn-5 c = omega (arith, ap (λ (x : Places). x .boards) (places (c .before .before .before .before)))
@@ -221,15 +258,28 @@ part-turn-start-5 : tie.Need-part-turn-start-5 Inv-loop μ-loop
 part-turn-start-5 c = omega (arith, ap (λ (x : Places). x .boards) (places (c .before .before .before .before)))
 
 part-turn-end-5 : tie.Need-part-turn-end-5 Inv-loop μ-loop
-part-turn-end-5 c = let k = known (c .before .before .before .before .before .before) in omega (arith, ap (λ (x : Places). x .boards) (places (c .before .before .before .before)), k .boards-room)
+part-turn-end-5 c = let k = known (c .before .before .before .before .before .before) in
+    omega (arith, ap (λ (x : Places). x .boards) (places (c .before .before .before .before)), k .boards-room)
 
 -- the pieces that the turn is handed
 record Handed (c : tie.After-after Inv-loop μ-loop) (ws bs : List ℕ) : Type 0 where
-  pub list : take (c .after .result .lists - c .before .before .before .loop .at .lists) (drop (c .before .before .before .loop .at .lists) (begun (in-loop c) .args .lists .now)) ≡ piecesOf (jury (c .before .before)) (here (c .before .before) ws bs) .lists
-  pub ballots : take (c .after .result .ballots - c .before .before .before .loop .at .ballots) (drop (c .before .before .before .loop .at .ballots) (begun (in-loop c) .args .ballots .now)) ≡ piecesOf (jury (c .before .before)) (here (c .before .before) ws bs) .ballots
-  pub tape : take (c .after .result .tapes - c .before .before .before .loop .at .tapes) (drop (c .before .before .before .loop .at .tapes) (begun (in-loop c) .args .tapes .now)) ≡ piecesOf (jury (c .before .before)) (here (c .before .before) ws bs) .tapes
-  pub wires : take (c .after .result .wires - c .before .before .before .loop .at .wires) (drop (c .before .before .before .loop .at .wires) (c .before .before .before .loop .wires)) ≡ juryWires (given (begun (in-loop c))) (jury (c .before .before)) (piecesOf (jury (c .before .before)) (here (c .before .before) ws bs))
-  pub board : take (c .after .result .boards - c .before .before .before .loop .at .boards) (drop (c .before .before .before .loop .at .boards) (c .before .before .before .loop .boards)) ≡ juryBoard (given (begun (in-loop c))) (jury (c .before .before)) (piecesOf (jury (c .before .before)) (here (c .before .before) ws bs))
+  pub list : take (c .after .result .lists - c .before .before .before .loop .at .lists)
+      (drop (c .before .before .before .loop .at .lists) (begun (in-loop c) .args .lists .now))
+      ≡ piecesOf (jury (c .before .before)) (here (c .before .before) ws bs) .lists
+  pub ballots : take (c .after .result .ballots - c .before .before .before .loop .at .ballots)
+      (drop (c .before .before .before .loop .at .ballots) (begun (in-loop c) .args .ballots .now))
+      ≡ piecesOf (jury (c .before .before)) (here (c .before .before) ws bs) .ballots
+  pub tape : take (c .after .result .tapes - c .before .before .before .loop .at .tapes)
+      (drop (c .before .before .before .loop .at .tapes) (begun (in-loop c) .args .tapes .now))
+      ≡ piecesOf (jury (c .before .before)) (here (c .before .before) ws bs) .tapes
+  pub wires : take (c .after .result .wires - c .before .before .before .loop .at .wires)
+      (drop (c .before .before .before .loop .at .wires) (c .before .before .before .loop .wires))
+      ≡ juryWires (given (begun (in-loop c))) (jury (c .before .before))
+      (piecesOf (jury (c .before .before)) (here (c .before .before) ws bs))
+  pub board : take (c .after .result .boards - c .before .before .before .loop .at .boards)
+      (drop (c .before .before .before .loop .at .boards) (c .before .before .before .loop .boards))
+      ≡ juryBoard (given (begun (in-loop c))) (jury (c .before .before))
+      (piecesOf (jury (c .before .before)) (here (c .before .before) ws bs))
 
 handed : (c : tie.After-after Inv-loop μ-loop) (ws bs : List ℕ) → Turn (c .before .before) ws bs → Handed c ws bs
 handed c ws bs k =
@@ -239,24 +289,32 @@ handed c ws bs k =
     let q = places-are c ws bs k in
     let h = here (c .before .before) ws bs in
     record {
-      list = slice-is _ (l .at .lists) (c .after .result .lists) (s .args .lists .now) (ap (λ (x : Places). x .lists) q) ∙ sym (k .passed .listIs);
-      ballots = slice-is _ (l .at .ballots) (c .after .result .ballots) (s .args .ballots .now) (ap (λ (x : Places). x .ballots) q) ∙ sym (k .passed .ballotsAre);
-      tape = slice-is _ (l .at .tapes) (c .after .result .tapes) (s .args .tapes .now) (ap (λ (x : Places). x .tapes) q) ∙ sym (k .passed .tapeIs);
+      list = slice-is _ (l .at .lists) (c .after .result .lists) (s .args .lists .now)
+          (ap (λ (x : Places). x .lists) q) ∙ sym (k .passed .listIs);
+      ballots = slice-is _ (l .at .ballots) (c .after .result .ballots) (s .args .ballots .now)
+          (ap (λ (x : Places). x .ballots) q) ∙ sym (k .passed .ballotsAre);
+      tape = slice-is _ (l .at .tapes) (c .after .result .tapes) (s .args .tapes .now)
+          (ap (λ (x : Places). x .tapes) q) ∙ sym (k .passed .tapeIs);
       wires = slice-is _ (l .at .wires) (c .after .result .wires) (l .wires) (ap (λ (x : Places). x .wires) q) ∙ k .wires;
       board = slice-is _ (l .at .boards) (c .after .result .boards) (l .boards) (ap (λ (x : Places). x .boards) q) ∙ k .boards;
     }
 
 -- the jury on them
-ready : (c : tie.After-after Inv-loop μ-loop) (ws bs : List ℕ) → Turn (c .before .before) ws bs → let s = begun (in-loop c) in let l = c .before .before .before .loop in let j = jury (c .before .before) in let p = piecesOf j (here (c .before .before) ws bs) in
+ready : (c : tie.After-after Inv-loop μ-loop) (ws bs : List ℕ) → Turn (c .before .before) ws bs → let s =
+    begun (in-loop c) in let l = c .before .before .before .loop in let j = jury (c .before .before) in let p =
+    piecesOf j (here (c .before .before) ws bs) in
     JuryState (given s) j
-    (lent (take (c .after .result .lists - l .at .lists) (drop (l .at .lists) (s .args .lists .now))) (take (c .after .result .ballots - l .at .ballots) (drop (l .at .ballots) (s .args .ballots .now)))
+    (lent (take (c .after .result .lists - l .at .lists) (drop (l .at .lists) (s .args .lists .now)))
+    (take (c .after .result .ballots - l .at .ballots) (drop (l .at .ballots) (s .args .ballots .now)))
     (take (c .after .result .tapes - l .at .tapes) (drop (l .at .tapes) (s .args .tapes .now))) (p .wires) (p .boards))
-    (take (c .after .result .wires - l .at .wires) (drop (l .at .wires) (l .wires))) (take (c .after .result .boards - l .at .boards) (drop (l .at .boards) (l .boards))) (getD (l .shown) (l .j) 0)
+    (take (c .after .result .wires - l .at .wires) (drop (l .at .wires) (l .wires)))
+    (take (c .after .result .boards - l .at .boards) (drop (l .at .boards) (l .boards))) (getD (l .shown) (l .j) 0)
 ready c ws bs k =
     let s = begun (in-loop c) in
     let j = jury (c .before .before) in
     let h = handed c ws bs k in
-    jury-as (given s) j (piecesOf j (here (c .before .before) ws bs)) _ _ _ _ _ _ _ _ _ (h .list) (h .ballots) (h .tape) (h .wires) (h .board) (k .shown) (k .stands)
+    jury-as (given s) j (piecesOf j (here (c .before .before) ws bs)) _ _ _ _ _ _ _ _ _ (h .list) (h .ballots)
+    (h .tape) (h .wires) (h .board) (k .shown) (k .stands)
 
 turn-requires : tie.Need-turn-requires Inv-loop μ-loop
 turn-requires c κs =
@@ -284,10 +342,17 @@ loop-less : tie.Need-loop-less Inv-loop μ-loop
 loop-less c = omega arith
 
 -- the juries after the turn
-next : (c : tie.After-turn Inv-loop μ-loop) (ws bs : List ℕ) → Entry (begun (in-loop (placed c))) ws bs → let a = c .before .before .before .before .before .before in let s = begun (in-loop (placed c)) in let l = a .before .before .before .loop in
-    Mid (take (s .args .count) (s .args .t2)) (lentTo s ws bs) (given s) (given s + s .args .quantum) (s .args .t3) (l .j + 1) (drop (l .j + 1) (take (s .args .count) (s .args .t2))) (a .after .result)
-    (take (l .at .wires) (l .wires) ++ (c .turn .last .1 .1 .1 .1 .1 .1 .1 .0 ++ drop (a .after .result .wires - l .at .wires) (drop (l .at .wires) (l .wires))))
-    (take (l .at .boards) (l .boards) ++ (c .turn .last .1 .1 .1 .1 .1 .1 .1 .1 .0 ++ drop (a .after .result .boards - l .at .boards) (drop (l .at .boards) (l .boards))))
+next : (c : tie.After-turn Inv-loop μ-loop) (ws bs : List ℕ) → Entry (begun (in-loop (placed c))) ws bs → let a =
+    c .before .before .before .before .before .before in let s = begun (in-loop (placed c)) in let l =
+    a .before .before .before .loop in
+    Mid (take (s .args .count) (s .args .t2)) (lentTo s ws bs) (given s) (given s + s .args .quantum) (s .args .t3)
+    (l .j + 1) (drop (l .j + 1) (take (s .args .count) (s .args .t2))) (a .after .result)
+    (take (l .at .wires) (l .wires)
+    ++ (c .turn .last .1 .1 .1 .1 .1 .1 .1 .0
+    ++ drop (a .after .result .wires - l .at .wires) (drop (l .at .wires) (l .wires))))
+    (take (l .at .boards) (l .boards)
+    ++ (c .turn .last .1 .1 .1 .1 .1 .1 .1 .1 .0
+    ++ drop (a .after .result .boards - l .at .boards) (drop (l .at .boards) (l .boards))))
     (set (l .shown) (l .j) (c .turn .result))
 next c ws bs st =
     let a = c .before .before .before .before .before .before in
@@ -306,37 +371,56 @@ next c ws bs st =
     let m = conditionalIn j (here i ws bs) + j .candidates in
     let q = c .turn .last .1 .1 .1 .1 .1 .1 .1 .0 in
     let r = c .turn .last .1 .1 .1 .1 .1 .1 .1 .1 .0 in
-    let after = jury-back (g + s .args .quantum) j p _ _ _ q r (c .turn .result) (h .list) (h .ballots) (h .tape) (c .turn .ensures (p .wires) (p .boards) (ready a ws bs k)) in
-    let long : length q ≡ n = c .turn .kept .1 .1 .1 .1 .1 .1 .1 .0 ∙ ap length (slice-is n (l .at .wires) (a .after .result .wires) (l .wires) (ap (λ (x : Places). x .wires) places)) ∙ part-long n (l .at .wires) (l .wires) (k .wires-room) in
-    let high : length r ≡ m = c .turn .kept .1 .1 .1 .1 .1 .1 .1 .1 .0 ∙ ap length (slice-is m (l .at .boards) (a .after .result .boards) (l .boards) (ap (λ (x : Places). x .boards) places)) ∙ part-long m (l .at .boards) (l .boards) (k .boards-room) in
-    mid-as ss t g (g + s .args .quantum) (s .args .t3) (suc (l .j)) (l .j + 1) (drop (suc (l .j)) ss) (drop (l .j + 1) ss) _ (a .after .result) _ _ _ _ _
+    let after = jury-back (g + s .args .quantum) j p _ _ _ q r (c .turn .result) (h .list) (h .ballots) (h .tape)
+    (c .turn .ensures (p .wires) (p .boards) (ready a ws bs k)) in
+    let long : length q ≡ n = c .turn .kept .1 .1 .1 .1 .1 .1 .1 .0
+    ∙ ap length (slice-is n (l .at .wires) (a .after .result .wires) (l .wires)
+    (ap (λ (x : Places). x .wires) places)) ∙ part-long n (l .at .wires) (l .wires) (k .wires-room) in
+    let high : length r ≡ m = c .turn .kept .1 .1 .1 .1 .1 .1 .1 .1 .0
+    ∙ ap length (slice-is m (l .at .boards) (a .after .result .boards) (l .boards)
+    (ap (λ (x : Places). x .boards) places)) ∙ part-long m (l .at .boards) (l .boards) (k .boards-room) in
+    mid-as ss t g (g + s .args .quantum) (s .args .t3) (suc (l .j)) (l .j + 1) (drop (suc (l .j)) ss)
+    (drop (l .j + 1) ss) _ (a .after .result) _ _ _ _ _
     (add-one (l .j))
     (ap (λ (x : ℕ). drop x ss) (add-one (l .j)))
     places
-    (ap (λ (x : ℕ). take (l .at .wires) (l .wires) ++ (q ++ drop x (drop (l .at .wires) (l .wires)))) {x = a .after .result .wires - l .at .wires} {y = n} (omega (arith, ap (λ (x : Places). x .wires) places)))
-    (ap (λ (x : ℕ). take (l .at .boards) (l .boards) ++ (r ++ drop x (drop (l .at .boards) (l .boards)))) {x = a .after .result .boards - l .at .boards} {y = m} (omega (arith, ap (λ (x : Places). x .boards) places)))
-    (mid-next ss t g (g + s .args .quantum) (s .args .t3) (l .j) j (drop (suc (l .j)) ss) (l .at) (l .wires) (l .boards) (l .shown) (mid i ws bs st) q r (c .turn .result) after long high)
+    (ap (λ (x : ℕ). take (l .at .wires) (l .wires) ++ (q ++ drop x (drop (l .at .wires) (l .wires))))
+    {x = a .after .result .wires - l .at .wires} {y = n} (omega (arith, ap (λ (x : Places). x .wires) places)))
+    (ap (λ (x : ℕ). take (l .at .boards) (l .boards) ++ (r ++ drop x (drop (l .at .boards) (l .boards))))
+    {x = a .after .result .boards - l .at .boards} {y = m} (omega (arith, ap (λ (x : Places). x .boards) places)))
+    (mid-next ss t g (g + s .args .quantum) (s .args .t3) (l .j) j (drop (suc (l .j)) ss) (l .at) (l .wires)
+    (l .boards) (l .shown) (mid i ws bs st) q r (c .turn .result) after long high)
 
 -- no length changes
-same-wires : (c : tie.After-turn Inv-loop μ-loop) → let a = c .before .before .before .before .before .before in let l = a .before .before .before .loop in
-    length (take (l .at .wires) (l .wires) ++ (c .turn .last .1 .1 .1 .1 .1 .1 .1 .0 ++ drop (a .after .result .wires - l .at .wires) (drop (l .at .wires) (l .wires)))) ≡ length (begun (in-loop (placed c)) .args .wires .now)
+same-wires : (c : tie.After-turn Inv-loop μ-loop) → let a = c .before .before .before .before .before .before in
+    let l = a .before .before .before .loop in
+    length (take (l .at .wires) (l .wires)
+    ++ (c .turn .last .1 .1 .1 .1 .1 .1 .1 .0
+    ++ drop (a .after .result .wires - l .at .wires) (drop (l .at .wires) (l .wires))))
+    ≡ length (begun (in-loop (placed c)) .args .wires .now)
 same-wires c =
     let a = c .before .before .before .before .before .before in
     let l = a .before .before .before .loop in
     let k = known (a .before .before) in
     let n = a .after .result .wires - l .at .wires in
     let room : l .at .wires + n ≤ length (l .wires) = omega (arith, ap (λ (x : Places). x .wires) (places a), k .wires-room) in
-    spliced-long n (l .at .wires) (l .wires) (c .turn .last .1 .1 .1 .1 .1 .1 .1 .0) room (c .turn .kept .1 .1 .1 .1 .1 .1 .1 .0 ∙ part-long n (l .at .wires) (l .wires) room) ∙ l .inv .2
+    spliced-long n (l .at .wires) (l .wires) (c .turn .last .1 .1 .1 .1 .1 .1 .1 .0) room
+    (c .turn .kept .1 .1 .1 .1 .1 .1 .1 .0 ∙ part-long n (l .at .wires) (l .wires) room) ∙ l .inv .2
 
-same-boards : (c : tie.After-turn Inv-loop μ-loop) → let a = c .before .before .before .before .before .before in let l = a .before .before .before .loop in
-    length (take (l .at .boards) (l .boards) ++ (c .turn .last .1 .1 .1 .1 .1 .1 .1 .1 .0 ++ drop (a .after .result .boards - l .at .boards) (drop (l .at .boards) (l .boards)))) ≡ length (begun (in-loop (placed c)) .args .boards .now)
+same-boards : (c : tie.After-turn Inv-loop μ-loop) → let a = c .before .before .before .before .before .before in
+    let l = a .before .before .before .loop in
+    length (take (l .at .boards) (l .boards)
+    ++ (c .turn .last .1 .1 .1 .1 .1 .1 .1 .1 .0
+    ++ drop (a .after .result .boards - l .at .boards) (drop (l .at .boards) (l .boards))))
+    ≡ length (begun (in-loop (placed c)) .args .boards .now)
 same-boards c =
     let a = c .before .before .before .before .before .before in
     let l = a .before .before .before .loop in
     let k = known (a .before .before) in
     let n = a .after .result .boards - l .at .boards in
     let room : l .at .boards + n ≤ length (l .boards) = omega (arith, ap (λ (x : Places). x .boards) (places a), k .boards-room) in
-    spliced-long n (l .at .boards) (l .boards) (c .turn .last .1 .1 .1 .1 .1 .1 .1 .1 .0) room (c .turn .kept .1 .1 .1 .1 .1 .1 .1 .1 .0 ∙ part-long n (l .at .boards) (l .boards) room) ∙ l .inv .3
+    spliced-long n (l .at .boards) (l .boards) (c .turn .last .1 .1 .1 .1 .1 .1 .1 .1 .0) room
+    (c .turn .kept .1 .1 .1 .1 .1 .1 .1 .1 .0 ∙ part-long n (l .at .boards) (l .boards) room) ∙ l .inv .3
 
 loop-again : tie.Need-loop-again Inv-loop μ-loop
 loop-again c =
@@ -355,11 +439,16 @@ returns c =
     let s = c .before .before .before .before .before .before .before in
     let l = c .before .loop in
     let ss = take (s .args .count) (s .args .t2) in
-    let none-left : drop (l .j) ss ≡ [] = drop-of-length-le ss {i = l .j} (omega (arith, length-take-le (s .args .count) (s .args .t2) (enough s), c .loop-test .left)) in
+    let none-left : drop (l .j) ss ≡ [] =
+    drop-of-length-le ss {i = l .j}
+    (omega (arith, length-take-le (s .args .count) (s .args .t2) (enough s), c .loop-test .left)) in
     λ (ws bs : List ℕ) st.
-    subst (λ (n : ℕ). RoundState n ss (lentTo s ws bs) (s .args .t3) (l .wires) (l .boards) (l .shown)) (sym (suc-mul (s .args .done) (s .args .quantum)))
-    (mid-end ss (lentTo s ws bs) (given s) (given s + s .args .quantum) (s .args .t3) (l .j) (l .at) (l .wires) (l .boards) (l .shown) (st .accepted) (st .conditionalAre)
-    (subst (λ (left : List JuryHeader). Mid ss (lentTo s ws bs) (given s) (given s + s .args .quantum) (s .args .t3) (l .j) left (l .at) (l .wires) (l .boards) (l .shown)) none-left (l .inv .1 ws bs st)))
+    subst (λ (n : ℕ). RoundState n ss (lentTo s ws bs) (s .args .t3) (l .wires) (l .boards) (l .shown))
+    (sym (suc-mul (s .args .done) (s .args .quantum)))
+    (mid-end ss (lentTo s ws bs) (given s) (given s + s .args .quantum) (s .args .t3) (l .j) (l .at) (l .wires)
+    (l .boards) (l .shown) (st .accepted) (st .conditionalAre)
+    (subst (λ (left : List JuryHeader). Mid ss (lentTo s ws bs) (given s) (given s + s .args .quantum) (s .args .t3)
+    (l .j) left (l .at) (l .wires) (l .boards) (l .shown)) none-left (l .inv .1 ws bs st)))
 
 pub round-spec : {M : Type 1} → statement M
 round-spec =

@@ -32,7 +32,8 @@ returns : tie.Need-returns
 returns c =
     let a = c .before .before .before .before .before .before .args in
     λ (ws bs : List ℕ) j.
-    turn-idle (a .header) (lent (a .list .now) (a .ballots .now) (a .tape .now) ws bs) (a .given) (a .quantum) (a .wires .now) (a .board .now) (a .shown) (c .if1 .taken) j
+    turn-idle (a .header) (lent (a .list .now) (a .ballots .now) (a .tape .now) ws bs) (a .given) (a .quantum)
+    (a .wires .now) (a .board .now) (a .shown) (c .if1 .taken) j
 
 load-requires : tie.Need-load-requires
 load-requires c κs =
@@ -49,11 +50,14 @@ sub-if2 : tie.Need-sub-if2
 sub-if2 c = search needs
 
 -- once the wire table holds the ballots
-begun : (c : tie.After-load) (ws bs : List ℕ) → Entry (c .before .before .before .before .before .before .before .before) ws bs → let a = c .before .before .before .before .before .before .before .before .args in
+begun : (c : tie.After-load) (ws bs : List ℕ)
+    → Entry (c .before .before .before .before .before .before .before .before) ws bs → let a =
+    c .before .before .before .before .before .before .before .before .args in
     Stands (a .ballots .now) (a .list .now) (a .tape .now) ws bs (a .given) (c .load .last .1 .1 .0) (a .board .now) (a .shown)
 begun c ws bs j =
     let a = c .before .before .before .before .before .before .before .before .args in
-    turn-begins (a .header) (lent (a .list .now) (a .ballots .now) (a .tape .now) ws bs) (a .given) (a .wires .now) _ (a .board .now) (a .shown) j (c .before .before .if1 .left) (c .load .ensures)
+    turn-begins (a .header) (lent (a .list .now) (a .ballots .now) (a .tape .now) ws bs) (a .given) (a .wires .now)
+    _ (a .board .now) (a .shown) j (c .before .before .if1 .left) (c .load .ensures)
 
 step-requires : tie.Need-step-requires
 step-requires c κs =
@@ -62,19 +66,23 @@ step-requires c κs =
     let a = s .args in
     let j = s .pre .state in
     let before : a .given < a .header .gates = l .before .before .if1 .left in
-    can-step (a .ballots .now) (a .list .now) (a .header .candidates) (a .tape .now) (s .pre .wires-lent) (s .pre .board-lent) (j .run) (a .given) (a .header .gates) (omega arith) (omega (arith, j .gates))
+    can-step (a .ballots .now) (a .list .now) (a .header .candidates) (a .tape .now) (s .pre .wires-lent)
+    (s .pre .board-lent) (j .run) (a .given) (a .header .gates) (omega arith) (omega (arith, j .gates))
     _ (a .board .now) (a .shown) (begun l (s .pre .wires-lent) (s .pre .board-lent) j)
 
 -- after its last gate
 finished : (c : tie.After-step) (ws bs : List ℕ) → Entry (started (loaded c)) ws bs → let a = started (loaded c) .args in
-    Stands (a .ballots .now) (a .list .now) (a .tape .now) ws bs (length (gatesOf (a .list .now))) (c .step .last .1 .1 .1 .1 .1 .1 .0) (c .step .last .1 .1 .1 .1 .1 .1 .1 .0) (c .step .result)
+    Stands (a .ballots .now) (a .list .now) (a .tape .now) ws bs (length (gatesOf (a .list .now)))
+    (c .step .last .1 .1 .1 .1 .1 .1 .0) (c .step .last .1 .1 .1 .1 .1 .1 .1 .0) (c .step .result)
 finished c ws bs j =
     let l = c .before .before .before .before .before .before in
     let a = started (loaded c) .args in
     let before : a .given < a .header .gates = l .before .before .if1 .left in
     let r = c .step in
-    subst (λ (n : ℕ). Stands (a .ballots .now) (a .list .now) (a .tape .now) ws bs n (r .last .1 .1 .1 .1 .1 .1 .0) (r .last .1 .1 .1 .1 .1 .1 .1 .0) (r .result)) (sym (j .gates))
-    (step-stands (a .ballots .now) (a .list .now) (a .header .candidates) (a .tape .now) ws bs (j .run) (a .given) (a .header .gates) (omega arith) (omega (arith, j .gates))
+    subst (λ (n : ℕ). Stands (a .ballots .now) (a .list .now) (a .tape .now) ws bs n (r .last .1 .1 .1 .1 .1 .1 .0)
+    (r .last .1 .1 .1 .1 .1 .1 .1 .0) (r .result)) (sym (j .gates))
+    (step-stands (a .ballots .now) (a .list .now) (a .header .candidates) (a .tape .now) ws bs (j .run) (a .given)
+    (a .header .gates) (omega arith) (omega (arith, j .gates))
     _ (a .board .now) (a .shown) (begun l ws bs j) _ _ (r .result) (r .ensures .next) (r .ensures .wires) (r .ensures .board))
 
 close-requires : tie.Need-close-requires
@@ -83,7 +91,8 @@ close-requires c κs =
     let s = started (loaded e) in
     let a = s .args in
     let j = s .pre .state in
-    can-close (a .ballots .now) (a .list .now) (a .header .candidates) (a .tape .now) (s .pre .wires-lent) (s .pre .board-lent) (j .run) _ _ _ (finished e (s .pre .wires-lent) (s .pre .board-lent) j)
+    can-close (a .ballots .now) (a .list .now) (a .header .candidates) (a .tape .now) (s .pre .wires-lent)
+    (s .pre .board-lent) (j .run) _ _ _ (finished e (s .pre .wires-lent) (s .pre .board-lent) j)
 
 same-length : tie.Need-same-length
 same-length c = search needs
@@ -98,7 +107,8 @@ returns-2 c =
     let a = started (loaded e) .args in
     let past = e .before .before .before .if2 .taken in
     λ (ws bs : List ℕ) j.
-    turn-ends (a .header) (lent (a .list .now) (a .ballots .now) (a .tape .now) ws bs) (j .run) (j .some-gate) (j .gates) (a .given + a .quantum) _ _ _ _ (omega arith) (finished e ws bs j) (c .before .before .close .ensures)
+    turn-ends (a .header) (lent (a .list .now) (a .ballots .now) (a .tape .now) ws bs) (j .run) (j .some-gate)
+    (j .gates) (a .given + a .quantum) _ _ _ _ (omega arith) (finished e ws bs j) (c .before .before .close .ensures)
 
 add-step : tie.Need-add-step
 add-step c = search needs
@@ -110,7 +120,8 @@ step-requires-2 c κs =
     let a = s .args in
     let j = s .pre .state in
     let ahead = c .before .before .if2 .left in
-    can-step (a .ballots .now) (a .list .now) (a .header .candidates) (a .tape .now) (s .pre .wires-lent) (s .pre .board-lent) (j .run) (a .given) (a .given + a .quantum) (omega arith) (omega (arith, j .gates))
+    can-step (a .ballots .now) (a .list .now) (a .header .candidates) (a .tape .now) (s .pre .wires-lent)
+    (s .pre .board-lent) (j .run) (a .given) (a .given + a .quantum) (omega arith) (omega (arith, j .gates))
     _ (a .board .now) (a .shown) (begun l (s .pre .wires-lent) (s .pre .board-lent) j)
 
 same-length-3 : tie.Need-same-length-3
@@ -129,8 +140,10 @@ returns-3 c =
     let r = e .step2 in
     let quantum-least = s .pre .quantum-least in
     λ (ws bs : List ℕ) j.
-    turn-goes-on (a .header) (lent (a .list .now) (a .ballots .now) (a .tape .now) ws bs) (j .run) (j .some-gate) (j .gates) (a .given + a .quantum) _ _ _ (omega arith) (omega arith)
-    (step-stands (a .ballots .now) (a .list .now) (a .header .candidates) (a .tape .now) ws bs (j .run) (a .given) (a .given + a .quantum) (omega arith) (omega (arith, j .gates))
+    turn-goes-on (a .header) (lent (a .list .now) (a .ballots .now) (a .tape .now) ws bs) (j .run) (j .some-gate)
+    (j .gates) (a .given + a .quantum) _ _ _ (omega arith) (omega arith)
+    (step-stands (a .ballots .now) (a .list .now) (a .header .candidates) (a .tape .now) ws bs (j .run) (a .given)
+    (a .given + a .quantum) (omega arith) (omega (arith, j .gates))
     _ (a .board .now) (a .shown) (begun l ws bs j) _ _ (r .result) (r .ensures .next) (r .ensures .wires) (r .ensures .board))
 
 pub turn-spec : {M : Type 1} → statement M

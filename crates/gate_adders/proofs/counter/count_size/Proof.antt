@@ -16,12 +16,17 @@ carries m e h = let q : m + e ≡ m - 1 + e + 1 = omega arith in ap (λ (x : ℕ
 
 -- a level of a counter, and the levels left
 size-turn : (m x r : ℕ) → 0 < r → Countable m x r
-    → Countable ((m + x % 2) / 2) (x / 2) (r - 1) × (countSize m x r ≡ 3 * ((m + x % 2) / 2) + countSize ((m + x % 2) / 2) (x / 2) (r - 1)) × ((m + x % 2) / 2 ≤ m)
+    → Countable ((m + x % 2) / 2) (x / 2) (r - 1)
+    × (countSize m x r ≡ 3 * ((m + x % 2) / 2) + countSize ((m + x % 2) / 2) (x / 2) (r - 1)) × ((m + x % 2) / 2 ≤ m)
 size-turn m x r h c =
     let q = countable-step m x r h c in
     let e = carries m (x % 2) (q .0) in
-    let a : (m + x % 2) / 2 ≤ m = omega (arith, q .0) in
-    (subst (λ (k : ℕ). Countable k (x / 2) (r - 1)) (sym e) (q .1), count-size-step m x r h ∙ ap (λ (k : ℕ). 3 * k + countSize k (x / 2) (r - 1)) (sym e), a)
+    let a : (m + x % 2) / 2 ≤ m = omega (arith, q .0) in (
+      subst (λ (k : ℕ). Countable k (x / 2) (r - 1)) (sym e) (q .1),
+      count-size-step m x r h
+          ∙ ap (λ (k : ℕ). 3 * k + countSize k (x / 2) (r - 1)) (sym e),
+      a,
+    )
 
 size-none : (m x r : ℕ) → r ≤ 0 → countSize m x r ≡ 0
 unfolding countSize
@@ -40,7 +45,9 @@ loop-holds c = (c .pre .few, c .pre .countable, omega arith)
 -- a turn: the level's gates, and those left
 in-turn : (c : tie.In-loop Inv-loop μ-loop) → let l = c .before .loop in
     let half = (l .carries + l .rest % 2) / 2 in
-    (half < writerLimit) × Countable half (l .rest / 2) (l .left - 1) × (l .gates + 3 * half + countSize half (l .rest / 2) (l .left - 1) ≡ countSize (c .before .before .args .count) (c .before .before .args .extra) (c .before .before .args .levels))
+    (half < writerLimit) × Countable half (l .rest / 2) (l .left - 1)
+    × (l .gates + 3 * half + countSize half (l .rest / 2) (l .left - 1)
+    ≡ countSize (c .before .before .args .count) (c .before .before .args .extra) (c .before .before .args .levels))
 in-turn c =
     let l = c .before .loop in
     let s = size-turn (l .carries) (l .rest) (l .left) (c .loop-test .taken) (l .inv .1) in

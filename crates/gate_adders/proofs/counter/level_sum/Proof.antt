@@ -30,10 +30,14 @@ unfolding levelSum
 last-adder n s m e t p q = rw (ne-eqb (adders m e) 0 (λ r. q (p ∙ r))) (ap (λ (x : ℕ). n + 3 * x - 2) p)
 
 returns : tie.Need-returns
-returns c = let a = c .before .before .args in no-adder (a .n) (a .s) (a .count) (a .e) (c .before .adders-of .result) (c .before .adders-of .ensures) (c .if1 .taken)
+returns c = let a = c .before .before .args in
+    no-adder (a .n) (a .s) (a .count) (a .e) (c .before .adders-of .result) (c .before .adders-of .ensures)
+    (c .if1 .taken)
 
 returns-2 : tie.Need-returns-2
-returns-2 c = let a = c .before .before .args in last-adder (a .n) (a .s) (a .count) (a .e) (c .before .adders-of .result) (c .before .adders-of .ensures) (c .if1 .left)
+returns-2 c = let a = c .before .before .args in
+    last-adder (a .n) (a .s) (a .count) (a .e) (c .before .adders-of .result) (c .before .adders-of .ensures)
+    (c .if1 .left)
 
 pub level-sum-spec : {M : Type 1} → statement M
 level-sum-spec =

@@ -29,10 +29,20 @@ same-length : tie.Need-same-length
 same-length c =
     search needs
 
+-- The stages of the function, seen from later ones.
+abbrev start-from-slice-known2 : tie.After-slice-known2 → tie.Start
+start-from-slice-known2 c = c .before .before .before .before .before .before
+
+abbrev start-from-slice-known3 : tie.After-slice-known3 → tie.Start
+start-from-slice-known3 c = c .before .before .before .before .before .before
+
 returns : tie.Need-returns
 returns c =
-    let a = (c .before .before .before .before .before .before) .args in
-    wrote-as (a .w) (a .table .now) _ _ _ _ (without-bit (a .x) (a .y) (a .bit) ((c .before .before .before .before .if1) .taken)) (and-wrote (a .w) (a .table .now) ((c .before .before .emit) .last .1 .0) ((c .before .before .emit) .result) (a .x) (a .y) 0 ((c .before .before .emit) .ensures))
+    let a = (start-from-slice-known2 c) .args in
+    wrote-as (a .w) (a .table .now) _ _ _ _
+    (without-bit (a .x) (a .y) (a .bit) ((c .before .before .before .before .if1) .taken))
+    (and-wrote (a .w) (a .table .now) ((c .before .before .emit) .last .1 .0) ((c .before .before .emit) .result)
+    (a .x) (a .y) 0 ((c .before .before .emit) .ensures))
 
 emit-requires-2 : tie.Need-emit-requires-2
 emit-requires-2 c κs =
@@ -44,8 +54,11 @@ same-length-2 c =
 
 returns-2 : tie.Need-returns-2
 returns-2 c =
-    let a = (c .before .before .before .before .before .before) .args in
-    wrote-as (a .w) (a .table .now) _ _ _ _ (with-bit (a .x) (a .y) (a .bit) ((c .before .before .before .before .if1) .left)) (or-wrote (a .w) (a .table .now) ((c .before .before .emit2) .last .1 .0) ((c .before .before .emit2) .result) (a .x) (a .y) 0 ((c .before .before .emit2) .ensures))
+    let a = (start-from-slice-known3 c) .args in
+    wrote-as (a .w) (a .table .now) _ _ _ _
+    (with-bit (a .x) (a .y) (a .bit) ((c .before .before .before .before .if1) .left))
+    (or-wrote (a .w) (a .table .now) ((c .before .before .emit2) .last .1 .0) ((c .before .before .emit2) .result)
+    (a .x) (a .y) 0 ((c .before .before .emit2) .ensures))
 
 pub carry-bit-spec : {M : Type 1} → statement M
 carry-bit-spec = tie.close (tie.spec emit-requires same-length returns emit-requires-2 same-length-2 returns-2)

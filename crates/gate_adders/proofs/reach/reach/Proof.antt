@@ -10,16 +10,27 @@ use Rattle.gate_adders.proofs.reach.reach.Tie as tie
 
 carry-bit-requires : tie.Need-carry-bit-requires
 carry-bit-requires c κs =
-    room-less ((c .before .before .before) .args .w) _ _ (omega (arith, reach-last-none ((c .before .before .before) .args .above) ((c .before .if1) .taken))) ((c .before .before .before) .pre .room)
+    room-less ((c .before .before .before) .args .w) _ _
+    (omega (arith, reach-last-none ((c .before .before .before) .args .above) ((c .before .if1) .taken)))
+    ((c .before .before .before) .pre .room)
 
 same-length : tie.Need-same-length
 same-length c =
     search needs
 
+-- The stages of the function, seen from later ones.
+abbrev start-from-slice-known2 : tie.After-slice-known2 → tie.Start
+start-from-slice-known2 c = c .before .before .before .before .before .before
+
+abbrev start-from-slice-known3 : tie.After-slice-known3 → tie.Start
+start-from-slice-known3 c = c .before .before .before .before .before .before
+
 returns : tie.Need-returns
 returns c =
-    let a = (c .before .before .before .before .before .before) .args in
-    wrote-as (a .w) (a .table .now) _ _ _ _ (reach-one-digit (a .w .wire) (a .x) (a .y) (a .bit) (a .above) ((c .before .before .before .before .if1) .taken)) ((c .before .before .carry-bit) .ensures)
+    let a = (start-from-slice-known2 c) .args in
+    wrote-as (a .w) (a .table .now) _ _ _ _
+    (reach-one-digit (a .w .wire) (a .x) (a .y) (a .bit) (a .above)
+    ((c .before .before .before .before .if1) .taken)) ((c .before .before .carry-bit) .ensures)
 
 sub-low : tie.Need-sub-low
 sub-low c =
@@ -50,9 +61,12 @@ same-length-2 c =
 
 returns-2 : tie.Need-returns-2
 returns-2 c =
-    let a = (c .before .before .before .before .before .before) .args in
+    let a = (start-from-slice-known3 c) .args in
     let more = (c .before .before .before .before .if1) .left in
-    wrote-as (a .w) (a .table .now) _ _ _ _ (reach-more-digits (a .w .wire) (a .x) (a .y) (a .bit) (a .above) (omega arith)) ((c .before .before .reach-halves) .ensures)
+    wrote-as (a .w) (a .table .now) _ _ _ _
+    (reach-more-digits (a .w .wire) (a .x) (a .y) (a .bit) (a .above) (omega arith))
+    ((c .before .before .reach-halves) .ensures)
 
 pub reach-spec : {M : Type 1} → statement M
-reach-spec = tie.close (tie.spec carry-bit-requires same-length returns sub-low sub-reach-halves sub-reach-halves-2 reach-halves-requires same-length-2 returns-2)
+reach-spec = tie.close (tie.spec carry-bit-requires same-length returns sub-low sub-reach-halves sub-reach-halves-2
+    reach-halves-requires same-length-2 returns-2)

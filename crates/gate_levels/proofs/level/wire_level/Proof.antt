@@ -18,11 +18,15 @@ shared-slice-read-result c = search needs
 
 returns : tie.Need-returns
 unfolding wireLevel
-returns c = let a = c .before .args in sym (ap (λ (b : Bool). cond b 0 (getD (a .levels .now) (a .x - a .inputs) 0)) (lt-ltb (a .x) (a .inputs) (c .if1 .taken)))
+returns c = let a = c .before .args in
+    sym (ap (λ (b : Bool). cond b 0 (getD (a .levels .now) (a .x - a .inputs) 0))
+    (lt-ltb (a .x) (a .inputs) (c .if1 .taken)))
 
 returns-2 : tie.Need-returns-2
 unfolding wireLevel
-returns-2 c = let a = c .before .before .args in sym (ap (λ (b : Bool). cond b 0 (getD (a .levels .now) (a .x - a .inputs) 0)) (le-ltb (a .x) (a .inputs) (c .before .if1 .left)))
+returns-2 c = let a = c .before .before .args in
+    sym (ap (λ (b : Bool). cond b 0 (getD (a .levels .now) (a .x - a .inputs) 0))
+    (le-ltb (a .x) (a .inputs) (c .before .if1 .left)))
 
 pub wire-level-spec : {M : Type 1} → statement M
 wire-level-spec = tie.close (tie.spec mul-result shared-slice-read-result returns returns-2)

@@ -18,7 +18,8 @@ abbrev μ-loop : tie.MeasureT-loop
 μ-loop inputs table levels₀ marks gates most₀ g₀ levels most g = gates - g
 
 loop-holds : tie.Need-loop-holds Inv-loop μ-loop
-loop-holds c = let s = c .before .before in left-start (s .args .inputs) (s .args .table .now) (s .args .levels .now) (s .pre .good) (s .pre .levels-length)
+loop-holds c = let s = c .before .before in
+    left-start (s .args .inputs) (s .args .table .now) (s .args .levels .now) (s .pre .good) (s .pre .levels-length)
 
 gate-level-requires : tie.Need-gate-level-requires Inv-loop μ-loop
 gate-level-requires c κs =
@@ -28,7 +29,8 @@ gate-level-requires c κs =
     let a = s .args in
     record {
       marked = refl;
-      gate = level-ready (a .inputs) (a .table .now) (l .levels) (l .most) (l .g) (l .inv) (s .pre .some-input) (omega (arith, s .pre .levels-length, c .before .before .loop-test .taken)) (s .pre .few);
+      gate = level-ready (a .inputs) (a .table .now) (l .levels) (l .most) (l .g) (l .inv) (s .pre .some-input)
+          (omega (arith, s .pre .levels-length, c .before .before .loop-test .taken)) (s .pre .few);
     }
 
 mul-levels : tie.Need-mul-levels Inv-loop μ-loop
@@ -51,16 +53,23 @@ add-g c = omega (arith, c .before .before .before .before .loop-test .taken)
 loop-less : tie.Need-loop-less Inv-loop μ-loop
 loop-less c = omega (arith, c .before .before .before .before .loop-test .taken)
 
+-- The stages of the function, seen from later ones.
+abbrev loop-reached-from-larger : tie.After-larger Inv-loop μ-loop → tie.At-loop Inv-loop μ-loop
+loop-reached-from-larger c = c .before .before .before .before .before
+
 loop-again : tie.Need-loop-again Inv-loop μ-loop
 loop-again c =
-    let at = c .before .before .before .before .before in
+    let at = (loop-reached-from-larger c) in
     let l = at .loop in
     let s = at .before .before .before in
     let a = s .args in
     let v = c .before .gate-level in
     let long = l .inv .long in
     let inside : l .g < length (l .levels) = omega (arith, s .pre .levels-length, c .before .before .before .before .loop-test .taken) in
-    left-turn (a .inputs) (a .table .now) (l .levels) (l .most) (l .g) (l .inv) (s .pre .some-input) (omega (arith, s .pre .levels-length, c .before .before .before .before .loop-test .taken)) (v .result) (v .ensures) _ _ _ (length-set (l .levels) (l .g) (v .result)) (take-suc-set (l .levels) (l .g) (v .result) inside) (c .larger .ensures) (add-one (l .g))
+    left-turn (a .inputs) (a .table .now) (l .levels) (l .most) (l .g) (l .inv) (s .pre .some-input)
+    (omega (arith, s .pre .levels-length, c .before .before .before .before .loop-test .taken)) (v .result)
+    (v .ensures) _ _ _ (length-set (l .levels) (l .g) (v .result))
+    (take-suc-set (l .levels) (l .g) (v .result) inside) (c .larger .ensures) (add-one (l .g))
 
 rounds-requires : tie.Need-rounds-requires Inv-loop μ-loop
 rounds-requires c κs = search needs
@@ -79,7 +88,8 @@ returns c =
     let l = at .loop in
     let s = at .before .before .before in
     let a = s .args in
-    let e = left-end (a .inputs) (a .table .now) (l .levels) (l .most) (l .g) (l .inv) (omega (arith, s .pre .levels-length, c .before .loop-test .left)) in
+    let e = left-end (a .inputs) (a .table .now) (l .levels) (l .most) (l .g) (l .inv)
+    (omega (arith, s .pre .levels-length, c .before .loop-test .left)) in
     record { rounds = c .rounds .ensures ∙ e .1; levels = e .0 }
 
 pub write-spec : {M : Type 1} → statement M

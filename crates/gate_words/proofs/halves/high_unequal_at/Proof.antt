@@ -51,4 +51,6 @@ returns-2 c =
     (c .chain-end) .ensures ∙ high-unequal-some (a .n) (a .low) (a .high) (a .n + a .low + a .high + 1 + a .low) (omega arith) (omega arith)
 
 pub high-unequal-at-spec : {M : Type 1} → statement M
-high-unequal-at-spec = tie.close (tie.spec returns add-chain-end add-chain-end-2 add-chain-end-3 add-chain-end-4 add-chain-end-5 add-chain-end-6 sub-chain-end chain-end-requires returns-2)
+high-unequal-at-spec = tie.close
+    (tie.spec returns add-chain-end add-chain-end-2 add-chain-end-3 add-chain-end-4 add-chain-end-5 add-chain-end-6
+    sub-chain-end chain-end-requires returns-2)

@@ -56,7 +56,9 @@ returns : tie.Need-returns
 returns c =
     let a = c .before .args in
     let stored = sets (a .table .now) (a .at) (a .kind ∷ a .a ∷ a .b ∷ a .c ∷ []) in
-    sym (sets-four (a .table .now) (a .at) (a .kind) (a .a) (a .b) (a .c)) ∙ sym (ap (λ (b : Bool). cond b stored (a .table .now)) (lt-ltb (a .at + 3) (length (a .table .now)) (c .if1 .taken)))
+    sym (sets-four (a .table .now) (a .at) (a .kind) (a .a) (a .b) (a .c))
+    ∙ sym (ap (λ (b : Bool). cond b stored (a .table .now))
+    (lt-ltb (a .at + 3) (length (a .table .now)) (c .if1 .taken)))
 
 returns-2 : tie.Need-returns-2
 returns-2 c =

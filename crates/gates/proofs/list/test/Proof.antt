@@ -24,17 +24,29 @@ unfolding tested
 returns-3 c =
     let a = c .before .before .before .before .args in
     let n = length (a .table .now) in
-    rw (eq-eqb (n % 4) 0 (c .before .before .if1 .left), le-ltb (n / 4) (a .outputs) (c .before .if2 .left), lt-ltb 1048576 (n / 4) (c .if3 .taken))
+    rw (
+      eq-eqb (n % 4) 0 (c .before .before .if1 .left),
+      le-ltb (n / 4) (a .outputs) (c .before .if2 .left),
+      lt-ltb 1048576 (n / 4) (c .if3 .taken),
+    )
 
 test-gates-requires : tie.Need-test-gates-requires
 test-gates-requires c κs = search needs
 
+-- The stages of the function, seen from later ones.
+abbrev start-from-test-gates : tie.After-test-gates → tie.Start
+start-from-test-gates c = c .before .before .before .before .before
+
 returns-4 : tie.Need-returns-4
 unfolding tested
 returns-4 c =
-    let a = c .before .before .before .before .before .args in
+    let a = (start-from-test-gates c) .args in
     let n = length (a .table .now) in
-    rw (eq-eqb (n % 4) 0 (c .before .before .before .if1 .left), le-ltb (n / 4) (a .outputs) (c .before .before .if2 .left), le-ltb 1048576 (n / 4) (c .before .if3 .left))
+    rw (
+      eq-eqb (n % 4) 0 (c .before .before .before .if1 .left),
+      le-ltb (n / 4) (a .outputs) (c .before .before .if2 .left),
+      le-ltb 1048576 (n / 4) (c .before .if3 .left),
+    )
     (c .test-gates .ensures)
 
 pub test-spec : {M : Type 1} → statement M

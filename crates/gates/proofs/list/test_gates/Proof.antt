@@ -31,15 +31,29 @@ Inv-loop inputs table gates counts marks conditional₀ g₀ conditional g =
 abbrev μ-loop : tie.MeasureT-loop
 μ-loop inputs table gates counts marks conditional₀ g₀ conditional g = gates - g
 
+-- The stages of the function, seen from later ones.
+abbrev loop-reached-from-counts : tie.After-counts Inv-loop μ-loop → tie.At-loop Inv-loop μ-loop
+loop-reached-from-counts c = c .before .before .before
+
+abbrev loop-reached-from-then1 : tie.Then1 Inv-loop μ-loop → tie.At-loop Inv-loop μ-loop
+loop-reached-from-then1 c = c .before .before .before .before .before .before .before .before
+
+abbrev loop-reached-from-mark : tie.After-mark Inv-loop μ-loop → tie.At-loop Inv-loop μ-loop
+loop-reached-from-mark c = loop-reached-from-counts (c .before .before .before .before .before .before .before)
+
 mark-small : (c : tie.After-mark Inv-loop μ-loop) → c .mark .result ≤ 1
 mark-small c =
-    let at = c .before .before .before .before .before .before .before .before .before .before in
+    let at = (loop-reached-from-mark c) in
     omega (arith, c .mark .ensures, mark-at-most-one (getD (at .before .before .args .table .now) (4 * at .loop .g) 0))
 
 loop-holds : tie.Need-loop-holds Inv-loop μ-loop
 loop-holds c =
-    let t = c .before .args .table .now in
-    (omega arith, omega arith, ap (judged (firstBad (c .before .args .inputs) 0 (gatesOf t)) (length (gatesOf t))) (zero-add (conditionalCount (gatesOf t))))
+    let t = c .before .args .table .now in (
+      omega arith,
+      omega arith,
+      ap (judged (firstBad (c .before .args .inputs) 0 (gatesOf t)) (length (gatesOf t)))
+          (zero-add (conditionalCount (gatesOf t))),
+    )
 
 mul-at : tie.Need-mul-at Inv-loop μ-loop
 mul-at c = omega arith
@@ -83,9 +97,10 @@ gate-is-good-requires c κs = record { few = omega arith; counted = refl }
 returns : tie.Need-returns Inv-loop μ-loop
 unfolding gateAt
 returns c =
-    let at = c .before .before .before .before .before .before .before .before in
+    let at = (loop-reached-from-then1 c) in
     let a = at .before .before .args in
-    judges-bad (a .inputs) (a .table .now) (at .loop .g) (at .loop .conditional) (answer (a .inputs) (a .table .now)) (omega (arith, length-gates (a .table .now)))
+    judges-bad (a .inputs) (a .table .now) (at .loop .g) (at .loop .conditional)
+    (answer (a .inputs) (a .table .now)) (omega (arith, length-gates (a .table .now)))
     (sym (not-true _ (c .if1 .taken)) ∙ c .before .gate-is-good .ensures) (at .loop .inv .2)
 
 mark-requires : tie.Need-mark-requires Inv-loop μ-loop
@@ -103,20 +118,26 @@ loop-less c = omega arith
 loop-again : tie.Need-loop-again Inv-loop μ-loop
 unfolding gateAt
 loop-again c =
-    let at = c .before .before .before .before .before .before .before .before .before .before in
+    let at = (loop-reached-from-mark c) in
     let a = at .before .before .args in (
       omega arith,
       omega (arith, mark-small c),
-      ap (λ (k : ℕ). judged (firstBad (a .inputs) k (drop k (gatesOf (a .table .now)))) (length (gatesOf (a .table .now))) (at .loop .conditional + c .mark .result + conditionalCount (drop k (gatesOf (a .table .now))))) (add-one (at .loop .g))
-          ∙ judges-good (a .inputs) (a .table .now) (at .loop .g) (at .loop .conditional) (c .mark .result) (answer (a .inputs) (a .table .now)) (omega (arith, length-gates (a .table .now)))
-          (sym (not-false _ (c .before .before .if1 .left)) ∙ c .before .before .before .gate-is-good .ensures) (c .mark .ensures) (at .loop .inv .2),
+      ap (λ (k : ℕ). judged (firstBad (a .inputs) k (drop k (gatesOf (a .table .now))))
+          (length (gatesOf (a .table .now)))
+          (at .loop .conditional + c .mark .result + conditionalCount (drop k (gatesOf (a .table .now)))))
+          (add-one (at .loop .g))
+          ∙ judges-good (a .inputs) (a .table .now) (at .loop .g) (at .loop .conditional) (c .mark .result)
+          (answer (a .inputs) (a .table .now)) (omega (arith, length-gates (a .table .now)))
+          (sym (not-false _ (c .before .before .if1 .left)) ∙ c .before .before .before .gate-is-good .ensures)
+          (c .mark .ensures) (at .loop .inv .2),
     )
 
 returns-2 : tie.Need-returns-2 Inv-loop μ-loop
 returns-2 c =
     let at = c .before in
     let a = at .before .before .args in
-    judges-all (a .inputs) (a .table .now) (at .loop .g) (at .loop .conditional) _ (answer (a .inputs) (a .table .now)) (sym (length-gates (a .table .now))) (c .loop-test .left) (at .loop .inv .2)
+    judges-all (a .inputs) (a .table .now) (at .loop .g) (at .loop .conditional) _
+    (answer (a .inputs) (a .table .now)) (sym (length-gates (a .table .now))) (c .loop-test .left) (at .loop .inv .2)
 
 pub test-gates-spec : {M : Type 1} → statement M
 test-gates-spec =

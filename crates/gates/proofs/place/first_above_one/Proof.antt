@@ -45,7 +45,8 @@ returns-2 : tie.Need-returns-2 Inv-loop μ-loop
 unfolding firstAboveOne
 returns-2 c =
     let at = c .before in
-    sym (ap (firstAboveOne (at .loop .i)) (drop-of-length-le (at .before .args .bytes .now) {i = at .loop .i} (omega arith))) ∙ at .loop .inv .1
+    sym (ap (firstAboveOne (at .loop .i))
+    (drop-of-length-le (at .before .args .bytes .now) {i = at .loop .i} (omega arith))) ∙ at .loop .inv .1
 
 pub first-above-one-spec : {M : Type 1} → statement M
 first-above-one-spec =

@@ -22,23 +22,31 @@ module _ (ws board last : List ℕ) (outputs shown : ℕ) (fits : outputs ≤ le
 
   from-is : from ≡ outputsOf outputs ws
   unfolding from outputsOf
-  from-is = take-all (length ws - (length ws - outputs)) (drop (length ws - outputs) ws) (omega (arith, length-drop (length ws - outputs) ws))
+  from-is = take-all (length ws - (length ws - outputs)) (drop (length ws - outputs) ws)
+      (omega (arith, length-drop (length ws - outputs) ws))
 
   from-long : length from ≡ outputs
   unfolding from
-  from-long = omega (arith, length-take (length ws - (length ws - outputs)) (drop (length ws - outputs) ws), length-drop (length ws - outputs) ws)
+  from-long = omega (
+    arith,
+    length-take (length ws - (length ws - outputs)) (drop (length ws - outputs) ws),
+    length-drop (length ws - outputs) ws,
+  )
 
   to-long : length to ≤ outputs
   unfolding to
   to-long = omega (arith, length-take (length board - shown) (drop shown board))
 
-  closed : last ≡ take (length from) from ++ drop (length from) to → take shown board ++ (last ++ drop (length board - shown) (drop shown board)) ≡ take shown board ++ outputsOf outputs ws
+  closed : last ≡ take (length from) from ++ drop (length from) to → take shown board
+      ++ (last ++ drop (length board - shown) (drop shown board)) ≡ take shown board ++ outputsOf outputs ws
   closed e =
       let none : drop (length from) to ≡ [] = drop-of-length-le to {i = length from} (omega (arith, from-long, to-long)) in
-      let rest : drop (length board - shown) (drop shown board) ≡ [] = drop-of-length-le (drop shown board) {i = length board - shown} (omega (arith, length-drop shown board)) in
+      let rest : drop (length board - shown) (drop shown board) ≡ [] =
+      drop-of-length-le (drop shown board) {i = length board - shown} (omega (arith, length-drop shown board)) in
       ap (λ (l : List ℕ). take shown board ++ (last ++ l)) rest
       ∙ ap (λ (l : List ℕ). take shown board ++ l)
-      (append-nil last ∙ e ∙ ap (λ (l : List ℕ). take (length from) from ++ l) none ∙ append-nil (take (length from) from) ∙ take-length from ∙ from-is)
+      (append-nil last ∙ e ∙ ap (λ (l : List ℕ). take (length from) from ++ l) none
+      ∙ append-nil (take (length from) from) ∙ take-length from ∙ from-is)
 
 sub-first : tie.Need-sub-first
 sub-first c = search needs
@@ -67,11 +75,16 @@ copy-requires c κs = search needs
 same-length : tie.Need-same-length
 same-length c = search needs
 
+-- The stages of the function, seen from later ones.
+abbrev start-from-board : tie.After-board → tie.Start
+start-from-board c = c .before .before .before .before .before .before
+
 returns : tie.Need-returns
 unfolding from to
 returns c =
-    let s = c .before .before .before .before .before .before .before in
-    closed (s .args .wires .now) (s .args .board .now) (c .before .before .copy .last .1 .0) (s .args .outputs) (s .args .shown) (s .pre .enough) (s .pre .boardLength) (copied (c .before .before .copy .ensures))
+    let s = (start-from-board (c .before)) in
+    closed (s .args .wires .now) (s .args .board .now) (c .before .before .copy .last .1 .0) (s .args .outputs)
+    (s .args .shown) (s .pre .enough) (s .pre .boardLength) (copied (c .before .before .copy .ensures))
 
 pub close-spec : {M : Type 1} → statement M
 close-spec =

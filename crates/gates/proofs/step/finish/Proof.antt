@@ -9,22 +9,41 @@ use Rattle.gates.proofs.Finishing.{ready, can-close, final-wires, final
 use Rattle.gates.proofs.step.finish.Statement.{statement}
 use Rattle.gates.proofs.step.finish.Tie as tie
 
+-- The stages of the function, seen from later ones.
+abbrev start-from-step-arg2 : tie.After-step-arg2 → tie.Start
+start-from-step-arg2 c = c .before .before .before .before .before .before
+
+abbrev start-from-board : tie.After-board → tie.Start
+start-from-board c = start-from-step-arg2 (c .before .before .before .before)
+
+abbrev step-from-close-arg2 : tie.After-close-arg2 → tie.After-step
+step-from-close-arg2 c = c .before .before .before .before .before .before
+
+abbrev start-from-board2 : tie.After-board2 → tie.Start
+start-from-board2 c = start-from-board (c .before .before .before .before .before)
+
+abbrev step-from-board2 : tie.After-board2 → tie.After-step
+step-from-board2 c = c .before .before .before .before .before .before .before .before
+
 step-requires : tie.Need-step-requires
 step-requires c κs =
-    let s = c .before .before .before .before .before .before in
+    let s = (start-from-step-arg2 c) in
     let a = s .args in
     let p = s .pre in
     let e = sym (length-gates (a .table .now)) in
-    ready (a .inputs) (a .table .now) _ (a .outputs) (a .tape .now) (a .wires .now) (a .board .now) e (omega (arith, e, p .wiresLength)) (omega (arith, e, p .enough)) (p .good) (p .tapeLength) (p .boardLength)
+    ready (a .inputs) (a .table .now) _ (a .outputs) (a .tape .now) (a .wires .now) (a .board .now) e
+    (omega (arith, e, p .wiresLength)) (omega (arith, e, p .enough)) (p .good) (p .tapeLength) (p .boardLength)
 
 close-requires : tie.Need-close-requires
 close-requires c κs =
-    let s = c .before .before .before .before .before .before .before .before .before .before .before .before .before in
+    let s = (start-from-board (c .before .before .before)) in
     let a = s .args in
     let p = s .pre in
     let e = sym (length-gates (a .table .now)) in
-    let r = c .before .before .before .before .before .before .step in
-    can-close (a .inputs) (a .table .now) _ (a .outputs) (a .tape .now) (a .wires .now) (a .board .now) e (omega (arith, e, p .wiresLength)) (omega (arith, e, p .enough)) (p .good) (p .tapeLength) (p .boardLength) (r .result) _ _ (r .ensures .next) (r .ensures .wires) (r .ensures .board)
+    let r = (step-from-close-arg2 c) .step in
+    can-close (a .inputs) (a .table .now) _ (a .outputs) (a .tape .now) (a .wires .now) (a .board .now) e
+    (omega (arith, e, p .wiresLength)) (omega (arith, e, p .enough)) (p .good) (p .tapeLength) (p .boardLength)
+    (r .result) _ _ (r .ensures .next) (r .ensures .wires) (r .ensures .board)
 
 same-length : tie.Need-same-length
 same-length c = search needs
@@ -34,14 +53,19 @@ same-length-2 c = search needs
 
 returns : tie.Need-returns
 returns c =
-    let s = c .before .before .before .before .before .before .before .before .before .before .before .before .before .before .before .before in
+    let s = (start-from-board2 (c .before)) in
     let a = s .args in
     let p = s .pre in
     let e = sym (length-gates (a .table .now)) in
-    let r = c .before .before .before .before .before .before .before .before .before .step in
+    let r = (step-from-board2 (c .before)) .step in
     record {
-      wires = final-wires (a .inputs) (a .table .now) _ (a .outputs) (a .tape .now) (a .wires .now) (a .board .now) e (omega (arith, e, p .wiresLength)) (omega (arith, e, p .enough)) (p .good) (p .tapeLength) (p .boardLength) (r .result) _ _ (r .ensures .next) (r .ensures .wires) (r .ensures .board);
-      board = final-board (a .inputs) (a .table .now) _ (a .outputs) (a .tape .now) (a .wires .now) (a .board .now) e (omega (arith, e, p .wiresLength)) (omega (arith, e, p .enough)) (p .good) (p .tapeLength) (p .boardLength) (r .result) _ _ (r .ensures .next) (r .ensures .wires) (r .ensures .board) _ (c .before .before .close .ensures);
+      wires = final-wires (a .inputs) (a .table .now) _ (a .outputs) (a .tape .now) (a .wires .now) (a .board .now)
+          e (omega (arith, e, p .wiresLength)) (omega (arith, e, p .enough)) (p .good) (p .tapeLength)
+          (p .boardLength) (r .result) _ _ (r .ensures .next) (r .ensures .wires) (r .ensures .board);
+      board = final-board (a .inputs) (a .table .now) _ (a .outputs) (a .tape .now) (a .wires .now) (a .board .now)
+          e (omega (arith, e, p .wiresLength)) (omega (arith, e, p .enough)) (p .good) (p .tapeLength)
+          (p .boardLength) (r .result) _ _ (r .ensures .next) (r .ensures .wires) (r .ensures .board) _
+          (c .before .before .close .ensures);
     }
 
 pub finish-spec : {M : Type 1} → statement M

@@ -24,11 +24,21 @@ same-length c = search needs
 same-length-2 : tie.Need-same-length-2
 same-length-2 c = search needs
 
+-- The stages of the function, seen from later ones.
+abbrev start-from-copy : tie.After-copy → tie.Start
+start-from-copy c = c .before .before .before .before .before .before .before
+
+abbrev start-from-board : tie.After-board → tie.Start
+start-from-board c = start-from-copy (c .before .before .before .before .before .before .before .before)
+
+abbrev copy-from-board : tie.After-board → tie.After-copy
+copy-from-board c = c .before .before .before .before .before .before .before .before
+
 returns : tie.Need-returns
 returns c =
-    let a = c .before .before .before .before .before .before .before .before .before .before .before .before .before .before .before .before .args in
+    let a = (start-from-board (c .before)) .args in
     let gs = gatesOf (a .table .now) in
-    let f = copied-front (a .inputs .now) (a .wires .now) _ (copied (c .before .before .before .before .before .before .before .before .before .copy .ensures)) in
+    let f = copied-front (a .inputs .now) (a .wires .now) _ (copied ((copy-from-board (c .before)) .copy .ensures)) in
     let r = c .before .before .before .before .finish .ensures in
     record {
       wires = r .wires ∙ ap (λ (xs : List ℕ). wiresOf xs gs) f;

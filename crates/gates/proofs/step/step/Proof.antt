@@ -33,16 +33,33 @@ loop-holds c =
       boardLength = refl;
     }
 
+-- The stages of the function, seen from later ones.
+abbrev start-from-loop-done : tie.After-loop Inv-loop μ-loop → tie.Start Inv-loop μ-loop
+start-from-loop-done c = c .before .before .before .before .before .before
+
+abbrev start-from-marks : tie.After-marks Inv-loop μ-loop → tie.Start Inv-loop μ-loop
+start-from-marks c = c .before .before .before .before .before .before .before
+
+abbrev start-from-board : tie.After-board Inv-loop μ-loop → tie.Start Inv-loop μ-loop
+start-from-board c = start-from-marks (c .before .before .before .before .before .before)
+
+abbrev loop-reached-from-board : tie.After-board Inv-loop μ-loop → tie.At-loop Inv-loop μ-loop
+loop-reached-from-board c = c .before .before .before .before .before .before .before .before
+
+abbrev round-from-board : tie.After-board Inv-loop μ-loop → tie.In-loop Inv-loop μ-loop
+round-from-board c = c .before .before .before .before .before .before .before
+
 add-run-gate : tie.Need-add-run-gate Inv-loop μ-loop
-add-run-gate c = omega (arith, c .before .before .before .before .before .before .before .pre .inWires)
+add-run-gate c = omega (arith, (start-from-marks c) .pre .inWires)
 
 run-gate-requires : tie.Need-run-gate-requires Inv-loop μ-loop
 run-gate-requires c κs =
-    let s = c .before .before .before .before .before .before .before .before .before in
+    let s = (start-from-marks (c .before .before)) in
     let l = c .before .before .before .before .loop in
     record {
       marked = refl;
-      gate = next-ready (s .args .inputs) (s .args .table .now) (s .args .to) (s .args .tape .now) _ _ _ _ _ (s .pre .inTable) (s .pre .inWires) (s .pre .inTape) (s .pre .inBoard)
+      gate = next-ready (s .args .inputs) (s .args .table .now) (s .args .to) (s .args .tape .now) _ _ _ _ _
+          (s .pre .inTable) (s .pre .inWires) (s .pre .inTape) (s .pre .inBoard)
           (l .wires) (l .board) (l .next) (l .g) (l .inv) (c .before .before .before .loop-test .taken);
     }
 
@@ -54,13 +71,15 @@ loop-less c = omega arith
 
 loop-again : tie.Need-loop-again Inv-loop μ-loop
 loop-again c =
-    let s = c .before .before .before .before .before .before .before .before .before .before .before .before .before .before in
-    let l = c .before .before .before .before .before .before .before .before .before .loop in
+    let s = (start-from-board (c .before)) in
+    let l = (loop-reached-from-board (c .before)) .loop in
     let r = c .before .before .before .before .run-gate in
-    left-as (s .args .inputs) (s .args .table .now) (s .args .to) (s .args .tape .now) _ _ _ _ _ (s .pre .inTable) (s .pre .inWires) (s .pre .inTape) (s .pre .inBoard)
+    left-as (s .args .inputs) (s .args .table .now) (s .args .to) (s .args .tape .now) _ _ _ _ _ (s .pre .inTable)
+    (s .pre .inWires) (s .pre .inTape) (s .pre .inBoard)
     _ _ _ _ _ _ _ _
-    (left-turn (s .args .inputs) (s .args .table .now) (s .args .to) (s .args .tape .now) _ _ _ _ _ (s .pre .inTable) (s .pre .inWires) (s .pre .inTape) (s .pre .inBoard)
-    (l .wires) (l .board) (l .next) (l .g) (l .inv) (c .before .before .before .before .before .before .before .before .loop-test .taken))
+    (left-turn (s .args .inputs) (s .args .table .now) (s .args .to) (s .args .tape .now) _ _ _ _ _
+    (s .pre .inTable) (s .pre .inWires) (s .pre .inTape) (s .pre .inBoard)
+    (l .wires) (l .board) (l .next) (l .g) (l .inv) ((round-from-board (c .before)) .loop-test .taken))
     (r .ensures .wires) (r .ensures .board) (r .ensures .next) (add-one (l .g))
 
 same-length : tie.Need-same-length Inv-loop μ-loop
@@ -71,9 +90,10 @@ same-length-2 c = c .before .loop .inv .boardLength
 
 returns : tie.Need-returns Inv-loop μ-loop
 returns c =
-    let s = c .before .before .before .before .before .before in
+    let s = (start-from-loop-done c) in
     let l = c .before .loop in
-    let e = left-end (s .args .inputs) (s .args .table .now) (s .args .to) (s .args .tape .now) _ _ _ _ _ (s .pre .inTable) (s .pre .inWires) (s .pre .inTape) (s .pre .inBoard)
+    let e = left-end (s .args .inputs) (s .args .table .now) (s .args .to) (s .args .tape .now) _ _ _ _ _
+    (s .pre .inTable) (s .pre .inWires) (s .pre .inTape) (s .pre .inBoard)
     (l .wires) (l .board) (l .next) (l .g) (l .inv) (c .loop-test .left) in
     record { next = e .0; wires = e .1; board = e .2 }
 

@@ -27,17 +27,27 @@ from-larger c = c .before .before .before
 compare-medians-requires : tie.Need-compare-medians-requires
 compare-medians-requires c κs =
     let s = c .before .before in
-    record { planned = s .pre .plan; room = room-less (s .args .w) _ _ (omega arith) (s .pre .room); firstBelow = s .pre .firstBelow; secondBelow = s .pre .secondBelow }
+    record {
+      planned = s .pre .plan;
+      room = room-less (s .args .w) _ _ (omega arith) (s .pre .room);
+      firstBelow =
+          s .pre .firstBelow;
+      secondBelow = s .pre .secondBelow;
+    }
 
 -- behind the medians
-compared : (c : tie.After-compare-medians) → let s = from-compared c in Stands (c .compare-medians .result) (tieBreakBelowAt (s .args .p) (s .args .w .wire)) (tieBreakBelowSpan (s .args .p .digits) (s .args .p .grades - 2) + 2)
+compared : (c : tie.After-compare-medians) → let s = from-compared c in
+    Stands (c .compare-medians .result) (tieBreakBelowAt (s .args .p) (s .args .w .wire))
+    (tieBreakBelowSpan (s .args .p .digits) (s .args .p .grades - 2) + 2)
 compared c =
     let s = from-compared c in
     let a = s .args in
     let p = a .p in
     let f = s .pre .plan in
     stands-after (a .w) (a .table .now) _ (c .compare-medians .last .1 .0) (c .compare-medians .result) _ _ _ (c .compare-medians .ensures)
-    (ones-block (a .w .wire) (a .y + p .digits) (a .x + p .digits) (wordSpan p) (p .grades - 1) (p .places) (grade-fits p f) (flags-end p f (a .y) (a .w .wire) (s .pre .secondBelow)) (flags-end p f (a .x) (a .w .wire) (s .pre .firstBelow)) .long)
+    (ones-block (a .w .wire) (a .y + p .digits) (a .x + p .digits) (wordSpan p) (p .grades - 1) (p .places)
+    (grade-fits p f) (flags-end p f (a .y) (a .w .wire) (s .pre .secondBelow))
+    (flags-end p f (a .x) (a .w .wire) (s .pre .firstBelow)) .long)
     (stands (a .w) (a .w .wire) _ _ refl (omega arith) (s .pre .room))
 
 sub-ones-differ : tie.Need-sub-ones-differ
@@ -46,7 +56,12 @@ sub-ones-differ c = omega (arith, from-compared (c .before .before .before) .pre
 ones-differ-requires : tie.Need-ones-differ-requires
 ones-differ-requires c κs =
     let h = c .before .before .before in
-    record { some = omega (arith, from-compared h .pre .plan .d-least); span = compared h .place; small = omega (arith, compared h .left .small) }
+    record {
+      some = omega (arith, from-compared h .pre .plan .d-least);
+      span = compared h .place;
+      small =
+          omega (arith, compared h .left .small);
+    }
 
 add-ones-larger : tie.Need-add-ones-larger
 add-ones-larger c =
@@ -59,7 +74,12 @@ sub-ones-larger c = omega (arith, from-compared (from-differ (c .before .before)
 ones-larger-requires : tie.Need-ones-larger-requires
 ones-larger-requires c κs =
     let h = from-differ (c .before .before) in
-    record { some = omega (arith, from-compared h .pre .plan .d-least); span = compared h .place; small = omega (arith, compared h .left .small) }
+    record {
+      some = omega (arith, from-compared h .pre .plan .d-least);
+      span = compared h .place;
+      small =
+          omega (arith, compared h .left .small);
+    }
 
 tie-break-below-requires : tie.Need-tie-break-below-requires
 tie-break-below-requires c κs =
@@ -94,7 +114,9 @@ returns c =
     wrote-then (a .w) (a .table .now) _ (d .last .1 .0) (d .result) _ _ (v .last .1 .0) (v .result) (d .ensures) (v .ensures)
     (ap (λ (i : ℕ). tieBreakBelow p i (a .x) (a .y) (e .result) (s .result) (p .digits) (a .high) (p .grades - 2)) (compared h .place)
     ∙ ap (λ (i : ℕ). tieBreakBelow p at (a .x) (a .y) i (s .result) (p .digits) (a .high) (p .grades - 2)) (e .ensures)
-    ∙ ap (λ (i : ℕ). tieBreakBelow p at (a .x) (a .y) (onesDiffer n (p .grades - 1) (p .places)) i (p .digits) (a .high) (p .grades - 2)) (s .ensures))
+    ∙ ap (λ (i : ℕ). tieBreakBelow p at (a .x) (a .y) (onesDiffer n (p .grades - 1) (p .places)) i (p .digits)
+    (a .high) (p .grades - 2)) (s .ensures))
 
 pub contest-spec : {M : Type 1} → statement M
-contest-spec = tie.close (tie.spec compare-medians-requires sub-ones-differ ones-differ-requires add-ones-larger sub-ones-larger ones-larger-requires tie-break-below-requires same-length returns)
+contest-spec = tie.close (tie.spec compare-medians-requires sub-ones-differ ones-differ-requires add-ones-larger
+    sub-ones-larger ones-larger-requires tie-break-below-requires same-length returns)

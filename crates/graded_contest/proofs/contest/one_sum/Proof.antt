@@ -22,11 +22,42 @@ compare-halves-requires c κs =
       secondBelow = omega (arith, q .secondBelow, q .cut);
     }
 
-compared : (c : tie.After-compare-halves) → Stands (c .compare-halves .result) ((c .before .before .before .before .before) .args .w .wire + compareSpan ((c .before .before .before .before .before) .args .above)) 2
+-- The stages of the function, seen from later ones.
+abbrev start-from-compare-halves : tie.After-compare-halves → tie.Start
+start-from-compare-halves c = c .before .before .before .before .before
+
+abbrev unequal-at-from-compare-halves : tie.After-compare-halves → tie.After-unequal-at
+unequal-at-from-compare-halves c = c .before .before .before
+
+abbrev above-at-from-compare-halves : tie.After-compare-halves → tie.After-above-at
+above-at-from-compare-halves c = c .before .before
+
+abbrev compare-halves-from-emit-arg2 : tie.After-emit-arg2 → tie.After-compare-halves
+compare-halves-from-emit-arg2 c = c .before .before .before .before .before .before .before
+
+abbrev start-from-emit2 : tie.After-emit2 → tie.Start
+start-from-emit2 c = start-from-compare-halves (c .before .before .before .before .before .before .before .before)
+
+abbrev unequal-at-from-emit2 : tie.After-emit2 → tie.After-unequal-at
+unequal-at-from-emit2 c = unequal-at-from-compare-halves (c .before .before .before .before .before .before .before .before)
+
+abbrev above-at-from-emit2 : tie.After-emit2 → tie.After-above-at
+above-at-from-emit2 c = above-at-from-compare-halves (c .before .before .before .before .before .before .before .before)
+
+abbrev compare-halves-from-emit2 : tie.After-emit2 → tie.After-compare-halves
+compare-halves-from-emit2 c = c .before .before .before .before .before .before .before .before
+
+abbrev emit-from-slice-known4 : tie.After-slice-known4 → tie.After-emit
+emit-from-slice-known4 c = c .before .before .before .before .before .before
+
+compared : (c : tie.After-compare-halves)
+    → Stands (c .compare-halves .result)
+    ((start-from-compare-halves c) .args .w .wire + compareSpan ((start-from-compare-halves c) .args .above)) 2
 compared c =
-    let s = (c .before .before .before .before .before) in
+    let s = (start-from-compare-halves c) in
     let a = s .args in
-    stands-after (a .w) (a .table .now) _ (c .compare-halves .last .1 .0) (c .compare-halves .result) _ _ _ (c .compare-halves .ensures) (length-compare-cut (a .w .wire) (a .x) (a .y) (a .above) (a .high) (s .pre .cut))
+    stands-after (a .w) (a .table .now) _ (c .compare-halves .last .1 .0) (c .compare-halves .result) _ _ _
+    (c .compare-halves .ensures) (length-compare-cut (a .w .wire) (a .x) (a .y) (a .above) (a .high) (s .pre .cut))
     (stands (a .w) (a .w .wire) _ _ refl (omega arith) (s .pre .room))
 
 emit-requires : tie.Need-emit-requires
@@ -35,20 +66,26 @@ emit-requires c κs =
 
 emit-requires-2 : tie.Need-emit-requires-2
 emit-requires-2 c κs =
-    stands-after ((c .before .before .before .before .before .before .before .compare-halves) .result) ((c .before .before .before .before .before .before .before .compare-halves) .last .1 .0) _ ((c .before .before .before .emit) .last .1 .0) ((c .before .before .before .emit) .result) _ 1 1 ((c .before .before .before .emit) .ensures) refl (compared (c .before .before .before .before .before .before .before)) .left
+    stands-after (((compare-halves-from-emit-arg2 c) .compare-halves) .result)
+    (((compare-halves-from-emit-arg2 c) .compare-halves) .last .1 .0) _
+    ((c .before .before .before .emit) .last .1 .0) ((c .before .before .before .emit) .result) _ 1 1
+    ((c .before .before .before .emit) .ensures) refl (compared (compare-halves-from-emit-arg2 c)) .left
 
 returns : tie.Need-returns
 returns c =
-    let a = (c .before .before .before .before .before .before .before .before .before .before .before .before .before .before .before) .args in
-    let w₁ = (c .before .before .before .before .before .before .before .before .before .before .compare-halves) .result in
-    let t₁ = (c .before .before .before .before .before .before .before .before .before .before .compare-halves) .last .1 .0 in
-    let w₂ = (c .before .before .before .before .before .before .emit) .result in
-    let t₂ = (c .before .before .before .before .before .before .emit) .last .1 .0 in
-    wrote-then (a .w) (a .table .now) _ t₁ w₁ _ _ _ _ ((c .before .before .before .before .before .before .before .before .before .before .compare-halves) .ensures)
+    let a = (start-from-emit2 (c .before .before)) .args in
+    let w₁ = ((compare-halves-from-emit2 (c .before .before)) .compare-halves) .result in
+    let t₁ = ((compare-halves-from-emit2 (c .before .before)) .compare-halves) .last .1 .0 in
+    let w₂ = ((emit-from-slice-known4 c) .emit) .result in
+    let t₂ = ((emit-from-slice-known4 c) .emit) .last .1 .0 in
+    wrote-then (a .w) (a .table .now) _ t₁ w₁ _ _ _ _ (((compare-halves-from-emit2 (c .before .before)) .compare-halves) .ensures)
     (wrote-then w₁ t₁ _ t₂ w₂ _ _ _ _
-    (wrote-as w₁ t₁ _ _ t₂ w₂ (one-gate 5 refl ((c .before .before .before .before .before .before .before .before .before .before .before .before .before .unequal-at) .ensures) refl) (or-wrote w₁ t₁ t₂ w₂ (a .e) ((c .before .before .before .before .before .before .before .before .before .before .before .before .before .unequal-at) .result) 0 ((c .before .before .before .before .before .before .emit) .ensures)))
-    (mux-wrote w₂ t₂ ((c .before .before .emit2) .last .1 .0) ((c .before .before .emit2) .result) (a .e) (a .s) ((c .before .before .before .before .before .before .before .before .before .before .before .before .above-at) .result) ((c .before .before .emit2) .ensures))
-    (one-gate 7 refl refl ((c .before .before .before .before .before .before .before .before .before .before .before .before .above-at) .ensures))) refl
+    (wrote-as w₁ t₁ _ _ t₂ w₂ (one-gate 5 refl (((unequal-at-from-emit2 (c .before .before)) .unequal-at) .ensures)
+    refl) (or-wrote w₁ t₁ t₂ w₂ (a .e) (((unequal-at-from-emit2 (c .before .before)) .unequal-at) .result) 0
+    (((emit-from-slice-known4 c) .emit) .ensures)))
+    (mux-wrote w₂ t₂ ((c .before .before .emit2) .last .1 .0) ((c .before .before .emit2) .result) (a .e) (a .s)
+    (((above-at-from-emit2 (c .before .before)) .above-at) .result) ((c .before .before .emit2) .ensures))
+    (one-gate 7 refl refl (((above-at-from-emit2 (c .before .before)) .above-at) .ensures))) refl
 
 unequal-at-requires : tie.Need-unequal-at-requires
 unequal-at-requires c κs =
@@ -67,4 +104,5 @@ same-length c =
     search needs
 
 pub one-sum-spec : {M : Type 1} → statement M
-one-sum-spec = tie.close (tie.spec unequal-at-requires above-at-requires sub-compare-halves compare-halves-requires emit-requires emit-requires-2 same-length returns)
+one-sum-spec = tie.close (tie.spec unequal-at-requires above-at-requires sub-compare-halves compare-halves-requires
+    emit-requires emit-requires-2 same-length returns)

@@ -27,10 +27,34 @@ medians-alone-requires : tie.Need-medians-alone-requires
 medians-alone-requires c κs =
     room-less ((c .before .before .before .before) .args .w) _ _ (omega arith) ((c .before .before .before .before) .pre .room)
 
+-- The stages of the function, seen from later ones.
+abbrev start-from-medians-alone : tie.After-medians-alone → tie.Start
+start-from-medians-alone c = c .before .before .before .before .before
+
+abbrev start-from-one-sum-arg : tie.After-one-sum-arg → tie.Start
+start-from-one-sum-arg c = c .before .before .before .before .before
+
+abbrev start-from-tie-break-arg : tie.After-tie-break-arg → tie.Start
+start-from-tie-break-arg c = c .before .before .before .before .before
+
+abbrev start-from-one-sum : tie.After-one-sum → tie.Start
+start-from-one-sum c = c .before .before .before .before .before .before
+
+abbrev start-from-tie-break : tie.After-tie-break → tie.Start
+start-from-tie-break c = c .before .before .before .before .before .before
+
+abbrev else1-from-slice-known3 : tie.After-slice-known3 → tie.Else1
+else1-from-slice-known3 c = c .before .before .before .before .before
+
+abbrev else1-from-slice-known4 : tie.After-slice-known4 → tie.Else1
+else1-from-slice-known4 c = c .before .before .before .before .before
+
 returns : tie.Need-returns
 returns c =
-    let a = (c .before .before .before .before .before .before .before) .args in
-    wrote-as (a .w) (a .table .now) _ _ _ _ (tie-break-below-zero (a .p) (a .w .wire) (a .x) (a .y) (a .e) (a .s) (a .p .digits) (a .high) (a .p .grades - 2) ((c .before .before .before .before .if1) .taken)) ((c .before .before .medians-alone) .ensures)
+    let a = (start-from-medians-alone (c .before .before)) .args in
+    wrote-as (a .w) (a .table .now) _ _ _ _
+    (tie-break-below-zero (a .p) (a .w .wire) (a .x) (a .y) (a .e) (a .s) (a .p .digits) (a .high)
+    (a .p .grades - 2) ((c .before .before .before .before .if1) .taken)) ((c .before .before .medians-alone) .ensures)
 
 some : (c : tie.Else1) → 0 < (c .before .before .before) .args .p .digits
 some c =
@@ -42,13 +66,17 @@ sub-above c =
 
 one-sum-requires : tie.Need-one-sum-requires
 one-sum-requires c κs =
-    let s = (c .before .before .before .before .before) in
+    let s = (start-from-one-sum-arg c) in
     let a = s .args in
     let q = s .pre in
     let k = key-some (a .p) (s .pre .plan) in
     let z = some (c .before .before) in
     record {
-      room = room-less (a .w) _ _ (omega (arith, tie-break-below-span-one (a .p .digits) (a .p .grades - 2) z (omega (arith, (c .before .if2) .taken)))) (s .pre .room);
+      room = room-less (a .w) _ _ (omega (
+        arith,
+        tie-break-below-span-one (a .p .digits) (a .p .grades - 2) z (omega (arith, (c .before .if2) .taken)),
+      ))
+          (s .pre .room);
       firstBelow = omega (arith, q .firstBelow);
       secondBelow = omega (arith, q .secondBelow);
       cut = q .cut;
@@ -56,8 +84,11 @@ one-sum-requires c κs =
 
 returns-2 : tie.Need-returns-2
 returns-2 c =
-    let a = (c .before .before .before .before .before .before .before .before) .args in
-    wrote-as (a .w) (a .table .now) _ _ _ _ (tie-break-below-one (a .p) (a .w .wire) (a .x) (a .y) (a .e) (a .s) (a .p .digits) (a .high) (a .p .grades - 2) (some (c .before .before .before .before .before)) (omega (arith, (c .before .before .before .before .if2) .taken))) ((c .before .before .one-sum) .ensures)
+    let a = (start-from-one-sum (c .before .before)) .args in
+    wrote-as (a .w) (a .table .now) _ _ _ _
+    (tie-break-below-one (a .p) (a .w .wire) (a .x) (a .y) (a .e) (a .s) (a .p .digits) (a .high) (a .p .grades - 2)
+    (some (else1-from-slice-known3 c)) (omega (arith, (c .before .before .before .before .if2) .taken)))
+    ((c .before .before .one-sum) .ensures)
 
 more : (c : tie.Else2) → 2 < (c .before .before .before .before) .args .p .grades
 more c =
@@ -69,7 +100,7 @@ sub-tie-break c =
 
 tie-break-requires : tie.Need-tie-break-requires
 tie-break-requires c κs =
-    let s = (c .before .before .before .before .before) in
+    let s = (start-from-tie-break-arg c) in
     let a = s .args in
     let q = s .pre in
     let d = a .p .digits - 1 in
@@ -89,11 +120,13 @@ tie-break-requires c κs =
 
 returns-3 : tie.Need-returns-3
 returns-3 c =
-    let a = (c .before .before .before .before .before .before .before .before) .args in
+    let a = (start-from-tie-break (c .before .before)) .args in
     let m = more (c .before .before .before .before) in
     let e : a .p .grades - 3 ≡ a .p .grades - 2 - 1 = omega arith in
-    wrote-as (a .w) (a .table .now) _ _ _ _ (ap (tieBreak (a .p .ballots % 2) (a .w .wire) (a .x) (a .y) (a .e) (a .s) (a .p .digits - 1) (a .high)) e
-    ∙ tie-break-below-more (a .p) (a .w .wire) (a .x) (a .y) (a .e) (a .s) (a .p .digits) (a .high) (a .p .grades - 2) (some (c .before .before .before .before .before)) (omega arith)) ((c .before .before .tie-break) .ensures)
+    wrote-as (a .w) (a .table .now) _ _ _ _
+    (ap (tieBreak (a .p .ballots % 2) (a .w .wire) (a .x) (a .y) (a .e) (a .s) (a .p .digits - 1) (a .high)) e
+    ∙ tie-break-below-more (a .p) (a .w .wire) (a .x) (a .y) (a .e) (a .s) (a .p .digits) (a .high)
+    (a .p .grades - 2) (some (else1-from-slice-known4 c)) (omega arith)) ((c .before .before .tie-break) .ensures)
 
 same-length : tie.Need-same-length
 same-length c =
@@ -108,4 +141,6 @@ same-length-3 c =
     search needs
 
 pub tie-break-below-spec : {M : Type 1} → statement M
-tie-break-below-spec = tie.close (tie.spec medians-alone-requires same-length returns sub-above one-sum-requires same-length-2 returns-2 sub-tie-break tie-break-requires same-length-3 returns-3)
+tie-break-below-spec = tie.close
+    (tie.spec medians-alone-requires same-length returns sub-above one-sum-requires same-length-2 returns-2
+    sub-tie-break tie-break-requires same-length-3 returns-3)

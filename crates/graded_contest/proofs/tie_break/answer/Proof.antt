@@ -16,15 +16,36 @@ emit-requires c κs =
 
 after1 : (c : tie.After-emit) → Stands (c .emit .result) ((c .before .before .before) .args .w .wire + 1) 2
 after1 c =
-    stands-after ((c .before .before .before) .args .w) ((c .before .before .before) .args .table .now) _ (c .emit .last .1 .0) (c .emit .result) _ 1 2 (c .emit .ensures) refl (stands ((c .before .before .before) .args .w) ((c .before .before .before) .args .w .wire) _ _ refl (omega arith) ((c .before .before .before) .pre .room))
+    stands-after ((c .before .before .before) .args .w) ((c .before .before .before) .args .table .now) _
+    (c .emit .last .1 .0) (c .emit .result) _ 1 2 (c .emit .ensures) refl
+    (stands ((c .before .before .before) .args .w) ((c .before .before .before) .args .w .wire) _ _ refl
+    (omega arith) ((c .before .before .before) .pre .room))
 
 emit-requires-2 : tie.Need-emit-requires-2
 emit-requires-2 c κs =
     room-of ((c .before .before .before .emit) .result) _ _ _ (after1 (c .before .before .before)) (omega arith)
 
-after2 : (c : tie.After-emit2) → Stands (c .emit2 .result) ((c .before .before .before .before .before .before .before) .args .w .wire + 1 + 1) 1
+-- The stages of the function, seen from later ones.
+abbrev start-from-emit-arg2 : tie.After-emit-arg2 → tie.Start
+start-from-emit-arg2 c = c .before .before .before .before .before .before
+
+abbrev start-from-emit2 : tie.After-emit2 → tie.Start
+start-from-emit2 c = c .before .before .before .before .before .before .before
+
+abbrev start-from-emit3 : tie.After-emit3 → tie.Start
+start-from-emit3 c = start-from-emit-arg2 (c .before .before .before .before .before)
+
+abbrev emit-from-emit3 : tie.After-emit3 → tie.After-emit
+emit-from-emit3 c = c .before .before .before .before .before .before .before .before
+
+abbrev emit2-from-slice-known4 : tie.After-slice-known4 → tie.After-emit2
+emit2-from-slice-known4 c = c .before .before .before .before .before .before
+
+after2 : (c : tie.After-emit2) → Stands (c .emit2 .result) ((start-from-emit2 c) .args .w .wire + 1 + 1) 1
 after2 c =
-    stands-after ((c .before .before .before .before .emit) .result) ((c .before .before .before .before .emit) .last .1 .0) _ (c .emit2 .last .1 .0) (c .emit2 .result) _ 1 1 (c .emit2 .ensures) refl (after1 (c .before .before .before .before))
+    stands-after ((c .before .before .before .before .emit) .result)
+    ((c .before .before .before .before .emit) .last .1 .0) _ (c .emit2 .last .1 .0) (c .emit2 .result) _ 1 1
+    (c .emit2 .ensures) refl (after1 (c .before .before .before .before))
 
 emit-requires-3 : tie.Need-emit-requires-3
 emit-requires-3 c κs =
@@ -32,10 +53,21 @@ emit-requires-3 c κs =
 
 returns : tie.Need-returns
 returns c =
-    let a = (c .before .before .before .before .before .before .before .before .before .before .before .before .before) .args in
-    (wrote-both (a .w) (a .table .now) _ ((c .before .before .before .before .before .before .before .before .before .before .emit) .last .1 .0) ((c .before .before .before .before .before .before .before .before .before .before .emit) .result) _ _ _ (mux-wrote (a .w) (a .table .now) ((c .before .before .before .before .before .before .before .before .before .before .emit) .last .1 .0) ((c .before .before .before .before .before .before .before .before .before .before .emit) .result) (a .e) (a .s) (a .q + 7) ((c .before .before .before .before .before .before .before .before .before .before .emit) .ensures))
-    (wrote-both ((c .before .before .before .before .before .before .before .before .before .before .emit) .result) ((c .before .before .before .before .before .before .before .before .before .before .emit) .last .1 .0) _ ((c .before .before .before .before .before .before .emit2) .last .1 .0) ((c .before .before .before .before .before .before .emit2) .result) _ _ _ (or-wrote ((c .before .before .before .before .before .before .before .before .before .before .emit) .result) ((c .before .before .before .before .before .before .before .before .before .before .emit) .last .1 .0) ((c .before .before .before .before .before .before .emit2) .last .1 .0) ((c .before .before .before .before .before .before .emit2) .result) (a .e) (a .q + 6) 0 ((c .before .before .before .before .before .before .emit2) .ensures))
-    (xor-wrote ((c .before .before .before .before .before .before .emit2) .result) ((c .before .before .before .before .before .before .emit2) .last .1 .0) ((c .before .before .emit3) .last .1 .0) ((c .before .before .emit3) .result) (a .q + 13) (a .q + 12) 0 ((c .before .before .emit3) .ensures))))
+    let a = (start-from-emit3 (c .before .before)) .args in
+    (wrote-both (a .w) (a .table .now) _ (((emit-from-emit3 (c .before .before)) .emit) .last .1 .0)
+    (((emit-from-emit3 (c .before .before)) .emit) .result) _ _ _
+    (mux-wrote (a .w) (a .table .now) (((emit-from-emit3 (c .before .before)) .emit) .last .1 .0)
+    (((emit-from-emit3 (c .before .before)) .emit) .result) (a .e) (a .s) (a .q + 7)
+    (((emit-from-emit3 (c .before .before)) .emit) .ensures))
+    (wrote-both (((emit-from-emit3 (c .before .before)) .emit) .result)
+    (((emit-from-emit3 (c .before .before)) .emit) .last .1 .0) _ (((emit2-from-slice-known4 c) .emit2) .last .1 .0)
+    (((emit2-from-slice-known4 c) .emit2) .result) _ _ _
+    (or-wrote (((emit-from-emit3 (c .before .before)) .emit) .result)
+    (((emit-from-emit3 (c .before .before)) .emit) .last .1 .0) (((emit2-from-slice-known4 c) .emit2) .last .1 .0)
+    (((emit2-from-slice-known4 c) .emit2) .result) (a .e) (a .q + 6) 0 (((emit2-from-slice-known4 c) .emit2) .ensures))
+    (xor-wrote (((emit2-from-slice-known4 c) .emit2) .result) (((emit2-from-slice-known4 c) .emit2) .last .1 .0)
+    ((c .before .before .emit3) .last .1 .0) ((c .before .before .emit3) .result) (a .q + 13) (a .q + 12) 0
+    ((c .before .before .emit3) .ensures))))
 
 add-emit : tie.Need-add-emit
 add-emit c =
@@ -43,19 +75,20 @@ add-emit c =
 
 add-emit-2 : tie.Need-add-emit-2
 add-emit-2 c =
-    omega (arith, (c .before .before .before .before .before .before) .pre .small)
+    omega (arith, (start-from-emit-arg2 c) .pre .small)
 
 add-emit-3 : tie.Need-add-emit-3
 add-emit-3 c =
-    omega (arith, (c .before .before .before .before .before .before .before .before .before .before) .pre .small)
+    omega (arith, (start-from-emit2 (c .before .before .before)) .pre .small)
 
 add-emit-4 : tie.Need-add-emit-4
 add-emit-4 c =
-    omega (arith, (c .before .before .before .before .before .before .before .before .before .before) .pre .small)
+    omega (arith, (start-from-emit2 (c .before .before .before)) .pre .small)
 
 same-length : tie.Need-same-length
 same-length c =
     search needs
 
 pub answer-spec : {M : Type 1} → statement M
-answer-spec = tie.close (tie.spec add-emit emit-requires add-emit-2 emit-requires-2 add-emit-3 add-emit-4 emit-requires-3 same-length returns)
+answer-spec = tie.close (tie.spec add-emit emit-requires add-emit-2 emit-requires-2 add-emit-3 add-emit-4
+    emit-requires-3 same-length returns)

@@ -26,7 +26,8 @@ near : (s : tie.Start) → s .args .stride ≤ 2000
 near s = stride-most (s .args .count) (s .args .stride) (some s) (s .pre .ones .short)
 
 -- the parts of its span
-parts : (s : tie.Start) → onesSpan (s .args .count) (s .args .above) ≡ differenceSpan (s .args .count) + laterSpan (s .args .count / 2) (s .args .above)
+parts : (s : tie.Start) → onesSpan (s .args .count) (s .args .above) ≡ differenceSpan (s .args .count)
+    + laterSpan (s .args .count / 2) (s .args .above)
 parts s = ones-span (s .args .count) (s .args .above)
 
 sub-chain-end : tie.Need-sub-chain-end
@@ -40,28 +41,48 @@ digit-difference-requires c κs =
     let s = c .before .before .before in
     let q = s .pre .ones in
     record {
-      ones = record { room = room-less (s .args .w) _ (onesSpan (s .args .count) (s .args .above)) (omega (arith, parts s)) (q .room); firstBelow = q .firstBelow; secondBelow = q .secondBelow; short = q .short };
+      ones = record {
+        room = room-less (s .args .w) _ (onesSpan (s .args .count) (s .args .above))
+            (omega (arith, parts s)) (q .room);
+        firstBelow = q .firstBelow;
+        secondBelow = q .secondBelow;
+        short =
+            q .short;
+      };
       some = some s;
     }
 
-difference : (c : tie.After-digit-difference) → let s = from-difference c in Stands (c .digit-difference .result) (s .args .w .wire + differenceSpan (s .args .count)) (laterSpan (s .args .count / 2) (s .args .above))
+difference : (c : tie.After-digit-difference) → let s = from-difference c in
+    Stands (c .digit-difference .result) (s .args .w .wire + differenceSpan (s .args .count))
+    (laterSpan (s .args .count / 2) (s .args .above))
 difference c =
     let s = from-difference c in
     let a = s .args in
-    stands-after (a .w) (a .table .now) _ (c .digit-difference .last .1 .0) (c .digit-difference .result) _ _ _ (c .digit-difference .ensures) (length-difference (a .w .wire) (a .x) (a .y) (a .stride) (a .count))
+    stands-after (a .w) (a .table .now) _ (c .digit-difference .last .1 .0) (c .digit-difference .result) _ _ _
+    (c .digit-difference .ensures) (length-difference (a .w .wire) (a .x) (a .y) (a .stride) (a .count))
     (stands (a .w) (a .w .wire) _ _ refl (omega (arith, parts s)) (s .pre .ones .room))
 
 add-later-digits : tie.Need-add-later-digits
 add-later-digits c =
     let s = from-difference (c .before .before .before) in
     let a = s .args in
-    omega (arith, first-of (a .x) (a .stride) (a .count) (a .w .wire) (some s) (s .pre .ones .firstBelow) .0, near s, s .pre .ones .room .small)
+    omega (
+      arith,
+      first-of (a .x) (a .stride) (a .count) (a .w .wire) (some s) (s .pre .ones .firstBelow) .0,
+      near s,
+      s .pre .ones .room .small,
+    )
 
 add-later-digits-2 : tie.Need-add-later-digits-2
 add-later-digits-2 c =
     let s = from-difference (c .before .before .before) in
     let a = s .args in
-    omega (arith, first-of (a .y) (a .stride) (a .count) (a .w .wire) (some s) (s .pre .ones .secondBelow) .0, near s, s .pre .ones .room .small)
+    omega (
+      arith,
+      first-of (a .y) (a .stride) (a .count) (a .w .wire) (some s) (s .pre .ones .secondBelow) .0,
+      near s,
+      s .pre .ones .room .small,
+    )
 
 add-later-digits-3 : tie.Need-add-later-digits-3
 add-later-digits-3 c = omega (arith, near (from-difference (c .before .before .before)))
@@ -89,11 +110,15 @@ later-digits-requires c κs =
 same-length : tie.Need-same-length
 same-length c = search needs
 
+-- The stages of the function, seen from later ones.
+abbrev digit-difference-from-later-digits : tie.After-later-digits → tie.After-digit-difference
+digit-difference-from-later-digits c = c .before .before .before .before .before
+
 returns : tie.Need-returns
 unfolding compareOnes
 returns c =
     let v = c .before .before .later-digits in
-    let h = c .before .before .before .before .before .before .before in
+    let h = (digit-difference-from-later-digits (c .before .before)) in
     let a = from-difference h .args in
     let n = a .w .wire in
     let m = a .count in
@@ -111,4 +136,5 @@ returns c =
     ∙ ap (λ (k : ℕ). laterDigits (q + 1) x y z (m / 2) q k (a .above)) (left .ensures))
 
 pub compare-ones-spec : {M : Type 1} → statement M
-compare-ones-spec = tie.close (tie.spec sub-chain-end chain-end-requires digit-difference-requires add-later-digits add-later-digits-2 add-later-digits-3 sub-later-digits later-digits-requires same-length returns)
+compare-ones-spec = tie.close (tie.spec sub-chain-end chain-end-requires digit-difference-requires add-later-digits
+    add-later-digits-2 add-later-digits-3 sub-later-digits later-digits-requires same-length returns)

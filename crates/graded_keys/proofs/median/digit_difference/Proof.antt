@@ -20,14 +20,23 @@ use Rattle.graded_keys.proofs.median.digit_difference.Tie as tie
 abbrev from-first : tie.After-parity → tie.Start
 from-first c = c .before .before .before .before
 
+-- The stages of the function, seen from later ones.
+abbrev parity-from-parity2 : tie.After-parity2 → tie.After-parity
+parity-from-parity2 c = c .before .before .before .before .before
+
+abbrev parity2-from-slice-known4 : tie.After-slice-known4 → tie.After-parity2
+parity2-from-slice-known4 c = c .before .before .before .before .before .before
+
 abbrev from-second : tie.After-parity2 → tie.After-parity
-from-second c = c .before .before .before .before .before
+from-second c = (parity-from-parity2 c)
 
 -- the wires of either number: the first one, the others, and how far apart they stand
-x-there : (s : tie.Start) → (s .args .x < s .args .w .wire) × (s .args .x + s .args .step + (s .args .many - 1) * s .args .step < s .args .w .wire + s .args .step)
+x-there : (s : tie.Start) → (s .args .x < s .args .w .wire)
+    × (s .args .x + s .args .step + (s .args .many - 1) * s .args .step < s .args .w .wire + s .args .step)
 x-there s = let a = s .args in first-of (a .x) (a .step) (a .many) (a .w .wire) (s .pre .some) (s .pre .ones .firstBelow)
 
-y-there : (s : tie.Start) → (s .args .y < s .args .w .wire) × (s .args .y + s .args .step + (s .args .many - 1) * s .args .step < s .args .w .wire + s .args .step)
+y-there : (s : tie.Start) → (s .args .y < s .args .w .wire)
+    × (s .args .y + s .args .step + (s .args .many - 1) * s .args .step < s .args .w .wire + s .args .step)
 y-there s = let a = s .args in first-of (a .y) (a .step) (a .many) (a .w .wire) (s .pre .some) (s .pre .ones .secondBelow)
 
 near : (s : tie.Start) → s .args .step ≤ 2000
@@ -52,11 +61,13 @@ parity-requires c κs =
       near = omega (arith, near s);
     }
 
-first : (c : tie.After-parity) → let s = from-first c in Stands (c .parity .result) (s .args .w .wire + (s .args .many - 1)) (s .args .many - 1 + 1)
+first : (c : tie.After-parity) → let s = from-first c in
+    Stands (c .parity .result) (s .args .w .wire + (s .args .many - 1)) (s .args .many - 1 + 1)
 first c =
     let s = from-first c in
     let a = s .args in
-    stands-after (a .w) (a .table .now) _ (c .parity .last .1 .0) (c .parity .result) _ _ _ (c .parity .ensures) (length-chain 6 (a .w .wire) (a .x) (a .x + a .step) (a .step) (a .many - 1))
+    stands-after (a .w) (a .table .now) _ (c .parity .last .1 .0) (c .parity .result) _ _ _ (c .parity .ensures)
+    (length-chain 6 (a .w .wire) (a .x) (a .x + a .step) (a .step) (a .many - 1))
     (stands (a .w) (a .w .wire) _ _ refl (omega arith) (s .pre .ones .room))
 
 chain-end-requires-2 : tie.Need-chain-end-requires-2
@@ -76,11 +87,13 @@ parity-requires-2 c κs =
       near = omega (arith, near s);
     }
 
-second : (c : tie.After-parity2) → let s = from-first (from-second c) in Stands (c .parity2 .result) (differAt (s .args .w .wire) (s .args .many)) 1
+second : (c : tie.After-parity2) → let s = from-first (from-second c) in
+    Stands (c .parity2 .result) (differAt (s .args .w .wire) (s .args .many)) 1
 second c =
     let h = from-second c in
     let a = from-first h .args in
-    stands-after (h .parity .result) (h .parity .last .1 .0) _ (c .parity2 .last .1 .0) (c .parity2 .result) _ _ _ (c .parity2 .ensures) (length-chain 6 (h .parity .result .wire) (a .y) (a .y + a .step) (a .step) (a .many - 1))
+    stands-after (h .parity .result) (h .parity .last .1 .0) _ (c .parity2 .last .1 .0) (c .parity2 .result) _ _ _
+    (c .parity2 .ensures) (length-chain 6 (h .parity .result .wire) (a .y) (a .y + a .step) (a .step) (a .many - 1))
     (first h)
 
 emit-requires : tie.Need-emit-requires
@@ -93,7 +106,7 @@ returns : tie.Need-returns
 unfolding digitDifference
 returns c =
     let e = c .before .before .emit in
-    let k = c .before .before .before .before .before .before in
+    let k = (parity2-from-slice-known4 c) in
     let h = from-second k in
     let s = from-first h in
     let a = s .args in
@@ -109,4 +122,6 @@ returns c =
     (one-gate 6 (left .ensures) (right .ensures ∙ ap (λ (i : ℕ). chainEnd i (a .y) (m - 1)) place) refl)
 
 pub digit-difference-spec : {M : Type 1} → statement M
-digit-difference-spec = tie.close (tie.spec sub-rest chain-end-requires add-parity parity-requires chain-end-requires-2 add-parity-2 parity-requires-2 emit-requires same-length returns)
+digit-difference-spec = tie.close
+    (tie.spec sub-rest chain-end-requires add-parity parity-requires chain-end-requires-2 add-parity-2
+    parity-requires-2 emit-requires same-length returns)

@@ -12,19 +12,27 @@ use Rattle.graded_keys.proofs.median.later_digits.Statement.{statement}
 use Rattle.graded_keys.proofs.median.later_digits.Tie as tie
 
 abbrev Inv-loop : tie.InvT-loop
-Inv-loop table₀ x y stride count e s digits next₀ first₀ second₀ step₀ many₀ differ₀ larger₀ left₀ table next first second step many differ larger left =
+Inv-loop table₀ x y stride count e s digits next₀ first₀ second₀ step₀ many₀ differ₀ larger₀ left₀ table next first
+    second step many differ larger left =
     Fits many left × (first + many * step < next .wire + step) × (second + many * step < next .wire + step) × (many * step ≤ 2000)
-    × Goes next₀ table₀ (laterDigits (next₀ .wire) x y stride count e s digits) next table (laterDigits (next .wire) first second step many differ larger left)
+    × Goes next₀ table₀ (laterDigits (next₀ .wire) x y stride count e s digits) next table
+    (laterDigits (next .wire) first second step many differ larger left)
 
 abbrev μ-loop : tie.MeasureT-loop
-μ-loop table₀ x y stride count e s digits next₀ first₀ second₀ step₀ many₀ differ₀ larger₀ left₀ table next first second step many differ larger left = left
+μ-loop table₀ x y stride count e s digits next₀ first₀ second₀ step₀ many₀ differ₀ larger₀ left₀ table next first
+    second step many differ larger left = left
 
 loop-holds : tie.Need-loop-holds Inv-loop μ-loop
 loop-holds c =
     let a = c .before .args in
     let q = c .before .pre in
-    let whole = laterDigits (a .w .wire) (a .x) (a .y) (a .stride) (a .count) (a .e) (a .s) (a .digits) in
-    (q .fits, q .ones .firstBelow, q .ones .secondBelow, q .ones .short, goes-start (a .w) (a .table .now) whole (laterSpan (a .count) (a .digits)) (q .ones .room))
+    let whole = laterDigits (a .w .wire) (a .x) (a .y) (a .stride) (a .count) (a .e) (a .s) (a .digits) in (
+      q .fits,
+      q .ones .firstBelow,
+      q .ones .secondBelow,
+      q .ones .short,
+      goes-start (a .w) (a .table .now) whole (laterSpan (a .count) (a .digits)) (q .ones .room),
+    )
 
 -- in a turn there are wires, the first ones are there, and there is room for the digit
 record Turn (wire first second step many left : ℕ) : Type 0 where
@@ -35,7 +43,8 @@ record Turn (wire first second step many left : ℕ) : Type 0 where
   near : step ≤ 2000
   few : wire + differenceSpan many + 2 < writerLimit
 
-in-turn : (c : tie.In-loop Inv-loop μ-loop) → let l = c .before .loop in Turn (l .next .wire) (l .first) (l .second) (l .step) (l .many) (l .left)
+in-turn : (c : tie.In-loop Inv-loop μ-loop) → let l = c .before .loop in
+    Turn (l .next .wire) (l .first) (l .second) (l .step) (l .many) (l .left)
 in-turn c =
     let l = c .before .loop in
     let s = c .before .before .before in
@@ -66,9 +75,17 @@ next-digit-requires c κs =
     let t = c .before .loop-test .taken in
     record {
       ones = record {
-        room = goes-room (a .w) (a .table .now) (laterDigits (a .w .wire) (a .x) (a .y) (a .stride) (a .count) (a .e) (a .s) (a .digits)) (l .next) (l .table)
-            (laterDigits (l .next .wire) (l .first) (l .second) (l .step) (l .many) (l .differ) (l .larger) (l .left)) _ (laterSpan (a .count) (a .digits)) (l .inv .4)
-            (omega (arith, length-later (l .next .wire) (l .first) (l .second) (l .step) (l .many) (l .differ) (l .larger) (l .left), later-span-step (l .many) (l .left) t))
+        room = goes-room (a .w) (a .table .now)
+            (laterDigits (a .w .wire) (a .x) (a .y) (a .stride) (a .count) (a .e) (a .s) (a .digits)) (l .next)
+            (l .table)
+            (laterDigits (l .next .wire) (l .first) (l .second) (l .step) (l .many) (l .differ) (l .larger)
+            (l .left)) _ (laterSpan (a .count) (a .digits)) (l .inv .4)
+            (omega (
+              arith,
+              length-later (l .next .wire) (l .first) (l .second) (l .step) (l .many) (l .differ)
+                  (l .larger) (l .left),
+              later-span-step (l .many) (l .left) t,
+            ))
             (omega (arith, length-later (a .w .wire) (a .x) (a .y) (a .stride) (a .count) (a .e) (a .s) (a .digits))) (s .pre .ones .room);
         firstBelow = l .inv .1;
         secondBelow = l .inv .2;
@@ -91,10 +108,15 @@ add-step : tie.Need-add-step Inv-loop μ-loop
 add-step c = omega (arith, in-turn (from-digit c) .near)
 
 -- where the next writer stands
-stands-behind : (c : tie.After-slice-known2 Inv-loop μ-loop) → let l = from-digit c .before .loop in c .before .before .next-digit .result .wire ≡ differAt (l .next .wire) (l .many) + 3
+stands-behind : (c : tie.After-slice-known2 Inv-loop μ-loop) → let l = from-digit c .before .loop in
+    c .before .before .next-digit .result .wire ≡ differAt (l .next .wire) (l .many) + 3
 stands-behind c =
     let l = from-digit c .before .loop in
-    omega (arith, c .before .before .next-digit .ensures .wires, length-next (l .next .wire) (l .first) (l .second) (l .step) (l .many) (l .differ) (l .larger))
+    omega (
+      arith,
+      c .before .before .next-digit .ensures .wires,
+      length-next (l .next .wire) (l .first) (l .second) (l .step) (l .many) (l .differ) (l .larger),
+    )
 
 sub-differ : tie.Need-sub-differ Inv-loop μ-loop
 sub-differ c = omega (arith, stands-behind (c .before))
@@ -134,7 +156,9 @@ loop-again c =
           ∙ ap (λ (k : ℕ). laterDigits (h .result .wire) x y d m k (n + 2) (l .left - 1)) e₂
           ∙ ap (λ (k : ℕ). laterDigits (h .result .wire) x y d m (h .result .wire - 2) k (l .left - 1)) e₃)
           (goes-on (a .w) (a .table .now) whole (l .next) (l .table) _ _ (h .last .1 .0) (h .result)
-          (goes-as (a .w) (a .table .now) whole (l .next) (l .table) _ _ (later-step (l .next .wire) (l .first) (l .second) (l .step) (l .many) (l .differ) (l .larger) (l .left) (i .loop-test .taken)) (l .inv .4))
+          (goes-as (a .w) (a .table .now) whole (l .next) (l .table) _ _
+          (later-step (l .next .wire) (l .first) (l .second) (l .step) (l .many) (l .differ) (l .larger) (l .left)
+          (i .loop-test .taken)) (l .inv .4))
           (h .ensures)),
     )
 
@@ -145,8 +169,11 @@ returns : tie.Need-returns Inv-loop μ-loop
 returns c =
     let l = c .before .loop in
     let a = c .before .before .before .args in
-    goes-end (a .w) (a .table .now) (laterDigits (a .w .wire) (a .x) (a .y) (a .stride) (a .count) (a .e) (a .s) (a .digits)) (l .next) (l .table) _
-    (later-none (l .next .wire) (l .first) (l .second) (l .step) (l .many) (l .differ) (l .larger) (l .left) (c .loop-test .left)) (l .inv .4)
+    goes-end (a .w) (a .table .now)
+    (laterDigits (a .w .wire) (a .x) (a .y) (a .stride) (a .count) (a .e) (a .s) (a .digits)) (l .next) (l .table) _
+    (later-none (l .next .wire) (l .first) (l .second) (l .step) (l .many) (l .differ) (l .larger) (l .left)
+    (c .loop-test .left)) (l .inv .4)
 
 pub later-digits-spec : {M : Type 1} → statement M
-later-digits-spec = tie.close (tie.spec Inv-loop μ-loop loop-holds next-digit-requires add-first add-second add-step sub-differ sub-larger sub-left loop-less loop-again same-length returns)
+later-digits-spec = tie.close (tie.spec Inv-loop μ-loop loop-holds next-digit-requires add-first add-second add-step
+    sub-differ sub-larger sub-left loop-less loop-again same-length returns)

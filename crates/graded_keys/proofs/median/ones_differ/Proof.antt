@@ -26,7 +26,8 @@ add-result-2 : tie.Need-add-result-2
 add-result-2 c = omega (arith, inside (c .before), c .before .pre .small)
 
 returns : tie.Need-returns
-returns c = let a = c .before .args in sym (differ-single (a .n + onesSpan (a .count) (a .above)) (differAt (a .n) (a .count)) (a .above) (c .if1 .taken))
+returns c = let a = c .before .args in
+    sym (differ-single (a .n + onesSpan (a .count) (a .above)) (differAt (a .n) (a .count)) (a .above) (c .if1 .taken))
 
 sub-result-3 : tie.Need-sub-result-3
 sub-result-3 c =
@@ -36,7 +37,9 @@ sub-result-3 c =
 returns-2 : tie.Need-returns-2
 returns-2 c =
     let a = c .before .args in
-    ap (λ (k : ℕ). k - 2) (c .before .pre .span) ∙ sym (differ-several (a .n + onesSpan (a .count) (a .above)) (differAt (a .n) (a .count)) (a .above) (c .if1 .left))
+    ap (λ (k : ℕ). k - 2) (c .before .pre .span)
+    ∙ sym (differ-several (a .n + onesSpan (a .count) (a .above)) (differAt (a .n) (a .count)) (a .above)
+    (c .if1 .left))
 
 pub ones-differ-spec : {M : Type 1} → statement M
 ones-differ-spec = tie.close (tie.spec sub-result add-result sub-result-2 add-result-2 returns sub-result-3 returns-2)

@@ -13,12 +13,14 @@ sub-chain-end : tie.Need-sub-chain-end
 sub-chain-end c = omega (arith, c .before .pre .some)
 
 chain-end-requires : tie.Need-chain-end-requires
-chain-end-requires c κs = let a = c .before .args in omega (arith, c .before .pre .span, c .before .pre .small, ones-span (a .count) (a .above))
+chain-end-requires c κs = let a = c .before .args in
+    omega (arith, c .before .pre .span, c .before .pre .small, ones-span (a .count) (a .above))
 
 returns : tie.Need-returns
 returns c =
     let a = c .before .before .args in
-    c .chain-end .ensures ∙ sym (larger-single (a .n + onesSpan (a .count) (a .above)) (leftDigit (a .n) (a .x) (a .count)) (a .above) (c .before .if1 .taken))
+    c .chain-end .ensures ∙ sym (larger-single (a .n + onesSpan (a .count) (a .above))
+    (leftDigit (a .n) (a .x) (a .count)) (a .above) (c .before .if1 .taken))
 
 sub-result : tie.Need-sub-result
 sub-result c =
@@ -28,7 +30,9 @@ sub-result c =
 returns-2 : tie.Need-returns-2
 returns-2 c =
     let a = c .before .args in
-    ap (λ (k : ℕ). k - 1) (c .before .pre .span) ∙ sym (larger-several (a .n + onesSpan (a .count) (a .above)) (leftDigit (a .n) (a .x) (a .count)) (a .above) (c .if1 .left))
+    ap (λ (k : ℕ). k - 1) (c .before .pre .span)
+    ∙ sym (larger-several (a .n + onesSpan (a .count) (a .above)) (leftDigit (a .n) (a .x) (a .count))
+    (a .above) (c .if1 .left))
 
 pub ones-larger-spec : {M : Type 1} → statement M
 ones-larger-spec = tie.close (tie.spec sub-chain-end chain-end-requires returns sub-result returns-2)

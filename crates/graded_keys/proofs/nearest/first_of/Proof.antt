@@ -23,12 +23,28 @@ abbrev μ-loop : tie.MeasureT-loop
 
 loop-holds : tie.Need-loop-holds Inv-loop μ-loop
 loop-holds c =
-    let q = (c .before) .pre in
-    (omega arith, omega arith, q .uBelow, q .vBelow, goes-start ((c .before .args) .w) ((c .before .args) .table .now) (firstOf ((c .before .args) .w .wire) ((c .before .args) .f) ((c .before .args) .x) ((c .before .args) .y) ((c .before .args) .u) ((c .before .args) .v) ((c .before .args) .above) ((c .before .args) .count)) ((c .before .args) .count * eitherSpan ((c .before .args) .above)) ((c .before) .pre .room))
+    let q = (c .before) .pre in (
+      omega arith,
+      omega arith,
+      q .uBelow,
+      q .vBelow,
+      goes-start ((c .before .args) .w) ((c .before .args) .table .now)
+          (firstOf ((c .before .args) .w .wire) ((c .before .args) .f) ((c .before .args) .x) ((c .before .args) .y)
+          ((c .before .args) .u) ((c .before .args) .v) ((c .before .args) .above) ((c .before .args) .count))
+          ((c .before .args) .count * eitherSpan ((c .before .args) .above)) ((c .before) .pre .room),
+    )
 
 -- the next words come before the writer's wire
 
-there : (c : tie.In-loop Inv-loop μ-loop) → ((c .before .before .before .args) .f + ((c .before .loop) .more - 1) * sideSpan ((c .before .before .before .args) .above) < (c .before .loop) .next .wire) × ((c .before .before .before .args) .x + ((c .before .loop) .more - 1) * stride ((c .before .before .before .args) .above) + stride ((c .before .before .before .args) .above) ≤ (c .before .loop) .next .wire) × ((c .before .before .before .args) .y + ((c .before .loop) .more - 1) * stride ((c .before .before .before .args) .above) + stride ((c .before .before .before .args) .above) ≤ (c .before .loop) .next .wire)
+there : (c : tie.In-loop Inv-loop μ-loop)
+    → ((c .before .before .before .args) .f + ((c .before .loop) .more - 1)
+    * sideSpan ((c .before .before .before .args) .above) < (c .before .loop) .next .wire)
+    × ((c .before .before .before .args) .x + ((c .before .loop) .more - 1)
+    * stride ((c .before .before .before .args) .above) + stride ((c .before .before .before .args) .above)
+    ≤ (c .before .loop) .next .wire)
+    × ((c .before .before .before .args) .y + ((c .before .loop) .more - 1)
+    * stride ((c .before .before .before .args) .above) + stride ((c .before .before .before .args) .above)
+    ≤ (c .before .loop) .next .wire)
 there c =
     let l = (c .before .loop) in
     let a = (c .before .before .before .args) in
@@ -39,21 +55,37 @@ there c =
     let h′ = fewer (l .more) (a .count) (sideSpan (a .above)) (l .inv .0) in
     (omega (arith, q .sidesBelow, l .inv .1), omega (arith, q .xBelow, l .inv .1), omega (arith, q .yBelow, l .inv .1))
 
-small : (c : tie.In-loop Inv-loop μ-loop) → (((c .before .loop) .more - 1) * ((c .before .before .before .args) .above + 2) ≤ 45) × (((c .before .loop) .more - 1) * (2 * (c .before .before .before .args) .above + 3) ≤ 85)
+small : (c : tie.In-loop Inv-loop μ-loop)
+    → (((c .before .loop) .more - 1) * ((c .before .before .before .args) .above + 2) ≤ 45)
+    × (((c .before .loop) .more - 1) * (2 * (c .before .before .before .args) .above + 3) ≤ 85)
 small c =
     let q = (c .before .before .before) .pre in
     let h : (c .before .loop) .more - 1 ≤ 5 = omega (arith, (c .before .loop) .inv .0, q .few) in
-    let p : ((c .before .loop) .more - 1) * ((c .before .before .before .args) .above + 2) ≤ 5 * 9 = product-most ((c .before .loop) .more - 1) ((c .before .before .before .args) .above + 2) 5 9 h (omega (arith, q .narrow)) in
-    let p′ : ((c .before .loop) .more - 1) * (2 * (c .before .before .before .args) .above + 3) ≤ 5 * 17 = product-most ((c .before .loop) .more - 1) (2 * (c .before .before .before .args) .above + 3) 5 17 h (omega (arith, q .narrow)) in
+    let p : ((c .before .loop) .more - 1) * ((c .before .before .before .args) .above + 2) ≤ 5 * 9 =
+    product-most ((c .before .loop) .more - 1) ((c .before .before .before .args) .above + 2) 5 9 h
+    (omega (arith, q .narrow)) in
+    let p′ : ((c .before .loop) .more - 1) * (2 * (c .before .before .before .args) .above + 3) ≤ 5 * 17 =
+    product-most ((c .before .loop) .more - 1) (2 * (c .before .before .before .args) .above + 3) 5 17 h
+    (omega (arith, q .narrow)) in
     (omega arith, omega arith)
 
-all-long : (c : tie.In-loop Inv-loop μ-loop) → length (firstOf ((c .before .before .before .args) .w .wire) ((c .before .before .before .args) .f) ((c .before .before .before .args) .x) ((c .before .before .before .args) .y) ((c .before .before .before .args) .u) ((c .before .before .before .args) .v) ((c .before .before .before .args) .above) ((c .before .before .before .args) .count)) ≡ (c .before .before .before .args) .count * eitherSpan ((c .before .before .before .args) .above)
+all-long : (c : tie.In-loop Inv-loop μ-loop)
+    → length (firstOf ((c .before .before .before .args) .w .wire) ((c .before .before .before .args) .f)
+    ((c .before .before .before .args) .x) ((c .before .before .before .args) .y)
+    ((c .before .before .before .args) .u) ((c .before .before .before .args) .v)
+    ((c .before .before .before .args) .above) ((c .before .before .before .args) .count))
+    ≡ (c .before .before .before .args) .count * eitherSpan ((c .before .before .before .args) .above)
 all-long c =
     let a = (c .before .before .before .args) in
     let q = (c .before .before .before) .pre in
-    first-of-block (a .w .wire) (a .f) (a .x) (a .y) (a .u) (a .v) (a .above) (a .count) (q .sidesBelow) (q .xBelow) (q .yBelow) (q .uBelow) (q .vBelow) .long
+    first-of-block (a .w .wire) (a .f) (a .x) (a .y) (a .u) (a .v) (a .above) (a .count) (q .sidesBelow) (q .xBelow)
+    (q .yBelow) (q .uBelow) (q .vBelow) .long
 
-left-long : (c : tie.In-loop Inv-loop μ-loop) → length (firstOf ((c .before .loop) .next .wire) ((c .before .before .before .args) .f) ((c .before .before .before .args) .x) ((c .before .before .before .args) .y) ((c .before .loop) .first) ((c .before .loop) .second) ((c .before .before .before .args) .above) ((c .before .loop) .more)) ≡ (c .before .loop) .more * eitherSpan ((c .before .before .before .args) .above)
+left-long : (c : tie.In-loop Inv-loop μ-loop)
+    → length (firstOf ((c .before .loop) .next .wire) ((c .before .before .before .args) .f)
+    ((c .before .before .before .args) .x) ((c .before .before .before .args) .y) ((c .before .loop) .first)
+    ((c .before .loop) .second) ((c .before .before .before .args) .above) ((c .before .loop) .more))
+    ≡ (c .before .loop) .more * eitherSpan ((c .before .before .before .args) .above)
 left-long c =
     let l = (c .before .loop) in
     let a = (c .before .before .before .args) in
@@ -61,9 +93,13 @@ left-long c =
     let q = (c .before .before .before) .pre in
     let h = fewer (l .more) (a .count) (stride (a .above)) (i .0) in
     let h′ = fewer (l .more) (a .count) (sideSpan (a .above)) (i .0) in
-    first-of-block (l .next .wire) (a .f) (a .x) (a .y) (l .first) (l .second) (a .above) (l .more) (omega (arith, q .sidesBelow, i .1)) (omega (arith, q .xBelow, i .1)) (omega (arith, q .yBelow, i .1)) (i .2) (i .3) .long
+    first-of-block (l .next .wire) (a .f) (a .x) (a .y) (l .first) (l .second) (a .above) (l .more)
+    (omega (arith, q .sidesBelow, i .1)) (omega (arith, q .xBelow, i .1)) (omega (arith, q .yBelow, i .1)) (i .2)
+    (i .3) .long
 
-near-limit : (c : tie.In-loop Inv-loop μ-loop) → (c .before .loop) .next .wire + (c .before .loop) .more * eitherSpan ((c .before .before .before .args) .above) ≡ (c .before .before .before .args) .w .wire + (c .before .before .before .args) .count * eitherSpan ((c .before .before .before .args) .above)
+near-limit : (c : tie.In-loop Inv-loop μ-loop) → (c .before .loop) .next .wire + (c .before .loop) .more
+    * eitherSpan ((c .before .before .before .args) .above) ≡ (c .before .before .before .args) .w .wire
+    + (c .before .before .before .args) .count * eitherSpan ((c .before .before .before .args) .above)
 near-limit c =
     omega (arith, (c .before .loop) .inv .4 .wireLeft, all-long c, left-long c)
 
@@ -109,7 +145,10 @@ either-requires c κs =
     let l = (c .before .before .loop) in
     let q = there (c .before) in
     record {
-      room = goes-room (a .w) (a .table .now) (firstOf (a .w .wire) (a .f) (a .x) (a .y) (a .u) (a .v) (a .above) (a .count)) (l .next) (l .table) (firstOf (l .next .wire) (a .f) (a .x) (a .y) (l .first) (l .second) (a .above) (l .more)) _ (a .count * eitherSpan (a .above)) (l .inv .4)
+      room = goes-room (a .w) (a .table .now)
+          (firstOf (a .w .wire) (a .f) (a .x) (a .y) (a .u) (a .v) (a .above) (a .count)) (l .next) (l .table)
+          (firstOf (l .next .wire) (a .f) (a .x) (a .y) (l .first) (l .second) (a .above) (l .more)) _
+          (a .count * eitherSpan (a .above)) (l .inv .4)
           (omega (arith, left-long (c .before), one-less (l .more) (eitherSpan (a .above)) ((c .before .loop-test) .taken)))
           (omega (arith, all-long (c .before))) ((c .before .before .before .before) .pre .room);
       xBelow = omega (arith, q .1);
@@ -120,22 +159,37 @@ either-requires c κs =
 
 -- where the words that are chosen end
 
-ends : (c : tie.After-either Inv-loop μ-loop) → (c .either) .result .wire ≡ (c .before .before .before .loop) .next .wire + eitherSpan ((c .before .before .before .before .before .args) .above)
+-- The stages of the function, seen from later ones.
+abbrev start-from-either : tie.After-either Inv-loop μ-loop → tie.Start Inv-loop μ-loop
+start-from-either c = c .before .before .before .before .before
+
+abbrev loop-reached-from-slice-known2 : tie.After-slice-known2 Inv-loop μ-loop → tie.At-loop Inv-loop μ-loop
+loop-reached-from-slice-known2 c = c .before .before .before .before .before
+
+ends : (c : tie.After-either Inv-loop μ-loop) → (c .either) .result .wire
+    ≡ (c .before .before .before .loop) .next .wire + eitherSpan (((start-from-either c) .args) .above)
 ends c =
     let l = (c .before .before .before .loop) in
-    let a = (c .before .before .before .before .before .args) in
+    let a = ((start-from-either c) .args) in
     let q = there (c .before .before) in
     let i = l .more - 1 in
-    let e : i * (2 * a .above + 3) ≡ i * sideSpan (a .above) = let k : 2 * a .above + 3 ≡ sideSpan (a .above) = omega arith in ap (λ (j : ℕ). i * j) k in
-    omega (arith, (c .either) .ensures .wires, either-block (l .next .wire) (a .f + i * (2 * a .above + 3)) (a .x + i * (a .above + 2)) (a .y + i * (a .above + 2)) (l .first) (l .second) (a .above) (omega (arith, q .0)) (omega (arith, q .1)) (omega (arith, q .2)) (l .inv .2) (l .inv .3) .long)
+    let e : i * (2 * a .above + 3) ≡ i * sideSpan (a .above) = let k : 2 * a .above + 3 ≡ sideSpan (a .above) =
+    omega arith in ap (λ (j : ℕ). i * j) k in
+    omega (
+      arith,
+      (c .either) .ensures .wires,
+      either-block (l .next .wire) (a .f + i * (2 * a .above + 3)) (a .x + i * (a .above + 2))
+          (a .y + i * (a .above + 2)) (l .first) (l .second) (a .above) (omega (arith, q .0)) (omega (arith, q .1))
+          (omega (arith, q .2)) (l .inv .2) (l .inv .3) .long,
+    )
 
 add-second : tie.Need-add-second Inv-loop μ-loop
 add-second c =
-    omega (arith, near-limit (c .before .before .before .before), (c .before .before .before .before .before .before .before) .pre)
+    omega (arith, near-limit (c .before .before .before .before), (start-from-either (c .before .before)) .pre)
 
 add-second-2 : tie.Need-add-second-2 Inv-loop μ-loop
 add-second-2 c =
-    omega (arith, near-limit (c .before .before .before .before), (c .before .before .before .before .before .before .before) .pre)
+    omega (arith, near-limit (c .before .before .before .before), (start-from-either (c .before .before)) .pre)
 
 loop-less : tie.Need-loop-less Inv-loop μ-loop
 loop-less c =
@@ -143,8 +197,8 @@ loop-less c =
 
 loop-again : tie.Need-loop-again Inv-loop μ-loop
 loop-again c =
-    let a = (c .before .before .before .before .before .before .before .args) in
-    let l = (c .before .before .before .before .before .loop) in
+    let a = ((start-from-either (c .before .before)) .args) in
+    let l = ((loop-reached-from-slice-known2 c) .loop) in
     let t = (c .before .before .before .before .loop-test) .taken in
     let h = (c .before .before .either) in
     let r = a .above in
@@ -164,7 +218,9 @@ loop-again c =
           ∙ ap (λ (k : ℕ). firstOf (h .result .wire) (a .f) (a .x) (a .y) n k r i) e₂)
           (goes-on (a .w) (a .table .now) whole (l .next) (l .table) _ _ (h .last .1 .0) (h .result)
           (goes-as (a .w) (a .table .now) whole (l .next) (l .table) _ _
-          (first-step n (a .f) (a .x) (a .y) (l .first) (l .second) r (l .more) t ∙ ap (λ (k : ℕ). either (a .f + i * k) (a .x + i * (r + 2)) (a .y + i * (r + 2)) (l .first) (l .second) r ++ rest) e₁) (l .inv .4))
+          (first-step n (a .f) (a .x) (a .y) (l .first) (l .second) r (l .more) t
+          ∙ ap (λ (k : ℕ). either (a .f + i * k) (a .x + i * (r + 2)) (a .y + i * (r + 2)) (l .first)
+          (l .second) r ++ rest) e₁) (l .inv .4))
           (h .ensures)),
     )
 
@@ -176,7 +232,11 @@ returns : tie.Need-returns Inv-loop μ-loop
 returns c =
     let a = (c .before .before .before .args) in
     let l = (c .before .loop) in
-    goes-end (a .w) (a .table .now) (firstOf (a .w .wire) (a .f) (a .x) (a .y) (a .u) (a .v) (a .above) (a .count)) (l .next) (l .table) _ (first-none (l .next .wire) (a .f) (a .x) (a .y) (l .first) (l .second) (a .above) (l .more) ((c .loop-test) .left)) (l .inv .4)
+    goes-end (a .w) (a .table .now) (firstOf (a .w .wire) (a .f) (a .x) (a .y) (a .u) (a .v) (a .above) (a .count))
+    (l .next) (l .table) _ (first-none (l .next .wire) (a .f) (a .x) (a .y) (l .first) (l .second) (a .above)
+    (l .more) ((c .loop-test) .left)) (l .inv .4)
 
 pub first-of-spec : {M : Type 1} → statement M
-first-of-spec = tie.close (tie.spec Inv-loop μ-loop loop-holds sub-i add-step mul-step mul-either add-either mul-either-2 add-either-2 add-either-3 add-either-4 either-requires add-second add-second-2 loop-less loop-again same-length returns)
+first-of-spec = tie.close (tie.spec Inv-loop μ-loop loop-holds sub-i add-step mul-step mul-either add-either
+    mul-either-2 add-either-2 add-either-3 add-either-4 either-requires add-second add-second-2 loop-less loop-again
+    same-length returns)

@@ -32,20 +32,46 @@ unequal-halves-requires c κs =
 
 -- after the comparison
 
-differ : (c : tie.After-unequal-halves) → Stands (c .unequal-halves .result) ((c .before .before .before .before) .args .w .wire + unequalSpan ((c .before .before .before .before) .args .above)) 2
+differ : (c : tie.After-unequal-halves)
+    → Stands (c .unequal-halves .result)
+    ((c .before .before .before .before) .args .w .wire
+    + unequalSpan ((c .before .before .before .before) .args .above)) 2
 differ c =
     let s = (c .before .before .before .before) in
     let a = s .args in
-    stands-after (a .w) (a .table .now) _ (c .unequal-halves .last .1 .0) (c .unequal-halves .result) _ _ _ (c .unequal-halves .ensures) (length-unequal-cut (a .w .wire) (a .x) (a .y) (a .above) (a .high) (s .pre .cut))
+    stands-after (a .w) (a .table .now) _ (c .unequal-halves .last .1 .0) (c .unequal-halves .result) _ _ _
+    (c .unequal-halves .ensures) (length-unequal-cut (a .w .wire) (a .x) (a .y) (a .above) (a .high) (s .pre .cut))
     (stands (a .w) (a .w .wire) _ _ refl (omega arith) (s .pre .room))
+
+-- The stages of the function, seen from later ones.
+abbrev unequal-at-from-unequal-halves : tie.After-unequal-halves → tie.After-unequal-at
+unequal-at-from-unequal-halves c = c .before .before
+
+abbrev start-from-emit-arg : tie.After-emit-arg → tie.Start
+start-from-emit-arg c = c .before .before .before .before .before .before .before
+
+abbrev unequal-halves-from-emit-arg2 : tie.After-emit-arg2 → tie.After-unequal-halves
+unequal-halves-from-emit-arg2 c = c .before .before .before .before .before .before .before
+
+abbrev start-from-emit2 : tie.After-emit2 → tie.Start
+start-from-emit2 c = start-from-emit-arg (c .before .before .before .before .before)
+
+abbrev unequal-at-from-emit2 : tie.After-emit2 → tie.After-unequal-at
+unequal-at-from-emit2 c = unequal-at-from-unequal-halves (c .before .before .before .before .before .before .before .before)
+
+abbrev unequal-halves-from-emit2 : tie.After-emit2 → tie.After-unequal-halves
+unequal-halves-from-emit2 c = c .before .before .before .before .before .before .before .before
+
+abbrev emit-from-slice-known4 : tie.After-slice-known4 → tie.After-emit
+emit-from-slice-known4 c = c .before .before .before .before .before .before
 
 add-emit : tie.Need-add-emit
 add-emit c =
-    omega (arith, (c .before .before .before .before .before .before .before) .pre)
+    omega (arith, (start-from-emit-arg c) .pre)
 
 add-emit-2 : tie.Need-add-emit-2
 add-emit-2 c =
-    omega (arith, (c .before .before .before .before .before .before .before) .pre)
+    omega (arith, (start-from-emit-arg c) .pre)
 
 emit-requires : tie.Need-emit-requires
 emit-requires c κs =
@@ -53,7 +79,10 @@ emit-requires c κs =
 
 emit-requires-2 : tie.Need-emit-requires-2
 emit-requires-2 c κs =
-    stands-after ((c .before .before .before .before .before .before .before .unequal-halves) .result) ((c .before .before .before .before .before .before .before .unequal-halves) .last .1 .0) _ ((c .before .before .before .emit) .last .1 .0) ((c .before .before .before .emit) .result) _ 1 1 ((c .before .before .before .emit) .ensures) refl (differ (c .before .before .before .before .before .before .before)) .left
+    stands-after (((unequal-halves-from-emit-arg2 c) .unequal-halves) .result)
+    (((unequal-halves-from-emit-arg2 c) .unequal-halves) .last .1 .0) _
+    ((c .before .before .before .emit) .last .1 .0) ((c .before .before .before .emit) .result) _ 1 1
+    ((c .before .before .before .emit) .ensures) refl (differ (unequal-halves-from-emit-arg2 c)) .left
 
 same-length : tie.Need-same-length
 same-length c =
@@ -62,18 +91,23 @@ same-length c =
 returns : tie.Need-returns
 unfolding sideFlags
 returns c =
-    let a = (c .before .before .before .before .before .before .before .before .before .before .before .before .before .before) .args in
-    let e = (c .before .before .before .before .before .before .before .before .before .before .before .before .unequal-at) .ensures in
+    let a = (start-from-emit2 (c .before .before)) .args in
+    let e = ((unequal-at-from-emit2 (c .before .before)) .unequal-at) .ensures in
     let f : a .x + a .above + 1 ≡ a .x + suc (a .above) = omega arith in
-    let w₁ = (c .before .before .before .before .before .before .before .before .before .before .unequal-halves) .result in
-    let t₁ = (c .before .before .before .before .before .before .before .before .before .before .unequal-halves) .last .1 .0 in
-    let w₂ = (c .before .before .before .before .before .before .emit) .result in
-    let t₂ = (c .before .before .before .before .before .before .emit) .last .1 .0 in
-    wrote-then (a .w) (a .table .now) _ t₁ w₁ _ _ _ _ ((c .before .before .before .before .before .before .before .before .before .before .unequal-halves) .ensures)
+    let w₁ = ((unequal-halves-from-emit2 (c .before .before)) .unequal-halves) .result in
+    let t₁ = ((unequal-halves-from-emit2 (c .before .before)) .unequal-halves) .last .1 .0 in
+    let w₂ = ((emit-from-slice-known4 c) .emit) .result in
+    let t₂ = ((emit-from-slice-known4 c) .emit) .last .1 .0 in
+    wrote-then (a .w) (a .table .now) _ t₁ w₁ _ _ _ _ (((unequal-halves-from-emit2 (c .before .before)) .unequal-halves) .ensures)
     (wrote-then w₁ t₁ _ t₂ w₂ _ _ _ _
-    (wrote-as w₁ t₁ _ _ t₂ w₂ (one-gate 4 e f refl) (and-wrote w₁ t₁ t₂ w₂ ((c .before .before .before .before .before .before .before .before .before .before .before .before .unequal-at) .result) (a .x + a .above + 1) 0 ((c .before .before .before .before .before .before .emit) .ensures)))
-    (xor-wrote w₂ t₂ ((c .before .before .emit2) .last .1 .0) ((c .before .before .emit2) .result) ((c .before .before .before .before .before .before .before .before .before .before .before .before .unequal-at) .result) (w₁ .wire) 0 ((c .before .before .emit2) .ensures))
-    (one-gate 6 e (differ (c .before .before .before .before .before .before .before .before .before .before) .place) refl)) refl
+    (wrote-as w₁ t₁ _ _ t₂ w₂ (one-gate 4 e f refl)
+    (and-wrote w₁ t₁ t₂ w₂ (((unequal-at-from-emit2 (c .before .before)) .unequal-at) .result) (a .x + a .above + 1)
+    0 (((emit-from-slice-known4 c) .emit) .ensures)))
+    (xor-wrote w₂ t₂ ((c .before .before .emit2) .last .1 .0) ((c .before .before .emit2) .result)
+    (((unequal-at-from-emit2 (c .before .before)) .unequal-at) .result) (w₁ .wire) 0
+    ((c .before .before .emit2) .ensures))
+    (one-gate 6 e (differ (unequal-halves-from-emit2 (c .before .before)) .place) refl)) refl
 
 pub side-flags-spec : {M : Type 1} → statement M
-side-flags-spec = tie.close (tie.spec unequal-at-requires sub-unequal-halves unequal-halves-requires add-emit add-emit-2 emit-requires emit-requires-2 same-length returns)
+side-flags-spec = tie.close (tie.spec unequal-at-requires sub-unequal-halves unequal-halves-requires add-emit
+    add-emit-2 emit-requires emit-requires-2 same-length returns)

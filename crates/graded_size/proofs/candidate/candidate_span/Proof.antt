@@ -37,7 +37,9 @@ count-size-requires-2 c κs =
     let f = c .before .before .pre in
     record { few = omega (arith, f .n-most); small = omega (arith, worst-small p f); countable = worst-countable p f }
 
-parts : (c : tie.After-count-size2) → Parts (c .before .before .before .args .p) (c .before .before .rows-span .result) (c .before .count-size .result) (c .count-size2 .result)
+parts : (c : tie.After-count-size2)
+    → Parts (c .before .before .before .args .p) (c .before .before .rows-span .result)
+    (c .before .count-size .result) (c .count-size2 .result)
 parts c =
     let p = c .before .before .before .args .p in
     let f = c .before .before .before .pre in

@@ -24,12 +24,16 @@ sub-gates c = omega (arith, fits-some (c .args .count) (c .args .above) (c .pre 
 
 loop-holds : tie.Need-loop-holds Inv-loop μ-loop
 loop-holds c =
-    let a = c .args in
-    (fits-half (a .count) (a .above) (c .pre .0), omega (arith, ones-span (a .count) (a .above), fits-some (a .count) (a .above) (c .pre .0)))
+    let a = c .args in (
+      fits-half (a .count) (a .above) (c .pre .0),
+      omega (arith, ones-span (a .count) (a .above), fits-some (a .count) (a .above) (c .pre .0)),
+    )
 
 -- a turn: the digit's gates, and those left
 in-turn : (c : tie.In-loop Inv-loop μ-loop) → let l = c .before .loop in
-    Fits (l .many / 2) (l .left - 1) × (l .gates + (2 * l .many + 1) + laterSpan (l .many / 2) (l .left - 1) ≡ onesSpan (c .before .before .args .count) (c .before .before .args .above))
+    Fits (l .many / 2) (l .left - 1)
+    × (l .gates + (2 * l .many + 1) + laterSpan (l .many / 2) (l .left - 1)
+    ≡ onesSpan (c .before .before .args .count) (c .before .before .args .above))
 in-turn c =
     let l = c .before .loop in
     let t = later-turn (l .many) (l .left) (c .loop-test .taken) (l .inv .0) in
@@ -60,4 +64,5 @@ returns : tie.Need-returns Inv-loop μ-loop
 returns c = let l = c .before .loop in omega (arith, l .inv .1, later-none (l .many) (l .left) (c .loop-test .left))
 
 pub medians-span-spec : {M : Type 1} → statement M
-medians-span-spec = tie.close (tie.spec Inv-loop μ-loop mul-gates sub-gates loop-holds mul-gates-2 add-gates add-gates-2 sub-left loop-less loop-again returns)
+medians-span-spec = tie.close (tie.spec Inv-loop μ-loop mul-gates sub-gates loop-holds mul-gates-2 add-gates
+    add-gates-2 sub-left loop-less loop-again returns)

@@ -35,7 +35,12 @@ sub-result c =
 
 returns-2 : tie.Need-returns-2
 returns-2 c =
-    let a = (c .before .before) .args in omega (arith, tie-break-below-single (a .digits) (a .grades - 2) ((c .before .if1) .left) (omega (arith, (c .if2) .taken)))
+    let a = (c .before .before) .args in
+    omega (
+      arith,
+      tie-break-below-single (a .digits) (a .grades - 2) ((c .before .if1) .left)
+          (omega (arith, (c .if2) .taken)),
+    )
 
 mul-result-2 : tie.Need-mul-result-2
 mul-result-2 c =
@@ -70,19 +75,45 @@ returns-3 c =
     let a = (c .before .before .before) .args in
     let h = (c .before .before .before) .pre in
     let e : a .grades - 2 - 1 ≡ a .grades - 3 = omega arith in
-    omega (arith, (c .reach-span) .ensures, tie-break-below-more (a .digits) (a .grades - 2) ((c .before .before .if1) .left) (omega (arith, h, (c .before .if2) .left)), ap (λ (x : ℕ). x * (6 * a .digits + 1)) e)
+    omega (
+      arith,
+      (c .reach-span) .ensures,
+      tie-break-below-more (a .digits) (a .grades - 2) ((c .before .before .if1) .left)
+          (omega (arith, h, (c .before .if2) .left)),
+      ap (λ (x : ℕ). x * (6 * a .digits + 1)) e,
+    )
 
 mul-result-5 : tie.Need-mul-result-5
 mul-result-5 c =
-    omega (arith, between (c .before), (c .reach-span) .ensures, reach-last-most ((c .before .before .before) .args .digits - 1), (c .before .before .before) .pre)
+    omega (
+      arith,
+      between (c .before),
+      (c .reach-span) .ensures,
+      reach-last-most ((c .before .before .before) .args .digits - 1),
+      (c .before .before .before) .pre,
+    )
 
 add-result-3 : tie.Need-add-result-3
 add-result-3 c =
-    omega (arith, between (c .before), (c .reach-span) .ensures, reach-last-most ((c .before .before .before) .args .digits - 1), (c .before .before .before) .pre)
+    omega (
+      arith,
+      between (c .before),
+      (c .reach-span) .ensures,
+      reach-last-most ((c .before .before .before) .args .digits - 1),
+      (c .before .before .before) .pre,
+    )
 
 add-result-4 : tie.Need-add-result-4
 add-result-4 c =
-    omega (arith, between (c .before), (c .reach-span) .ensures, reach-last-most ((c .before .before .before) .args .digits - 1), (c .before .before .before) .pre)
+    omega (
+      arith,
+      between (c .before),
+      (c .reach-span) .ensures,
+      reach-last-most ((c .before .before .before) .args .digits - 1),
+      (c .before .before .before) .pre,
+    )
 
 pub tie-break-below-span-spec : {M : Type 1} → statement M
-tie-break-below-span-spec = tie.close (tie.spec returns mul-result sub-result returns-2 sub-result-2 mul-result-2 add-result mul-result-3 mul-result-4 add-result-2 reach-span-requires mul-result-5 add-result-3 add-result-4 returns-3)
+tie-break-below-span-spec = tie.close
+    (tie.spec returns mul-result sub-result returns-2 sub-result-2 mul-result-2 add-result mul-result-3 mul-result-4
+    add-result-2 reach-span-requires mul-result-5 add-result-3 add-result-4 returns-3)

@@ -26,7 +26,10 @@ record Whole (p : Plan) (each contest low high : ℕ) : Type 0 where
   high-few : high ≤ 1500
   few : p .candidates ≤ 8
 
-whole : (c : tie.After-four-span2) → Whole (c .before .before .before .before .before .before .args .p) (c .before .before .before .before .before .candidate-span .result) (c .before .before .before .before .contest-span .result) (c .before .four-span .result) (c .four-span2 .result)
+whole : (c : tie.After-four-span2)
+    → Whole (c .before .before .before .before .before .before .args .p)
+    (c .before .before .before .before .before .candidate-span .result)
+    (c .before .before .before .before .contest-span .result) (c .before .four-span .result) (c .four-span2 .result)
 whole c =
     let p = c .before .before .before .before .before .before .args .p in
     let f = c .before .before .before .before .before .before .pre .plan in
@@ -87,7 +90,13 @@ add-result-5 : tie.Need-add-result-5
 add-result-5 c = omega (arith, whole c)
 
 returns : tie.Need-returns
-returns c = omega (arith, whole c, circuit-block (c .before .before .before .before .before .before .args .p) (c .before .before .before .before .before .before .pre .plan) (c .before .before .before .before .before .before .pre .several) .long)
+returns c = omega (
+  arith,
+  whole c,
+  circuit-block (c .before .before .before .before .before .before .args .p)
+      (c .before .before .before .before .before .before .pre .plan)
+      (c .before .before .before .before .before .before .pre .several) .long,
+)
 
 pub circuit-span-spec : {M : Type 1} → statement M
 circuit-span-spec =

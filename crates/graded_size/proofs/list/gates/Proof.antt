@@ -24,7 +24,12 @@ plan-many : (c : tie.After-new) → 1 < c .new .result .candidates
 unfolding planOf
 plan-many c =
     let s = c .before .before .before .args .shape in
-    omega (arith, ap (λ (p : Plan). p .candidates) (c .new .ensures), within-T s (c .before .before .before .pre) .k-least, c .before .if1 .left)
+    omega (
+      arith,
+      ap (λ (p : Plan). p .candidates) (c .new .ensures),
+      within-T s (c .before .before .before .pre) .k-least,
+      c .before .if1 .left,
+    )
 
 returns : tie.Need-returns
 returns c = sym (ap length (own-single (c .before .before .args .shape) (c .if1 .taken)))
@@ -41,7 +46,8 @@ cast-result c = search needs
 returns-2 : tie.Need-returns-2
 returns-2 c =
     let s = c .before .before .before .before .args .shape in
-    c .circuit-span .ensures ∙ ap (λ (p : Plan). length (circuit p)) (c .before .new .ensures) ∙ sym (ap length (circuit-list s (c .before .before .if1 .left)))
+    c .circuit-span .ensures ∙ ap (λ (p : Plan). length (circuit p)) (c .before .new .ensures)
+    ∙ sym (ap length (circuit-list s (c .before .before .if1 .left)))
 
 pub gates-spec : {M : Type 1} → statement M
 gates-spec = tie.close (tie.spec returns new-requires circuit-span-requires cast-result returns-2)

@@ -40,7 +40,9 @@ returns c =
     let h = c .before .before .count-digits in
     let t = c .before .before .before .before in
     let a = t .before .before .args in
-    subst (λ (x : ℕ). Wrote (a .w) (a .table .now) (countDigitsAs 2 3 (a .base) x (a .p .ballots) (a .p .offset) (a .p .digits)) (h .last .1 .0) (h .result)) (t .row-at .ensures) (h .ensures)
+    subst (λ (x : ℕ). Wrote (a .w) (a .table .now)
+    (countDigitsAs 2 3 (a .base) x (a .p .ballots) (a .p .offset) (a .p .digits)) (h .last .1 .0) (h .result))
+    (t .row-at .ensures) (h .ensures)
 
 pub key-word-spec : {M : Type 1} → statement M
 key-word-spec = tie.close (tie.spec row-at-requires count-digits-requires same-length returns)

@@ -42,7 +42,9 @@ returns c =
     let h = c .before .before .count-digits in
     let t = c .before .before .before .before in
     let a = t .before .before .before .args in
-    subst (λ (x : ℕ). Wrote (a .w) (a .table .now) (countDigitsAs 3 2 (a .base) x (a .p .ballots) (a .p .worst) (a .p .digits)) (h .last .1 .0) (h .result)) (t .bits-at .ensures) (h .ensures)
+    subst (λ (x : ℕ). Wrote (a .w) (a .table .now)
+    (countDigitsAs 3 2 (a .base) x (a .p .ballots) (a .p .worst) (a .p .digits)) (h .last .1 .0) (h .result))
+    (t .bits-at .ensures) (h .ensures)
 
 pub worst-word-spec : {M : Type 1} → statement M
 worst-word-spec = tie.close (tie.spec sub-bits-at bits-at-requires count-digits-requires same-length returns)

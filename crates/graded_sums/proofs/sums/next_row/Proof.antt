@@ -37,14 +37,19 @@ bits-at-requires c κs =
 apart-requires : tie.Need-apart-requires
 apart-requires c κs = c .before .before .before .before .pre .part .planned
 
+-- The stages of the function, seen from later ones.
+abbrev start-from-apart : tie.After-apart → tie.Start
+start-from-apart c = c .before .before .before .before .before
+
 -- what the four numbers are
-bits-are : (c : tie.After-apart) → c .before .bits-at .result ≡ bitsAt (c .before .before .before .before .before .args .p) (c .before .before .before .before .before .args .c) (suc (c .before .before .before .before .before .args .g))
-bits-are c = let a = c .before .before .before .before .before .args in c .before .bits-at .ensures ∙ ap (bitsAt (a .p) (a .c)) (add-one (a .g))
+bits-are : (c : tie.After-apart) → c .before .bits-at .result
+    ≡ bitsAt ((start-from-apart c) .args .p) ((start-from-apart c) .args .c) (suc ((start-from-apart c) .args .g))
+bits-are c = let a = (start-from-apart c) .args in c .before .bits-at .ensures ∙ ap (bitsAt (a .p) (a .c)) (add-one (a .g))
 
 xor-rows-requires : tie.Need-xor-rows-requires
 xor-rows-requires c κs =
     let t = c .before in
-    let s = t .before .before .before .before .before in
+    let s = (start-from-apart t) in
     let a = s .args in
     let q = s .pre in
     let f = q .part .planned in
@@ -64,16 +69,19 @@ same-length c = search needs
 
 same-rows : {x x′ dx dx′ y y′ dy dy′ : ℕ} (m : ℕ) → x ≡ x′ → dx ≡ dx′ → y ≡ y′ → dy ≡ dy′ → xorRows x dx y dy m ≡ xorRows x′ dx′ y′ dy′ m
 same-rows {x} {x′} {dx} {dx′} {y} {y′} {dy} {dy′} m p q r s =
-    ap (λ (i : ℕ). xorRows i dx y dy m) p ∙ ap (λ (i : ℕ). xorRows x′ i y dy m) q ∙ ap (λ (i : ℕ). xorRows x′ dx′ i dy m) r ∙ ap (λ (i : ℕ). xorRows x′ dx′ y′ i m) s
+    ap (λ (i : ℕ). xorRows i dx y dy m) p ∙ ap (λ (i : ℕ). xorRows x′ i y dy m) q
+    ∙ ap (λ (i : ℕ). xorRows x′ dx′ i dy m) r ∙ ap (λ (i : ℕ). xorRows x′ dx′ y′ i m) s
 
 returns : tie.Need-returns
 returns c =
     let h = c .before .before .xor-rows in
     let t = c .before .before .before .before in
-    let a = t .before .before .before .before .before .args in
+    let a = (start-from-apart t) .args in
     wrote-as (a .w) (a .table .now) _ _ (h .last .1 .0) (h .result)
-    (same-rows (a .p .ballots) (t .before .before .before .row-at .ensures) (t .before .before .row-apart .ensures) (bits-are t) (t .apart .ensures))
+    (same-rows (a .p .ballots) (t .before .before .before .row-at .ensures) (t .before .before .row-apart .ensures)
+    (bits-are t) (t .apart .ensures))
     (h .ensures)
 
 pub next-row-spec : {M : Type 1} → statement M
-next-row-spec = tie.close (tie.spec row-at-requires row-apart-requires add-bits-at bits-at-requires apart-requires xor-rows-requires same-length returns)
+next-row-spec = tie.close (tie.spec row-at-requires row-apart-requires add-bits-at bits-at-requires apart-requires
+    xor-rows-requires same-length returns)

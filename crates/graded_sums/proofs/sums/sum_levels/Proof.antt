@@ -32,7 +32,8 @@ count-levels-requires c κs =
     let f = q .part .planned in
     record {
       room = q .part .room;
-      below = subst₂ (λ (x y : ℕ). Below (a .w .wire) x y (a .p .ballots)) (sym (c .before .before .row-at .ensures)) (sym (c .before .row-apart .ensures))
+      below = subst₂ (λ (x y : ℕ). Below (a .w .wire) x y (a .p .ballots))
+          (sym (c .before .before .row-at .ensures)) (sym (c .before .row-apart .ensures))
           (counted-below (a .p) f (a .n) (a .w .wire) (a .c) (a .g) (q .part .inputs) (q .part .candidate) (q .row));
       near = omega (arith, c .before .row-apart .ensures, row-apart-most (a .p) f (a .g));
       few = omega (arith, f .n-most);
@@ -47,7 +48,8 @@ returns c =
     let h = c .before .before .count-levels in
     let t = c .before .before .before .before in
     let a = t .before .before .before .args in
-    subst₂ (λ (x y : ℕ). Wrote (a .w) (a .table .now) (countLevels (a .w .wire) x y (a .p .ballots) (a .p .offset) (a .p .digits)) (h .last .1 .0) (h .result))
+    subst₂ (λ (x y : ℕ). Wrote (a .w) (a .table .now)
+    (countLevels (a .w .wire) x y (a .p .ballots) (a .p .offset) (a .p .digits)) (h .last .1 .0) (h .result))
     (t .before .row-at .ensures) (t .row-apart .ensures) (h .ensures)
 
 pub sum-levels-spec : {M : Type 1} → statement M

@@ -24,15 +24,20 @@ bits-at-requires c κs =
 apart-requires : tie.Need-apart-requires
 apart-requires c κs = c .before .before .before .pre .planned
 
+-- The stages of the function, seen from later ones.
+abbrev start-from-count-levels-arg : tie.After-count-levels-arg → tie.Start
+start-from-count-levels-arg c = c .before .before .before .before .before
+
 count-levels-requires : tie.Need-count-levels-requires
 count-levels-requires c κs =
-    let s = c .before .before .before .before .before in
+    let s = (start-from-count-levels-arg c) in
     let a = s .args in
     let q = s .pre in
     let f = q .planned in
     record {
       room = q .room;
-      below = subst₂ (λ (x y : ℕ). Below (a .w .wire) x y (a .p .ballots)) (sym (c .before .before .bits-at .ensures)) (sym (c .before .apart .ensures))
+      below = subst₂ (λ (x y : ℕ). Below (a .w .wire) x y (a .p .ballots))
+          (sym (c .before .before .bits-at .ensures)) (sym (c .before .apart .ensures))
           (bits-below (a .p) f (a .w .wire) (a .c) (a .p .grades - 1) (q .inputs) (q .candidate) (omega (arith, f .d-least)));
       near = omega (arith, c .before .apart .ensures, apart-most (a .p) f);
       few = omega (arith, f .n-most);
@@ -48,7 +53,8 @@ returns c =
     let h = c .before .before .count-levels in
     let t = c .before .before .before .before in
     let a = t .before .before .before .before .args in
-    subst₂ (λ (x y : ℕ). Wrote (a .w) (a .table .now) (countLevels (a .w .wire) x y (a .p .ballots) (a .p .worst) (a .p .digits)) (h .last .1 .0) (h .result))
+    subst₂ (λ (x y : ℕ). Wrote (a .w) (a .table .now)
+    (countLevels (a .w .wire) x y (a .p .ballots) (a .p .worst) (a .p .digits)) (h .last .1 .0) (h .result))
     (t .before .bits-at .ensures) (t .apart .ensures) (h .ensures)
 
 pub worst-levels-spec : {M : Type 1} → statement M

@@ -24,7 +24,8 @@ abbrev lastSpan : Plan → ℕ
 lastSpan p = mergeSpan p (p .candidates / 2) (p .candidates - p .candidates / 2)
 
 all : (c : tie.Start) → Stands (c .args .all) (levelsAt (c .args .p)) (allLevelsSpan (c .args .p))
-all c = stands (c .args .all) (levelsAt (c .args .p)) (allLevelsSpan (c .args .p)) (allLevelsSpan (c .args .p)) (c .pre .place) (omega arith) (c .pre .room)
+all c = stands (c .args .all) (levelsAt (c .args .p)) (allLevelsSpan (c .args .p)) (allLevelsSpan (c .args .p))
+    (c .pre .place) (omega arith) (c .pre .room)
 
 sub-second : tie.Need-sub-second
 sub-second c = omega arith
@@ -43,18 +44,39 @@ four-requires c κs =
       inside = omega arith;
     }
 
-low : (c : tie.After-four) → let p = c .before .before .before .before .before .args .p in Stands (c .four .result) (levelsAt p + lowSpan p) (highSpan p + lastSpan p)
+-- The stages of the function, seen from later ones.
+abbrev start-from-four : tie.After-four → tie.Start
+start-from-four c = c .before .before .before .before .before
+
+abbrev start-from-four2 : tie.After-four2 → tie.Start
+start-from-four2 c = start-from-four (c .before .before .before .before)
+
+abbrev four-from-halves-arg : tie.After-halves-arg → tie.After-four
+four-from-halves-arg c = c .before .before .before .before .before .before .before
+
+abbrev start-from-halves : tie.After-halves → tie.Start
+start-from-halves c = start-from-four (c .before .before .before .before .before .before .before .before)
+
+abbrev four-from-halves : tie.After-halves → tie.After-four
+four-from-halves c = c .before .before .before .before .before .before .before .before
+
+abbrev four2-from-slice-known4 : tie.After-slice-known4 → tie.After-four2
+four2-from-slice-known4 c = c .before .before .before .before .before .before
+
+low : (c : tie.After-four) → let p = (start-from-four c) .args .p in
+    Stands (c .four .result) (levelsAt p + lowSpan p) (highSpan p + lastSpan p)
 low c =
-    let s = c .before .before .before .before .before in
+    let s = (start-from-four c) in
     let a = s .args in
     let q = s .pre in
     stands-after (a .all) (a .table .now) _ (c .four .last .1 .0) (c .four .result) _ _ _ (c .four .ensures)
-    (levels-block (a .p) (s .pre .plan) 2 (a .all .wire) 0 (a .p .candidates / 2) (omega (arith, q .place)) (omega (arith, q .several)) (omega (arith, s .pre .plan .k-most)) (omega arith) .long)
+    (levels-block (a .p) (s .pre .plan) 2 (a .all .wire) 0 (a .p .candidates / 2) (omega (arith, q .place))
+    (omega (arith, q .several)) (omega (arith, s .pre .plan .k-most)) (omega arith) .long)
     (all s)
 
 four-requires-2 : tie.Need-four-requires-2
 four-requires-2 c κs =
-    let s = c .before .before .before .before .before .before .before .before in
+    let s = (start-from-four (c .before .before .before)) in
     let q = s .pre in
     let l = low (c .before .before .before) in
     record {
@@ -67,23 +89,26 @@ four-requires-2 c κs =
       inside = omega arith;
     }
 
-high : (c : tie.After-four2) → let p = c .before .before .before .before .before .before .before .before .before .args .p in Stands (c .four2 .result) (levelsAt p + lowSpan p + highSpan p) (lastSpan p)
+high : (c : tie.After-four2) → let p = (start-from-four2 c) .args .p in
+    Stands (c .four2 .result) (levelsAt p + lowSpan p + highSpan p) (lastSpan p)
 high c =
-    let s = c .before .before .before .before .before .before .before .before .before in
+    let s = (start-from-four2 c) in
     let a = s .args in
     let q = s .pre in
     let f = c .before .before .before .before .four in
     let l = low (c .before .before .before .before) in
     stands-after (f .result) (f .last .1 .0) _ (c .four2 .last .1 .0) (c .four2 .result) _ _ _ (c .four2 .ensures)
-    (levels-block (a .p) (s .pre .plan) 2 (f .result .wire) (a .p .candidates / 2) (a .p .candidates - a .p .candidates / 2) (omega (arith, l .place)) (omega (arith, q .several)) (omega (arith, s .pre .plan .k-most)) (omega arith) .long)
+    (levels-block (a .p) (s .pre .plan) 2 (f .result .wire) (a .p .candidates / 2)
+    (a .p .candidates - a .p .candidates / 2) (omega (arith, l .place)) (omega (arith, q .several))
+    (omega (arith, s .pre .plan .k-most)) (omega arith) .long)
     l
 
 halves-requires : tie.Need-halves-requires
 halves-requires c κs =
-    let s = c .before .before .before .before .before .before .before .before .before .before .before .before in
+    let s = (start-from-four2 (c .before .before .before)) in
     let p = s .args .p in
     let q = s .pre in
-    let e = low (c .before .before .before .before .before .before .before) .place in
+    let e = low (four-from-halves-arg c) .place in
     let h = high (c .before .before .before) in
     let e′ = h .place in
     record {
@@ -104,19 +129,21 @@ same-length c = search needs
 
 returns : tie.Need-returns
 returns c =
-    let s = c .before .before .before .before .before .before .before .before .before .before .before .before .before .before .before in
+    let s = (start-from-halves (c .before .before)) in
     let a = s .args in
     let p = a .p in
     let k = p .candidates in
-    let f = c .before .before .before .before .before .before .before .before .before .before .four in
-    let g = c .before .before .before .before .before .before .four2 in
-    let l = low (c .before .before .before .before .before .before .before .before .before .before) in
-    let h = high (c .before .before .before .before .before .before) in
+    let f = (four-from-halves (c .before .before)) .four in
+    let g = (four2-from-slice-known4 c) .four2 in
+    let l = low (four-from-halves (c .before .before)) in
+    let h = high (four2-from-slice-known4 c) in
     wrote-then (a .all) (a .table .now) _ (g .last .1 .0) (g .result) _ _ _ _
     (wrote-then (a .all) (a .table .now) _ (f .last .1 .0) (f .result) _ _ _ _
     (wrote-as (a .all) (a .table .now) _ _ _ _ (ap (λ (i : ℕ). levels p 2 i 0 (k / 2)) (s .pre .place)) (f .ensures))
     (g .ensures) (ap (λ (i : ℕ). levels p 2 i (k / 2) (k - k / 2)) (l .place)))
-    (c .before .before .halves .ensures) (merge-same p 1 (levelsAt p) 0 k (g .result .wire) (f .result .wire) (g .result .wire) (h .place) (l .place) (h .place))
+    (c .before .before .halves .ensures)
+    (merge-same p 1 (levelsAt p) 0 k (g .result .wire) (f .result .wire) (g .result .wire) (h .place) (l .place)
+    (h .place))
 
 pub all-levels-spec : {M : Type 1} → statement M
 all-levels-spec = tie.close (tie.spec sub-second four-requires four-requires-2 halves-requires same-length returns)

@@ -20,7 +20,9 @@ key-at-requires c κs =
 
 returns : tie.Need-returns
 returns c =
-    (c .key-at) .ensures ∙ small-case ((c .before .before .args) .count) (keyAt ((c .before .before .args) .p) ((c .before .before .args) .c)) ((c .before .before .args) .end - keySpan ((c .before .before .args) .p)) ((c .before .if1) .taken)
+    (c .key-at) .ensures ∙ small-case ((c .before .before .args) .count)
+    (keyAt ((c .before .before .args) .p) ((c .before .before .args) .c))
+    ((c .before .before .args) .end - keySpan ((c .before .before .args) .p)) ((c .before .if1) .taken)
 
 key-span-requires : tie.Need-key-span-requires
 key-span-requires c κs =
@@ -32,7 +34,10 @@ sub-result c =
 
 returns-2 : tie.Need-returns-2
 returns-2 c =
-    ap (λ (k : ℕ). (c .before .before .args) .end - k) ((c .key-span) .ensures) ∙ large-case ((c .before .before .args) .count) (keyAt ((c .before .before .args) .p) ((c .before .before .args) .c)) ((c .before .before .args) .end - keySpan ((c .before .before .args) .p)) ((c .before .if1) .left)
+    ap (λ (k : ℕ). (c .before .before .args) .end - k) ((c .key-span) .ensures)
+    ∙ large-case ((c .before .before .args) .count)
+    (keyAt ((c .before .before .args) .p) ((c .before .before .args) .c))
+    ((c .before .before .args) .end - keySpan ((c .before .before .args) .p)) ((c .before .if1) .left)
 
 pub best-key-spec : {M : Type 1} → statement M
 best-key-spec = tie.close (tie.spec key-at-requires returns key-span-requires sub-result returns-2)

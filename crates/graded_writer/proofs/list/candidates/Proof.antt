@@ -26,16 +26,34 @@ loop-holds : tie.Need-loop-holds Inv-loop μ-loop
 loop-holds c =
     let a = (c .before .args) in
     let e : a .p .candidates ≡ a .p .candidates - 0 = omega arith in
-    let whole = candidates (a .p) (a .w .wire) 0 (a .p .candidates) in
-    (refl, (c .before) .pre .inputsBelow, omega arith, goes-as (a .w) (a .table .now) whole (a .w) (a .table .now) _ _ (ap (candidates (a .p) (a .w .wire) 0) e) (goes-start (a .w) (a .table .now) whole (a .p .candidates * candidateSpan (a .p)) ((c .before) .pre .room)))
+    let whole = candidates (a .p) (a .w .wire) 0 (a .p .candidates) in (
+      refl,
+      (c .before) .pre .inputsBelow,
+      omega arith,
+      goes-as (a .w) (a .table .now) whole (a .w) (a .table .now) _ _ (ap (candidates (a .p) (a .w .wire) 0) e)
+          (goes-start (a .w) (a .table .now) whole (a .p .candidates * candidateSpan (a .p)) ((c .before) .pre .room)),
+    )
 
-one-more : (c : tie.In-loop Inv-loop μ-loop) → ((c .before .loop) .c < (c .before .before .before .args) .p .candidates) × (length (candidates ((c .before .before .before .args) .p) ((c .before .loop) .next .wire) ((c .before .loop) .c) ((c .before .before .before .args) .p .candidates - (c .before .loop) .c)) ≡ ((c .before .before .before .args) .p .candidates - (c .before .loop) .c) * candidateSpan ((c .before .before .before .args) .p)) × (((c .before .before .before .args) .p .candidates - (c .before .loop) .c) * candidateSpan ((c .before .before .before .args) .p) ≡ ((c .before .before .before .args) .p .candidates - ((c .before .loop) .c + 1)) * candidateSpan ((c .before .before .before .args) .p) + candidateSpan ((c .before .before .before .args) .p))
+one-more : (c : tie.In-loop Inv-loop μ-loop)
+    → ((c .before .loop) .c < (c .before .before .before .args) .p .candidates)
+    × (length (candidates ((c .before .before .before .args) .p) ((c .before .loop) .next .wire)
+    ((c .before .loop) .c) ((c .before .before .before .args) .p .candidates - (c .before .loop) .c))
+    ≡ ((c .before .before .before .args) .p .candidates - (c .before .loop) .c)
+    * candidateSpan ((c .before .before .before .args) .p))
+    × (((c .before .before .before .args) .p .candidates - (c .before .loop) .c)
+    * candidateSpan ((c .before .before .before .args) .p)
+    ≡ ((c .before .before .before .args) .p .candidates - ((c .before .loop) .c + 1))
+    * candidateSpan ((c .before .before .before .args) .p) + candidateSpan ((c .before .before .before .args) .p))
 one-more c =
     let a = (c .before .before .before .args) in
     let l = (c .before .loop) in
     let t : l .c < a .p .candidates = omega (arith, (c .loop-test) .taken, l .inv .0) in
-    let e : a .p .candidates - l .c ≡ suc (a .p .candidates - (l .c + 1)) = omega arith in
-    (t, candidates-block (a .p) ((c .before .before .before) .pre .plan) (l .next .wire) (l .c) (a .p .candidates - l .c) (l .inv .1) (omega (arith, l .inv .2)) .long, ap (λ (k : ℕ). k * candidateSpan (a .p)) e ∙ suc-mul (a .p .candidates - (l .c + 1)) (candidateSpan (a .p)))
+    let e : a .p .candidates - l .c ≡ suc (a .p .candidates - (l .c + 1)) = omega arith in (
+      t,
+      candidates-block (a .p) ((c .before .before .before) .pre .plan) (l .next .wire) (l .c)
+          (a .p .candidates - l .c) (l .inv .1) (omega (arith, l .inv .2)) .long,
+      ap (λ (k : ℕ). k * candidateSpan (a .p)) e ∙ suc-mul (a .p .candidates - (l .c + 1)) (candidateSpan (a .p)),
+    )
 
 candidate-requires : tie.Need-candidate-requires Inv-loop μ-loop
 candidate-requires c κs =
@@ -47,13 +65,26 @@ candidate-requires c κs =
       planned = s .pre .plan;
       candidate = q .0;
       inputs = l .inv .1;
-      room = goes-room (a .w) (a .table .now) (candidates (a .p) (a .w .wire) 0 (a .p .candidates)) (l .next) (l .table) (candidates (a .p) (l .next .wire) (l .c) (a .p .candidates - l .c)) _ (a .p .candidates * candidateSpan (a .p)) (l .inv .3)
-          (omega (arith, q .1, q .2)) (omega (arith, candidates-block (a .p) (s .pre .plan) (a .w .wire) 0 (a .p .candidates) (s .pre .inputsBelow) (omega arith) .long)) (s .pre .room);
+      room = goes-room (a .w) (a .table .now) (candidates (a .p) (a .w .wire) 0 (a .p .candidates)) (l .next)
+          (l .table) (candidates (a .p) (l .next .wire) (l .c) (a .p .candidates - l .c)) _
+          (a .p .candidates * candidateSpan (a .p)) (l .inv .3)
+          (omega (arith, q .1, q .2)) (omega (
+            arith,
+            candidates-block (a .p) (s .pre .plan) (a .w .wire) 0 (a .p .candidates) (s .pre .inputsBelow)
+                (omega arith) .long,
+          )) (s .pre .room);
     }
+
+-- The stages of the function, seen from later ones.
+abbrev start-from-candidate : tie.After-candidate Inv-loop μ-loop → tie.Start Inv-loop μ-loop
+start-from-candidate c = c .before .before .before .before .before
+
+abbrev loop-reached-from-slice-known2 : tie.After-slice-known2 Inv-loop μ-loop → tie.At-loop Inv-loop μ-loop
+loop-reached-from-slice-known2 c = c .before .before .before .before .before
 
 add-c : tie.Need-add-c Inv-loop μ-loop
 add-c c =
-    omega (arith, one-more (c .before .before .before .before) .0, (c .before .before .before .before .before .before .before) .pre .plan .k-most)
+    omega (arith, one-more (c .before .before .before .before) .0, (start-from-candidate (c .before .before)) .pre .plan .k-most)
 
 loop-less : tie.Need-loop-less Inv-loop μ-loop
 loop-less c =
@@ -61,18 +92,26 @@ loop-less c =
 
 loop-again : tie.Need-loop-again Inv-loop μ-loop
 loop-again c =
-    let a = (c .before .before .before .before .before .before .before .args) in
-    let l = (c .before .before .before .before .before .loop) in
+    let a = ((start-from-candidate (c .before .before)) .args) in
+    let l = ((loop-reached-from-slice-known2 c) .loop) in
     let t = one-more (c .before .before .before .before) .0 in
     let h = (c .before .before .candidate) in
     let whole = candidates (a .p) (a .w .wire) 0 (a .p .candidates) in
-    let e : h .result .wire ≡ l .next .wire + candidateSpan (a .p) = omega (arith, h .ensures .wires, candidate-block (a .p) ((c .before .before .before .before .before .before .before) .pre .plan) (l .next .wire) (l .c) (l .inv .1) t .long) in (
+    let e : h .result .wire ≡ l .next .wire + candidateSpan (a .p) =
+    omega (
+      arith,
+      h .ensures .wires,
+      candidate-block (a .p) ((start-from-candidate (c .before .before)) .pre .plan) (l .next .wire) (l .c)
+          (l .inv .1) t .long,
+    ) in (
       l .inv .0,
       omega (arith, l .inv .1, e),
       omega (arith, t),
-      goes-as (a .w) (a .table .now) whole (h .result) (h .last .1 .0) _ _ (ap (λ (k : ℕ). candidates (a .p) k (l .c + 1) (a .p .candidates - (l .c + 1))) (sym e))
+      goes-as (a .w) (a .table .now) whole (h .result) (h .last .1 .0) _ _
+          (ap (λ (k : ℕ). candidates (a .p) k (l .c + 1) (a .p .candidates - (l .c + 1))) (sym e))
           (goes-on (a .w) (a .table .now) whole (l .next) (l .table) _ _ (h .last .1 .0) (h .result)
-          (goes-as (a .w) (a .table .now) whole (l .next) (l .table) _ _ (candidates-step (a .p) (l .next .wire) (l .c) (a .p .candidates) t) (l .inv .3))
+          (goes-as (a .w) (a .table .now) whole (l .next) (l .table) _ _
+          (candidates-step (a .p) (l .next .wire) (l .c) (a .p .candidates) t) (l .inv .3))
           (h .ensures)),
     )
 
@@ -84,7 +123,9 @@ returns : tie.Need-returns Inv-loop μ-loop
 returns c =
     let a = (c .before .before .before .args) in
     let l = (c .before .loop) in
-    goes-end (a .w) (a .table .now) (candidates (a .p) (a .w .wire) 0 (a .p .candidates)) (l .next) (l .table) _ (candidates-none (a .p) (l .next .wire) (l .c) (a .p .candidates) (omega (arith, (c .loop-test) .left, l .inv .0))) (l .inv .3)
+    goes-end (a .w) (a .table .now) (candidates (a .p) (a .w .wire) 0 (a .p .candidates)) (l .next) (l .table) _
+    (candidates-none (a .p) (l .next .wire) (l .c) (a .p .candidates)
+    (omega (arith, (c .loop-test) .left, l .inv .0))) (l .inv .3)
 
 pub candidates-spec : {M : Type 1} → statement M
 candidates-spec = tie.close (tie.spec Inv-loop μ-loop loop-holds candidate-requires add-c loop-less loop-again same-length returns)

@@ -11,7 +11,8 @@ use Rattle.graded_writer.proofs.list.four.Tie as tie
 returns : tie.Need-returns
 returns c =
     let a = (c .before .before .args) in
-    wrote-as (a .w) (a .table .now) [] _ (a .table .now) (a .w) (sym (levels-one (a .p) 1 (a .count) (a .w .wire) (a .c) ((c .if1) .taken))) (wrote-nothing (a .w) (a .table .now))
+    wrote-as (a .w) (a .table .now) [] _ (a .table .now) (a .w)
+    (sym (levels-one (a .p) 1 (a .count) (a .w .wire) (a .c) ((c .if1) .taken))) (wrote-nothing (a .w) (a .table .now))
 
 two-to-four-requires : tie.Need-two-to-four-requires
 two-to-four-requires c κs = search needs

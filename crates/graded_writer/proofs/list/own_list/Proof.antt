@@ -24,32 +24,63 @@ new-requires-2 : tie.Need-new-requires-2
 new-requires-2 c κs =
     search needs
 
-start : (c : tie.After-new2) → (c .new2) .result ≡ record { gate = 0; wire = ballotBytes ((c .before .before .before .args) .shape); conditional = 0 }
+start : (c : tie.After-new2) → (c .new2) .result
+    ≡ record { gate = 0; wire = ballotBytes ((c .before .before .before .args) .shape); conditional = 0 }
 start c =
-    first-writer ((c .before .before .before .args) .shape) ((c .before .new) .result) ((c .new2) .result) ((c .before .new) .ensures) ((c .new2) .ensures)
+    first-writer ((c .before .before .before .args) .shape) ((c .before .new) .result) ((c .new2) .result)
+    ((c .before .new) .ensures) ((c .new2) .ensures)
+
+-- The stages of the function, seen from later ones.
+abbrev start-from-else1 : tie.Else1 → tie.Start
+start-from-else1 c = c .before .before .before .before .before
+
+abbrev start-from-then1 : tie.Then1 → tie.Start
+start-from-then1 c = c .before .before .before .before .before
+
+abbrev start-from-circuit : tie.After-circuit → tie.Start
+start-from-circuit c = c .before .before .before .before .before .before .before
+
+abbrev new-from-circuit : tie.After-circuit → tie.After-new
+new-from-circuit c = c .before .before .before .before .before
+
+abbrev start-from-emit : tie.After-emit → tie.Start
+start-from-emit c = c .before .before .before .before .before .before .before
+
+abbrev new2-from-slice-known2 : tie.After-slice-known2 → tie.After-new2
+new2-from-slice-known2 c = c .before .before .before .before .before .before
+
+abbrev new2-from-slice-known3 : tie.After-slice-known3 → tie.After-new2
+new2-from-slice-known3 c = c .before .before .before .before .before .before
 
 emit-requires : tie.Need-emit-requires
 emit-requires c κs =
-    first-room ((c .before .before .before .before .before .before .args) .shape) ((c .before .before .before .new2) .result) 1 ((c .before .before .before .before .before .before) .pre) (start (c .before .before .before)) (omega arith)
+    first-room (((start-from-then1 (c .before)) .args) .shape) ((c .before .before .before .new2) .result) 1
+    ((start-from-then1 (c .before)) .pre) (start (c .before .before .before)) (omega arith)
 
 returns : tie.Need-returns
 returns c =
-    let a = (c .before .before .before .before .before .before .before .before .before .args) in
-    let w = (c .before .before .before .before .before .before .new2) .result in
+    let a = ((start-from-emit (c .before .before)) .args) in
+    let w = ((new2-from-slice-known2 c) .new2) .result in
     let e = (c .before .before .emit) in
-    subst (λ (v : Writer). Wrote v (a .table .now) (ownList (a .shape)) (e .last .1 .0) (e .result)) (start (c .before .before .before .before .before .before))
-    (wrote-as w (a .table .now) (constant 1 ∷ []) (ownList (a .shape)) (e .last .1 .0) (e .result) (own-one (a .shape) ((c .before .before .before .before .if1) .taken)) (constant-wrote w (a .table .now) (e .last .1 .0) (e .result) 0 0 0 1 (e .ensures)))
+    subst (λ (v : Writer). Wrote v (a .table .now) (ownList (a .shape)) (e .last .1 .0) (e .result)) (start (new2-from-slice-known2 c))
+    (wrote-as w (a .table .now) (constant 1 ∷ []) (ownList (a .shape)) (e .last .1 .0) (e .result)
+    (own-one (a .shape) ((c .before .before .before .before .if1) .taken))
+    (constant-wrote w (a .table .now) (e .last .1 .0) (e .result) 0 0 0 1 (e .ensures)))
 
 circuit-requires : tie.Need-circuit-requires
 circuit-requires c κs =
-    let shape = (c .before .before .before .before .before .before .args) .shape in
+    let shape = ((start-from-else1 (c .before)) .args) .shape in
     let p = (c .before .before .before .before .new) .result in
     let w = (c .before .before .before .new2) .result in
     record {
-      plan = plan-planned shape p ((c .before .before .before .before .before .before) .pre) ((c .before .before .before .before .new) .ensures);
-      room = first-room shape w (length (circuit p)) ((c .before .before .before .before .before .before) .pre) (start (c .before .before .before)) (circuit-short shape p ((c .before .before .before .before .before .before) .pre) ((c .before .before .before .before .new) .ensures) ((c .before .if1) .left));
+      plan = plan-planned shape p ((start-from-else1 (c .before)) .pre) ((c .before .before .before .before .new) .ensures);
+      room = first-room shape w (length (circuit p)) ((start-from-else1 (c .before)) .pre)
+          (start (c .before .before .before))
+          (circuit-short shape p ((start-from-else1 (c .before)) .pre)
+          ((c .before .before .before .before .new) .ensures) ((c .before .if1) .left));
       place = ap (λ (v : Writer). v .wire) ((c .before .before .before .new2) .ensures);
-      several = plan-many shape p ((c .before .before .before .before .before .before) .pre) ((c .before .before .before .before .new) .ensures) ((c .before .if1) .left);
+      several = plan-many shape p ((start-from-else1 (c .before)) .pre)
+          ((c .before .before .before .before .new) .ensures) ((c .before .if1) .left);
     }
 
 same-length-2 : tie.Need-same-length-2
@@ -58,12 +89,14 @@ same-length-2 c =
 
 returns-2 : tie.Need-returns-2
 returns-2 c =
-    let a = (c .before .before .before .before .before .before .before .before .before .args) in
-    let p = (c .before .before .before .before .before .before .before .new) .result in
-    let w = (c .before .before .before .before .before .before .new2) .result in
+    let a = ((start-from-circuit (c .before .before)) .args) in
+    let p = ((new-from-circuit (c .before .before)) .new) .result in
+    let w = ((new2-from-slice-known3 c) .new2) .result in
     let e = (c .before .before .circuit) in
-    subst (λ (v : Writer). Wrote v (a .table .now) (ownList (a .shape)) (e .last .1 .0) (e .result)) (start (c .before .before .before .before .before .before))
-    (wrote-as w (a .table .now) (circuit p) (ownList (a .shape)) (e .last .1 .0) (e .result) (own-more (a .shape) p ((c .before .before .before .before .before .before .before .new) .ensures) ((c .before .before .before .before .if1) .left)) (e .ensures))
+    subst (λ (v : Writer). Wrote v (a .table .now) (ownList (a .shape)) (e .last .1 .0) (e .result)) (start (new2-from-slice-known3 c))
+    (wrote-as w (a .table .now) (circuit p) (ownList (a .shape)) (e .last .1 .0) (e .result)
+    (own-more (a .shape) p (((new-from-circuit (c .before .before)) .new) .ensures)
+    ((c .before .before .before .before .if1) .left)) (e .ensures))
 
 same-length : tie.Need-same-length
 same-length c = search needs

@@ -10,7 +10,8 @@ use Rattle.graded_writer.proofs.list.winner_flags.Tie as tie
 
 returns : tie.Need-returns
 returns c =
-    small-case ((c .before .args) .count) 0 ((c .before .args) .end - keySpan ((c .before .args) .p) - (c .before .args) .count) ((c .if1) .taken)
+    small-case ((c .before .args) .count) 0
+    ((c .before .args) .end - keySpan ((c .before .args) .p) - (c .before .args) .count) ((c .if1) .taken)
 
 key-span-requires : tie.Need-key-span-requires
 key-span-requires c κs =
@@ -26,7 +27,10 @@ sub-result-2 c =
 
 returns-2 : tie.Need-returns-2
 returns-2 c =
-    ap (λ (k : ℕ). (c .before .before .args) .end - k - (c .before .before .args) .count) ((c .key-span) .ensures) ∙ large-case ((c .before .before .args) .count) 0 ((c .before .before .args) .end - keySpan ((c .before .before .args) .p) - (c .before .before .args) .count) ((c .before .if1) .left)
+    ap (λ (k : ℕ). (c .before .before .args) .end - k - (c .before .before .args) .count) ((c .key-span) .ensures)
+    ∙ large-case ((c .before .before .args) .count) 0
+    ((c .before .before .args) .end - keySpan ((c .before .before .args) .p) - (c .before .before .args) .count)
+    ((c .before .if1) .left)
 
 pub winner-flags-spec : {M : Type 1} → statement M
 winner-flags-spec = tie.close (tie.spec returns key-span-requires sub-result sub-result-2 returns-2)

@@ -26,10 +26,16 @@ choose-requires c κs =
       secondBelow = omega (arith, e, (c .before .before .before) .pre .secondBelow);
     }
 
+-- The stages of the function, seen from later ones.
+abbrev start-from-slice-known2 : tie.After-slice-known2 → tie.Start
+start-from-slice-known2 c = c .before .before .before .before .before .before
+
 returns : tie.Need-returns
 returns c =
-    let a = (c .before .before .before .before .before .before .args) in
-    wrote-as (a .w) (a .table .now) _ _ _ _ (ap (choose (a .q + 1) (a .x) (a .y)) ((c .before .before .before .before .key-span) .ensures)) ((c .before .before .choose) .ensures)
+    let a = ((start-from-slice-known2 c) .args) in
+    wrote-as (a .w) (a .table .now) _ _ _ _
+    (ap (choose (a .q + 1) (a .x) (a .y)) ((c .before .before .before .before .key-span) .ensures))
+    ((c .before .before .choose) .ensures)
 
 same-length : tie.Need-same-length
 same-length c = search needs

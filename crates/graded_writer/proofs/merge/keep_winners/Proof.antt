@@ -17,18 +17,31 @@ more-than-one m h e = ⊎-elim (λ (z : 1 < m). z) (λ (z : m ≤ 1). absurd (e 
 
 emit-requires : tie.Need-emit-requires
 emit-requires c κs =
-    room-less ((c .before .before .before .args) .w) _ _ (omega (arith, (c .before .before .before) .pre .some)) ((c .before .before .before) .pre .room)
+    room-less ((c .before .before .before .args) .w) _ _ (omega (arith, (c .before .before .before) .pre .some))
+    ((c .before .before .before) .pre .room)
+
+-- The stages of the function, seen from later ones.
+abbrev start-from-slice-known2 : tie.After-slice-known2 → tie.Start
+start-from-slice-known2 c = c .before .before .before .before .before .before
+
+abbrev start-from-slice-known3 : tie.After-slice-known3 → tie.Start
+start-from-slice-known3 c = c .before .before .before .before .before .before
 
 returns : tie.Need-returns
 returns c =
-    let a = (c .before .before .before .before .before .before .args) in
-    wrote-as (a .w) (a .table .now) _ _ _ _ (won-single (a .at) (a .stays) (a .count) ((c .before .before .before .before .if1) .taken)) (copy-wrote (a .w) (a .table .now) ((c .before .before .emit) .last .1 .0) ((c .before .before .emit) .result) (a .stays) 0 0 ((c .before .before .emit) .ensures))
+    let a = ((start-from-slice-known2 c) .args) in
+    wrote-as (a .w) (a .table .now) _ _ _ _
+    (won-single (a .at) (a .stays) (a .count) ((c .before .before .before .before .if1) .taken))
+    (copy-wrote (a .w) (a .table .now) ((c .before .before .emit) .last .1 .0) ((c .before .before .emit) .result)
+    (a .stays) 0 0 ((c .before .before .emit) .ensures))
 
 and-all-requires : tie.Need-and-all-requires
 and-all-requires c κs =
     record {
       room = (c .before .before .before) .pre .room;
-      below = (c .before .before .before) .pre .below (more-than-one ((c .before .before .before .args) .count) ((c .before .before .before) .pre .some) ((c .before .if1) .left));
+      below = (c .before .before .before) .pre .below
+          (more-than-one ((c .before .before .before .args) .count) ((c .before .before .before) .pre .some)
+          ((c .before .if1) .left));
     }
 
 same-length-2 : tie.Need-same-length-2
@@ -37,8 +50,11 @@ same-length-2 c =
 
 returns-2 : tie.Need-returns-2
 returns-2 c =
-    let a = (c .before .before .before .before .before .before .args) in
-    wrote-as (a .w) (a .table .now) _ _ _ _ (won-many (a .at) (a .stays) (a .count) (more-than-one (a .count) ((c .before .before .before .before .before .before) .pre .some) ((c .before .before .before .before .if1) .left))) ((c .before .before .and-all) .ensures)
+    let a = ((start-from-slice-known3 c) .args) in
+    wrote-as (a .w) (a .table .now) _ _ _ _
+    (won-many (a .at) (a .stays) (a .count)
+    (more-than-one (a .count) ((start-from-slice-known3 c) .pre .some)
+    ((c .before .before .before .before .if1) .left))) ((c .before .before .and-all) .ensures)
 
 same-length : tie.Need-same-length
 same-length c = search needs

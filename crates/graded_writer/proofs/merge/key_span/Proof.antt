@@ -12,7 +12,9 @@ use Rattle.graded_writer.proofs.merge.key_span.Tie as tie
 
 small : (p : Plan) → Planned p → (p .grades - 1) * (p .digits + 1) ≤ 48
 small p f =
-    let h : (p .grades - 1) * (p .digits + 1) ≤ 6 * 8 = mul-le-mul {n₁ = p .grades - 1} {m₁ = p .digits + 1} {n₂ = 6} {m₂ = 8} (omega (arith, f .d-most)) (omega (arith, digits-most p f)) in
+    let h : (p .grades - 1) * (p .digits + 1) ≤ 6 * 8 =
+    mul-le-mul {n₁ = p .grades - 1} {m₁ = p .digits + 1} {n₂ = 6} {m₂ = 8} (omega (arith, f .d-most))
+    (omega (arith, digits-most p f)) in
     omega arith
 
 sub-result : tie.Need-sub-result

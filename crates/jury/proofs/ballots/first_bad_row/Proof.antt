@@ -56,17 +56,20 @@ ones-in-requires c κs =
 
 -- what the call counts
 counted : (c : tie.After-ones-in Inv-loop μ-loop) →
-    c .ones-in .result ≡ ones (take (c .before .before .before .before .before .args .d) (drop (c .before .before .before .loop .at) (c .before .before .before .before .before .args .bytes .now)))
+    c .ones-in .result ≡ ones (take (c .before .before .before .before .before .args .d)
+    (drop (c .before .before .before .loop .at) (c .before .before .before .before .before .args .bytes .now)))
 counted c =
     let at = c .before .before .before in
     let start = at .before .before in
-    c .ones-in .ensures ∙ ap (λ (n : ℕ). ones (take n (drop (at .loop .at) (start .args .bytes .now)))) (add-sub-cancel-left (at .loop .at) (start .args .d))
+    c .ones-in .ensures ∙ ap (λ (n : ℕ). ones (take n (drop (at .loop .at) (start .args .bytes .now))))
+    (add-sub-cancel-left (at .loop .at) (start .args .d))
 
 returns : tie.Need-returns Inv-loop μ-loop
 returns c =
     let at = c .before .before .before .before in
     let start = at .before .before in
-    sym (bad-here (start .args .d) (at .loop .row) (start .args .rows) (drop (at .loop .at) (start .args .bytes .now)) (omega arith) (λ e. c .if1 .taken (counted (c .before) ∙ e)))
+    sym (bad-here (start .args .d) (at .loop .row) (start .args .rows)
+    (drop (at .loop .at) (start .args .bytes .now)) (omega arith) (λ e. c .if1 .taken (counted (c .before) ∙ e)))
     ∙ at .loop .inv .2
 
 add-row : tie.Need-add-row Inv-loop μ-loop
@@ -95,7 +98,8 @@ returns-2 : tie.Need-returns-2 Inv-loop μ-loop
 returns-2 c =
     let at = c .before in
     let start = at .before .before in
-    sym (bad-end (start .args .d) (at .loop .row) (start .args .rows) (drop (at .loop .at) (start .args .bytes .now)) (omega arith)) ∙ at .loop .inv .2
+    sym (bad-end (start .args .d) (at .loop .row) (start .args .rows)
+    (drop (at .loop .at) (start .args .bytes .now)) (omega arith)) ∙ at .loop .inv .2
 
 pub first-bad-row-spec : {M : Type 1} → statement M
 first-bad-row-spec =

@@ -51,7 +51,12 @@ loop-again c =
     let b = bit c in (
       omega (arith, b .0),
       omega (arith, b .2),
-      omega (arith, b .1, ones-bit xs (at .loop .i) (b .0) (start .pre (at .loop .i) (b .0)), ap (λ (j : ℕ). ones (drop j xs)) (add-one (at .loop .i))),
+      omega (
+        arith,
+        b .1,
+        ones-bit xs (at .loop .i) (b .0) (start .pre (at .loop .i) (b .0)),
+        ap (λ (j : ℕ). ones (drop j xs)) (add-one (at .loop .i)),
+      ),
     )
 
 returns : tie.Need-returns Inv-loop μ-loop

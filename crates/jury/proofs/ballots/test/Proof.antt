@@ -27,7 +27,8 @@ returns c =
     let start = c .before .before .before in
     let s = start .args .shape in
     let xs = start .args .ballots .now in
-    sym (judged-by s xs false (firstAboveOne 0 xs) (kindReason s xs) (ne-eqb (length xs) (ballotBytes s) (λ e. c .if1 .taken (e ∙ sym (c .before .ballot-bytes .ensures)))) refl refl)
+    sym (judged-by s xs false (firstAboveOne 0 xs) (kindReason s xs)
+    (ne-eqb (length xs) (ballotBytes s) (λ e. c .if1 .taken (e ∙ sym (c .before .ballot-bytes .ensures)))) refl refl)
 
 -- the length is right
 size-known : (c : tie.Else1) → length (c .before .before .before .args .ballots .now) ≡ ballotBytes (c .before .before .before .args .shape)
@@ -46,7 +47,9 @@ returns-2 c =
     let start = passed .before .before .before in
     let s = start .args .shape in
     let xs = start .args .ballots .now in
-    sym (judged-by s xs true (At (c .before .i .given .0 .0)) (kindReason s xs) (eq-eqb (length xs) (ballotBytes s) (size-known passed)) (sym (c .before .before .before .first-above-one .ensures) ∙ c .before .i .given .1) refl)
+    sym (judged-by s xs true (At (c .before .i .given .0 .0)) (kindReason s xs)
+    (eq-eqb (length xs) (ballotBytes s) (size-known passed))
+    (sym (c .before .before .before .first-above-one .ensures) ∙ c .before .i .given .1) refl)
 
 enum-told : tie.Need-enum-told
 enum-told c = search needs
@@ -56,17 +59,20 @@ no-byte : (c : tie.After-enum-told) → firstAboveOne 0 (c .before .before .befo
 no-byte c = sym (c .before .before .first-above-one .ensures) ∙ c .enum-told .given .1
 
 -- so the answer is that of the tests of the kind
-by-kind : (c : tie.After-enum-told) → let a = c .before .before .before .before .before .before .args in firstOf (ballotReasons (a .shape) (a .ballots .now)) ≡ kindReason (a .shape) (a .ballots .now)
+by-kind : (c : tie.After-enum-told) → let a = c .before .before .before .before .before .before .args in
+    firstOf (ballotReasons (a .shape) (a .ballots .now)) ≡ kindReason (a .shape) (a .ballots .now)
 by-kind c =
     let passed = c .before .before .before in
     let a = passed .before .before .before .args in
-    judged-by (a .shape) (a .ballots .now) true Nowhere (kindReason (a .shape) (a .ballots .now)) (eq-eqb (length (a .ballots .now)) (ballotBytes (a .shape)) (size-known passed)) (no-byte c) refl
+    judged-by (a .shape) (a .ballots .now) true Nowhere (kindReason (a .shape) (a .ballots .now))
+    (eq-eqb (length (a .ballots .now)) (ballotBytes (a .shape)) (size-known passed)) (no-byte c) refl
     ∙ judged-kind (kindReason (a .shape) (a .ballots .now))
 
 is-ranking-requires : tie.Need-is-ranking-requires
 is-ranking-requires c κs = search needs
 
-ranking : (c : tie.After-is-ranking) → isRanking (c .before .before .before .before .before .before .before .args .shape) ≡ c .is-ranking .result
+ranking : (c : tie.After-is-ranking)
+    → isRanking (c .before .before .before .before .before .before .before .args .shape) ≡ c .is-ranking .result
 ranking c = sym (c .is-ranking .ensures)
 
 test-rankings-requires : tie.Need-test-rankings-requires
@@ -83,7 +89,12 @@ test-grades-requires c κs =
     let s = start .args .shape in
     let graded = ranking (c .before) ∙ c .if2 .left in
     record {
-      sized = record { within = true-T (gradedLimits s) (graded-kind s (T-true (withinLimits s) (start .pre)) graded); size = size-known passed ∙ grades-columns s graded };
+      sized = record {
+        within = true-T (gradedLimits s)
+            (graded-kind s (T-true (withinLimits s) (start .pre)) graded);
+        size = size-known passed
+            ∙ grades-columns s graded;
+      };
       bits = all-bits 0 (start .args .ballots .now) (no-byte told);
     }
 
@@ -91,13 +102,15 @@ returns-3 : tie.Need-returns-3
 returns-3 c =
     let told = c .before .before .before in
     let a = told .before .before .before .before .before .before .args in
-    c .test-rankings .ensures ∙ sym (ranked-reason (a .shape) (a .ballots .now) (ranking (c .before .before) ∙ c .before .if2 .taken)) ∙ sym (by-kind told)
+    c .test-rankings .ensures ∙ sym (ranked-reason (a .shape) (a .ballots .now)
+    (ranking (c .before .before) ∙ c .before .if2 .taken)) ∙ sym (by-kind told)
 
 returns-4 : tie.Need-returns-4
 returns-4 c =
     let told = c .before .before .before in
     let a = told .before .before .before .before .before .before .args in
-    c .test-grades .ensures ∙ sym (graded-reason (a .shape) (a .ballots .now) (ranking (c .before .before) ∙ c .before .if2 .left)) ∙ sym (by-kind told)
+    c .test-grades .ensures ∙ sym (graded-reason (a .shape) (a .ballots .now)
+    (ranking (c .before .before) ∙ c .before .if2 .left)) ∙ sym (by-kind told)
 
 pub test-spec : {M : Type 1} → statement M
 test-spec =

@@ -26,13 +26,16 @@ returns : tie.Need-returns
 unfolding refusedFor rankedReasons reasonOf foundAt firstOf found
 returns c =
     let a = c .before .before .before .before .before .args in
-    sym (ap (λ (p : Place). found p (firstNotWeakOrder (a .shape .candidates) (a .shape .ballots) (a .ballots .now))) (sym (c .before .before .before .first-not-asymmetric .ensures) ∙ c .before .i .given .1))
+    sym (ap (λ (p : Place). found p
+    (firstNotWeakOrder (a .shape .candidates) (a .shape .ballots) (a .ballots .now)))
+    (sym (c .before .before .before .first-not-asymmetric .ensures) ∙ c .before .i .given .1))
 
 enum-told : tie.Need-enum-told
 enum-told c = search needs
 
 -- 11 found nothing
-no-clash : (c : tie.After-enum-told) → let a = c .before .before .before .before .args in firstNotAsymmetric (a .shape .candidates) (a .shape .ballots) (a .ballots .now) ≡ Nowhere
+no-clash : (c : tie.After-enum-told) → let a = c .before .before .before .before .args in
+    firstNotAsymmetric (a .shape .candidates) (a .shape .ballots) (a .ballots .now) ≡ Nowhere
 no-clash c = sym (c .before .before .first-not-asymmetric .ensures) ∙ c .enum-told .given .1
 
 first-not-weak-order-requires : tie.Need-first-not-weak-order-requires

@@ -70,7 +70,8 @@ found c =
     let at = c .before in
     let start = at .before .before in
     ap (λ (m : List (List ℕ)). getD m (at .loop .c) []) (at .loop .inv .2)
-    ∙ fill-at 8 (at .loop .c) (new (start .args .d) (start .args .counts .now) (start .args .ballot .now)) (old (start .args .counts .now)) [] (omega arith)
+    ∙ fill-at 8 (at .loop .c) (new (start .args .d) (start .args .counts .now) (start .args .ballot .now))
+    (old (start .args .counts .now)) [] (omega arith)
 
 add-row-requires : tie.Need-add-row-requires Inv-loop μ-loop
 add-row-requires c κs =
@@ -79,7 +80,11 @@ add-row-requires c κs =
     let columns = start .pre .array .columns (turn .before .loop .c) (omega arith) in
     record {
       seven = rw (found turn) columns;
-      short = omega (arith, length-take (turn .before .loop .at + start .args .d - turn .before .loop .at) (drop (turn .before .loop .at) (start .args .ballot .now)));
+      short = omega (
+        arith,
+        length-take (turn .before .loop .at + start .args .d - turn .before .loop .at)
+            (drop (turn .before .loop .at) (start .args .ballot .now)),
+      );
       small = λ g. rw (found turn) (start .pre .array .small (turn .before .loop .c) g);
     }
 
@@ -117,7 +122,8 @@ returns c =
     let at = c .before in
     let start = at .before .before in
     at .loop .inv .2
-    ∙ ap (λ (i : ℕ). tabulate 8 (upTo i (new (start .args .d) (start .args .counts .now) (start .args .ballot .now)) (old (start .args .counts .now)))) {x = at .loop .c} {y = start .args .k} (omega arith)
+    ∙ ap (λ (i : ℕ). tabulate 8 (upTo i (new (start .args .d) (start .args .counts .now) (start .args .ballot .now))
+    (old (start .args .counts .now)))) {x = at .loop .c} {y = start .args .k} (omega arith)
 
 pub add-ballot-spec : {M : Type 1} → statement M
 add-ballot-spec =

@@ -27,7 +27,8 @@ abbrev μ-loop : tie.MeasureT-loop
 loop-holds : tie.Need-loop-holds Inv-loop μ-loop
 loop-holds c = (
   omega arith,
-  sym (fill-start 7 (new (c .args .counts .now) (c .args .row .now)) (old (c .args .counts .now)) ∙ tabulate-getD (c .args .counts .now) 7 0 (c .pre .seven)),
+  sym (fill-start 7 (new (c .args .counts .now) (c .args .row .now)) (old (c .args .counts .now))
+      ∙ tabulate-getD (c .args .counts .now) 7 0 (c .pre .seven)),
 )
 
 shared-slice-read-counts : tie.Need-shared-slice-read-counts Inv-loop μ-loop
@@ -44,11 +45,13 @@ element-copy-out-counts c = omega arith
 
 -- the count that a turn finds
 found : (c : tie.After-shared-slice-known Inv-loop μ-loop) →
-    getD (c .before .before .loop .counts) (c .before .before .loop .g) 0 ≡ getD (c .before .before .before .args .counts .now) (c .before .before .loop .g) 0
+    getD (c .before .before .loop .counts) (c .before .before .loop .g) 0
+    ≡ getD (c .before .before .before .args .counts .now) (c .before .before .loop .g) 0
 found c =
     let at = c .before .before in
     ap (λ (m : List ℕ). getD m (at .loop .g) 0) (at .loop .inv .1)
-    ∙ fill-at 7 (at .loop .g) (new (at .before .args .counts .now) (at .before .args .row .now)) (old (at .before .args .counts .now)) 0 (omega arith)
+    ∙ fill-at 7 (at .loop .g) (new (at .before .args .counts .now) (at .before .args .row .now))
+    (old (at .before .args .counts .now)) 0 (omega arith)
 
 add-counts : tie.Need-add-counts Inv-loop μ-loop
 add-counts c =

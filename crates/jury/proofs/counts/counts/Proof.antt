@@ -35,7 +35,8 @@ loop-holds c =
 
 -- a turn's ballot lies within the ballots
 end-within : (c : tie.In-loop Inv-loop μ-loop) →
-    c .before .loop .at + c .before .before .before .args .shape .candidates * c .before .before .before .args .shape .grades ≤ length (c .before .before .before .args .ballots .now)
+    c .before .loop .at + c .before .before .before .args .shape .candidates
+    * c .before .before .before .args .shape .grades ≤ length (c .before .before .before .args .ballots .now)
 end-within c =
     let at = c .before in
     let start = at .before .before in
@@ -75,7 +76,12 @@ add-ballot-requires c κs =
     record {
       fewRows = w .k-most;
       fewColumns = w .d-most;
-      size = omega (arith, end-within turn, length-take (at .loop .at + size - at .loop .at) (drop (at .loop .at) xs), length-drop (at .loop .at) xs);
+      size = omega (
+        arith,
+        end-within turn,
+        length-take (at .loop .at + size - at .loop .at) (drop (at .loop .at) xs),
+        length-drop (at .loop .at) xs,
+      );
       array = rw (at .loop .inv .2) (array-eight-by-seven s xs (at .loop .b) (omega (arith, w .n-most)));
     }
 
@@ -97,8 +103,10 @@ loop-again c =
       omega arith,
       omega (arith, ap (λ (i : ℕ). i * size) (add-one b), suc-mul b size),
       c .add-ballot .ensures
-          ∙ ap (λ (m : List (List ℕ)). plusBallot (s .candidates) (s .grades) m (take (at .loop .at + size - at .loop .at) (drop (at .loop .at) xs))) (at .loop .inv .2)
-          ∙ ap (λ (i : ℕ). plusBallot (s .candidates) (s .grades) (arrayAfter s xs b) (take i (drop (at .loop .at) xs))) (add-sub-cancel-left (at .loop .at) size)
+          ∙ ap (λ (m : List (List ℕ)). plusBallot (s .candidates) (s .grades) m
+          (take (at .loop .at + size - at .loop .at) (drop (at .loop .at) xs))) (at .loop .inv .2)
+          ∙ ap (λ (i : ℕ). plusBallot (s .candidates) (s .grades) (arrayAfter s xs b)
+          (take i (drop (at .loop .at) xs))) (add-sub-cancel-left (at .loop .at) size)
           ∙ ap (λ (i : ℕ). plusBallot (s .candidates) (s .grades) (arrayAfter s xs b) (take size (drop i xs))) (at .loop .inv .1)
           ∙ array-step s xs (start .pre .bits) b
           ∙ ap (arrayAfter s xs) (sym (add-one b)),

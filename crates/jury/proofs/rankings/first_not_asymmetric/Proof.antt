@@ -37,7 +37,8 @@ returns c =
     let start = at .before .before in
     let k = start .args .k in
     let xs = start .args .ballots .now in
-    sym (first-here (notAsymmetricInBallot k xs) (start .args .n) (at .loop .b) (c .before .place .given .0 .0) (omega arith) (at .loop .inv .1) (sym (called .not-asymmetric-in-ballot .ensures) ∙ c .before .place .given .1))
+    sym (first-here (notAsymmetricInBallot k xs) (start .args .n) (at .loop .b) (c .before .place .given .0 .0)
+    (omega arith) (at .loop .inv .1) (sym (called .not-asymmetric-in-ballot .ensures) ∙ c .before .place .given .1))
 
 enum-told : tie.Need-enum-told Inv-loop μ-loop
 enum-told c = search needs
@@ -54,15 +55,20 @@ loop-again c =
     let at = called .before .before in
     let start = at .before .before in
     let k = start .args .k in
-    let xs = start .args .ballots .now in
-    (omega arith, first-later (notAsymmetricInBallot k xs) (at .loop .b) (at .loop .inv .1) (sym (called .not-asymmetric-in-ballot .ensures) ∙ c .enum-told .given .1))
+    let xs = start .args .ballots .now in (
+      omega arith,
+      first-later (notAsymmetricInBallot k xs) (at .loop .b) (at .loop .inv .1)
+          (sym (called .not-asymmetric-in-ballot .ensures) ∙ c .enum-told .given .1),
+    )
 
 returns-2 : tie.Need-returns-2 Inv-loop μ-loop
 unfolding firstNotAsymmetric
 returns-2 c =
     let at = c .before in
     let start = at .before .before in
-    sym (at .loop .inv .1) ∙ ap (λ (m : ℕ). firstOver m (notAsymmetricInBallot (start .args .k) (start .args .ballots .now))) {x = at .loop .b} {y = start .args .n} (omega arith)
+    sym (at .loop .inv .1) ∙ ap (λ (m : ℕ). firstOver m
+    (notAsymmetricInBallot (start .args .k) (start .args .ballots .now))) {x = at .loop .b} {y = start .args .n}
+    (omega arith)
 
 pub first-not-asymmetric-spec : {M : Type 1} → statement M
 first-not-asymmetric-spec =

@@ -56,7 +56,8 @@ loop-again c =
     let start = at .before .before in
     let b = at .loop .b in (
       omega arith,
-      first-later (found (start .args .k) (start .args .ballots .now)) b (at .loop .inv .1) (ap (λ (t : Bool). cond t (At b) Nowhere) (sym (called .not-weak-order .ensures) ∙ c .if1 .left)),
+      first-later (found (start .args .k) (start .args .ballots .now)) b (at .loop .inv .1)
+          (ap (λ (t : Bool). cond t (At b) Nowhere) (sym (called .not-weak-order .ensures) ∙ c .if1 .left)),
     )
 
 returns-2 : tie.Need-returns-2 Inv-loop μ-loop
@@ -64,7 +65,8 @@ unfolding firstNotWeakOrder
 returns-2 c =
     let at = c .before in
     let start = at .before .before in
-    sym (at .loop .inv .1) ∙ ap (λ (m : ℕ). firstOver m (found (start .args .k) (start .args .ballots .now))) {x = at .loop .b} {y = start .args .n} (omega arith)
+    sym (at .loop .inv .1) ∙ ap (λ (m : ℕ). firstOver m (found (start .args .k) (start .args .ballots .now)))
+    {x = at .loop .b} {y = start .args .n} (omega arith)
 
 pub first-not-weak-order-spec : {M : Type 1} → statement M
 first-not-weak-order-spec =

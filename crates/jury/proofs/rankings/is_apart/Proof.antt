@@ -72,7 +72,8 @@ loop-again c =
       omega arith,
       some-later (test k xs b i j) l (at .loop .inv .1)
           (⊎-elim (λ w. and-second-fails (not (before k xs b i l)) (not (before k xs b l j)) (ap not (sym (w .1 .ensures)) ∙ w .2 .left))
-          (λ w. and-first-fails (not (before k xs b i l)) (not (before k xs b l j)) (ap not (sym (asked .is-before .ensures)) ∙ w .left)) (c .if1 .came)),
+          (λ w. and-first-fails (not (before k xs b i l)) (not (before k xs b l j))
+          (ap not (sym (asked .is-before .ensures)) ∙ w .left)) (c .if1 .came)),
     )
 
 returns-2 : tie.Need-returns-2 Inv-loop μ-loop
@@ -81,7 +82,8 @@ returns-2 c =
     let at = c .before in
     let start = at .before .before in
     sym (at .loop .inv .1)
-    ∙ ap (λ (m : ℕ). someBelow m (test (start .args .k) (start .args .ballots .now) (start .args .b) (start .args .i) (start .args .j))) {x = at .loop .l} {y = start .args .k} (omega arith)
+    ∙ ap (λ (m : ℕ). someBelow m (test (start .args .k) (start .args .ballots .now) (start .args .b)
+    (start .args .i) (start .args .j))) {x = at .loop .l} {y = start .args .k} (omega arith)
 
 pub is-apart-spec : {M : Type 1} → statement M
 is-apart-spec =

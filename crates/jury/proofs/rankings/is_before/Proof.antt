@@ -21,7 +21,12 @@ add-at-2 : tie.Need-add-at-2
 add-at-2 c = omega (arith, rank-known (c .args .k) (c .args .b) (c .args .i) (c .args .j) (omega arith) (omega arith))
 
 shared-slice-read-result : tie.Need-shared-slice-read-result
-shared-slice-read-result c = let start = c .before in omega (arith, rank-known (start .args .k) (start .args .b) (start .args .i) (start .args .j) (omega arith) (omega arith))
+shared-slice-read-result c = let start = c .before in
+    omega (
+      arith,
+      rank-known (start .args .k) (start .args .b) (start .args .i) (start .args .j) (omega arith)
+          (omega arith),
+    )
 
 returns : tie.Need-returns
 unfolding before rankPlace

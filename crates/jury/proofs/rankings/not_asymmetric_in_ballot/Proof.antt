@@ -34,7 +34,9 @@ returns c =
     let start = at .before .before in
     let k = start .args .k in
     let xs = start .args .ballots .now in
-    sym (first-here (notAsymmetricInRow k xs (start .args .b)) (start .args .k) (at .loop .i) (c .before .place .given .0 .0) (omega arith) (at .loop .inv .1) (sym (called .not-asymmetric-in-row .ensures) ∙ c .before .place .given .1))
+    sym (first-here (notAsymmetricInRow k xs (start .args .b)) (start .args .k) (at .loop .i)
+    (c .before .place .given .0 .0) (omega arith) (at .loop .inv .1)
+    (sym (called .not-asymmetric-in-row .ensures) ∙ c .before .place .given .1))
 
 enum-told : tie.Need-enum-told Inv-loop μ-loop
 enum-told c = search needs
@@ -51,15 +53,20 @@ loop-again c =
     let at = called .before .before in
     let start = at .before .before in
     let k = start .args .k in
-    let xs = start .args .ballots .now in
-    (omega arith, first-later (notAsymmetricInRow k xs (start .args .b)) (at .loop .i) (at .loop .inv .1) (sym (called .not-asymmetric-in-row .ensures) ∙ c .enum-told .given .1))
+    let xs = start .args .ballots .now in (
+      omega arith,
+      first-later (notAsymmetricInRow k xs (start .args .b)) (at .loop .i) (at .loop .inv .1)
+          (sym (called .not-asymmetric-in-row .ensures) ∙ c .enum-told .given .1),
+    )
 
 returns-2 : tie.Need-returns-2 Inv-loop μ-loop
 unfolding notAsymmetricInBallot
 returns-2 c =
     let at = c .before in
     let start = at .before .before in
-    sym (at .loop .inv .1) ∙ ap (λ (m : ℕ). firstOver m (notAsymmetricInRow (start .args .k) (start .args .ballots .now) (start .args .b))) {x = at .loop .i} {y = start .args .k} (omega arith)
+    sym (at .loop .inv .1) ∙ ap (λ (m : ℕ). firstOver m
+    (notAsymmetricInRow (start .args .k) (start .args .ballots .now) (start .args .b))) {x = at .loop .i}
+    {y = start .args .k} (omega arith)
 
 pub not-asymmetric-in-ballot-spec : {M : Type 1} → statement M
 not-asymmetric-in-ballot-spec =

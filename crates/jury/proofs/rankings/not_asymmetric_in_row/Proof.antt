@@ -63,7 +63,8 @@ returns c =
     let j = at .loop .j in
     sym
     (first-here (notAsymmetricAt k xs b i) k j (rankPlace k b i j) (omega arith) (at .loop .inv .1)
-    (clash-here k xs b i j (sym (asked .is-before .ensures) ∙ again .before .if1 .taken) (sym (again .is-before2 .ensures) ∙ c .if2 .taken)))
+    (clash-here k xs b i j (sym (asked .is-before .ensures) ∙ again .before .if1 .taken)
+    (sym (again .is-before2 .ensures) ∙ c .if2 .taken)))
 
 add-j : tie.Need-add-j Inv-loop μ-loop
 add-j c = omega arith
@@ -93,7 +94,8 @@ returns-2 c =
     let at = c .before in
     let start = at .before .before in
     sym (at .loop .inv .1)
-    ∙ ap (λ (m : ℕ). firstOver m (notAsymmetricAt (start .args .k) (start .args .ballots .now) (start .args .b) (start .args .i))) {x = at .loop .j} {y = start .args .k} (omega arith)
+    ∙ ap (λ (m : ℕ). firstOver m (notAsymmetricAt (start .args .k) (start .args .ballots .now) (start .args .b)
+    (start .args .i))) {x = at .loop .j} {y = start .args .k} (omega arith)
 
 pub not-asymmetric-in-row-spec : {M : Type 1} → statement M
 not-asymmetric-in-row-spec =

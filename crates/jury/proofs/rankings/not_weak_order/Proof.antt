@@ -30,7 +30,8 @@ returns c =
     let called = c .before in
     let at = called .before .before in
     let start = at .before .before in
-    sym (some-here (notWeakOrderAfter (start .args .k) (start .args .ballots .now) (start .args .b)) (start .args .k) (at .loop .i) (omega arith) (sym (called .not-weak-order-after .ensures) ∙ c .if1 .taken))
+    sym (some-here (notWeakOrderAfter (start .args .k) (start .args .ballots .now) (start .args .b))
+    (start .args .k) (at .loop .i) (omega arith) (sym (called .not-weak-order-after .ensures) ∙ c .if1 .taken))
 
 add-i : tie.Need-add-i Inv-loop μ-loop
 add-i c = omega arith
@@ -42,15 +43,20 @@ loop-again : tie.Need-loop-again Inv-loop μ-loop
 loop-again c =
     let called = c .before in
     let at = called .before .before in
-    let start = at .before .before in
-    (omega arith, some-later (notWeakOrderAfter (start .args .k) (start .args .ballots .now) (start .args .b)) (at .loop .i) (at .loop .inv .1) (sym (called .not-weak-order-after .ensures) ∙ c .if1 .left))
+    let start = at .before .before in (
+      omega arith,
+      some-later (notWeakOrderAfter (start .args .k) (start .args .ballots .now) (start .args .b))
+          (at .loop .i) (at .loop .inv .1) (sym (called .not-weak-order-after .ensures) ∙ c .if1 .left),
+    )
 
 returns-2 : tie.Need-returns-2 Inv-loop μ-loop
 unfolding notWeakOrder
 returns-2 c =
     let at = c .before in
     let start = at .before .before in
-    sym (at .loop .inv .1) ∙ ap (λ (m : ℕ). someBelow m (notWeakOrderAfter (start .args .k) (start .args .ballots .now) (start .args .b))) {x = at .loop .i} {y = start .args .k} (omega arith)
+    sym (at .loop .inv .1) ∙ ap (λ (m : ℕ). someBelow m
+    (notWeakOrderAfter (start .args .k) (start .args .ballots .now) (start .args .b))) {x = at .loop .i}
+    {y = start .args .k} (omega arith)
 
 pub not-weak-order-spec : {M : Type 1} → statement M
 not-weak-order-spec =

@@ -48,7 +48,8 @@ returns c =
     let j = at .loop .j in
     sym
     (some-here (test k xs b i) k j (omega arith)
-    (and-both (before k xs b i j) (neitherAfterNorBefore k xs b i j) (sym (asked .is-before .ensures) ∙ again .before .if1 .taken) (sym (again .is-apart .ensures) ∙ c .if2 .taken)))
+    (and-both (before k xs b i j) (neitherAfterNorBefore k xs b i j)
+    (sym (asked .is-before .ensures) ∙ again .before .if1 .taken) (sym (again .is-apart .ensures) ∙ c .if2 .taken)))
 
 add-j : tie.Need-add-j Inv-loop μ-loop
 add-j c = omega arith
@@ -69,7 +70,8 @@ loop-again c =
       omega arith,
       some-later (test k xs b i) j (at .loop .inv .1)
           (⊎-elim (λ w. and-second-fails (before k xs b i j) (neitherAfterNorBefore k xs b i j) (sym (w .1 .ensures) ∙ w .2 .left))
-          (λ w. and-first-fails (before k xs b i j) (neitherAfterNorBefore k xs b i j) (sym (asked .is-before .ensures) ∙ w .left)) (c .if1 .came)),
+          (λ w. and-first-fails (before k xs b i j) (neitherAfterNorBefore k xs b i j)
+          (sym (asked .is-before .ensures) ∙ w .left)) (c .if1 .came)),
     )
 
 returns-2 : tie.Need-returns-2 Inv-loop μ-loop
@@ -77,7 +79,9 @@ unfolding notWeakOrderAfter
 returns-2 c =
     let at = c .before in
     let start = at .before .before in
-    sym (at .loop .inv .1) ∙ ap (λ (m : ℕ). someBelow m (test (start .args .k) (start .args .ballots .now) (start .args .b) (start .args .i))) {x = at .loop .j} {y = start .args .k} (omega arith)
+    sym (at .loop .inv .1) ∙ ap (λ (m : ℕ). someBelow m
+    (test (start .args .k) (start .args .ballots .now) (start .args .b) (start .args .i))) {x = at .loop .j}
+    {y = start .args .k} (omega arith)
 
 pub not-weak-order-after-spec : {M : Type 1} → statement M
 not-weak-order-after-spec =

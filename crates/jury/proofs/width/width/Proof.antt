@@ -23,7 +23,8 @@ turn : (n digits rest : ℕ) → 0 < rest → digits + widthOf rest ≡ widthOf 
 turn n digits rest h e = omega (arith, width-half rest h)
 
 add-digits : tie.Need-add-digits Inv-loop μ-loop
-add-digits c = let l = c .before .loop in omega (arith, l .inv, width-half (l .rest) (c .loop-test .taken), width-le (c .before .before .args .n))
+add-digits c = let l = c .before .loop in
+    omega (arith, l .inv, width-half (l .rest) (c .loop-test .taken), width-le (c .before .before .args .n))
 
 loop-less : tie.Need-loop-less Inv-loop μ-loop
 loop-less c = omega arith

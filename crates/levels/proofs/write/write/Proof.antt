@@ -17,11 +17,14 @@ use Rattle.levels.proofs.write.write.Statement.{statement}
 use Rattle.levels.proofs.write.write.Tie as tie
 
 -- the list has passed its test
-facts : (c : tie.After-gates) → let a = c .before .before .before .before .before .args in ListFacts (a .shape) (a .table .now) (c .gates .given .0 .0) (c .gates .given .0 .1 .0)
+facts : (c : tie.After-gates) → let a = c .before .before .before .before .before .args in
+    ListFacts (a .shape) (a .table .now) (c .gates .given .0 .0) (c .gates .given .0 .1 .0)
 unfolding outcomeOf
 facts c =
     let a = c .before .before .before .before .before .args in
-    list-facts (a .shape) (a .table .now) _ _ (test-passed (a .shape) (a .table .now) _ (sym (c .before .before .test .ensures) ∙ ap outcomeOf (c .gates .given .1)))
+    list-facts (a .shape) (a .table .now) _ _
+    (test-passed (a .shape) (a .table .now) _
+    (sym (c .before .before .test .ensures) ∙ ap outcomeOf (c .gates .given .1)))
 
 test-requires : tie.Need-test-requires
 test-requires c κs = search needs
@@ -38,14 +41,18 @@ returns c =
     let a = c .before .before .before .before .before .before .before .args in
     let f = facts (c .before .before) in
     let differs = c .if1 .taken in
-    call-refused (a .shape) (a .table .now) (a .levels .now) (reasonAt 200 0) (other-length (a .shape) (a .table .now) (a .levels .now) (f .reasons) (λ e. differs (e ∙ sym (f .gates-are))))
+    call-refused (a .shape) (a .table .now) (a .levels .now) (reasonAt 200 0)
+    (other-length (a .shape) (a .table .now) (a .levels .now) (f .reasons) (λ e. differs (e ∙ sym (f .gates-are))))
 
 -- the table fits
-long : (c : tie.Else1) → let a = c .before .before .before .before .before .before .before .args in length (a .levels .now) ≡ length (gatesOf (a .table .now))
+long : (c : tie.Else1) → let a = c .before .before .before .before .before .before .before .args in
+    length (a .levels .now) ≡ length (gatesOf (a .table .now))
 long c = c .if1 .left ∙ facts (c .before .before) .gates-are
 
 ballot-bytes-requires : tie.Need-ballot-bytes-requires
-ballot-bytes-requires c κs = true-T (withinLimits (c .before .before .before .before .before .before .before .args .shape)) (facts (c .before .before) .within)
+ballot-bytes-requires c κs = true-T
+    (withinLimits (c .before .before .before .before .before .before .before .args .shape))
+    (facts (c .before .before) .within)
 
 write-requires : tie.Need-write-requires
 write-requires c κs =
@@ -58,7 +65,9 @@ unfolding depthsOutcome levelReasonOf outcomeOf
 returns-2 c =
     let a = c .before .before .before .before .before .before .args in
     let g = c .before .reason .given in
-    call-refused (a .shape) (a .table .now) (a .levels .now) (reasonOf (g .0 .0)) (of-list (a .shape) (a .table .now) (a .levels .now) (reasonOf (g .0 .0)) (sym (c .before .before .before .test .ensures) ∙ ap outcomeOf (g .1)))
+    call-refused (a .shape) (a .table .now) (a .levels .now) (reasonOf (g .0 .0))
+    (of-list (a .shape) (a .table .now) (a .levels .now) (reasonOf (g .0 .0))
+    (sym (c .before .before .before .test .ensures) ∙ ap outcomeOf (g .1)))
 
 same-length : tie.Need-same-length
 same-length c = search needs
@@ -73,9 +82,11 @@ returns-3 c =
     let f = facts (else .before .before) in
     let inputs = asked .ballot-bytes .ensures in
     same-result
-    (ap accepted (depths-are (ballotBytes (a .shape)) (a .table .now) _ _ _ (f .gates-are) (f .conditional-are) (done .write .ensures .rounds ∙ ap (λ (n : ℕ). roundsOf n (gatesOf (a .table .now))) inputs)))
+    (ap accepted (depths-are (ballotBytes (a .shape)) (a .table .now) _ _ _ (f .gates-are) (f .conditional-are)
+    (done .write .ensures .rounds ∙ ap (λ (n : ℕ). roundsOf n (gatesOf (a .table .now))) inputs)))
     (done .write .ensures .levels ∙ ap (λ (n : ℕ). levelsOf n (gatesOf (a .table .now))) inputs)
-    ∙ call-accepted (a .shape) (a .table .now) (a .levels .now) (all-pass (a .shape) (a .table .now) (a .levels .now) (f .reasons) (long else))
+    ∙ call-accepted (a .shape) (a .table .now) (a .levels .now)
+    (all-pass (a .shape) (a .table .now) (a .levels .now) (f .reasons) (long else))
 
 pub write-spec : {M : Type 1} → statement M
 write-spec =

@@ -17,7 +17,10 @@ first-digit-requires c κs = search needs
 
 -- the writer after the lowest digits
 lowest : (c : tie.After-first-digit) → (c .first-digit) .result .wire ≡ (c .before .before .before .args) .w .wire + 3
-lowest c = behind ((c .before .before .before .args) .w) ((c .before .before .before .args) .table .now) _ ((c .first-digit) .last .1 .0) ((c .first-digit) .result) 3 ((c .first-digit) .ensures) (length-first-digit ((c .before .before .before .args) .w .wire) ((c .before .before .before .args) .x) ((c .before .before .before .args) .y))
+lowest c = behind ((c .before .before .before .args) .w) ((c .before .before .before .args) .table .now) _
+    ((c .first-digit) .last .1 .0) ((c .first-digit) .result) 3 ((c .first-digit) .ensures)
+    (length-first-digit ((c .before .before .before .args) .w .wire) ((c .before .before .before .args) .x)
+    ((c .before .before .before .args) .y))
 
 add-compare-words : tie.Need-add-compare-words
 add-compare-words c = search needs
@@ -37,8 +40,11 @@ compare-words-requires c κs =
     let e = lowest (c .before .before .before) in
     let n = (c .before .before .before .first-digit) .result .wire in
     record {
-      room = room-behind (a .w) (a .table .now) _ ((c .before .before .before .first-digit) .last .1 .0) ((c .before .before .before .first-digit) .result) 3 _ _ ((c .before .before .before .first-digit) .ensures) (length-first-digit (a .w .wire) (a .x) (a .y))
-          (omega (arith, length-compare n (a .x + 1) (a .y + 1) (a .w .wire + 1) (a .w .wire + 2) (a .digits))) (c .before .before .before .before .before .before .pre .room);
+      room = room-behind (a .w) (a .table .now) _ ((c .before .before .before .first-digit) .last .1 .0)
+          ((c .before .before .before .first-digit) .result) 3 _ _
+          ((c .before .before .before .first-digit) .ensures) (length-first-digit (a .w .wire) (a .x) (a .y))
+          (omega (arith, length-compare n (a .x + 1) (a .y + 1) (a .w .wire + 1) (a .w .wire + 2) (a .digits)))
+          (c .before .before .before .before .before .before .pre .room);
       firstBelow = omega (arith, c .before .before .before .before .before .before .pre .firstBelow);
       secondBelow = omega (arith, c .before .before .before .before .before .before .pre .secondBelow);
     }
@@ -47,8 +53,14 @@ returns : tie.Need-returns
 unfolding compare
 returns c =
     let a = (c .before .before .before .before .before .before .before .before .before .args) in
-    wrote-then (a .w) (a .table .now) _ ((c .before .before .before .before .before .before .first-digit) .last .1 .0) ((c .before .before .before .before .before .before .first-digit) .result) _ _ ((c .before .before .compare-words) .last .1 .0) ((c .before .before .compare-words) .result) ((c .before .before .before .before .before .before .first-digit) .ensures) ((c .before .before .compare-words) .ensures)
-    (ap (λ (n : ℕ). compareWords n (a .x + 1) (a .y + 1) (a .w .wire + 1) (a .w .wire + 2) (a .digits)) (lowest (c .before .before .before .before .before .before)))
+    wrote-then (a .w) (a .table .now) _
+    ((c .before .before .before .before .before .before .first-digit) .last .1 .0)
+    ((c .before .before .before .before .before .before .first-digit) .result) _ _
+    ((c .before .before .compare-words) .last .1 .0) ((c .before .before .compare-words) .result)
+    ((c .before .before .before .before .before .before .first-digit) .ensures)
+    ((c .before .before .compare-words) .ensures)
+    (ap (λ (n : ℕ). compareWords n (a .x + 1) (a .y + 1) (a .w .wire + 1) (a .w .wire + 2) (a .digits))
+    (lowest (c .before .before .before .before .before .before)))
 
 same-length : tie.Need-same-length
 same-length c = search needs

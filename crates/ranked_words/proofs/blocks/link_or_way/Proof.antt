@@ -23,17 +23,27 @@ one-of-requires c κs =
     let s = c .before .before in
     let p = s .pre in
     record {
-      order = record { room = room-less (s .args .w) _ _ (omega arith) (p .room); firstBelow = p .toBelow; secondBelow = p .fromBelow; within = p .within };
+      order = record {
+        room = room-less (s .args .w) _ _ (omega arith) (p .room);
+        firstBelow = p .toBelow;
+        secondBelow = p .fromBelow;
+        within = p .within;
+      };
       moreBelow = p .fromBelow;
       lessBelow = p .toBelow;
     }
 
-one : (c : tie.After-one-of) → Stands (c .one-of .result) (start c .args .w .wire + (orderSize (start c .args .digits) (start c .args .cut) + suc (start c .args .digits))) (orderSize (start c .args .digits) (start c .args .cut) + 1 + suc (start c .args .digits))
+one : (c : tie.After-one-of) → Stands (c .one-of .result)
+    (start c .args .w .wire + (orderSize (start c .args .digits) (start c .args .cut)
+    + suc (start c .args .digits)))
+    (orderSize (start c .args .digits) (start c .args .cut) + 1 + suc (start c .args .digits))
 one c =
     let s = start c in
     let a = s .args in
-    stands-after (a .w) (a .table .now) _ (c .one-of .last .1 .0) (c .one-of .result) _ (orderSize (a .digits) (a .cut) + suc (a .digits)) _ (c .one-of .ensures)
-    (smaller-long (a .w .wire) (a .x) (a .y) (a .digits) (a .cut) (s .pre .within)) (stands (a .w) (a .w .wire) _ _ refl (omega arith) (s .pre .room))
+    stands-after (a .w) (a .table .now) _ (c .one-of .last .1 .0) (c .one-of .result) _
+    (orderSize (a .digits) (a .cut) + suc (a .digits)) _ (c .one-of .ensures)
+    (smaller-long (a .w .wire) (a .x) (a .y) (a .digits) (a .cut) (s .pre .within))
+    (stands (a .w) (a .w .wire) _ _ refl (omega arith) (s .pre .room))
 
 sub-larger-if : tie.Need-sub-larger-if
 sub-larger-if c = omega (arith, one (c .before .before .before .before) .place)
@@ -46,7 +56,13 @@ larger-if-requires c κs =
     let q = c .before .before .before .before in
     let s = start q in
     let t = one q in
-    record { room = t .left; firstBelow = omega (arith, s .pre .wordBelow, t .place); secondBelow = omega (arith, t .place); within = s .pre .within }
+    record {
+      room = t .left;
+      firstBelow = omega (arith, s .pre .wordBelow, t .place);
+      secondBelow =
+          omega (arith, t .place);
+      within = s .pre .within;
+    }
 
 returns : tie.Need-returns
 returns c =
@@ -59,9 +75,13 @@ returns c =
     let W = q .one-of .result .wire in
     let place : W ≡ n + orderSize (a .digits) (a .cut) + suc (a .digits) = omega (arith, one q .place) in
     let way : W - a .digits - 1 ≡ n + orderSize (a .digits) (a .cut) = omega (arith, one q .place) in
-    wrote-then (a .w) (a .table .now) (smaller n (a .x) (a .y) (a .digits) (a .cut)) (q .one-of .last .1 .0) (q .one-of .result) _ _ (f .last .1 .0) (f .result)
-    (wrote-as (a .w) (a .table .now) _ (smaller n (a .x) (a .y) (a .digits) (a .cut)) (q .one-of .last .1 .0) (q .one-of .result) (smaller-is n (a .x) (a .y) (a .digits) (a .cut)) (q .one-of .ensures))
-    (f .ensures) (ap (λ (m : ℕ). largerIf m (a .f) (a .v) (W - a .digits - 1) (a .digits) (a .cut)) place ∙ ap (λ (m : ℕ). largerIf (n + orderSize (a .digits) (a .cut) + suc (a .digits)) (a .f) (a .v) m (a .digits) (a .cut)) way)
+    wrote-then (a .w) (a .table .now) (smaller n (a .x) (a .y) (a .digits) (a .cut)) (q .one-of .last .1 .0)
+    (q .one-of .result) _ _ (f .last .1 .0) (f .result)
+    (wrote-as (a .w) (a .table .now) _ (smaller n (a .x) (a .y) (a .digits) (a .cut)) (q .one-of .last .1 .0)
+    (q .one-of .result) (smaller-is n (a .x) (a .y) (a .digits) (a .cut)) (q .one-of .ensures))
+    (f .ensures) (ap (λ (m : ℕ). largerIf m (a .f) (a .v) (W - a .digits - 1) (a .digits) (a .cut)) place
+    ∙ ap (λ (m : ℕ). largerIf (n + orderSize (a .digits) (a .cut) + suc (a .digits)) (a .f) (a .v) m (a .digits)
+    (a .cut)) way)
 
 same-length : tie.Need-same-length
 same-length c = search needs

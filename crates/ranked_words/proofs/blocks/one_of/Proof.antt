@@ -25,14 +25,24 @@ order-cut-requires : tie.Need-order-cut-requires
 order-cut-requires c κs =
     let s = c .before .before in
     let o = s .pre .order in
-    record { room = room-less (s .args .w) _ _ (omega arith) (o .room); firstBelow = o .firstBelow; secondBelow = o .secondBelow; within = o .within }
+    record {
+      room = room-less (s .args .w) _ _ (omega arith) (o .room);
+      firstBelow = o .firstBelow;
+      secondBelow =
+          o .secondBelow;
+      within = o .within;
+    }
 
-one : (c : tie.After-order-cut) → Stands (c .order-cut .result) (start c .args .w .wire + orderSize (start c .args .digits) (start c .args .cut)) (suc (start c .args .digits))
+one : (c : tie.After-order-cut)
+    → Stands (c .order-cut .result)
+    (start c .args .w .wire + orderSize (start c .args .digits) (start c .args .cut)) (suc (start c .args .digits))
 one c =
     let s = start c in
     let a = s .args in
-    stands-after (a .w) (a .table .now) _ (c .order-cut .last .1 .0) (c .order-cut .result) _ (orderSize (a .digits) (a .cut)) (suc (a .digits)) (c .order-cut .ensures)
-    (length-cut (a .w .wire) (a .x) (a .y) (a .digits) (a .cut) (s .pre .order .within)) (stands (a .w) (a .w .wire) _ _ refl (omega arith) (s .pre .order .room))
+    stands-after (a .w) (a .table .now) _ (c .order-cut .last .1 .0) (c .order-cut .result) _
+    (orderSize (a .digits) (a .cut)) (suc (a .digits)) (c .order-cut .ensures)
+    (length-cut (a .w .wire) (a .x) (a .y) (a .digits) (a .cut) (s .pre .order .within))
+    (stands (a .w) (a .w .wire) _ _ refl (omega arith) (s .pre .order .room))
 
 sub-chain-end : tie.Need-sub-chain-end
 sub-chain-end c = omega (arith, one (c .before .before .before) .place)
@@ -60,9 +70,12 @@ returns c =
     let q = told f in
     let a = start q .args in
     let n = a .w .wire in
-    let end : f .chain-end .result ≡ cutEnd n (a .x) (a .digits) (a .cut) = f .chain-end .ensures ∙ cut-end n (a .x) (a .y) (a .digits) (a .cut) (q .order-cut .result .wire) (one q .place) in
-    wrote-then (a .w) (a .table .now) (orderCut n (a .x) (a .y) (a .digits) (a .cut)) (q .order-cut .last .1 .0) (q .order-cut .result) _ _ (d .choose .last .1 .0) (d .choose .result) (q .order-cut .ensures) (d .choose .ensures)
-    (ap (λ (m : ℕ). choose m (a .more) (a .less) (a .digits + 1)) end ∙ ap (choose (cutEnd n (a .x) (a .digits) (a .cut)) (a .more) (a .less)) (add-one (a .digits)))
+    let end : f .chain-end .result ≡ cutEnd n (a .x) (a .digits) (a .cut) = f .chain-end .ensures
+    ∙ cut-end n (a .x) (a .y) (a .digits) (a .cut) (q .order-cut .result .wire) (one q .place) in
+    wrote-then (a .w) (a .table .now) (orderCut n (a .x) (a .y) (a .digits) (a .cut)) (q .order-cut .last .1 .0)
+    (q .order-cut .result) _ _ (d .choose .last .1 .0) (d .choose .result) (q .order-cut .ensures) (d .choose .ensures)
+    (ap (λ (m : ℕ). choose m (a .more) (a .less) (a .digits + 1)) end
+    ∙ ap (choose (cutEnd n (a .x) (a .digits) (a .cut)) (a .more) (a .less)) (add-one (a .digits)))
 
 same-length : tie.Need-same-length
 same-length c = search needs

@@ -22,8 +22,12 @@ differences-requires : tie.Need-differences-requires
 differences-requires c κs = search needs
 
 -- the writer after the differences
-differ : (c : tie.After-differences) → (c .differences) .result .wire ≡ (c .before .before .before .args) .w .wire + (c .before .before .before .args) .digits
-differ c = behind ((c .before .before .before .args) .w) ((c .before .before .before .args) .table .now) _ ((c .differences) .last .1 .0) ((c .differences) .result) ((c .before .before .before .args) .digits) ((c .differences) .ensures) (length-differences ((c .before .before .before .args) .x + 1) ((c .before .before .before .args) .y + 1) ((c .before .before .before .args) .digits))
+differ : (c : tie.After-differences) → (c .differences) .result .wire ≡ (c .before .before .before .args) .w .wire
+    + (c .before .before .before .args) .digits
+differ c = behind ((c .before .before .before .args) .w) ((c .before .before .before .args) .table .now) _
+    ((c .differences) .last .1 .0) ((c .differences) .result) ((c .before .before .before .args) .digits)
+    ((c .differences) .ensures) (length-differences ((c .before .before .before .args) .x + 1)
+    ((c .before .before .before .args) .y + 1) ((c .before .before .before .args) .digits))
 
 add-above : tie.Need-add-above
 add-above c = search needs
@@ -33,7 +37,10 @@ above-requires c κs =
     let a = (c .before .before .before .before .before .before .args) in
     let e = differ (c .before .before .before) in
     record {
-      room = room-behind (a .w) (a .table .now) _ ((c .before .before .before .differences) .last .1 .0) ((c .before .before .before .differences) .result) (a .digits) (a .digits) _ ((c .before .before .before .differences) .ensures) (length-differences (a .x + 1) (a .y + 1) (a .digits)) (omega arith) (c .before .before .before .before .before .before .pre .room);
+      room = room-behind (a .w) (a .table .now) _ ((c .before .before .before .differences) .last .1 .0)
+          ((c .before .before .before .differences) .result) (a .digits) (a .digits) _
+          ((c .before .before .before .differences) .ensures) (length-differences (a .x + 1) (a .y + 1) (a .digits))
+          (omega arith) (c .before .before .before .before .before .before .pre .room);
       firstBelow = omega arith;
       secondBelow = omega (arith, c .before .before .before .before .before .before .pre .firstBelow);
     }
@@ -42,7 +49,11 @@ returns : tie.Need-returns
 unfolding order
 returns c =
     let a = (c .before .before .before .before .before .before .before .before .before .args) in
-    wrote-then (a .w) (a .table .now) _ ((c .before .before .before .before .before .before .differences) .last .1 .0) ((c .before .before .before .before .before .before .differences) .result) _ _ ((c .before .before .above) .last .1 .0) ((c .before .before .above) .result) ((c .before .before .before .before .before .before .differences) .ensures) ((c .before .before .above) .ensures)
+    wrote-then (a .w) (a .table .now) _
+    ((c .before .before .before .before .before .before .differences) .last .1 .0)
+    ((c .before .before .before .before .before .before .differences) .result) _ _
+    ((c .before .before .above) .last .1 .0) ((c .before .before .above) .result)
+    ((c .before .before .before .before .before .before .differences) .ensures) ((c .before .before .above) .ensures)
     (ap (λ (n : ℕ). above n (a .w .wire) (a .x + 1) (a .x) (a .digits)) (differ (c .before .before .before .before .before .before)))
 
 same-length : tie.Need-same-length

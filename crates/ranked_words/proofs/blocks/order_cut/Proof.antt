@@ -37,14 +37,19 @@ compared c = c .before .before .before .before
 order-requires : tie.Need-order-requires
 order-requires c κs =
     let s = c .before .before .before in
-    record { room = room-less (s .args .w) _ _ (omega arith) (s .pre .room); firstBelow = s .pre .firstBelow; secondBelow = s .pre .secondBelow }
+    record {
+      room = room-less (s .args .w) _ _ (omega arith) (s .pre .room);
+      firstBelow = s .pre .firstBelow;
+      secondBelow = s .pre .secondBelow;
+    }
 
 returns : tie.Need-returns
 returns c =
     let o = c .before .before in
     let t = o .before .before in
     let a = t .before .before .args in
-    wrote-as (a .w) (a .table .now) _ _ (o .order .last .1 .0) (o .order .result) (cut-zero (a .w .wire) (a .x) (a .y) (a .digits) (a .cut) (t .if1 .taken)) (o .order .ensures)
+    wrote-as (a .w) (a .table .now) _ _ (o .order .last .1 .0) (o .order .result)
+    (cut-zero (a .w .wire) (a .x) (a .y) (a .digits) (a .cut) (t .if1 .taken)) (o .order .ensures)
 
 -- two halves
 abbrev lowOf : tie.Start → ℕ
@@ -71,13 +76,15 @@ order-requires-2 c κs =
       secondBelow = omega (arith, s .pre .secondBelow);
     }
 
-one : (c : tie.After-order2) → Stands (c .order2 .result) (start (tested c) .args .w .wire + 2 * lowOf (start (tested c))) (3 * (start (tested c) .args .cut - 1) + 2)
+one : (c : tie.After-order2) → Stands (c .order2 .result)
+    (start (tested c) .args .w .wire + 2 * lowOf (start (tested c))) (3 * (start (tested c) .args .cut - 1) + 2)
 one c =
     let s = start (tested c) in
     let a = s .args in
     let e = some (tested c) in
     let q = s .pre .within in
-    stands-after (a .w) (a .table .now) _ (c .order2 .last .1 .0) (c .order2 .result) _ (2 * lowOf s) (3 * (a .cut - 1) + 2) (c .order2 .ensures) (length-order (a .w .wire) (a .x) (a .y) (lowOf s))
+    stands-after (a .w) (a .table .now) _ (c .order2 .last .1 .0) (c .order2 .result) _ (2 * lowOf s)
+    (3 * (a .cut - 1) + 2) (c .order2 .ensures) (length-order (a .w .wire) (a .x) (a .y) (lowOf s))
     (stands (a .w) (a .w .wire) _ _ refl (omega arith) (s .pre .room))
 
 add-high : tie.Need-add-high
@@ -120,14 +127,18 @@ compare-halves-requires c κs =
       secondBelow = omega (arith, s .pre .secondBelow);
     }
 
-two : (c : tie.After-compare-halves) → Stands (c .compare-halves .result) (start (tested (told (found c))) .args .w .wire + 2 * lowOf (start (tested (told (found c)))) + (3 * (start (tested (told (found c))) .args .cut - 1) + 1)) 1
+two : (c : tie.After-compare-halves)
+    → Stands (c .compare-halves .result)
+    (start (tested (told (found c))) .args .w .wire + 2 * lowOf (start (tested (told (found c))))
+    + (3 * (start (tested (told (found c))) .args .cut - 1) + 1)) 1
 two c =
     let q = told (found c) in
     let s = start (tested q) in
     let a = s .args in
     let h = a .cut - 1 in
     let t = one q in
-    stands-after (q .order2 .result) (q .order2 .last .1 .0) _ (c .compare-halves .last .1 .0) (c .compare-halves .result) _ (3 * h + 1) 1 (c .compare-halves .ensures)
+    stands-after (q .order2 .result) (q .order2 .last .1 .0) _ (c .compare-halves .last .1 .0)
+    (c .compare-halves .result) _ (3 * h + 1) 1 (c .compare-halves .ensures)
     (length-compare-halves (q .order2 .result .wire) (a .x + lowOf s + 1) (a .y + lowOf s + 1) h 0 ∙ omega arith)
     (stands (q .order2 .result) _ _ _ (t .place) (omega arith) (t .left))
 
@@ -156,12 +167,20 @@ returns-2 c =
     let p = one q .place in
     let X : a .x + l + 1 ≡ a .x + suc l = omega arith in
     let Y : a .y + l + 1 ≡ a .y + suc l = omega arith in
-    wrote-as (a .w) (a .table .now) _ _ (d .emit .last .1 .0) (d .emit .result) (cut-some n (a .x) (a .y) (a .digits) (a .cut) l h (some t) refl)
-    (wrote-then (a .w) (a .table .now) (order n (a .x) (a .y) l ++ compareHalves (n + 2 * l) (a .x + suc l) (a .y + suc l) h 0) (z .compare-halves .last .1 .0) (z .compare-halves .result) _ _ (d .emit .last .1 .0) (d .emit .result)
-    (wrote-then (a .w) (a .table .now) (order n (a .x) (a .y) l) (q .order2 .last .1 .0) (q .order2 .result) _ _ (z .compare-halves .last .1 .0) (z .compare-halves .result) (q .order2 .ensures) (z .compare-halves .ensures)
+    wrote-as (a .w) (a .table .now) _ _ (d .emit .last .1 .0) (d .emit .result)
+    (cut-some n (a .x) (a .y) (a .digits) (a .cut) l h (some t) refl)
+    (wrote-then (a .w) (a .table .now)
+    (order n (a .x) (a .y) l ++ compareHalves (n + 2 * l) (a .x + suc l) (a .y + suc l) h 0)
+    (z .compare-halves .last .1 .0) (z .compare-halves .result) _ _ (d .emit .last .1 .0) (d .emit .result)
+    (wrote-then (a .w) (a .table .now) (order n (a .x) (a .y) l) (q .order2 .last .1 .0) (q .order2 .result) _ _
+    (z .compare-halves .last .1 .0) (z .compare-halves .result) (q .order2 .ensures) (z .compare-halves .ensures)
     (same-high N (a .x + l + 1) (a .y + l + 1) h (n + 2 * l) (a .x + suc l) (a .y + suc l) p X Y))
-    (mux-wrote (z .compare-halves .result) (z .compare-halves .last .1 .0) (d .emit .last .1 .0) (d .emit .result) (f .before .unequal-at .result) (f .above-at .result) (q .before .before .chain-end .result) (d .emit .ensures))
-    (one-gate 7 (f .before .unequal-at .ensures ∙ ap (λ (m : ℕ). unequalAt m h) p) (f .above-at .ensures ∙ ap (λ (m : ℕ). aboveAt m (a .x + l + 1) h) p ∙ ap (λ (m : ℕ). aboveAt (n + 2 * l) m h) X) (end-is n (a .x) l (q .before .before .chain-end .result) (q .before .before .chain-end .ensures))))
+    (mux-wrote (z .compare-halves .result) (z .compare-halves .last .1 .0) (d .emit .last .1 .0) (d .emit .result)
+    (f .before .unequal-at .result) (f .above-at .result) (q .before .before .chain-end .result) (d .emit .ensures))
+    (one-gate 7 (f .before .unequal-at .ensures ∙ ap (λ (m : ℕ). unequalAt m h) p)
+    (f .above-at .ensures ∙ ap (λ (m : ℕ). aboveAt m (a .x + l + 1) h) p
+    ∙ ap (λ (m : ℕ). aboveAt (n + 2 * l) m h) X)
+    (end-is n (a .x) l (q .before .before .chain-end .result) (q .before .before .chain-end .ensures))))
 
 same-length : tie.Need-same-length
 same-length c = search needs

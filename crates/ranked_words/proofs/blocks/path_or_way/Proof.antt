@@ -23,17 +23,27 @@ one-of-requires c κs =
     let s = c .before .before in
     let p = s .pre in
     record {
-      order = record { room = room-less (s .args .w) _ _ (omega arith) (p .room); firstBelow = p .toBelow; secondBelow = p .fromBelow; within = p .within };
+      order = record {
+        room = room-less (s .args .w) _ _ (omega arith) (p .room);
+        firstBelow = p .toBelow;
+        secondBelow = p .fromBelow;
+        within = p .within;
+      };
       moreBelow = p .fromBelow;
       lessBelow = p .toBelow;
     }
 
-one : (c : tie.After-one-of) → Stands (c .one-of .result) (start c .args .w .wire + (orderSize (start c .args .digits) (start c .args .cut) + suc (start c .args .digits))) (orderSize (start c .args .digits) (start c .args .cut) + suc (start c .args .digits))
+one : (c : tie.After-one-of) → Stands (c .one-of .result)
+    (start c .args .w .wire + (orderSize (start c .args .digits) (start c .args .cut)
+    + suc (start c .args .digits)))
+    (orderSize (start c .args .digits) (start c .args .cut) + suc (start c .args .digits))
 one c =
     let s = start c in
     let a = s .args in
-    stands-after (a .w) (a .table .now) _ (c .one-of .last .1 .0) (c .one-of .result) _ (orderSize (a .digits) (a .cut) + suc (a .digits)) _ (c .one-of .ensures)
-    (smaller-long (a .w .wire) (a .x) (a .y) (a .digits) (a .cut) (s .pre .within)) (stands (a .w) (a .w .wire) _ _ refl (omega arith) (s .pre .room))
+    stands-after (a .w) (a .table .now) _ (c .one-of .last .1 .0) (c .one-of .result) _
+    (orderSize (a .digits) (a .cut) + suc (a .digits)) _ (c .one-of .ensures)
+    (smaller-long (a .w .wire) (a .x) (a .y) (a .digits) (a .cut) (s .pre .within))
+    (stands (a .w) (a .w .wire) _ _ refl (omega arith) (s .pre .room))
 
 sub-way : tie.Need-sub-way
 sub-way c = omega (arith, one (c .before .before .before) .place)
@@ -61,9 +71,12 @@ returns c =
     let W = q .one-of .result .wire in
     let place : W ≡ n + orderSize (a .digits) (a .cut) + suc (a .digits) = omega (arith, one q .place) in
     let way : W - a .digits - 1 ≡ n + orderSize (a .digits) (a .cut) = omega (arith, one q .place) in
-    wrote-then (a .w) (a .table .now) (smaller n (a .x) (a .y) (a .digits) (a .cut)) (q .one-of .last .1 .0) (q .one-of .result) _ _ (f .last .1 .0) (f .result)
-    (wrote-as (a .w) (a .table .now) _ (smaller n (a .x) (a .y) (a .digits) (a .cut)) (q .one-of .last .1 .0) (q .one-of .result) (smaller-is n (a .x) (a .y) (a .digits) (a .cut)) (q .one-of .ensures))
-    (f .ensures) (larger-is W (a .v) (W - a .digits - 1) (a .digits) (a .cut) ∙ ap (λ (m : ℕ). larger m (a .v) (W - a .digits - 1) (a .digits) (a .cut)) place
+    wrote-then (a .w) (a .table .now) (smaller n (a .x) (a .y) (a .digits) (a .cut)) (q .one-of .last .1 .0)
+    (q .one-of .result) _ _ (f .last .1 .0) (f .result)
+    (wrote-as (a .w) (a .table .now) _ (smaller n (a .x) (a .y) (a .digits) (a .cut)) (q .one-of .last .1 .0)
+    (q .one-of .result) (smaller-is n (a .x) (a .y) (a .digits) (a .cut)) (q .one-of .ensures))
+    (f .ensures) (larger-is W (a .v) (W - a .digits - 1) (a .digits) (a .cut)
+    ∙ ap (λ (m : ℕ). larger m (a .v) (W - a .digits - 1) (a .digits) (a .cut)) place
     ∙ ap (λ (m : ℕ). larger (n + orderSize (a .digits) (a .cut) + suc (a .digits)) (a .v) m (a .digits) (a .cut)) way)
 
 same-length : tie.Need-same-length

@@ -46,7 +46,8 @@ emit-requires-2 c κs = let p = c .before .before .before in room-of (p .emit .r
 two : (c : tie.After-emit2) → Stands (c .emit2 .result) (start (first c) .args .w .wire + 1 + 1) (2 * start (first c) .args .digits)
 two c =
     let p = first c in
-    stands-after (p .emit .result) (p .emit .last .1 .0) _ (c .emit2 .last .1 .0) (c .emit2 .result) _ 1 (2 * start p .args .digits) (c .emit2 .ensures) refl (one p)
+    stands-after (p .emit .result) (p .emit .last .1 .0) _ (c .emit2 .last .1 .0) (c .emit2 .result) _ 1
+    (2 * start p .args .digits) (c .emit2 .ensures) refl (one p)
 
 differences-requires : tie.Need-differences-requires
 differences-requires c κs =
@@ -58,13 +59,18 @@ differences-requires c κs =
       secondBelow = omega (arith, s .pre .secondBelow, two p .place);
     }
 
-three : (c : tie.After-differences) → Stands (c .differences .result) (start (first (second c)) .args .w .wire + 1 + 1 + start (first (second c)) .args .digits) (start (first (second c)) .args .digits)
+three : (c : tie.After-differences)
+    → Stands (c .differences .result)
+    (start (first (second c)) .args .w .wire + 1 + 1 + start (first (second c)) .args .digits)
+    (start (first (second c)) .args .digits)
 three c =
     let p = second c in
     let a = start (first p) .args in
     let t = two p in
-    stands-after (p .emit2 .result) (p .emit2 .last .1 .0) _ (c .differences .last .1 .0) (c .differences .result) _ (a .digits) (a .digits) (c .differences .ensures)
-    (length-differences (a .x + 1) (a .y + 1) (a .digits)) (stands (p .emit2 .result) (a .w .wire + 1 + 1) _ _ (t .place) (omega arith) (t .left))
+    stands-after (p .emit2 .result) (p .emit2 .last .1 .0) _ (c .differences .last .1 .0) (c .differences .result) _
+    (a .digits) (a .digits) (c .differences .ensures)
+    (length-differences (a .x + 1) (a .y + 1) (a .digits))
+    (stands (p .emit2 .result) (a .w .wire + 1 + 1) _ _ (t .place) (omega arith) (t .left))
 
 add-differences : tie.Need-add-differences
 add-differences c = let s = start (first (c .before .before .before)) in omega (arith, s .pre .room .small, s .pre .firstBelow)
@@ -101,11 +107,15 @@ returns c =
     let a = start p₁ .args in
     let n = a .w .wire in
     let e : p₃ .differences .result .wire ≡ n + 2 + a .digits = omega (arith, three p₃ .place) in
-    wrote-both (a .w) (a .table .now) (xorOf (a .x) (a .y) ∷ []) (p₁ .emit .last .1 .0) (p₁ .emit .result) _ (d .above .last .1 .0) (d .above .result)
+    wrote-both (a .w) (a .table .now) (xorOf (a .x) (a .y) ∷ []) (p₁ .emit .last .1 .0) (p₁ .emit .result) _
+    (d .above .last .1 .0) (d .above .result)
     (xor-wrote (a .w) (a .table .now) (p₁ .emit .last .1 .0) (p₁ .emit .result) (a .x) (a .y) 0 (p₁ .emit .ensures))
-    (wrote-both (p₁ .emit .result) (p₁ .emit .last .1 .0) (andOf (a .x) n ∷ []) (p₂ .emit2 .last .1 .0) (p₂ .emit2 .result) _ (d .above .last .1 .0) (d .above .result)
+    (wrote-both (p₁ .emit .result) (p₁ .emit .last .1 .0) (andOf (a .x) n ∷ []) (p₂ .emit2 .last .1 .0)
+    (p₂ .emit2 .result) _ (d .above .last .1 .0) (d .above .result)
     (and-wrote (p₁ .emit .result) (p₁ .emit .last .1 .0) (p₂ .emit2 .last .1 .0) (p₂ .emit2 .result) (a .x) n 0 (p₂ .emit2 .ensures))
-    (wrote-then (p₂ .emit2 .result) (p₂ .emit2 .last .1 .0) (differences (a .x + 1) (a .y + 1) (a .digits)) (p₃ .differences .last .1 .0) (p₃ .differences .result) _ _ (d .above .last .1 .0) (d .above .result) (p₃ .differences .ensures) (d .above .ensures)
+    (wrote-then (p₂ .emit2 .result) (p₂ .emit2 .last .1 .0) (differences (a .x + 1) (a .y + 1) (a .digits))
+    (p₃ .differences .last .1 .0) (p₃ .differences .result) _ _ (d .above .last .1 .0) (d .above .result)
+    (p₃ .differences .ensures) (d .above .ensures)
     (ap (λ (m : ℕ). above m (n + 2) (a .x + 1) (n + 1) (a .digits)) e)))
 
 same-length : tie.Need-same-length

@@ -29,7 +29,8 @@ emit-requires c κs = room-less (c .before .before .args .w) _ _ (omega arith) (
 one : (c : tie.After-emit) → Stands (c .emit .result) (start c .args .w .wire + 1) 3
 one c =
     let a = start c .args in
-    stands-after (a .w) (a .table .now) _ (c .emit .last .1 .0) (c .emit .result) _ 1 3 (c .emit .ensures) refl (stands (a .w) (a .w .wire) _ _ refl (omega arith) (start c .pre .room))
+    stands-after (a .w) (a .table .now) _ (c .emit .last .1 .0) (c .emit .result) _ 1 3 (c .emit .ensures) refl
+    (stands (a .w) (a .w .wire) _ _ refl (omega arith) (start c .pre .room))
 
 emit-requires-2 : tie.Need-emit-requires-2
 emit-requires-2 c κs = let p = c .before .before .before in room-of (p .emit .result) _ _ _ (one p) (omega arith)
@@ -46,7 +47,8 @@ emit-requires-4 : tie.Need-emit-requires-4
 emit-requires-4 c κs =
     let q = c .before .before .before in
     let p = second q in
-    stands-after (p .emit2 .result) (p .emit2 .last .1 .0) _ (q .emit3 .last .1 .0) (q .emit3 .result) _ 1 1 (q .emit3 .ensures) refl (two p) .left
+    stands-after (p .emit2 .result) (p .emit2 .last .1 .0) _ (q .emit3 .last .1 .0) (q .emit3 .result) _ 1 1
+    (q .emit3 .ensures) refl (two p) .left
 
 sub-emit : tie.Need-sub-emit
 sub-emit c = c .before .before .pre .second
@@ -77,11 +79,15 @@ returns c =
     let p₁ = first p₂ in
     let a = start p₁ .args in
     let n = a .w .wire in
-    wrote-four (a .w) (a .table .now) _ (p₁ .emit .last .1 .0) (p₁ .emit .result) _ (p₂ .emit2 .last .1 .0) (p₂ .emit2 .result) _ (p₃ .emit3 .last .1 .0) (p₃ .emit3 .result) _ (d .emit4 .last .1 .0) (d .emit4 .result)
+    wrote-four (a .w) (a .table .now) _ (p₁ .emit .last .1 .0) (p₁ .emit .result) _ (p₂ .emit2 .last .1 .0)
+    (p₂ .emit2 .result) _ (p₃ .emit3 .last .1 .0) (p₃ .emit3 .result) _ (d .emit4 .last .1 .0) (d .emit4 .result)
     (and-wrote (a .w) (a .table .now) (p₁ .emit .last .1 .0) (p₁ .emit .result) (a .b - 2) (a .s - 1) 0 (p₁ .emit .ensures))
-    (and-wrote (p₁ .emit .result) (p₁ .emit .last .1 .0) (p₂ .emit2 .last .1 .0) (p₂ .emit2 .result) (a .b - 1) (n - 1) 0 (p₂ .emit2 .ensures))
-    (mux-wrote (p₂ .emit2 .result) (p₂ .emit2 .last .1 .0) (p₃ .emit3 .last .1 .0) (p₃ .emit3 .result) (a .a - 1) (a .mi) n (p₃ .emit3 .ensures))
-    (mux-wrote (p₃ .emit3 .result) (p₃ .emit3 .last .1 .0) (d .emit4 .last .1 .0) (d .emit4 .result) (a .a - 2) (a .mj) (n + 1) (d .emit4 .ensures))
+    (and-wrote (p₁ .emit .result) (p₁ .emit .last .1 .0) (p₂ .emit2 .last .1 .0) (p₂ .emit2 .result) (a .b - 1)
+    (n - 1) 0 (p₂ .emit2 .ensures))
+    (mux-wrote (p₂ .emit2 .result) (p₂ .emit2 .last .1 .0) (p₃ .emit3 .last .1 .0) (p₃ .emit3 .result) (a .a - 1)
+    (a .mi) n (p₃ .emit3 .ensures))
+    (mux-wrote (p₃ .emit3 .result) (p₃ .emit3 .last .1 .0) (d .emit4 .last .1 .0) (d .emit4 .result) (a .a - 2)
+    (a .mj) (n + 1) (d .emit4 .ensures))
 
 same-length : tie.Need-same-length
 same-length c = search needs

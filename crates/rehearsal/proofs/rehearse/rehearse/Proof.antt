@@ -21,11 +21,15 @@ enum-told c = search needs
 enum-known-shape : tie.Need-enum-known-shape
 enum-known-shape c = search needs
 
+-- The stages of the function, seen from later ones.
+abbrev start-from-shape : tie.After-shape → tie.Start
+start-from-shape c = c .before .before .before .before .before .before
+
 rehearse-shape-requires : tie.Need-rehearse-shape-requires
 rehearse-shape-requires c κs =
     let known = c .before .before .before .before in
     let made = known .before .before in
-    let start = made .before .before .before .before .before .before in
+    let start = (start-from-shape made) in
     let s = shapeIn (start .args .input .now) in
     record {
       shape-is = shape-is (withinLimits s) s (known .shape2 .given .0 .0) (sym (made .shape .ensures) ∙ known .shape2 .given .1);
@@ -36,7 +40,7 @@ returns : tie.Need-returns
 unfolding outcomeOn endOn
 returns c =
     let made = c .before .before in
-    let start = made .before .before .before .before .before .before in
+    let start = (start-from-shape made) in
     let s = shapeIn (start .args .input .now) in
     record {
       answers = by-the-limits (start .args .input .now) (start .args .table .now)

@@ -23,28 +23,53 @@ gates-of c = c .before .gates .given .0 .0
 conditional-of : tie.After-known-told2 → ℕ
 conditional-of c = c .before .gates .given .0 .1 .0
 
+-- The stages of the function, seen from later ones.
+abbrev start-from-write : tie.After-write → tie.Start
+start-from-write c = c .before .before .before .before .before .before .before
+
+abbrev write-from-known-told : tie.After-known-told → tie.After-write
+write-from-known-told c = c .before .before .before .before .before
+
+abbrev write-from-known-told2 : tie.After-known-told2 → tie.After-write
+write-from-known-told2 c = c .before .before .before .before .before
+
+abbrev write-from-list : tie.After-list → tie.After-write
+write-from-list c = c .before .before .before .before .before .before
+
+abbrev known-told2-from-run-list-arg3 : tie.After-run-list-arg3 → tie.After-known-told2
+known-told2-from-run-list-arg3 c = c .before .before .before .before .before
+
+abbrev known-told2-from-run-list-arg6 : tie.After-run-list-arg6 → tie.After-known-told2
+known-told2-from-run-list-arg6 c = c .before .before .before .before .before
+
 outcome-accepted : (c : tie.After-known-told2) →
-    let w = c .before .before .before .before .before in
-    let start = w .before .before .before .before .before .before .before in
+    let w = (write-from-known-told2 c) in
+    let start = (start-from-write w) in
     outcomeOf (answer.Accepted (gates-of c) (conditional-of c)) ≡ writeOutcome (start .args .shape) (start .args .table .now)
 unfolding gates-of conditional-of
 outcome-accepted c =
-    let w = c .before .before .before .before .before in
+    let w = (write-from-known-told2 c) in
     sym (ap outcomeOf (c .before .gates .given .1)) ∙ w .write .ensures .answers
 
 few : (c : tie.After-known-told2) → gates-of c ≤ 4000
 few c =
-    let w = c .before .before .before .before .before in
-    let start = w .before .before .before .before .before .before .before in
+    let w = (write-from-known-told2 c) in
+    let start = (start-from-write w) in
     let a = start .args in
-    gates-few (start .args .shape) (a .table .now) (a .tape .now) (a .wires .now) (a .board .now) (start .pre .buffers) (gates-of c) (conditional-of c) (outcome-accepted c)
+    gates-few (start .args .shape) (a .table .now) (a .tape .now) (a .wires .now) (a .board .now)
+    (start .pre .buffers) (gates-of c) (conditional-of c) (outcome-accepted c)
 
-fits : (c : tie.After-known-told2) → 4 * gates-of c ≤ length (c .before .before .before .before .before .write .last .1 .0)
+fits : (c : tie.After-known-told2) → 4 * gates-of c ≤ length ((write-from-known-told2 c) .write .last .1 .0)
 fits c =
-    let w = c .before .before .before .before .before in
-    let start = w .before .before .before .before .before .before .before in
+    let w = (write-from-known-told2 c) in
+    let start = (start-from-write w) in
     let a = start .args in
-    omega (arith, ap length (w .write .ensures .leaves), list-fits (start .args .shape) (a .table .now) (a .tape .now) (a .wires .now) (a .board .now) (start .pre .buffers) (gates-of c) (conditional-of c) (outcome-accepted c))
+    omega (
+      arith,
+      ap length (w .write .ensures .leaves),
+      list-fits (start .args .shape) (a .table .now) (a .tape .now) (a .wires .now) (a .board .now)
+          (start .pre .buffers) (gates-of c) (conditional-of c) (outcome-accepted c),
+    )
 
 write-requires : tie.Need-write-requires
 write-requires c κs = search needs
@@ -65,27 +90,29 @@ slice-reshare-prefix-list c = fits c
 
 slice-aggregate-list : tie.Need-slice-aggregate-list
 unfolding gates-of
-slice-aggregate-list c = cut-long (4 * gates-of (c .before)) (c .before .before .before .before .before .before .write .last .1 .0) (fits (c .before))
+slice-aggregate-list c = cut-long (4 * gates-of (c .before)) ((write-from-list c) .write .last .1 .0) (fits (c .before))
 
 slice-aggregate-run-list : tie.Need-slice-aggregate-run-list
 slice-aggregate-run-list c = search needs
 
 -- what the run asks of the list and the buffers
 cut : (c : tie.After-known-told2) →
-    let w = c .before .before .before .before .before in
-    let start = w .before .before .before .before .before .before .before in
+    let w = (write-from-known-told2 c) in
+    let start = (start-from-write w) in
     let a = start .args in
-    Cut (start .args .shape) (take (4 * gates-of c) (w .write .last .1 .0)) (gates-of c) (conditional-of c) (a .tape .now) (a .wires .now) (a .board .now)
+    Cut (start .args .shape) (take (4 * gates-of c) (w .write .last .1 .0)) (gates-of c) (conditional-of c)
+    (a .tape .now) (a .wires .now) (a .board .now)
 cut c =
-    let w = c .before .before .before .before .before in
-    let start = w .before .before .before .before .before .before .before in
+    let w = (write-from-known-told2 c) in
+    let start = (start-from-write w) in
     let a = start .args in
-    write-cut (start .args .shape) (a .table .now) (a .tape .now) (a .wires .now) (a .board .now) (start .pre .buffers) (gates-of c) (conditional-of c) (outcome-accepted c) _
+    write-cut (start .args .shape) (a .table .now) (a .tape .now) (a .wires .now) (a .board .now)
+    (start .pre .buffers) (gates-of c) (conditional-of c) (outcome-accepted c) _
     (ap (take (4 * gates-of c)) (w .write .ensures .leaves))
 
 run-list-requires : tie.Need-run-list-requires
 unfolding gates-of conditional-of
-run-list-requires c κs = cut (c .before .before .before .before .before)
+run-list-requires c κs = cut (known-told2-from-run-list-arg3 c)
 
 sub-run-list : tie.Need-sub-run-list
 sub-run-list c = search needs
@@ -98,7 +125,7 @@ part-run-list-end c = search needs
 
 run-list-requires-2 : tie.Need-run-list-requires-2
 unfolding gates-of conditional-of
-run-list-requires-2 c κs = cut (c .before .before .before .before .before)
+run-list-requires-2 c κs = cut (known-told2-from-run-list-arg6 c)
 
 same-length : tie.Need-same-length
 same-length c = search needs
@@ -106,8 +133,8 @@ same-length c = search needs
 returns : tie.Need-returns
 unfolding outcomeOn endOn
 returns c =
-    let w = c .before .before .before .before .before in
-    let start = w .before .before .before .before .before .before .before in
+    let w = (write-from-known-told c) in
+    let start = (start-from-write w) in
     let a = start .args in
     record {
       answers = by-the-write (a .input .now) (a .table .now) (start .args .shape) (c .before .reason .given .0 .0) (start .pre .shape-is)
@@ -117,16 +144,17 @@ returns c =
 
 -- the run's answer is the rehearsal's
 same-answer : (c : tie.After-known-told2) (ballots : List ℕ) →
-    let w = c .before .before .before .before .before in
-    let start = w .before .before .before .before .before .before .before in
+    let w = (write-from-known-told2 c) in
+    let start = (start-from-write w) in
     let a = start .args in
     ballots ≡ ballotsIn (a .input .now) → runOutcome (start .args .shape) ballots ≡ rehearsalOutcome (a .input .now) (a .table .now)
 same-answer c ballots e =
-    let w = c .before .before .before .before .before in
-    let start = w .before .before .before .before .before .before .before in
+    let w = (write-from-known-told2 c) in
+    let start = (start-from-write w) in
     let a = start .args in
     ap (runOutcome (start .args .shape)) e
-    ∙ by-the-run (start .args .shape) (a .table .now) (a .tape .now) (a .wires .now) (a .board .now) (start .pre .buffers) (gates-of c) (conditional-of c) (outcome-accepted c) (a .input .now) (start .pre .shape-is)
+    ∙ by-the-run (start .args .shape) (a .table .now) (a .tape .now) (a .wires .now) (a .board .now)
+    (start .pre .buffers) (gates-of c) (conditional-of c) (outcome-accepted c) (a .input .now) (start .pre .shape-is)
 
 same-length-2 : tie.Need-same-length-2
 same-length-2 c = search needs
@@ -142,8 +170,8 @@ returns-2 c =
     let run = c .before .before .before .before in
     let short = run .before .before .before .before in
     let told = short .before .before in
-    let w = told .before .before .before .before .before in
-    let start = w .before .before .before .before .before .before .before in
+    let w = (write-from-known-told2 told) in
+    let start = (start-from-write w) in
     let a = start .args in
     record {
       answers = run .run-list .ensures .answers ∙ same-answer told [] (sym (no-ballots (a .input .now) (short .if1 .taken)));
@@ -164,11 +192,13 @@ returns-3 c =
     let run = c .before .before .before .before in
     let long = run .before .before .before .before in
     let told = long .before .before in
-    let w = told .before .before .before .before .before in
-    let start = w .before .before .before .before .before .before .before in
+    let w = (write-from-known-told2 told) in
+    let start = (start-from-write w) in
     let a = start .args in
     record {
-      answers = run .run-list2 .ensures .answers ∙ same-answer told (take (length (a .input .now) - 3) (drop 3 (a .input .now))) (some-ballots (a .input .now));
+      answers = run .run-list2 .ensures .answers
+          ∙ same-answer told (take (length (a .input .now) - 3) (drop 3 (a .input .now)))
+          (some-ballots (a .input .now));
       on-board = run .run-list2 .ensures .on-board;
     }
 

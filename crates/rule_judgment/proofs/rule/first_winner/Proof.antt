@@ -59,7 +59,9 @@ loop-less c = omega arith
 
 -- the call's answer, in terms of the rows
 as-rows : (c : tie.Start Inv-loop μ-loop) (i j : ℕ) → i < c .args .k → j < c .args .k →
-    precedes (sequenceOf (take (c .args .d) (getD (c .args .t1) i []))) (sequenceOf (take (c .args .d) (getD (c .args .t1) j []))) ≡ precedes (sequenceOf (getD (rows c) i [])) (sequenceOf (getD (rows c) j []))
+    precedes (sequenceOf (take (c .args .d) (getD (c .args .t1) i [])))
+    (sequenceOf (take (c .args .d) (getD (c .args .t1) j [])))
+    ≡ precedes (sequenceOf (getD (rows c) i [])) (sequenceOf (getD (rows c) j []))
 as-rows c i j hi hj = sym (rw (row-at (c .args .k) (c .args .d) (c .args .t1) i hi, row-at (c .args .k) (c .args .d) (c .args .t1) j hj))
 
 loop-again : tie.Need-loop-again Inv-loop μ-loop
@@ -73,8 +75,10 @@ loop-again c =
       omega arith,
       ⊎-elim {C = c .if1 .first < x .k} (λ w. omega (arith, w .1)) (λ w. omega (arith, w .1)) (c .if1 .came),
       ⊎-elim {C = Leads (rows start) (c .if1 .first) (m + 1)}
-          (λ w. subst (λ (f : ℕ). Leads (rows start) f (m + 1)) (sym (w .1)) (leads-next (rows start) i m (at .loop .inv .2) (sym told ∙ w .0 .taken)))
-          (λ w. subst (λ (f : ℕ). Leads (rows start) f (m + 1)) (sym (w .1)) (leads-still (rows start) i m (at .loop .inv .2) (sym told ∙ w .0 .left)))
+          (λ w. subst (λ (f : ℕ). Leads (rows start) f (m + 1)) (sym (w .1))
+          (leads-next (rows start) i m (at .loop .inv .2) (sym told ∙ w .0 .taken)))
+          (λ w. subst (λ (f : ℕ). Leads (rows start) f (m + 1)) (sym (w .1))
+          (leads-still (rows start) i m (at .loop .inv .2) (sym told ∙ w .0 .left)))
           (c .if1 .came),
     )
 

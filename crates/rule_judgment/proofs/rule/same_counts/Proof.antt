@@ -17,7 +17,8 @@ use Rattle.rule_judgment.proofs.rule.same_counts.Tie as tie
 
 abbrev Inv-loop : tie.InvT-loop
 Inv-loop counts a b d g₀ g =
-    (g ≤ d) × (sameCounts (drop g (take d (getD counts a []))) (drop g (take d (getD counts b []))) ≡ sameCounts (take d (getD counts a [])) (take d (getD counts b [])))
+    (g ≤ d) × (sameCounts (drop g (take d (getD counts a []))) (drop g (take d (getD counts b [])))
+    ≡ sameCounts (take d (getD counts a [])) (take d (getD counts b [])))
 
 abbrev μ-loop : tie.MeasureT-loop
 μ-loop counts a b d g₀ g = d - g
@@ -78,7 +79,8 @@ returns c =
     let start = at .before in
     let x = start .args in
     both start
-    (sym (same-not (first start) (second start) (at .loop .g) (x .d) (first-length start) (second-length start) (omega arith) (c .if1 .taken)) ∙ at .loop .inv .1)
+    (sym (same-not (first start) (second start) (at .loop .g) (x .d) (first-length start) (second-length start)
+    (omega arith) (c .if1 .taken)) ∙ at .loop .inv .1)
 
 add-g : tie.Need-add-g Inv-loop μ-loop
 add-g c = omega arith
@@ -91,8 +93,13 @@ loop-again c =
     let at = c .before .before .before .before in
     let start = at .before in
     let x = start .args in
-    let g = at .loop .g in
-    (omega arith, ap (λ (j : ℕ). sameCounts (drop j (take (x .d) (first start))) (drop j (take (x .d) (second start)))) (add-one g) ∙ sym (same-later (first start) (second start) g (x .d) (first-length start) (second-length start) (omega arith) (c .if1 .left)) ∙ at .loop .inv .1)
+    let g = at .loop .g in (
+      omega arith,
+      ap (λ (j : ℕ). sameCounts (drop j (take (x .d) (first start)))
+          (drop j (take (x .d) (second start)))) (add-one g)
+          ∙ sym (same-later (first start) (second start) g (x .d) (first-length start) (second-length start)
+          (omega arith) (c .if1 .left)) ∙ at .loop .inv .1,
+    )
 
 returns-2 : tie.Need-returns-2 Inv-loop μ-loop
 returns-2 c =
@@ -100,8 +107,10 @@ returns-2 c =
     let start = at .before in
     let x = start .args in
     both start
-    (sym (same-end (first start) (second start) (at .loop .g) (x .d) (first-length start) (second-length start) (omega arith)) ∙ at .loop .inv .1)
+    (sym (same-end (first start) (second start) (at .loop .g) (x .d) (first-length start) (second-length start)
+    (omega arith)) ∙ at .loop .inv .1)
 
 pub same-counts-spec : {M : Type 1} → statement M
 same-counts-spec =
-    tie.close (tie.spec Inv-loop μ-loop loop-holds mul-if1 mul-if1-2 index-1-if1 index-2-if1 mul-if1-3 mul-if1-4 index-1-if1-2 index-2-if1-2 returns add-g loop-less loop-again returns-2)
+    tie.close (tie.spec Inv-loop μ-loop loop-holds mul-if1 mul-if1-2 index-1-if1 index-2-if1 mul-if1-3 mul-if1-4
+    index-1-if1-2 index-2-if1-2 returns add-g loop-less loop-again returns-2)

@@ -41,7 +41,8 @@ abbrev rows : tie.Start Inv-loop μ-loop → List (List ℕ)
 rows c = rowsIn (c .args .shape .candidates) (c .args .shape .grades) (c .args .t2)
 
 rows-are : (c : tie.Start Inv-loop μ-loop) → length (rows c) ≡ c .args .shape .candidates
-rows-are c = rows-length (c .args .shape .candidates) (c .args .shape .grades) (c .args .t2) (omega (arith, c .good .1 .0 .1 .0 .1, within-limits c .k-most))
+rows-are c = rows-length (c .args .shape .candidates) (c .args .shape .grades) (c .args .t2)
+    (omega (arith, c .good .1 .0 .1 .0 .1, within-limits c .k-most))
 
 first-winner-requires : tie.Need-first-winner-requires Inv-loop μ-loop
 first-winner-requires c κs =
@@ -74,8 +75,12 @@ same-counts-requires c κs =
       secondColumns = start .pre .columns (at .before .first-winner .result) first;
     }
 
+-- The stages of the function, seen from later ones.
+abbrev start-from-then1 : tie.Then1 Inv-loop μ-loop → tie.Start Inv-loop μ-loop
+start-from-then1 c = c .before .before .before .before .before .before
+
 array-write-closing : tie.Need-array-write-closing Inv-loop μ-loop
-array-write-closing c = omega (arith, within-limits (c .before .before .before .before .before .before) .k-most)
+array-write-closing c = omega (arith, within-limits (start-from-then1 c) .k-most)
 
 add-c : tie.Need-add-c Inv-loop μ-loop
 add-c c = omega arith
@@ -94,7 +99,8 @@ module _ (c : tie.After-same-counts Inv-loop μ-loop) where
   abbrev winner : ℕ
   winner = at .before .first-winner .result
 
-  row : (i : ℕ) → i < begin .args .shape .candidates → getD (rows begin) i [] ≡ take (begin .args .shape .grades) (getD (begin .args .t2) i [])
+  row : (i : ℕ) → i < begin .args .shape .candidates → getD (rows begin) i []
+      ≡ take (begin .args .shape .grades) (getD (begin .args .t2) i [])
   row i l = row-at (begin .args .shape .candidates) (begin .args .shape .grades) (begin .args .t2) i l
 
   winner-inside : winner < begin .args .shape .candidates
@@ -108,14 +114,17 @@ module _ (c : tie.After-same-counts Inv-loop μ-loop) where
 
   byte-one : c .same-counts .result ≡ true → byte (rows begin) (at .loop .c) ≡ 1
   byte-one e =
-      same-wins (begin .args .shape .ballots) (rows begin) (begin .pre .gets) winner (omega (arith, rows-are begin, winner-inside)) (at .before .first-winner .ensures .byte)
+      same-wins (begin .args .shape .ballots) (rows begin) (begin .pre .gets) winner
+      (omega (arith, rows-are begin, winner-inside)) (at .before .first-winner .ensures .byte)
       (at .loop .c) (omega (arith, rows-are begin, turn-inside)) (sym compared-rows ∙ e)
 
   byte-zero : c .same-counts .result ≡ false → byte (rows begin) (at .loop .c) ≡ 0
   byte-zero e =
-      other-loses (begin .args .shape .ballots) (rows begin) (begin .pre .gets) winner (omega (arith, rows-are begin, winner-inside)) (at .before .first-winner .ensures .byte)
+      other-loses (begin .args .shape .ballots) (rows begin) (begin .pre .gets) winner
+      (omega (arith, rows-are begin, winner-inside)) (at .before .first-winner .ensures .byte)
       (at .loop .c) (omega (arith, rows-are begin, turn-inside))
-      (ap length (row (at .loop .c) turn-inside) ∙ c .same-counts .ensures .firstLength ∙ sym (c .same-counts .ensures .secondLength) ∙ sym (ap length (row winner winner-inside)))
+      (ap length (row (at .loop .c) turn-inside) ∙ c .same-counts .ensures .firstLength
+      ∙ sym (c .same-counts .ensures .secondLength) ∙ sym (ap length (row winner winner-inside)))
       (sym compared-rows ∙ e)
 
 loop-again : tie.Need-loop-again Inv-loop μ-loop
@@ -141,7 +150,8 @@ returns c =
     let last = c .before in
     let all = rows (last .before .before) in
     last .loop .inv .1
-    ∙ ap (λ (i : ℕ). tabulate 8 (upTo i (byte all) (λ j. 0))) {x = last .loop .c} {y = length all} (omega (arith, rows-are (last .before .before)))
+    ∙ ap (λ (i : ℕ). tabulate 8 (upTo i (byte all) (λ j. 0))) {x = last .loop .c} {y = length all}
+    (omega (arith, rows-are (last .before .before)))
     ∙ eight-judged all
 
 pub winners-spec : {M : Type 1} → statement M

@@ -22,7 +22,8 @@ returns c =
     let start = counted .before .before in
     let k = start .args .k in
     c .winners .ensures
-    ∙ ap eightBytes (closing-agree k (entry (counted .matrix .result)) (votes k (start .args .n) (start .args .ballots .now)) (counted .matrix .ensures))
+    ∙ ap eightBytes (closing-agree k (entry (counted .matrix .result))
+    (votes k (start .args .n) (start .args .ballots .now)) (counted .matrix .ensures))
 
 pub closing-bytes-spec : {M : Type 1} → statement M
 closing-bytes-spec = tie.close (tie.spec matrix-requires winners-requires returns)

@@ -13,7 +13,8 @@ use Rattle.rule_schulze.proofs.rule.detour.Statement.{statement}
 use Rattle.rule_schulze.proofs.rule.detour.Tie as tie
 
 abbrev Inv-loop : tie.InvT-loop
-Inv-loop paths k l after₀ i₀ after i = (i ≤ k) × (length after ≡ 8) × ((a m : ℕ) → a < i → m < k → entry after a m ≡ max (entry paths a m) (min (entry paths a l) (entry paths l m)))
+Inv-loop paths k l after₀ i₀ after i = (i ≤ k) × (length after ≡ 8)
+    × ((a m : ℕ) → a < i → m < k → entry after a m ≡ max (entry paths a m) (min (entry paths a l) (entry paths l m)))
 
 abbrev μ-loop : tie.MeasureT-loop
 μ-loop paths k l after₀ i₀ after i = k - i
@@ -44,12 +45,14 @@ loop-again c =
     let l = start .args .l in (
       omega arith,
       length-set (at .loop .after) (at .loop .i) (c .detour-from .result) ∙ at .loop .inv .1,
-      table-step (λ i j. max (t i j) (min (t i l) (t l j))) (start .args .k) (at .loop .after) (at .loop .i) (c .detour-from .result) (omega arith) (at .loop .inv .2)
+      table-step (λ i j. max (t i j) (min (t i l) (t l j))) (start .args .k) (at .loop .after) (at .loop .i)
+          (c .detour-from .result) (omega arith) (at .loop .inv .2)
           (c .detour-from .ensures),
     )
 
 returns : tie.Need-returns Inv-loop μ-loop
-returns c = λ i j hi hj ne. let start = c .before .before in c .before .loop .inv .2 i j (omega arith) hj ∙ detour-tried (start .args .l) (entry (start .args .paths)) i j ne
+returns c = λ i j hi hj ne. let start = c .before .before in c .before .loop .inv .2 i j (omega arith) hj
+    ∙ detour-tried (start .args .l) (entry (start .args .paths)) i j ne
 
 pub detour-spec : {M : Type 1} → statement M
 detour-spec =

@@ -12,7 +12,8 @@ use Rattle.rule_schulze.proofs.rule.detour_from.Statement.{statement}
 use Rattle.rule_schulze.proofs.rule.detour_from.Tie as tie
 
 abbrev Inv-loop : tie.InvT-loop
-Inv-loop k l i paths row₀ j₀ row j = (j ≤ k) × (length row ≡ 8) × ((m : ℕ) → m < j → getD row m 0 ≡ max (entry paths i m) (min (entry paths i l) (entry paths l m)))
+Inv-loop k l i paths row₀ j₀ row j = (j ≤ k) × (length row ≡ 8)
+    × ((m : ℕ) → m < j → getD row m 0 ≡ max (entry paths i m) (min (entry paths i l) (entry paths l m)))
 
 abbrev μ-loop : tie.MeasureT-loop
 μ-loop k l i paths row₀ j₀ row j = k - j

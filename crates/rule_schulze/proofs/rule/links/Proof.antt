@@ -41,7 +41,8 @@ loop-again c =
     let start = at .before in (
       omega arith,
       length-set (at .loop .links) (at .loop .i) (c .links-of .result) ∙ at .loop .inv .1,
-      table-step (link (entry (start .args .votes))) (start .args .k) (at .loop .links) (at .loop .i) (c .links-of .result) (omega arith) (at .loop .inv .2) (c .links-of .ensures),
+      table-step (link (entry (start .args .votes))) (start .args .k) (at .loop .links) (at .loop .i)
+          (c .links-of .result) (omega arith) (at .loop .inv .2) (c .links-of .ensures),
     )
 
 returns : tie.Need-returns Inv-loop μ-loop

@@ -66,7 +66,8 @@ loop-again c =
     let start = at .before in (
       omega arith,
       length-set (at .loop .row) (at .loop .j) (c .link .result) ∙ at .loop .inv .1,
-      row-step (link (entry (start .args .t1)) (start .args .i)) (at .loop .row) (at .loop .j) (c .link .result) (omega arith) (at .loop .inv .2) (c .link .ensures),
+      row-step (link (entry (start .args .t1)) (start .args .i)) (at .loop .row) (at .loop .j) (c .link .result)
+          (omega arith) (at .loop .inv .2) (c .link .ensures),
     )
 
 returns : tie.Need-returns Inv-loop μ-loop

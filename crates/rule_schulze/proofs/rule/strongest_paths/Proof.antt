@@ -46,7 +46,9 @@ loop-again c =
     )
 
 returns : tie.Need-returns Inv-loop μ-loop
-returns c = let start = c .before .before in λ i j hi hj ne. c .before .loop .inv .1 i j hi hj ne ∙ ap (λ (l : ℕ). closure l (entry (start .args .links)) i j) {x = c .before .loop .l} {y = start .args .k} (omega arith)
+returns c = let start = c .before .before in λ i j hi hj ne. c .before .loop .inv .1 i j hi hj ne
+    ∙ ap (λ (l : ℕ). closure l (entry (start .args .links)) i j) {x = c .before .loop .l} {y = start .args .k}
+    (omega arith)
 
 pub strongest-paths-spec : {M : Type 1} → statement M
 strongest-paths-spec =

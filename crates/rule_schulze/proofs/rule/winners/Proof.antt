@@ -66,12 +66,14 @@ loop-again c =
           (λ w.
           w .1
           ∙ ap (λ (m : List ℕ). set m i 1) (at .loop .inv .1)
-          ∙ ap (λ (x : ℕ). set (filled paths k i) i x) (sym (ap (λ (t : Bool). cond {A = ℕ} t 1 0) (sym (c .before .wins .ensures) ∙ w .0 .taken)))
+          ∙ ap (λ (x : ℕ). set (filled paths k i) i x)
+          (sym (ap (λ (t : Bool). cond {A = ℕ} t 1 0) (sym (c .before .wins .ensures) ∙ w .0 .taken)))
           ∙ fill-step 8 i (winner paths k) (λ j. 0) (omega arith))
           (λ w.
           w .1
           ∙ at .loop .inv .1
-          ∙ fill-skip 8 i (winner paths k) (λ j. 0) (omega arith) (ap (λ (t : Bool). cond {A = ℕ} t 1 0) (sym (c .before .wins .ensures) ∙ w .0 .left)))
+          ∙ fill-skip 8 i (winner paths k) (λ j. 0) (omega arith)
+          (ap (λ (t : Bool). cond {A = ℕ} t 1 0) (sym (c .before .wins .ensures) ∙ w .0 .left)))
           (c .if1 .came)
           ∙ ap (filled paths k) (sym (add-one i)),
     )

@@ -77,7 +77,9 @@ loop-again c =
     )
 
 returns-2 : tie.Need-returns-2 Inv-loop μ-loop
-returns-2 c = let start = c .before .before in sym (unbeaten-holds (start .args .t1) (start .args .k) (start .args .i) (λ j h. c .before .loop .inv .1 j (omega arith)))
+returns-2 c = let start = c .before .before in
+    sym (unbeaten-holds (start .args .t1) (start .args .k) (start .args .i)
+    (λ j h. c .before .loop .inv .1 j (omega arith)))
 
 pub wins-spec : {M : Type 1} → statement M
 wins-spec =

@@ -12,7 +12,8 @@ use Rattle.rule_schulze.proofs.votes.count_of.Statement.{statement}
 use Rattle.rule_schulze.proofs.votes.count_of.Tie as tie
 
 abbrev Inv-loop : tie.InvT-loop
-Inv-loop ballots k n i j ballot at₀ count₀ b₀ at count b = (b ≤ n) × (at ≡ (b * k + i) * k + j) × (count ≡ votes k b ballots i j) × (count ≤ b)
+Inv-loop ballots k n i j ballot at₀ count₀ b₀ at count b = (b ≤ n) × (at ≡ (b * k + i) * k + j)
+    × (count ≡ votes k b ballots i j) × (count ≤ b)
 
 abbrev μ-loop : tie.MeasureT-loop
 μ-loop ballots k n i j ballot at₀ count₀ b₀ at count b = n - b
@@ -39,7 +40,12 @@ inside : (c : tie.In-loop Inv-loop μ-loop) → c .before .loop .at < length (c 
 inside c =
     let at = c .before in
     let start = at .before in
-    omega (arith, start .pre .sized .size, place-within (start .args .k) (start .args .n) (at .loop .b) (start .args .i) (start .args .j) (omega arith) (omega arith) (omega arith))
+    omega (
+      arith,
+      start .pre .sized .size,
+      place-within (start .args .k) (start .args .n) (at .loop .b) (start .args .i) (start .args .j) (omega arith)
+          (omega arith) (omega arith),
+    )
 
 shared-slice-read-if1 : tie.Need-shared-slice-read-if1 Inv-loop μ-loop
 shared-slice-read-if1 c = inside (c .before)
@@ -48,7 +54,12 @@ add-count : tie.Need-add-count Inv-loop μ-loop
 add-count c = omega arith
 
 add-at-2 : tie.Need-add-at-2 Inv-loop μ-loop
-add-at-2 c = let start = c .before .before .before .before in omega (arith, inside (c .before .before), few-bytes (start .args .k) (start .args .n) (start .args .ballots .now) (start .pre .sized))
+add-at-2 c = let start = c .before .before .before .before in
+    omega (
+      arith,
+      inside (c .before .before),
+      few-bytes (start .args .k) (start .args .n) (start .args .ballots .now) (start .pre .sized),
+    )
 
 add-b : tie.Need-add-b Inv-loop μ-loop
 add-b c = omega arith
@@ -75,7 +86,8 @@ loop-again c =
 returns : tie.Need-returns Inv-loop μ-loop
 returns c =
     let start = c .before .before in
-    c .before .loop .inv .2 ∙ ap (λ (m : ℕ). votes (start .args .k) m (start .args .ballots .now) (start .args .i) (start .args .j)) {x = c .before .loop .b} {y = start .args .n} (omega arith)
+    c .before .loop .inv .2 ∙ ap (λ (m : ℕ). votes (start .args .k) m (start .args .ballots .now) (start .args .i)
+    (start .args .j)) {x = c .before .loop .b} {y = start .args .n} (omega arith)
 
 pub count-of-spec : {M : Type 1} → statement M
 count-of-spec =

@@ -12,7 +12,8 @@ use Rattle.rule_schulze.proofs.votes.matrix.Statement.{statement}
 use Rattle.rule_schulze.proofs.votes.matrix.Tie as tie
 
 abbrev Inv-loop : tie.InvT-loop
-Inv-loop ballots k n table₀ i₀ table i = (i ≤ k) × (length table ≡ 8) × ((a m : ℕ) → a < i → m < k → entry table a m ≡ votes k n ballots a m)
+Inv-loop ballots k n table₀ i₀ table i = (i ≤ k) × (length table ≡ 8)
+    × ((a m : ℕ) → a < i → m < k → entry table a m ≡ votes k n ballots a m)
 
 abbrev μ-loop : tie.MeasureT-loop
 μ-loop ballots k n table₀ i₀ table i = k - i
@@ -41,7 +42,8 @@ loop-again c =
     let start = at .before .before in (
       omega arith,
       length-set (at .loop .table) (at .loop .i) (c .row-of .result) ∙ at .loop .inv .1,
-      table-step (votes (start .args .k) (start .args .n) (start .args .ballots .now)) (start .args .k) (at .loop .table) (at .loop .i) (c .row-of .result) (omega arith) (at .loop .inv .2) (c .row-of .ensures),
+      table-step (votes (start .args .k) (start .args .n) (start .args .ballots .now)) (start .args .k)
+          (at .loop .table) (at .loop .i) (c .row-of .result) (omega arith) (at .loop .inv .2) (c .row-of .ensures),
     )
 
 returns : tie.Need-returns Inv-loop μ-loop

@@ -40,7 +40,8 @@ loop-again c =
     let start = at .before .before in (
       omega arith,
       length-set (at .loop .row) (at .loop .j) (c .count-of .result) ∙ at .loop .inv .1,
-      row-step (votes (start .args .k) (start .args .n) (start .args .ballots .now) (start .args .i)) (at .loop .row) (at .loop .j) (c .count-of .result) (omega arith) (at .loop .inv .2) (c .count-of .ensures),
+      row-step (votes (start .args .k) (start .args .n) (start .args .ballots .now) (start .args .i))
+          (at .loop .row) (at .loop .j) (c .count-of .result) (omega arith) (at .loop .inv .2) (c .count-of .ensures),
     )
 
 returns : tie.Need-returns Inv-loop μ-loop

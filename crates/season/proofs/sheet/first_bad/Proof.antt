@@ -21,7 +21,12 @@ abbrev μ-loop : tie.MeasureT-loop
 μ-loop bytes runs i₀ at₀ i at = runs - i
 
 loop-holds : tie.Need-loop-holds Inv-loop μ-loop
-loop-holds c = (omega arith, omega arith, ap (λ (n : ℕ). firstBadRun 0 (firstRuns n (c .before .args .bytes .now))) (sub-zero (c .before .args .runs)))
+loop-holds c = (
+  omega arith,
+  omega arith,
+  ap (λ (n : ℕ). firstBadRun 0 (firstRuns n (c .before .args .bytes .now)))
+      (sub-zero (c .before .args .runs)),
+)
 
 -- a turn's run lies within the bytes
 end-within : (c : tie.In-loop Inv-loop μ-loop) → c .before .loop .at + runBytes ≤ length (c .before .before .before .args .bytes .now)
@@ -44,7 +49,11 @@ read-requires c κs = part-long (c .before .before .loop .at) (c .before .before
 
 -- what the test says about the run
 tested : (c : tie.After-is-good Inv-loop μ-loop) → c .is-good .result
-    ≡ goodRun (runOf (take (c .before .before .before .before .loop .at + runBytes - c .before .before .before .before .loop .at) (drop (c .before .before .before .before .loop .at) (c .before .before .before .before .before .before .args .bytes .now))))
+    ≡ goodRun
+    (runOf (take (c .before .before .before .before .loop .at + runBytes
+    - c .before .before .before .before .loop .at)
+    (drop (c .before .before .before .before .loop .at)
+    (c .before .before .before .before .before .before .args .bytes .now))))
 tested c = c .is-good .ensures ∙ ap goodRun (c .before .read .ensures .is)
 
 is-good-requires : tie.Need-is-good-requires Inv-loop μ-loop
@@ -55,7 +64,8 @@ returns c =
     let at = c .before .before .before .before .before in
     let xs = at .before .before .args .bytes .now in
     let bad = sym (tested (c .before)) ∙ not-true (c .before .is-good .result) (c .if1 .taken) in
-    sym (bad-here (at .loop .i) (at .before .before .args .runs) (drop (at .loop .at) xs) (omega arith) (ap (λ (ys : List ℕ). goodRun (runOf ys)) (sym (part-is (at .loop .at) xs)) ∙ bad)) ∙ at .loop .inv .2
+    sym (bad-here (at .loop .i) (at .before .before .args .runs) (drop (at .loop .at) xs) (omega arith)
+    (ap (λ (ys : List ℕ). goodRun (runOf ys)) (sym (part-is (at .loop .at) xs)) ∙ bad)) ∙ at .loop .inv .2
 
 add-i : tie.Need-add-i Inv-loop μ-loop
 add-i c = omega arith
@@ -67,13 +77,18 @@ loop-again : tie.Need-loop-again Inv-loop μ-loop
 loop-again c =
     let at = c .before .before .before .before .before in
     let xs = at .before .before .args .bytes .now in
-    let good = sym (tested (c .before)) ∙ not-false (c .before .is-good .result) (c .if1 .left) in
-    (omega arith, omega arith, bad-turn (at .loop .i) (at .before .before .args .runs) (at .loop .at) xs (omega arith) good ∙ at .loop .inv .2)
+    let good = sym (tested (c .before)) ∙ not-false (c .before .is-good .result) (c .if1 .left) in (
+      omega arith,
+      omega arith,
+      bad-turn (at .loop .i) (at .before .before .args .runs) (at .loop .at) xs
+          (omega arith) good ∙ at .loop .inv .2,
+    )
 
 returns-2 : tie.Need-returns-2 Inv-loop μ-loop
 returns-2 c =
     let at = c .before in
-    sym (bad-end (at .loop .i) (at .before .before .args .runs) (drop (at .loop .at) (at .before .before .args .bytes .now)) (omega arith)) ∙ at .loop .inv .2
+    sym (bad-end (at .loop .i) (at .before .before .args .runs)
+    (drop (at .loop .at) (at .before .before .args .bytes .now)) (omega arith)) ∙ at .loop .inv .2
 
 pub first-bad-spec : {M : Type 1} → statement M
 first-bad-spec =

@@ -33,7 +33,9 @@ returns-3 c =
     let asked = c .before .before .before in
     let fits = asked .before in
     let xs = fits .before .before .before .args .bytes .now in
-    refused-is xs (BadRun (c .before .i .given .0 .0)) (bad-run xs (c .before .i .given .0 .0) (fits .before .if1 .left) (fits .if2 .left) (sym (asked .first-bad .ensures) ∙ c .before .i .given .1))
+    refused-is xs (BadRun (c .before .i .given .0 .0))
+    (bad-run xs (c .before .i .given .0 .0) (fits .before .if1 .left) (fits .if2 .left)
+    (sym (asked .first-bad .ensures) ∙ c .before .i .given .1))
 
 returns-4 : tie.Need-returns-4
 unfolding runsIn
@@ -41,7 +43,9 @@ returns-4 c =
     let asked = c .before .before .before in
     let fits = asked .before in
     let xs = fits .before .before .before .args .bytes .now in
-    accepted-is xs (c .sums .result) (no-reason xs (fits .before .if1 .left) (fits .if2 .left) (sym (asked .first-bad .ensures) ∙ c .before .enum-told .given .1)) (c .sums .ensures)
+    accepted-is xs (c .sums .result)
+    (no-reason xs (fits .before .if1 .left) (fits .if2 .left)
+    (sym (asked .first-bad .ensures) ∙ c .before .enum-told .given .1)) (c .sums .ensures)
 
 pub sheet-spec : {M : Type 1} → statement M
 sheet-spec =

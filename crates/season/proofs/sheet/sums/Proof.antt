@@ -14,7 +14,8 @@ use Rattle.season.proofs.sheet.sums.Tie as tie
 
 abbrev Inv-loop : tie.InvT-loop
 Inv-loop bytes runs totals₀ done₀ at₀ totals done at =
-    (done ≤ runs) × (at ≡ done * runBytes) × SumsOf done totals × (plus totals (totalsOf (firstRuns (runs - done) (drop at bytes))) ≡ totalsOf (firstRuns runs bytes))
+    (done ≤ runs) × (at ≡ done * runBytes) × SumsOf done totals
+    × (plus totals (totalsOf (firstRuns (runs - done) (drop at bytes))) ≡ totalsOf (firstRuns runs bytes))
 
 abbrev μ-loop : tie.MeasureT-loop
 μ-loop bytes runs totals₀ done₀ at₀ totals done at = runs - done
@@ -23,8 +24,16 @@ loop-holds : tie.Need-loop-holds Inv-loop μ-loop
 loop-holds c = (
   omega arith,
   omega arith,
-  record { runs-most = omega arith; gates-most = omega arith; conditional-most = omega arith; ballots-most = omega arith; shared-most = omega arith },
-  plus-start (totalsOf (firstRuns (c .before .args .runs - 0) (c .before .args .bytes .now))) ∙ ap (λ (n : ℕ). totalsOf (firstRuns n (c .before .args .bytes .now))) (sub-zero (c .before .args .runs)),
+  record {
+    runs-most = omega arith;
+    gates-most = omega arith;
+    conditional-most = omega arith;
+    ballots-most =
+        omega arith;
+    shared-most = omega arith;
+  },
+  plus-start (totalsOf (firstRuns (c .before .args .runs - 0) (c .before .args .bytes .now)))
+      ∙ ap (λ (n : ℕ). totalsOf (firstRuns n (c .before .args .bytes .now))) (sub-zero (c .before .args .runs)),
 )
 
 -- a turn's run lies within the bytes
@@ -66,14 +75,18 @@ loop-again c =
     let xs = at .before .before .args .bytes .now in (
       omega arith,
       omega arith,
-      sums-grow (at .loop .done) (at .loop .totals) (c .plus .result) (c .before .read .result) (at .loop .inv .2) (c .before .read .ensures .small) (c .plus .ensures),
-      sums-turn (at .loop .totals) (c .plus .result) (c .before .read .result) (at .loop .done) (at .before .before .args .runs) (at .loop .at) xs (omega arith) (c .plus .ensures) (c .before .read .ensures .is) ∙ at .loop .inv .3,
+      sums-grow (at .loop .done) (at .loop .totals) (c .plus .result) (c .before .read .result) (at .loop .inv .2)
+          (c .before .read .ensures .small) (c .plus .ensures),
+      sums-turn (at .loop .totals) (c .plus .result) (c .before .read .result) (at .loop .done)
+          (at .before .before .args .runs) (at .loop .at) xs (omega arith) (c .plus .ensures)
+          (c .before .read .ensures .is) ∙ at .loop .inv .3,
     )
 
 returns : tie.Need-returns Inv-loop μ-loop
 returns c =
     let at = c .before in
-    sym (sums-end (at .loop .totals) (at .loop .done) (at .before .before .args .runs) (drop (at .loop .at) (at .before .before .args .bytes .now)) (omega arith)) ∙ at .loop .inv .3
+    sym (sums-end (at .loop .totals) (at .loop .done) (at .before .before .args .runs)
+    (drop (at .loop .at) (at .before .before .args .bytes .now)) (omega arith)) ∙ at .loop .inv .3
 
 pub sums-spec : {M : Type 1} → statement M
 sums-spec =

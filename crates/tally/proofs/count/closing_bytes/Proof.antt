@@ -44,7 +44,8 @@ graded-limits : (c : tie.Else1) → gradedLimits (c .before .before .before .arg
 graded-limits c = let start = c .before .before .before in graded-kind (start .args .shape) (start .pre .within) (grading c)
 
 graded-ballots : (c : tie.Else1) → let start = c .before .before .before in GradedBallots (start .args .shape) (start .args .ballots .now)
-graded-ballots c = let start = c .before .before .before in ballots-laws.graded (start .args .shape) (start .args .ballots .now) (start .pre) (graded-limits c)
+graded-ballots c = let start = c .before .before .before in
+    ballots-laws.graded (start .args .shape) (start .args .ballots .now) (start .pre) (graded-limits c)
 
 counts-requires : tie.Need-counts-requires
 counts-requires c κs = graded-ballots c
@@ -57,7 +58,8 @@ winners-requires c κs =
     let xs = a .ballots .now in
     record {
       within = true-T (gradedLimits s) (graded-limits graded);
-      gets = subst (λ (m : List (List ℕ)). EachGets (s .ballots) (rowsIn (s .candidates) (s .grades) m)) (sym (c .counts .ensures .array)) (array-gets s xs (graded-ballots graded));
+      gets = subst (λ (m : List (List ℕ)). EachGets (s .ballots) (rowsIn (s .candidates) (s .grades) m))
+          (sym (c .counts .ensures .array)) (array-gets s xs (graded-ballots graded));
       columns = λ i l. subst (λ (m : List (List ℕ)). length (getD m i []) ≡ 7) (sym (c .counts .ensures .array)) (array-columns s xs i l);
     }
 

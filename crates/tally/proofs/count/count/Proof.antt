@@ -27,7 +27,8 @@ returns c =
     let start = c .before .before .before in
     let s = start .args .shape in
     let xs = start .args .ballots .now in
-    let e = outside-reason s xs (sym (c .before .is-within-limits .ensures) ∙ not-true (c .before .is-within-limits .result) (c .if1 .taken)) in
+    let e = outside-reason s xs (sym (c .before .is-within-limits .ensures)
+    ∙ not-true (c .before .is-within-limits .result) (c .if1 .taken)) in
     record { verdict = sym e; closing = sym (ap (λ (r : Option Reason). closingAfter r (closingFor s xs)) e) }
 
 -- the shape is within its limits
@@ -43,8 +44,14 @@ enum-known-reason c = search needs
 enum-told : tie.Need-enum-told
 enum-told c = search needs
 
+-- The stages of the function, seen from later ones.
+abbrev start-from-enum-told : tie.After-enum-told → tie.Start
+start-from-enum-told c = c .before .before .before .before .before .before
+
 -- no test of the ballots applies
-no-reason : (c : tie.After-enum-told) → firstOf (ballotReasons (c .before .before .before .before .before .before .args .shape) (c .before .before .before .before .before .before .args .ballots .now)) ≡ none
+no-reason : (c : tie.After-enum-told)
+    → firstOf (ballotReasons ((start-from-enum-told c) .args .shape) ((start-from-enum-told c) .args .ballots .now))
+    ≡ none
 unfolding refusedFor
 no-reason c = sym (c .before .before .test .ensures) ∙ ap refusedFor (c .enum-told .given .1)
 

@@ -27,7 +27,8 @@ unfolding measureOutcome outcome unless firstOf
 inside s e = ap (λ (b : Bool). outcome (firstOf (unless b 1 ∷ [])) (measuresOf s)) e
 
 -- G and C of the own list, and I
-measured : (s : Shape) (gates conditional inputs : ℕ) → gates ≡ length (ownList s) → conditional ≡ conditionalCount (ownList s) → inputs ≡ ballotBytes s
+measured : (s : Shape) (gates conditional inputs : ℕ) → gates ≡ length (ownList s) → conditional
+    ≡ conditionalCount (ownList s) → inputs ≡ ballotBytes s
     → _≡_ {A = Measures} (record { gates = gates; conditional = conditional; inputs = inputs }) (measuresOf s)
 unfolding measuresOf
 measured s gates conditional inputs g c i = rw (g, c, i)
@@ -37,7 +38,8 @@ is-within-limits-requires c κs = search needs
 
 returns : tie.Need-returns
 unfolding measuredBy reasonOf
-returns c = sym (outside (c .before .before .args .shape) (sym (c .before .is-within-limits .ensures) ∙ not-true (c .before .is-within-limits .result) (c .if1 .taken)))
+returns c = sym (outside (c .before .before .args .shape)
+    (sym (c .before .is-within-limits .ensures) ∙ not-true (c .before .is-within-limits .result) (c .if1 .taken)))
 
 -- the shape is within its limits
 limits : (c : tie.Else1) → withinLimits (c .before .before .args .shape) ≡ true
@@ -53,7 +55,9 @@ returns-2 : tie.Need-returns-2
 unfolding measuredBy
 returns-2 c =
     let s = c .before .before .before .before .args .shape in
-    ap accepted (measured s (c .before .measure .result .gate) (c .before .measure .result .conditional) (c .ballot-bytes .result) (c .before .measure .ensures .gates) (c .before .measure .ensures .conditionals) (c .ballot-bytes .ensures)) ∙ sym (inside s (limits (c .before .before)))
+    ap accepted (measured s (c .before .measure .result .gate) (c .before .measure .result .conditional)
+    (c .ballot-bytes .result) (c .before .measure .ensures .gates) (c .before .measure .ensures .conditionals)
+    (c .ballot-bytes .ensures)) ∙ sym (inside s (limits (c .before .before)))
 
 pub measure-spec : {M : Type 1} → statement M
 measure-spec =

@@ -56,14 +56,20 @@ own-list-requires c κs =
 same-length : tie.Need-same-length
 same-length c = search needs
 
+-- The stages of the function, seen from later ones.
+abbrev then1-from-slice-known2 : tie.After-slice-known2 → tie.Then1
+then1-from-slice-known2 c = c .before .before .before .before .before .before
+
 returns : tie.Need-returns
 unfolding first
 returns c =
     let e = c .before .before .ranked-list in
-    let told = c .before .before .before .before .before .before in
+    let told = (then1-from-slice-known2 c) in
     let a = told .before .before .before .args in
-    subst (λ (gs : List Gate). Wrote (first (ballotBytes (a .shape))) (a .table .now) gs (e .last .1 .1 .0) (e .result)) (sym (own-ranked (a .shape) (ranking told)))
-    (subst (λ (i : ℕ). Wrote (first i) (a .table .now) (ownRanking (a .shape .candidates) (a .shape .ballots)) (e .last .1 .1 .0) (e .result)) (sym (ranked-bytes (a .shape) (ranking told))) (e .ensures))
+    subst (λ (gs : List Gate). Wrote (first (ballotBytes (a .shape))) (a .table .now) gs (e .last .1 .1 .0)
+    (e .result)) (sym (own-ranked (a .shape) (ranking told)))
+    (subst (λ (i : ℕ). Wrote (first i) (a .table .now) (ownRanking (a .shape .candidates) (a .shape .ballots))
+    (e .last .1 .1 .0) (e .result)) (sym (ranked-bytes (a .shape) (ranking told))) (e .ensures))
 
 same-length-2 : tie.Need-same-length-2
 same-length-2 c = search needs
@@ -73,7 +79,8 @@ returns-2 c =
     let e = c .before .before .own-list in
     let told = c .before .before .before .before in
     let a = told .before .before .before .args in
-    subst (λ (gs : List Gate). Wrote (record { gate = 0; wire = ballotBytes (a .shape); conditional = 0 }) (a .table .now) gs (e .last .1 .0) (e .result)) (sym (own-graded (a .shape) (grading told))) (e .ensures)
+    subst (λ (gs : List Gate). Wrote (record { gate = 0; wire = ballotBytes (a .shape); conditional = 0 })
+    (a .table .now) gs (e .last .1 .0) (e .result)) (sym (own-graded (a .shape) (grading told))) (e .ensures)
 
 pub own-list-spec : {M : Type 1} → statement M
 own-list-spec =

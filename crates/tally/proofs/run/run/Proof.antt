@@ -20,9 +20,13 @@ test-run-requires c κs = search needs
 enum-told : tie.Need-enum-told
 enum-told c = search needs
 
+-- after the tests
+abbrev tested : tie.After-test-run → tie.Start
+tested c = c .before .before .before .before .before .before .before .before
+
 -- after the tests have passed
 start-of : tie.After-enum-told → tie.Start
-start-of c = c .before .before .before .before .before .before .before .before .before .before
+start-of c = tested (c .before .before)
 
 -- no reason applies
 no-reason : (c : tie.After-enum-told) → let a = start-of c .args in
@@ -31,7 +35,8 @@ unfolding outcomeOf start-of
 no-reason c =
     let a = start-of c .args in
     let o = firstOf (runReasons (a .shape) (a .table .now) (a .ballots .now) (a .tape .now) (a .wires .now) (a .board .now)) in
-    outcome-accepted o (sizeOf (gatesOf (a .table .now))) _ (sym (c .before .before .test-run .ensures) ∙ ap outcomeOf (c .enum-told .given .1))
+    outcome-accepted o (sizeOf (gatesOf (a .table .now))) _
+    (sym (c .before .before .test-run .ensures) ∙ ap outcomeOf (c .enum-told .given .1))
 
 run-requires : tie.Need-run-requires
 unfolding start-of
@@ -63,7 +68,9 @@ returns c =
     let a = start-of told .args in
     let e = ran-by (a .shape) (a .table .now) (a .ballots .now) (a .tape .now) (a .wires .now) (a .board .now) none (no-reason told) in
     let kept = done .run .kept .1 .1 .1 .1 .0 in
-    same-result (told .before .before .test-run .ensures ∙ ap (λ (o : Option Reason). outcome o (sizeOf (gatesOf (a .table .now)))) (no-reason told))
+    same-result
+    (told .before .before .test-run .ensures ∙ ap (λ (o : Option Reason). outcome o
+    (sizeOf (gatesOf (a .table .now)))) (no-reason told))
     (emptied .empty .ensures ∙ ap (λ (n : ℕ). replicate n 0) kept) (done .run .ensures .board)
     ∙ sym e
 
@@ -76,7 +83,7 @@ same-length-4 c = search needs
 returns-2 : tie.Need-returns-2
 unfolding outcomeOf runResultAfter
 returns-2 c =
-    let a = c .before .before .before .before .before .before .before .before .before .before .args in
+    let a = tested (c .before .before) .args in
     let o = firstOf (runReasons (a .shape) (a .table .now) (a .ballots .now) (a .tape .now) (a .wires .now) (a .board .now)) in
     let r = reasonOf (c .enum-told2 .given .0 .0) in
     let told = ap outcomeOf (c .enum-told2 .given .1) in

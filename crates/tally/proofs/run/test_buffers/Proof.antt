@@ -22,18 +22,35 @@ abbrev size : tie.Start → Size
 size c = record { gates = c .args .gates; conditional = c .args .conditional }
 
 -- the outcomes of the tests
-tape-test : (c : tie.After-has-length) → let a = c .before .before .before .before .args in eqb (length (a .tape .now)) (a .conditional) ≡ c .has-length .result
+tape-test : (c : tie.After-has-length) → let a = c .before .before .before .before .args in
+    eqb (length (a .tape .now)) (a .conditional) ≡ c .has-length .result
 tape-test c =
     let a = c .before .before .before .before .args in
     ap (eqb (length (a .tape .now))) (sym (add-zero (a .conditional))) ∙ sym (c .has-length .ensures)
 
-tape-long : (c : tie.Else1) → let a = c .before .before .before .before .before .args in eqb (length (a .tape .now)) (a .conditional) ≡ true
+-- The stages of the function, seen from later ones.
+abbrev start-from-else1 : tie.Else1 → tie.Start
+start-from-else1 c = c .before .before .before .before .before
+
+abbrev start-from-then1 : tie.Then1 → tie.Start
+start-from-then1 c = c .before .before .before .before .before
+
+abbrev start-from-first-above-one : tie.After-first-above-one → tie.Start
+start-from-first-above-one c = c .before .before .before .before .before .before
+
+abbrev start-from-enum-told : tie.After-enum-told → tie.Start
+start-from-enum-told c = c .before .before .before .before .before .before .before .before
+
+abbrev start-from-else2 : tie.Else2 → tie.Start
+start-from-else2 c = start-from-else1 (c .before .before .before .before .before)
+
+tape-long : (c : tie.Else1) → let a = (start-from-else1 c) .args in eqb (length (a .tape .now)) (a .conditional) ≡ true
 tape-long c = tape-test (c .before) ∙ not-false (c .before .has-length .result) (c .if1 .left)
 
-tape-bits : (c : tie.After-enum-told) → firstAboveOne 0 (c .before .before .before .before .before .before .before .before .args .tape .now) ≡ Nowhere
+tape-bits : (c : tie.After-enum-told) → firstAboveOne 0 ((start-from-enum-told c) .args .tape .now) ≡ Nowhere
 tape-bits c = sym (c .before .before .first-above-one .ensures) ∙ c .enum-told .given .1
 
-wires-long : (c : tie.Else2) → let a = c .before .before .before .before .before .before .before .before .before .before .args in eqb (length (a .wires .now)) (a .inputs + a .gates) ≡ true
+wires-long : (c : tie.Else2) → let a = (start-from-else2 c) .args in eqb (length (a .wires .now)) (a .inputs + a .gates) ≡ true
 wires-long c = sym (c .before .has-length2 .ensures) ∙ not-false (c .before .has-length2 .result) (c .if2 .left)
 
 has-length-requires : tie.Need-has-length-requires
@@ -42,9 +59,10 @@ has-length-requires c κs = search needs
 returns : tie.Need-returns
 unfolding refusedFor reasonOf lentFound unless firstOf
 returns c =
-    let start = c .before .before .before .before .before in
+    let start = (start-from-then1 c) in
     let a = start .args in
-    sym (lent-by (a .inputs) (a .outputs) (size start) (a .tape .now) (a .wires .now) (a .board .now) false _ _ _ (tape-test (c .before) ∙ not-true (c .before .has-length .result) (c .if1 .taken)) refl refl refl)
+    sym (lent-by (a .inputs) (a .outputs) (size start) (a .tape .now) (a .wires .now) (a .board .now) false _ _ _
+    (tape-test (c .before) ∙ not-true (c .before .has-length .result) (c .if1 .taken)) refl refl refl)
 
 first-above-one-requires : tie.Need-first-above-one-requires
 first-above-one-requires c κs = search needs
@@ -56,9 +74,11 @@ returns-2 : tie.Need-returns-2
 unfolding refusedFor reasonOf lentFound unless foundAt firstOf
 returns-2 c =
     let first = c .before .before .before in
-    let start = first .before .before .before .before .before .before in
+    let start = (start-from-first-above-one first) in
     let a = start .args in
-    sym (lent-by (a .inputs) (a .outputs) (size start) (a .tape .now) (a .wires .now) (a .board .now) true (At (c .before .i .given .0 .0)) _ _ (tape-long (first .before)) (sym (first .first-above-one .ensures) ∙ c .before .i .given .1) refl refl)
+    sym (lent-by (a .inputs) (a .outputs) (size start) (a .tape .now) (a .wires .now) (a .board .now) true
+    (At (c .before .i .given .0 .0)) _ _ (tape-long (first .before))
+    (sym (first .first-above-one .ensures) ∙ c .before .i .given .1) refl refl)
 
 enum-told : tie.Need-enum-told
 enum-told c = search needs
@@ -70,9 +90,10 @@ returns-3 : tie.Need-returns-3
 unfolding refusedFor reasonOf lentFound unless foundAt firstOf
 returns-3 c =
     let told = c .before .before in
-    let start = told .before .before .before .before .before .before .before .before in
+    let start = (start-from-enum-told told) in
     let a = start .args in
-    sym (lent-by (a .inputs) (a .outputs) (size start) (a .tape .now) (a .wires .now) (a .board .now) true Nowhere false _ (tape-long (told .before .before .before)) (tape-bits told)
+    sym (lent-by (a .inputs) (a .outputs) (size start) (a .tape .now) (a .wires .now) (a .board .now) true Nowhere
+    false _ (tape-long (told .before .before .before)) (tape-bits told)
     (sym (c .before .has-length2 .ensures) ∙ not-true (c .before .has-length2 .result) (c .if2 .taken)) refl)
 
 has-length-requires-3 : tie.Need-has-length-requires-3
@@ -82,18 +103,20 @@ returns-4 : tie.Need-returns-4
 unfolding refusedFor reasonOf lentFound unless foundAt firstOf
 returns-4 c =
     let told = c .before .before .before .before in
-    let start = told .before .before .before .before .before .before .before .before in
+    let start = (start-from-enum-told told) in
     let a = start .args in
-    sym (lent-by (a .inputs) (a .outputs) (size start) (a .tape .now) (a .wires .now) (a .board .now) true Nowhere true false (tape-long (told .before .before .before)) (tape-bits told)
+    sym (lent-by (a .inputs) (a .outputs) (size start) (a .tape .now) (a .wires .now) (a .board .now) true Nowhere
+    true false (tape-long (told .before .before .before)) (tape-bits told)
     (wires-long (c .before .before)) (sym (c .before .has-length3 .ensures) ∙ not-true (c .before .has-length3 .result) (c .if3 .taken)))
 
 returns-5 : tie.Need-returns-5
 unfolding refusedFor reasonOf lentFound unless foundAt firstOf
 returns-5 c =
     let told = c .before .before .before .before in
-    let start = told .before .before .before .before .before .before .before .before in
+    let start = (start-from-enum-told told) in
     let a = start .args in
-    sym (lent-by (a .inputs) (a .outputs) (size start) (a .tape .now) (a .wires .now) (a .board .now) true Nowhere true true (tape-long (told .before .before .before)) (tape-bits told)
+    sym (lent-by (a .inputs) (a .outputs) (size start) (a .tape .now) (a .wires .now) (a .board .now) true Nowhere
+    true true (tape-long (told .before .before .before)) (tape-bits told)
     (wires-long (c .before .before)) (sym (c .before .has-length3 .ensures) ∙ not-false (c .before .has-length3 .result) (c .if3 .left)))
 
 pub test-buffers-spec : {M : Type 1} → statement M

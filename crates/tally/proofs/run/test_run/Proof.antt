@@ -18,8 +18,12 @@ use Rattle.tally.proofs.run.test_run.Statement.{statement}
 use Rattle.tally.proofs.run.test_run.Tie as tie
 
 -- the first reason decides the answer
-refuses : (c : tie.Start) (r : Reason) → let a = c .args in firstOf (runReasons (a .shape) (a .table .now) (a .ballots .now) (a .tape .now) (a .wires .now) (a .board .now)) ≡ some r
-    → refused r ≡ outcome (firstOf (runReasons (a .shape) (a .table .now) (a .ballots .now) (a .tape .now) (a .wires .now) (a .board .now))) (sizeOf (gatesOf (a .table .now)))
+refuses : (c : tie.Start) (r : Reason) → let a = c .args in
+    firstOf (runReasons (a .shape) (a .table .now) (a .ballots .now) (a .tape .now) (a .wires .now) (a .board .now))
+    ≡ some r
+    → refused r ≡ outcome (firstOf
+    (runReasons (a .shape) (a .table .now) (a .ballots .now) (a .tape .now) (a .wires .now) (a .board .now)))
+    (sizeOf (gatesOf (a .table .now)))
 unfolding outcome
 refuses c r e = sym (ap (λ (o : Option Reason). outcome o (sizeOf (gatesOf (c .args .table .now)))) e)
 
@@ -27,14 +31,32 @@ refuses c r e = sym (ap (λ (o : Option Reason). outcome o (sizeOf (gatesOf (c .
 size : tie.After-known-told → Size
 size c = let g = c .before .answer .given in record { gates = g .0 .0; conditional = g .0 .1 .0 }
 
-passed : (c : tie.After-known-told) → let a = c .before .before .before .before .before .before .before .before .before .args in TestPassed (a .shape) (a .table .now) (size c)
+-- The stages of the function, seen from later ones.
+abbrev start-from-answer : tie.After-answer → tie.Start
+start-from-answer c = c .before .before .before .before .before .before .before .before
+
+abbrev start-from-enum-told : tie.After-enum-told → tie.Start
+start-from-enum-told c = c .before .before .before .before .before .before .before .before
+
+abbrev start-from-enum-told2 : tie.After-enum-told2 → tie.Start
+start-from-enum-told2 c = start-from-answer (c .before .before .before .before)
+
+abbrev start-from-test-buffers : tie.After-test-buffers → tie.Start
+start-from-test-buffers c = start-from-answer (c .before .before .before .before .before .before)
+
+abbrev known-told-from-test-buffers : tie.After-test-buffers → tie.After-known-told
+known-told-from-test-buffers c = c .before .before .before .before .before
+
+passed : (c : tie.After-known-told) → let a = (start-from-answer (c .before)) .args in TestPassed (a .shape) (a .table .now) (size c)
 unfolding outcomeOf size
 passed c =
-    let a = c .before .before .before .before .before .before .before .before .before .args in
-    test-passed (a .shape) (a .table .now) (size c) (sym (c .before .before .before .test .ensures) ∙ ap outcomeOf (c .before .answer .given .1))
+    let a = (start-from-answer (c .before)) .args in
+    test-passed (a .shape) (a .table .now) (size c)
+    (sym (c .before .before .before .test .ensures) ∙ ap outcomeOf (c .before .answer .given .1))
 
 -- after the test of the ballots
-no-reason : (c : tie.After-enum-told2) → let a = c .before .before .before .before .before .before .before .before .before .before .before .before .args in firstOf (ballotReasons (a .shape) (a .ballots .now)) ≡ none
+no-reason : (c : tie.After-enum-told2) → let a = (start-from-enum-told2 c) .args in
+    firstOf (ballotReasons (a .shape) (a .ballots .now)) ≡ none
 unfolding refusedFor
 no-reason c = sym (c .before .before .test2 .ensures) ∙ ap refusedFor (c .enum-told2 .given .1)
 
@@ -50,14 +72,15 @@ enum-told c = search needs
 returns : tie.Need-returns
 unfolding outcomeOf
 returns c =
-    let start = c .before .before .before .before .before .before .before .before in
+    let start = (start-from-enum-told c) in
     let a = start .args in
     let r = reasonOf (c .enum-told .given .0 .0) in
     let e = ap outcomeOf (c .enum-told .given .1) in
-    e ∙ refuses start r (by-test (a .shape) (a .table .now) (a .ballots .now) (a .tape .now) (a .wires .now) (a .board .now) r (sym (c .before .before .test .ensures) ∙ e))
+    e ∙ refuses start r (by-test (a .shape) (a .table .now) (a .ballots .now) (a .tape .now) (a .wires .now)
+    (a .board .now) r (sym (c .before .before .test .ensures) ∙ e))
 
 test-requires-2 : tie.Need-test-requires-2
-test-requires-2 c κs = true-T (withinLimits (c .before .before .before .before .before .before .before .before .before .args .shape)) (passed c .within)
+test-requires-2 c κs = true-T (withinLimits ((start-from-answer (c .before)) .args .shape)) (passed c .within)
 
 enum-known-reason : tie.Need-enum-known-reason
 enum-known-reason c = search needs
@@ -66,7 +89,7 @@ returns-2 : tie.Need-returns-2
 unfolding outcomeOf refusedFor
 returns-2 c =
     let told = c .before .before .before .before in
-    let start = told .before .before .before .before .before .before .before .before .before in
+    let start = (start-from-answer (told .before)) in
     let a = start .args in
     let r = reasonOf (c .before .reason .given .0 .0) in
     refuses start r
@@ -79,7 +102,7 @@ enum-told-2 c = search needs
 ballot-bytes-requires : tie.Need-ballot-bytes-requires
 ballot-bytes-requires c κs =
     let told = c .before .before .before in
-    true-T (withinLimits (told .before .before .before .before .before .before .before .before .before .args .shape)) (passed told .within)
+    true-T (withinLimits ((start-from-answer (told .before)) .args .shape)) (passed told .within)
 
 test-buffers-requires : tie.Need-test-buffers-requires
 test-buffers-requires c κs = search needs
@@ -91,21 +114,25 @@ enum-told-3 : tie.Need-enum-told-3
 enum-told-3 c = search needs
 
 -- what the tests 7 to 10 answer is what the whole answers
-lent-answer : (c : tie.After-test-buffers) → let a = c .before .before .before .before .before .before .before .before .before .before .before .before .before .before .args in
-    firstOf (runReasons (a .shape) (a .table .now) (a .ballots .now) (a .tape .now) (a .wires .now) (a .board .now)) ≡ refusedFor (c .test-buffers .result)
+lent-answer : (c : tie.After-test-buffers) → let a = (start-from-test-buffers c) .args in
+    firstOf (runReasons (a .shape) (a .table .now) (a .ballots .now) (a .tape .now) (a .wires .now) (a .board .now))
+    ≡ refusedFor (c .test-buffers .result)
 unfolding size
 lent-answer c =
     let passes = c .before .before in
     let told = passes .before .before .before in
-    let a = told .before .before .before .before .before .before .before .before .before .args in
-    by-lent (a .shape) (a .table .now) (a .ballots .now) (a .tape .now) (a .wires .now) (a .board .now) (passed told .reasons) (size told) (refusedFor (c .test-buffers .result)) (passed told .size) (no-reason passes)
-    (sym (c .test-buffers .ensures ∙ ap (λ (i : ℕ). firstOf (bufferReasons i (a .shape .candidates) (size told) (a .tape .now) (a .wires .now) (a .board .now))) (c .before .ballot-bytes .ensures)))
+    let a = (start-from-answer (told .before)) .args in
+    by-lent (a .shape) (a .table .now) (a .ballots .now) (a .tape .now) (a .wires .now) (a .board .now)
+    (passed told .reasons) (size told) (refusedFor (c .test-buffers .result)) (passed told .size) (no-reason passes)
+    (sym (c .test-buffers .ensures ∙ ap (λ (i : ℕ). firstOf
+    (bufferReasons i (a .shape .candidates) (size told) (a .tape .now) (a .wires .now) (a .board .now)))
+    (c .before .ballot-bytes .ensures)))
 
 returns-3 : tie.Need-returns-3
 unfolding outcomeOf refusedFor
 returns-3 c =
     let lent = c .before .before .before in
-    let start = lent .before .before .before .before .before .before .before .before .before .before .before .before .before .before in
+    let start = (start-from-test-buffers lent) in
     let r = reasonOf (c .before .reason2 .given .0 .0) in
     refuses start r (lent-answer lent ∙ ap refusedFor (c .before .reason2 .given .1))
 
@@ -113,8 +140,8 @@ returns-4 : tie.Need-returns-4
 unfolding testOutcome refusedFor
 returns-4 c =
     let lent = c .before .before in
-    let told = lent .before .before .before .before .before in
-    let a = told .before .before .before .before .before .before .before .before .before .args in
+    let told = (known-told-from-test-buffers lent) in
+    let a = (start-from-answer (told .before)) .args in
     let none-applies = lent-answer lent ∙ ap refusedFor (c .enum-told3 .given .1) in
     sym (ap outcomeOf (told .before .answer .given .1)) ∙ told .before .before .before .test .ensures
     ∙ ap (λ (o : Option Reason). outcome o (sizeOf (gatesOf (a .table .now)))) (passed told .reasons ∙ sym none-applies)

@@ -23,7 +23,8 @@ returns : tie.Need-returns
 unfolding outcomeOf reasonOf
 returns c =
     let a = c .before .before .before .args in
-    sym (outside-list (a .shape) (a .table .now) (sym (c .before .is-within-limits .ensures) ∙ not-true (c .before .is-within-limits .result) (c .if1 .taken)))
+    sym (outside-list (a .shape) (a .table .now)
+    (sym (c .before .is-within-limits .ensures) ∙ not-true (c .before .is-within-limits .result) (c .if1 .taken)))
 
 -- the shape is within its limits
 limits : (c : tie.Else1) → withinLimits (c .before .before .before .args .shape) ≡ true
@@ -35,10 +36,15 @@ ballot-bytes-requires c κs = true-T (withinLimits (c .before .before .before .a
 test-requires : tie.Need-test-requires
 test-requires c κs = search needs
 
+-- The stages of the function, seen from later ones.
+abbrev start-from-test : tie.After-test → tie.Start
+start-from-test c = c .before .before .before .before .before
+
 -- what the gate layer answers is what its test answers for the shape
-answer : (c : tie.After-test) → let a = c .before .before .before .before .before .args in tested (ballotBytes (a .shape)) (a .shape .candidates) (a .table .now) ≡ c .test .result
+answer : (c : tie.After-test) → let a = (start-from-test c) .args in
+    tested (ballotBytes (a .shape)) (a .shape .candidates) (a .table .now) ≡ c .test .result
 answer c =
-    let a = c .before .before .before .before .before .args in
+    let a = (start-from-test c) .args in
     sym (c .test .ensures ∙ ap (λ (n : ℕ). tested n (a .shape .candidates) (a .table .now)) (c .before .ballot-bytes .ensures))
 
 enum-known-gates : tie.Need-enum-known-gates
@@ -60,7 +66,7 @@ returns-2 : tie.Need-returns-2
 unfolding outcomeOf
 returns-2 c =
     let t = c .before .before .before in
-    let a = t .before .before .before .before .before .args in
+    let a = (start-from-test t) .args in
     let g = c .before .gates .given in
     sym (list-accepted (a .shape) (a .table .now) (limits (t .before .before)) (g .0 .0) (g .0 .1 .0) (answer t ∙ g .1))
 
@@ -68,28 +74,28 @@ returns-3 : tie.Need-returns-3
 unfolding outcomeOf reasonOf listReason
 returns-3 c =
     let t = c .before .before in
-    let a = t .before .before .before .before .before .args in
+    let a = (start-from-test t) .args in
     sym (list-refused (a .shape) (a .table .now) (limits (t .before .before)) _ (reasonAt 2 0) (answer t ∙ c .enum-told .given .1) refl)
 
 returns-4 : tie.Need-returns-4
 unfolding outcomeOf reasonOf listReason
 returns-4 c =
     let t = c .before .before in
-    let a = t .before .before .before .before .before .args in
+    let a = (start-from-test t) .args in
     sym (list-refused (a .shape) (a .table .now) (limits (t .before .before)) _ (reasonAt 2 0) (answer t ∙ c .enum-told2 .given .1) refl)
 
 returns-5 : tie.Need-returns-5
 unfolding outcomeOf reasonOf listReason
 returns-5 c =
     let t = c .before .before in
-    let a = t .before .before .before .before .before .args in
+    let a = (start-from-test t) .args in
     sym (list-refused (a .shape) (a .table .now) (limits (t .before .before)) _ (reasonAt 2 0) (answer t ∙ c .enum-told3 .given .1) refl)
 
 returns-6 : tie.Need-returns-6
 unfolding outcomeOf reasonOf listReason
 returns-6 c =
     let t = c .before .before .before in
-    let a = t .before .before .before .before .before .args in
+    let a = (start-from-test t) .args in
     let g = c .before .g .given in
     sym (list-refused (a .shape) (a .table .now) (limits (t .before .before)) _ (reasonAt 3 (g .0 .0)) (answer t ∙ g .1) refl)
 

@@ -32,7 +32,8 @@ unfolding sizeOf
 sized s gates conditional e f =
     let g : gates ≡ length (ownList s) = omega arith in
     let c : conditional ≡ conditionalCount (ownList s) = omega arith in
-    ap (λ (n : ℕ). accepted (record { gates = n; conditional = conditional })) g ∙ ap (λ (n : ℕ). accepted (record { gates = length (ownList s); conditional = n })) c
+    ap (λ (n : ℕ). accepted (record { gates = n; conditional = conditional })) g
+    ∙ ap (λ (n : ℕ). accepted (record { gates = length (ownList s); conditional = n })) c
 
 is-within-limits-requires : tie.Need-is-within-limits-requires
 is-within-limits-requires c κs = search needs
@@ -42,7 +43,8 @@ unfolding outcomeOf reasonOf
 returns c =
     let a = c .before .before .before .args in
     let r = write-refused (a .shape) (a .table .now) (reasonAt 1 0)
-    (outside (a .shape) (a .table .now) (sym (c .before .is-within-limits .ensures) ∙ not-true (c .before .is-within-limits .result) (c .if1 .taken))) in
+    (outside (a .shape) (a .table .now)
+    (sym (c .before .is-within-limits .ensures) ∙ not-true (c .before .is-within-limits .result) (c .if1 .taken))) in
     record { answers = sym (r .0); leaves = sym (r .1); own-list = holds (a .shape) }
 
 -- the shape is within its limits
@@ -58,12 +60,17 @@ returns-2 c =
     let measured = c .before in
     let within = measured .before in
     let a = within .before .before .before .args in
-    let short = lt-leb (4 * length (ownList (a .shape))) (length (a .table .now)) (omega (arith, c .if2 .taken, measured .gates .ensures)) in
+    let short = lt-leb (4 * length (ownList (a .shape))) (length (a .table .now))
+    (omega (arith, c .if2 .taken, measured .gates .ensures)) in
     let r = write-refused (a .shape) (a .table .now) (reasonAt 2 0) (too-short (a .shape) (a .table .now) (limits within) short) in
     record { answers = sym (r .0); leaves = sym (r .1); own-list = holds (a .shape) }
 
+-- The stages of the function, seen from later ones.
+abbrev start-from-else2 : tie.Else2 → tie.Start
+start-from-else2 c = c .before .before .before .before .before
+
 -- the table has room
-room : (c : tie.Else2) → let a = c .before .before .before .before .before .args in 4 * length (ownList (a .shape)) ≤ length (a .table .now)
+room : (c : tie.Else2) → let a = (start-from-else2 c) .args in 4 * length (ownList (a .shape)) ≤ length (a .table .now)
 room c =
     let measured = c .before in
     let a = measured .before .before .before .before .args in
@@ -85,7 +92,9 @@ returns-3 c =
     let within = test .before .before in
     let a = within .before .before .before .args in
     let h = room test in
-    let r = write-accepted (a .shape) (a .table .now) (fits (a .shape) (a .table .now) (limits within) (le-leb (4 * length (ownList (a .shape))) (length (a .table .now)) h)) in
+    let r = write-accepted (a .shape) (a .table .now)
+    (fits (a .shape) (a .table .now) (limits within)
+    (le-leb (4 * length (ownList (a .shape))) (length (a .table .now)) h)) in
     let w = done .own-list in
     record {
       answers = sized (a .shape) (w .result .gate) (w .result .conditional) (w .ensures .gates) (w .ensures .conditionals) ∙ sym (r .0);

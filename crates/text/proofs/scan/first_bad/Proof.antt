@@ -16,7 +16,8 @@ use Rattle.text.proofs.scan.first_bad.Tie as tie
 
 abbrev Inv-loop : tie.InvT-loop
 Inv-loop inputs text at₀ i₀ at i =
-    (at ≤ length text) × (i ≤ at) × (firstMalformed 0 (linesOf (drop at text)) ≡ Nowhere) × (firstBad inputs i (gatesIn (linesOf (drop at text))) ≡ firstBad inputs 0 (gatesIn (linesOf text)))
+    (at ≤ length text) × (i ≤ at) × (firstMalformed 0 (linesOf (drop at text)) ≡ Nowhere)
+    × (firstBad inputs i (gatesIn (linesOf (drop at text))) ≡ firstBad inputs 0 (gatesIn (linesOf text)))
 
 abbrev μ-loop : tie.MeasureT-loop
 μ-loop inputs text at₀ i₀ at i = length text - at
@@ -33,12 +34,42 @@ enum-known-kind c = search needs
 enum-told : tie.Need-enum-told Inv-loop μ-loop
 enum-told c = search needs
 
+-- The stages of the function, seen from later ones.
+abbrev start-from-loop-reached : tie.At-loop Inv-loop μ-loop → tie.Start Inv-loop μ-loop
+start-from-loop-reached c = c .before .before
+
+abbrev start-from-enum-told : tie.After-enum-told Inv-loop μ-loop → tie.Start Inv-loop μ-loop
+start-from-enum-told c = c .before .before .before .before .before .before
+
+abbrev start-from-else1 : tie.Else1 Inv-loop μ-loop → tie.Start Inv-loop μ-loop
+start-from-else1 c = start-from-loop-reached (c .before .before .before .before .before .before .before)
+
+abbrev loop-reached-from-else1 : tie.Else1 Inv-loop μ-loop → tie.At-loop Inv-loop μ-loop
+loop-reached-from-else1 c = c .before .before .before .before .before .before .before
+
+abbrev round-from-else1 : tie.Else1 Inv-loop μ-loop → tie.In-loop Inv-loop μ-loop
+round-from-else1 c = c .before .before .before .before .before .before
+
+abbrev gate-at-from-else1 : tie.Else1 Inv-loop μ-loop → tie.After-gate-at Inv-loop μ-loop
+gate-at-from-else1 c = c .before .before .before .before .before
+
+abbrev start-from-then1 : tie.Then1 Inv-loop μ-loop → tie.Start Inv-loop μ-loop
+start-from-then1 c = start-from-loop-reached (c .before .before .before .before .before .before .before)
+
+abbrev loop-reached-from-then1 : tie.Then1 Inv-loop μ-loop → tie.At-loop Inv-loop μ-loop
+loop-reached-from-then1 c = c .before .before .before .before .before .before .before
+
+abbrev gate-at-from-then1 : tie.Then1 Inv-loop μ-loop → tie.After-gate-at Inv-loop μ-loop
+gate-at-from-then1 c = c .before .before .before .before .before
+
 returns : tie.Need-returns Inv-loop μ-loop
 returns c =
     let l = c .before .before .before .before .loop in
-    let text = c .before .before .before .before .before .before .args .text .now in
+    let text = (start-from-enum-told c) .args .text .now in
     let r = c .before .before .gate-at in
-    not-both (firstMalformed 0 (linesOf (drop (l .at) text))) 0 (here-other text (l .at) (r .result) (r .ensures) (c .enum-told .given .1) (c .before .before .before .loop-test .taken) 0) (l .inv .2)
+    not-both (firstMalformed 0 (linesOf (drop (l .at) text))) 0
+    (here-other text (l .at) (r .result) (r .ensures) (c .enum-told .given .1)
+    (c .before .before .before .loop-test .taken) 0) (l .inv .2)
 
 add-are-below : tie.Need-add-are-below Inv-loop μ-loop
 add-are-below c = omega arith
@@ -48,33 +79,42 @@ are-below-requires c κs = search needs
 
 returns-2 : tie.Need-returns-2 Inv-loop μ-loop
 returns-2 c =
-    let l = c .before .before .before .before .before .before .before .loop in
-    let a = c .before .before .before .before .before .before .before .before .before .args in
-    let r = c .before .before .before .before .before .gate-at in
-    sym (here-bad (a .text .now) (l .at) (r .result) (r .ensures) _ _ _ _ _ (c .before .before .before .kind .given .1) (a .inputs) (l .i) (sym (not-true (c .before .are-below .result) (c .if1 .taken)) ∙ c .before .are-below .ensures ∙ sym (good-here (a .text .now) (l .at) (r .result) (r .ensures) _ _ _ _ _ (c .before .before .before .kind .given .1) (a .inputs + l .i) (omega (arith, c .before .before .before .before .before .before .before .before .before .pre .some))))) ∙ l .inv .3
+    let l = (loop-reached-from-then1 c) .loop in
+    let a = (start-from-then1 c) .args in
+    let r = (gate-at-from-then1 c) .gate-at in
+    sym (here-bad (a .text .now) (l .at) (r .result) (r .ensures) _ _ _ _ _
+    (c .before .before .before .kind .given .1) (a .inputs) (l .i)
+    (sym (not-true (c .before .are-below .result) (c .if1 .taken)) ∙ c .before .are-below .ensures
+    ∙ sym (good-here (a .text .now) (l .at) (r .result) (r .ensures) _ _ _ _ _
+    (c .before .before .before .kind .given .1) (a .inputs + l .i)
+    (omega (arith, (start-from-then1 c) .pre .some))))) ∙ l .inv .3
 
 add-i : tie.Need-add-i Inv-loop μ-loop
 add-i c = omega arith
 
 loop-less : tie.Need-loop-less Inv-loop μ-loop
 loop-less c =
-    let r = c .before .before .before .before .before .gate-at in
-    let later = next-later (c .before .before .before .before .before .before .before .before .before .args .text .now) (c .before .before .before .before .before .before .before .loop .at) (r .result) (r .ensures) _ _ _ _ _ (c .before .before .before .kind .given .1) in
-    omega (arith, c .before .before .before .before .before .before .loop-test .taken)
+    let r = (gate-at-from-else1 c) .gate-at in
+    let later = next-later ((start-from-else1 c) .args .text .now) ((loop-reached-from-else1 c) .loop .at)
+    (r .result) (r .ensures) _ _ _ _ _ (c .before .before .before .kind .given .1) in
+    omega (arith, (round-from-else1 c) .loop-test .taken)
 
 loop-again : tie.Need-loop-again Inv-loop μ-loop
 loop-again c =
-    let l = c .before .before .before .before .before .before .before .loop in
-    let a = c .before .before .before .before .before .before .before .before .before .args in
+    let l = (loop-reached-from-else1 c) .loop in
+    let a = (start-from-else1 c) .args in
     let text = a .text .now in
-    let r = c .before .before .before .before .before .gate-at in
+    let r = (gate-at-from-else1 c) .gate-at in
     let g = c .before .before .before .kind .given in
     let next = g .0 .1 .1 .1 .1 .0 in
     let later = next-later text (l .at) (r .result) (r .ensures) _ _ _ _ next (g .1) in
-    let good = sym (not-false (c .before .are-below .result) (c .if1 .left)) ∙ c .before .are-below .ensures ∙ sym (good-here text (l .at) (r .result) (r .ensures) _ _ _ _ next (g .1) (a .inputs + l .i) (omega (arith, c .before .before .before .before .before .before .before .before .before .pre .some))) in (
+    let good = sym (not-false (c .before .are-below .result) (c .if1 .left)) ∙ c .before .are-below .ensures
+    ∙ sym (good-here text (l .at) (r .result) (r .ensures) _ _ _ _ next (g .1) (a .inputs + l .i)
+    (omega (arith, (start-from-else1 c) .pre .some))) in (
       next-within text (l .at) (r .result) (r .ensures) _ _ _ _ next (g .1),
       omega arith,
-      nowhere-any (linesOf (drop next text)) 1 0 (sym (later-other text (l .at) (r .result) (r .ensures) _ _ _ _ next (g .1) 0) ∙ l .inv .2),
+      nowhere-any (linesOf (drop next text)) 1 0
+          (sym (later-other text (l .at) (r .result) (r .ensures) _ _ _ _ next (g .1) 0) ∙ l .inv .2),
       ap (λ (n : ℕ). firstBad (a .inputs) n (gatesIn (linesOf (drop next text)))) (add-one (l .i))
           ∙ sym (later-good text (l .at) (r .result) (r .ensures) _ _ _ _ next (g .1) (a .inputs) (l .i) good) ∙ l .inv .3,
     )

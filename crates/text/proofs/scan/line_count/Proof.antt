@@ -37,7 +37,8 @@ loop-again c =
     let text = c .before .before .before .before .args .text .now in
     let h = c .before .before .loop-test .taken in
     let e = ap (λ (k : ℕ). feeds-of (drop k text)) (add-one (l .i)) in
-    ⊎-elim (λ w. (omega arith, omega arith, omega (arith, feed-here text (l .i) h (w .0 .taken)))) (λ w. (omega arith, omega arith, omega (arith, no-feed-here text (l .i) h (w .0 .left)))) (c .if1 .came)
+    ⊎-elim (λ w. (omega arith, omega arith, omega (arith, feed-here text (l .i) h (w .0 .taken))))
+    (λ w. (omega arith, omega arith, omega (arith, no-feed-here text (l .i) h (w .0 .left)))) (c .if1 .came)
 
 returns : tie.Need-returns Inv-loop μ-loop
 returns c = sym (no-lines (c .before .before .before .args .text .now) (omega arith))
@@ -51,16 +52,23 @@ shared-slice-read-if3 c = omega arith
 add-result : tie.Need-add-result Inv-loop μ-loop
 add-result c = omega arith
 
+-- The stages of the function, seen from later ones.
+abbrev start-from-else3 : tie.Else3 Inv-loop μ-loop → tie.Start Inv-loop μ-loop
+start-from-else3 c = c .before .before .before .before .before
+
+abbrev start-from-then3 : tie.Then3 Inv-loop μ-loop → tie.Start Inv-loop μ-loop
+start-from-then3 c = c .before .before .before .before .before
+
 returns-2 : tie.Need-returns-2 Inv-loop μ-loop
 returns-2 c =
     let l = c .before .before .before .before .loop in
-    let text = c .before .before .before .before .before .args .text .now in
+    let text = (start-from-then3 c) .args .text .now in
     omega (arith, closed-lines text (l .i) (omega arith) (omega arith) (c .if3 .taken), feeds-end text (l .i) (omega arith))
 
 returns-3 : tie.Need-returns-3 Inv-loop μ-loop
 returns-3 c =
     let l = c .before .before .before .before .loop in
-    let text = c .before .before .before .before .before .args .text .now in
+    let text = (start-from-else3 c) .args .text .now in
     omega (arith, open-lines text (l .i) (omega arith) (omega arith) (c .if3 .left), feeds-end text (l .i) (omega arith))
 
 pub line-count-spec : {M : Type 1} → statement M

@@ -63,12 +63,40 @@ mul-put-line-4 c = omega arith
 shared-slice-read-put-line-4 : tie.Need-shared-slice-read-put-line-4 Inv-loop μ-loop
 shared-slice-read-put-line-4 c = omega arith
 
+-- The stages of the function, seen from later ones.
+abbrev start-from-loop-reached : tie.At-loop Inv-loop μ-loop → tie.Start Inv-loop μ-loop
+start-from-loop-reached c = c .before .before .before
+
+abbrev start-from-put-line-arg : tie.After-put-line-arg Inv-loop μ-loop → tie.Start Inv-loop μ-loop
+start-from-put-line-arg c = start-from-loop-reached (c .before .before .before .before .before .before)
+
+abbrev loop-reached-from-put-line-arg : tie.After-put-line-arg Inv-loop μ-loop → tie.At-loop Inv-loop μ-loop
+loop-reached-from-put-line-arg c = c .before .before .before .before .before .before
+
+abbrev start-from-output : tie.After-output Inv-loop μ-loop → tie.Start Inv-loop μ-loop
+start-from-output c = start-from-loop-reached (c .before .before .before .before .before .before .before .before)
+
+abbrev loop-reached-from-output : tie.After-output Inv-loop μ-loop → tie.At-loop Inv-loop μ-loop
+loop-reached-from-output c = c .before .before .before .before .before .before .before .before
+
 put-line-requires : tie.Need-put-line-requires Inv-loop μ-loop
 put-line-requires c κs =
-    let l = c .before .before .before .before .before .before .loop in
-    let t = c .before .before .before .before .before .before .before .before .before .args .table .now in
+    let l = (loop-reached-from-put-line-arg c) .loop in
+    let t = (start-from-put-line-arg c) .args .table .now in
     let rest = textOf (drop (suc (l .g)) (gatesOf t)) in
-    omega (arith, l .inv .1, ap length (text-from t (l .g) (omega (arith, length-gates t))), length-append (lineOf (record { kind = getD t (4 * l .g) 0; a = getD t (4 * l .g + 1) 0; b = getD t (4 * l .g + 2) 0; c = getD t (4 * l .g + 3) 0 })) rest)
+    omega (
+      arith,
+      l .inv .1,
+      ap length (text-from t (l .g) (omega (arith, length-gates t))),
+      length-append
+          (lineOf (record {
+            kind = getD t (4 * l .g) 0;
+            a = getD t (4 * l .g + 1) 0;
+            b = getD t (4 * l .g + 2) 0;
+            c =
+                getD t (4 * l .g + 3) 0;
+          })) rest,
+    )
 
 add-g : tie.Need-add-g Inv-loop μ-loop
 add-g c = omega arith
@@ -78,10 +106,17 @@ loop-less c = omega arith
 
 loop-again : tie.Need-loop-again Inv-loop μ-loop
 loop-again c =
-    let l = c .before .before .before .before .before .before .before .before .before .loop in
-    let t = c .before .before .before .before .before .before .before .before .before .before .before .before .args .table .now in
+    let l = (loop-reached-from-output (c .before)) .loop in
+    let t = (start-from-output (c .before)) .args .table .now in
     let rest = textOf (drop (suc (l .g)) (gatesOf t)) in
-    let line = lineOf (record { kind = getD t (4 * l .g) 0; a = getD t (4 * l .g + 1) 0; b = getD t (4 * l .g + 2) 0; c = getD t (4 * l .g + 3) 0 }) in
+    let line =
+    lineOf (record {
+      kind = getD t (4 * l .g) 0;
+      a = getD t (4 * l .g + 1) 0;
+      b = getD t (4 * l .g + 2) 0;
+      c =
+          getD t (4 * l .g + 3) 0;
+    }) in
     let here = text-from t (l .g) (omega (arith, length-gates t)) in
     let e = ap length here in
     let n = length-append line rest in

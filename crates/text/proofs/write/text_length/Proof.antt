@@ -63,8 +63,20 @@ shared-slice-read-line-length-4 c = omega arith
 line-length-requires : tie.Need-line-length-requires Inv-loop μ-loop
 line-length-requires c κs = search needs
 
+-- The stages of the function, seen from later ones.
+abbrev start-from-line-length : tie.After-line-length Inv-loop μ-loop → tie.Start Inv-loop μ-loop
+start-from-line-length c = c .before .before .before .before .before .before .before .before
+
+abbrev loop-reached-from-line-length : tie.After-line-length Inv-loop μ-loop → tie.At-loop Inv-loop μ-loop
+loop-reached-from-line-length c = c .before .before .before .before .before .before
+
 add-total : tie.Need-add-total Inv-loop μ-loop
-add-total c = omega (arith, c .line-length .ensures .short, c .before .before .before .before .before .before .before .before .pre, length-gates (c .before .before .before .before .before .before .before .before .args .table .now))
+add-total c = omega (
+  arith,
+  c .line-length .ensures .short,
+  (start-from-line-length c) .pre,
+  length-gates ((start-from-line-length c) .args .table .now),
+)
 
 add-g : tie.Need-add-g Inv-loop μ-loop
 add-g c = omega arith
@@ -74,11 +86,18 @@ loop-less c = omega arith
 
 loop-again : tie.Need-loop-again Inv-loop μ-loop
 loop-again c =
-    let l = c .before .before .before .before .before .before .loop in
-    let t = c .before .before .before .before .before .before .before .before .args .table .now in
+    let l = (loop-reached-from-line-length c) .loop in
+    let t = (start-from-line-length c) .args .table .now in
     let rest = textOf (drop (suc (l .g)) (gatesOf t)) in
     let e = ap length (text-from t (l .g) (omega (arith, length-gates t))) in
-    let n = length-append (lineOf (record { kind = getD t (4 * l .g) 0; a = getD t (4 * l .g + 1) 0; b = getD t (4 * l .g + 2) 0; c = getD t (4 * l .g + 3) 0 })) rest in
+    let n = length-append
+    (lineOf (record {
+      kind = getD t (4 * l .g) 0;
+      a = getD t (4 * l .g + 1) 0;
+      b = getD t (4 * l .g + 2) 0;
+      c =
+          getD t (4 * l .g + 3) 0;
+    })) rest in
     let k = ap (λ (j : ℕ). length (textOf (drop j (gatesOf t)))) (add-one (l .g)) in
     (omega arith, omega (arith, c .line-length .ensures .short), omega (arith, c .line-length .ensures .is, l .inv .2))
 

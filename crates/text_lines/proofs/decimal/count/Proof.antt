@@ -42,7 +42,9 @@ add-result : tie.Need-add-result Inv-loop μ-loop
 add-result c = omega arith
 
 returns : tie.Need-returns Inv-loop μ-loop
-returns c = add-one (c .before .loop .more) ∙ sym (count-is (c .before .loop .more) (c .before .before .args .n) (omega arith) (omega arith) (c .before .loop .inv .1))
+returns c = add-one (c .before .loop .more)
+    ∙ sym (count-is (c .before .loop .more) (c .before .before .args .n) (omega arith) (omega arith)
+    (c .before .loop .inv .1))
 
 pub count-spec : {M : Type 1} → statement M
 count-spec =

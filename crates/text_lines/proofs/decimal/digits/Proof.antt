@@ -44,8 +44,28 @@ returns c =
       within = at .loop .inv .0;
     }
 
+-- The stages of the function, seen from later ones.
+abbrev start-from-else1 : tie.Else1 Inv-loop μ-loop → tie.Start Inv-loop μ-loop
+start-from-else1 c = c .before .before .before .before .before .before
+
+abbrev loop-reached-from-wide : tie.After-wide Inv-loop μ-loop → tie.At-loop Inv-loop μ-loop
+loop-reached-from-wide c = c .before .before .before .before .before
+
+abbrev loop-reached-from-else2 : tie.Else2 Inv-loop μ-loop → tie.At-loop Inv-loop μ-loop
+loop-reached-from-else2 c = c .before .before .before .before .before .before
+
+abbrev round-from-else2 : tie.Else2 Inv-loop μ-loop → tie.In-loop Inv-loop μ-loop
+round-from-else2 c = c .before .before .before .before .before
+
+abbrev loop-reached-from-then2 : tie.Then2 Inv-loop μ-loop → tie.At-loop Inv-loop μ-loop
+loop-reached-from-then2 c = c .before .before .before .before .before .before
+
+abbrev round-from-then2 : tie.Then2 Inv-loop μ-loop → tie.In-loop Inv-loop μ-loop
+round-from-then2 c = c .before .before .before .before .before
+
 -- the character of a turn is a digit
-is-digit-here : (c : tie.Else1 Inv-loop μ-loop) → isDigit (getD (c .before .before .before .before .before .before .args .text .now) (c .before .before .before .before .loop .i) 0) ≡ true
+is-digit-here : (c : tie.Else1 Inv-loop μ-loop)
+    → isDigit (getD ((start-from-else1 c) .args .text .now) (c .before .before .before .before .loop .i) 0) ≡ true
 is-digit-here c = sym (c .before .is-digit .ensures) ∙ not-false (c .before .is-digit .result) (c .if1 .left)
 
 mul-value : tie.Need-mul-value Inv-loop μ-loop
@@ -62,17 +82,18 @@ add-value c = omega (arith, digit-is _ (is-digit-here (c .before)))
 
 -- the number of a turn
 value-is : (c : tie.After-wide Inv-loop μ-loop) →
-    let at = c .before .before .before .before .before in
+    let at = (loop-reached-from-wide c) in
     10 * at .loop .value + (c .wide .result - 48) ≡ 10 * at .loop .value + (getD (at .before .before .args .text .now) (at .loop .i) 0 - 48)
-value-is c = ap (λ (x : ℕ). 10 * c .before .before .before .before .before .loop .value + (x - 48)) (c .wide .ensures)
+value-is c = ap (λ (x : ℕ). 10 * (loop-reached-from-wide c) .loop .value + (x - 48)) (c .wide .ensures)
 
 returns-2 : tie.Need-returns-2 Inv-loop μ-loop
 unfolding numberFound
 returns-2 c =
-    let at = c .before .before .before .before .before .before in
+    let at = (loop-reached-from-then2 c) in
     let text = at .before .before .args .text .now in
     record {
-      found = sym (digits-over (at .loop .value) text (at .loop .i) (c .before .before .before .before .before .loop-test .taken) (is-digit-here (c .before .before)) (omega (arith, value-is (c .before)))) ∙ at .loop .inv .2;
+      found = sym (digits-over (at .loop .value) text (at .loop .i) ((round-from-then2 c) .loop-test .taken)
+          (is-digit-here (c .before .before)) (omega (arith, value-is (c .before)))) ∙ at .loop .inv .2;
       within = tt;
     }
 
@@ -84,15 +105,16 @@ loop-less c = omega arith
 
 loop-again : tie.Need-loop-again Inv-loop μ-loop
 loop-again c =
-    let at = c .before .before .before .before .before .before in
+    let at = (loop-reached-from-else2 c) in
     let text = at .before .before .args .text .now in
     let i = at .loop .i in
     let e = value-is (c .before) in (
-      omega (arith, c .before .before .before .before .before .loop-test .taken),
+      omega (arith, (round-from-else2 c) .loop-test .taken),
       omega arith,
       ap (λ (n : ℕ). digitsIn n (drop (i + 1) text)) e
           ∙ ap (λ (k : ℕ). digitsIn (10 * at .loop .value + (getD text i 0 - 48)) (drop k text)) (add-one i)
-          ∙ sym (digits-step (at .loop .value) text i (c .before .before .before .before .before .loop-test .taken) (is-digit-here (c .before .before)) (omega arith))
+          ∙ sym (digits-step (at .loop .value) text i ((round-from-else2 c) .loop-test .taken)
+          (is-digit-here (c .before .before)) (omega arith))
           ∙ at .loop .inv .2,
     )
 

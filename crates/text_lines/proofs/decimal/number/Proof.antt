@@ -26,10 +26,23 @@ shared-slice-read-c c = search needs
 is-digit-requires : tie.Need-is-digit-requires
 is-digit-requires c κs = search needs
 
+-- The stages of the function, seen from later ones.
+abbrev start-from-else2 : tie.Else2 → tie.Start
+start-from-else2 c = c .before .before .before .before .before
+
+abbrev start-from-then2 : tie.Then2 → tie.Start
+start-from-then2 c = c .before .before .before .before .before
+
+abbrev start-from-then3 : tie.Then3 → tie.Start
+start-from-then3 c = c .before .before .before .before .before .before
+
+abbrev start-from-digits : tie.After-digits → tie.Start
+start-from-digits c = c .before .before .before .before .before .before .before
+
 returns-2 : tie.Need-returns-2
 unfolding numberFound
 returns-2 c =
-    let a = c .before .before .before .before .before .args in
+    let a = (start-from-then2 c) .args in
     let other = sym (c .before .is-digit .ensures) ∙ not-true (c .before .is-digit .result) (c .if2 .taken) in
     record { found = sym (number-other (a .text .now) (a .at) (omega arith) other); within = tt }
 
@@ -39,14 +52,15 @@ add-t9 c = search needs
 returns-3 : tie.Need-returns-3
 unfolding numberFound
 returns-3 c =
-    let a = c .before .before .before .before .before .before .args in
+    let a = (start-from-then3 c) .args in
     record {
-      found = ap (λ (k : ℕ). taken 0 (drop k (a .text .now))) (add-one (a .at)) ∙ sym (number-zero (a .text .now) (a .at) (omega arith) (c .if3 .taken));
+      found = ap (λ (k : ℕ). taken 0 (drop k (a .text .now))) (add-one (a .at))
+          ∙ sym (number-zero (a .text .now) (a .at) (omega arith) (c .if3 .taken));
       within = omega arith;
     }
 
 -- the first character is a digit
-is-digit-here : (c : tie.Else2) → isDigit (getD (c .before .before .before .before .before .args .text .now) (c .before .before .before .before .before .args .at) 0) ≡ true
+is-digit-here : (c : tie.Else2) → isDigit (getD ((start-from-else2 c) .args .text .now) ((start-from-else2 c) .args .at) 0) ≡ true
 is-digit-here c = sym (c .before .is-digit .ensures) ∙ not-false (c .before .is-digit .result) (c .if2 .left)
 
 add-digits : tie.Need-add-digits
@@ -63,7 +77,7 @@ digits-requires c κs = search needs
 
 returns-4 : tie.Need-returns-4
 returns-4 c =
-    let a = c .before .before .before .before .before .before .before .args in
+    let a = (start-from-digits c) .args in
     let text = a .text .now in
     record {
       found = c .digits .ensures .found ∙ ap (λ (k : ℕ). digitsIn (getD text (a .at) 0 - 48) (drop k text)) (add-one (a .at))

@@ -24,8 +24,11 @@ returns c =
     }
 
 -- from here on the operand is in use
-in-use : (c : tie.Else1) → operandIn (c .before .before .args .used) (drop (c .before .before .args .at) (c .before .before .args .text .now)) ≡ operandIn true (drop (c .before .before .args .at) (c .before .before .args .text .now))
-in-use c = ap (λ (u : Bool). operandIn u (drop (c .before .before .args .at) (c .before .before .args .text .now))) (not-false (c .before .before .args .used) (c .if1 .left))
+in-use : (c : tie.Else1) → operandIn (c .before .before .args .used)
+    (drop (c .before .before .args .at) (c .before .before .args .text .now))
+    ≡ operandIn true (drop (c .before .before .args .at) (c .before .before .args .text .now))
+in-use c = ap (λ (u : Bool). operandIn u (drop (c .before .before .args .at) (c .before .before .args .text .now)))
+    (not-false (c .before .before .args .used) (c .if1 .left))
 
 returns-2 : tie.Need-returns-2
 unfolding numberFound
@@ -36,12 +39,20 @@ returns-2 c =
 shared-slice-read-if3 : tie.Need-shared-slice-read-if3
 shared-slice-read-if3 c = search needs
 
+-- The stages of the function, seen from later ones.
+abbrev start-from-then3 : tie.Then3 → tie.Start
+start-from-then3 c = c .before .before .before .before .before
+
+abbrev start-from-number : tie.After-number → tie.Start
+start-from-number c = c .before .before .before .before .before .before
+
 returns-3 : tie.Need-returns-3
 unfolding numberFound
 returns-3 c =
-    let a = c .before .before .before .before .before .args in
+    let a = (start-from-then3 c) .args in
     record {
-      found = sym (in-use (c .before .before .before) ∙ operand-other (a .text .now) (a .at) (c .before .before .if2 .left) (c .if3 .taken));
+      found = sym (in-use (c .before .before .before)
+          ∙ operand-other (a .text .now) (a .at) (c .before .before .if2 .left) (c .if3 .taken));
       within = tt;
     }
 
@@ -53,10 +64,11 @@ number-requires c κs = search needs
 
 returns-4 : tie.Need-returns-4
 returns-4 c =
-    let a = c .before .before .before .before .before .before .args in
+    let a = (start-from-number c) .args in
     record {
       found = c .number .ensures .found ∙ ap (λ (k : ℕ). numberIn (drop k (a .text .now))) (add-one (a .at))
-          ∙ sym (in-use (c .before .before .before .before) ∙ operand-number (a .text .now) (a .at) (c .before .before .before .if2 .left) (c .before .if3 .left));
+          ∙ sym (in-use (c .before .before .before .before)
+          ∙ operand-number (a .text .now) (a .at) (c .before .before .before .if2 .left) (c .before .if3 .left));
       within = c .number .ensures .within;
     }
 

@@ -30,9 +30,13 @@ record Short (c : tie.After-operand-length3) : Type 0 where
   b : c .before .operand-length2 .result ≤ 11
   c' : c .operand-length3 .result ≤ 11
 
+-- The stages of the function, seen from later ones.
+abbrev start-from-operand-length3 : tie.After-operand-length3 → tie.Start
+start-from-operand-length3 c = c .before .before .before .before .before .before
+
 short : (c : tie.After-operand-length3) → Short c
 short c =
-    let s = c .before .before .before .before .before .before .args in
+    let s = (start-from-operand-length3 c) .args in
     let m = c .before .before .before .before .operands .result in
     record {
       kind = omega (arith, c .before .before .before .count .ensures, decimal-most (s .kind));
@@ -55,11 +59,17 @@ add-result-4 c = omega (arith, short c)
 
 returns : tie.Need-returns
 returns c =
-    let s = c .before .before .before .before .before .before .args in
+    let s = (start-from-operand-length3 c) .args in
     let m = c .before .before .before .before .operands in
     let long = line-long (m .result) (record { kind = s .kind; a = s .a; b = s .b; c = s .c }) (m .ensures) in
     record {
-      is = omega (arith, c .before .before .before .count .ensures, c .before .before .operand-length .ensures, c .before .operand-length2 .ensures, c .operand-length3 .ensures);
+      is = omega (
+        arith,
+        c .before .before .before .count .ensures,
+        c .before .before .operand-length .ensures,
+        c .before .operand-length2 .ensures,
+        c .operand-length3 .ensures,
+      );
       short = omega (arith, short c);
     }
 

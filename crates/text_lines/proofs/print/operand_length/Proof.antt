@@ -15,7 +15,11 @@ add-result : tie.Need-add-result
 add-result c = omega (arith, c .count .ensures, decimal-most (c .before .before .args .n))
 
 returns : tie.Need-returns
-returns c = omega (arith, c .count .ensures, ap length (text-used (c .before .before .args .used) (c .before .before .args .n) (c .before .if1 .taken)))
+returns c = omega (
+  arith,
+  c .count .ensures,
+  ap length (text-used (c .before .before .args .used) (c .before .before .args .n) (c .before .if1 .taken)),
+)
 
 returns-2 : tie.Need-returns-2
 returns-2 c = sym (ap length (text-unused (c .before .args .used) (c .before .args .n) (c .if1 .left)))

@@ -21,7 +21,8 @@ returns c =
     record { next = omega (arith, ap length e); is = sym (ap (sets (a .output .now) (a .at)) e) }
 
 -- from here on the operand is in use
-in-use : (c : tie.Else1) → operandText (c .before .before .args .used) (c .before .before .args .n) ≡ 32 ∷ decimal (c .before .before .args .n)
+in-use : (c : tie.Else1) → operandText (c .before .before .args .used) (c .before .before .args .n)
+    ≡ 32 ∷ decimal (c .before .before .args .n)
 in-use c = text-used (c .before .before .args .used) (c .before .before .args .n) (not-false (c .before .before .args .used) (c .if1 .left))
 
 slice-write-output : tie.Need-slice-write-output
@@ -35,18 +36,25 @@ put-requires c κs =
     let a = c .before .before .before .args in
     omega (arith, ap length (in-use (c .before)), c .before .before .before .pre, length-set (a .output .now) (a .at) 32)
 
+-- The stages of the function, seen from later ones.
+abbrev start-from-output : tie.After-output → tie.Start
+start-from-output c = c .before .before .before .before .before
+
 same-length : tie.Need-same-length
 same-length c =
-    let a = c .before .before .before .before .before .before .args in
-    ap length (c .before .before .put .ensures .is) ∙ length-sets (set (a .output .now) (a .at) 32) (a .at + 1) (decimal (a .n)) ∙ length-set (a .output .now) (a .at) 32
+    let a = (start-from-output (c .before)) .args in
+    ap length (c .before .before .put .ensures .is)
+    ∙ length-sets (set (a .output .now) (a .at) 32) (a .at + 1) (decimal (a .n))
+    ∙ length-set (a .output .now) (a .at) 32
 
 returns-2 : tie.Need-returns-2
 returns-2 c =
-    let a = c .before .before .before .before .before .before .args in
+    let a = (start-from-output (c .before)) .args in
     let p = c .before .before .put .ensures in
     record {
       next = omega (arith, p .next, ap length (in-use (c .before .before .before .before)));
-      is = p .is ∙ ap (λ (k : ℕ). sets (set (a .output .now) (a .at) 32) k (decimal (a .n))) (add-one (a .at)) ∙ sym (ap (sets (a .output .now) (a .at)) (in-use (c .before .before .before .before)));
+      is = p .is ∙ ap (λ (k : ℕ). sets (set (a .output .now) (a .at) 32) k (decimal (a .n))) (add-one (a .at))
+          ∙ sym (ap (sets (a .output .now) (a .at)) (in-use (c .before .before .before .before)));
     }
 
 pub put-operand-spec : {M : Type 1} → statement M

@@ -20,7 +20,11 @@ add-if2 c = omega (arith, c .before .pre)
 
 returns-2 : tie.Need-returns-2
 unfolding tablesFit
-returns-2 c = let a = c .before .before .args in rw (eq-eqb (length (a .dealt .now)) (3 * a .conditional) (c .before .if1 .left), ne-eqb (length (a .wires .now)) (a .inputs + a .gates) (c .if2 .taken))
+returns-2 c = let a = c .before .before .args in
+    rw (
+      eq-eqb (length (a .dealt .now)) (3 * a .conditional) (c .before .if1 .left),
+      ne-eqb (length (a .wires .now)) (a .inputs + a .gates) (c .if2 .taken),
+    )
 
 mul-result : tie.Need-mul-result
 mul-result c = omega (arith, c .before .before .pre)
@@ -30,7 +34,11 @@ add-result c = omega (arith, c .before .before .pre)
 
 returns-3 : tie.Need-returns-3
 unfolding tablesFit
-returns-3 c = let a = c .before .before .args in rw (eq-eqb (length (a .dealt .now)) (3 * a .conditional) (c .before .if1 .left), eq-eqb (length (a .wires .now)) (a .inputs + a .gates) (c .if2 .left))
+returns-3 c = let a = c .before .before .args in
+    rw (
+      eq-eqb (length (a .dealt .now)) (3 * a .conditional) (c .before .if1 .left),
+      eq-eqb (length (a .wires .now)) (a .inputs + a .gates) (c .if2 .left),
+    )
 
 pub tables-fit-spec : {M : Type 1} → statement M
 tables-fit-spec =

@@ -23,18 +23,59 @@ use Rattle.trustee_alone.proofs.Passed.{Passed, round-passed}
 use Rattle.trustee_alone.proofs.round.round.Statement.{statement}
 use Rattle.trustee_alone.proofs.round.round.Tie as tie
 
+-- The stages of the function, seen from later ones.
+abbrev start-from-shared-slice-known : tie.After-shared-slice-known → tie.Start
+start-from-shared-slice-known c = c .before
+
+abbrev start-from-test-round : tie.After-test-round → tie.Start
+start-from-test-round c = start-from-shared-slice-known (c .before .before .before .before .before .before .before .before)
+
+abbrev start-from-answer : tie.After-answer → tie.Start
+start-from-answer c = start-from-test-round (c .before .before)
+
+abbrev start-from-enum-told : tie.After-enum-told → tie.Start
+start-from-enum-told c = start-from-test-round (c .before .before)
+
+abbrev start-from-ballot-bytes : tie.After-ballot-bytes → tie.Start
+start-from-ballot-bytes c = start-from-test-round (c .before .before .before .before)
+
+abbrev start-from-published : tie.After-published → tie.Start
+start-from-published c = start-from-answer (c .before .before .before .before .before .before .before .before)
+
+abbrev answer-from-published : tie.After-published → tie.After-answer
+answer-from-published c = c .before .before .before .before .before .before .before .before
+
+abbrev ballot-bytes-from-published : tie.After-published → tie.After-ballot-bytes
+ballot-bytes-from-published c = c .before .before .before .before .before .before
+
 -- the tests passed, and the answer is the list's own
-accepted-by : (c : tie.After-answer) → let a = c .before .before .before .before .before .before .before .before .before .before .before .args in (firstOf (roundReasons (a .shape) (a .table .now) (a .t) (a .p) (a .round) (a .levels .now) (a .dealt .now) (a .heard .now) (a .wires .now) (a .published .now)) ≡ none) × ((depthsOf (ballotBytes (a .shape)) (gatesOf (a .table .now))) ≡ record { gates = c .answer .given .0 .0; conditional = c .answer .given .0 .1 .0; rounds = c .answer .given .0 .1 .1 .0 })
+accepted-by : (c : tie.After-answer) → let a = (start-from-answer c) .args in
+    (firstOf (roundReasons (a .shape) (a .table .now) (a .t) (a .p) (a .round) (a .levels .now) (a .dealt .now)
+    (a .heard .now) (a .wires .now) (a .published .now)) ≡ none)
+    × ((depthsOf (ballotBytes (a .shape)) (gatesOf (a .table .now)))
+    ≡ record {
+      gates = c .answer .given .0 .0;
+      conditional = c .answer .given .0 .1 .0;
+      rounds =
+          c .answer .given .0 .1 .1 .0;
+    })
 unfolding depthsOutcome
 accepted-by c =
-    let a = c .before .before .before .before .before .before .before .before .before .before .before .args in
-    accepted-values (firstOf (roundReasons (a .shape) (a .table .now) (a .t) (a .p) (a .round) (a .levels .now) (a .dealt .now) (a .heard .now) (a .wires .now) (a .published .now))) (depthsOf (ballotBytes (a .shape)) (gatesOf (a .table .now))) _ (sym (c .before .before .test-round .ensures) ∙ ap depthsOutcome (c .answer .given .1))
+    let a = (start-from-answer c) .args in
+    accepted-values
+    (firstOf (roundReasons (a .shape) (a .table .now) (a .t) (a .p) (a .round) (a .levels .now) (a .dealt .now)
+    (a .heard .now) (a .wires .now) (a .published .now)))
+    (depthsOf (ballotBytes (a .shape)) (gatesOf (a .table .now))) _
+    (sym (c .before .before .test-round .ensures) ∙ ap depthsOutcome (c .answer .given .1))
 
 -- what is known then
-known : (c : tie.After-answer) → let a = c .before .before .before .before .before .before .before .before .before .before .before .args in Passed (a .shape) (a .table .now) (a .round) (a .levels .now) (a .dealt .now) (a .heard .now) (a .wires .now) (a .published .now)
+known : (c : tie.After-answer) → let a = (start-from-answer c) .args in
+    Passed (a .shape) (a .table .now) (a .round) (a .levels .now) (a .dealt .now) (a .heard .now) (a .wires .now)
+    (a .published .now)
 known c =
-    let a = c .before .before .before .before .before .before .before .before .before .before .before .args in
-    round-passed (a .shape) (a .table .now) (a .t) (a .p) (a .round) (a .levels .now) (a .dealt .now) (a .heard .now) (a .wires .now) (a .published .now) (accepted-by c .0)
+    let a = (start-from-answer c) .args in
+    round-passed (a .shape) (a .table .now) (a .t) (a .p) (a .round) (a .levels .now) (a .dealt .now)
+    (a .heard .now) (a .wires .now) (a .published .now) (accepted-by c .0)
 
 test-round-requires : tie.Need-test-round-requires
 test-round-requires c κs = search needs
@@ -54,22 +95,37 @@ same-length-2 c = search needs
 returns : tie.Need-returns
 unfolding depthsOutcome roundOutcome roundedWires roundedPublished
 returns c =
-    let a = c .before .before .before .before .before .before .before .before .before .before .before .args in
+    let a = (start-from-enum-told c) .args in
     let r = levelReasonOf (c .enum-told .given .0 .0) in
     let e = ap depthsOutcome (c .enum-told .given .1) in
-    let why = outcome-refused (firstOf (roundReasons (a .shape) (a .table .now) (a .t) (a .p) (a .round) (a .levels .now) (a .dealt .now) (a .heard .now) (a .wires .now) (a .published .now))) (depthsOf (ballotBytes (a .shape)) (gatesOf (a .table .now))) r (sym (c .before .before .test-round .ensures) ∙ e) in
+    let why = outcome-refused (firstOf
+    (roundReasons (a .shape) (a .table .now) (a .t) (a .p) (a .round) (a .levels .now) (a .dealt .now)
+    (a .heard .now) (a .wires .now) (a .published .now)))
+    (depthsOf (ballotBytes (a .shape)) (gatesOf (a .table .now))) r
+    (sym (c .before .before .test-round .ensures) ∙ e) in
     same-own
-    (e ∙ outcome-some (firstOf (roundReasons (a .shape) (a .table .now) (a .t) (a .p) (a .round) (a .levels .now) (a .dealt .now) (a .heard .now) (a .wires .now) (a .published .now))) (depthsOf (ballotBytes (a .shape)) (gatesOf (a .table .now))) r why)
-    (left-old (firstOf (roundReasons (a .shape) (a .table .now) (a .t) (a .p) (a .round) (a .levels .now) (a .dealt .now) (a .heard .now) (a .wires .now) (a .published .now))) (wiresMade (a .shape) (a .table .now) (a .p) (a .round) (a .levels .now) (a .dealt .now) (a .heard .now) (a .wires .now)) (a .wires .now) r why)
-    (left-old (firstOf (roundReasons (a .shape) (a .table .now) (a .t) (a .p) (a .round) (a .levels .now) (a .dealt .now) (a .heard .now) (a .wires .now) (a .published .now))) (publishedMade (a .shape) (a .table .now) (a .p) (a .round) (a .levels .now) (a .dealt .now) (a .heard .now) (a .wires .now) (a .published .now)) (a .published .now) r why)
+    (e ∙ outcome-some
+    (firstOf (roundReasons (a .shape) (a .table .now) (a .t) (a .p) (a .round) (a .levels .now) (a .dealt .now)
+    (a .heard .now) (a .wires .now) (a .published .now)))
+    (depthsOf (ballotBytes (a .shape)) (gatesOf (a .table .now))) r why)
+    (left-old
+    (firstOf (roundReasons (a .shape) (a .table .now) (a .t) (a .p) (a .round) (a .levels .now) (a .dealt .now)
+    (a .heard .now) (a .wires .now) (a .published .now)))
+    (wiresMade (a .shape) (a .table .now) (a .p) (a .round) (a .levels .now) (a .dealt .now) (a .heard .now)
+    (a .wires .now)) (a .wires .now) r why)
+    (left-old
+    (firstOf (roundReasons (a .shape) (a .table .now) (a .t) (a .p) (a .round) (a .levels .now) (a .dealt .now)
+    (a .heard .now) (a .wires .now) (a .published .now)))
+    (publishedMade (a .shape) (a .table .now) (a .p) (a .round) (a .levels .now) (a .dealt .now) (a .heard .now)
+    (a .wires .now) (a .published .now)) (a .published .now) r why)
 
 ballot-bytes-requires : tie.Need-ballot-bytes-requires
-ballot-bytes-requires c κs = true-T (withinLimits (c .before .before .before .before .before .before .before .before .before .before .before .before .args .shape)) (known (c .before) .facts .within)
+ballot-bytes-requires c κs = true-T (withinLimits ((start-from-answer (c .before)) .args .shape)) (known (c .before) .facts .within)
 
 round-requires : tie.Need-round-requires
 unfolding depthsOf
 round-requires c κs =
-    let a = c .before .before .before .before .before .before .before .before .before .before .before .before .before .before .before .args in
+    let a = (start-from-ballot-bytes (c .before .before)) .args in
     let ok = c .before .before .before .before in
     let p = known ok in
     let e = c .before .before .ballot-bytes .ensures in
@@ -83,7 +139,13 @@ round-requires c κs =
         dealt-length = p .lengths .dealt-length;
         wires-length = p .lengths .wires-length;
       };
-      early = omega (arith, p .early, rounds-most (ballotBytes (a .shape)) (gatesOf (a .table .now)), count-most (gatesOf (a .table .now)), p .facts .few);
+      early = omega (
+        arith,
+        p .early,
+        rounds-most (ballotBytes (a .shape)) (gatesOf (a .table .now)),
+        count-most (gatesOf (a .table .now)),
+        p .facts .few,
+      );
       conditional-is = sym conditional;
       enough = p .facts .enough;
       heard-length = p .heard-length;
@@ -99,20 +161,45 @@ same-length-4 c = search needs
 returns-2 : tie.Need-returns-2
 unfolding depthsOutcome depthsOf roundOutcome roundedWires roundedPublished wiresMade publishedMade ownTurn
 returns-2 c =
-    let a = c .before .before .before .before .before .before .before .before .before .before .before .before .before .before .before .before .before .before .before .before .args in
-    let ok = c .before .before .before .before .before .before .before .before .before in
+    let a = (start-from-published (c .before)) .args in
+    let ok = (answer-from-published (c .before)) in
     let by = accepted-by ok in
-    let e = c .before .before .before .before .before .before .before .ballot-bytes .ensures in
+    let e = (ballot-bytes-from-published (c .before)) .ballot-bytes .ensures in
     let conditional = ap (λ (d : Depths). d .conditional) (by .1) in
     let rounds = ap (λ (d : Depths). d .rounds) (by .1) in
     let done = c .before .before .before .before .round .ensures in
-    let u : ℕ → Turn = λ n. record { trustee = a .p; round = a .round; inputs = n; levels = a .levels .now; dealt = a .dealt .now; heard = a .heard .now } in
+    let u : ℕ → Turn = λ n. record {
+      trustee = a .p;
+      round = a .round;
+      inputs = n;
+      levels = a .levels .now;
+      dealt =
+          a .dealt .now;
+      heard = a .heard .now;
+    } in
     let X : ℕ → ℕ → ℕ → List ℕ = λ n m c.
-    closes (a .round) m c (a .shape .candidates) (enters (u n) (gatesOf (a .table .now)) 0 0 (a .wires .now)) (publishes (u n) (enters (u n) (gatesOf (a .table .now)) 0 0 (a .wires .now)) (gatesOf (a .table .now)) 0 0 (a .published .now)) in
+    closes (a .round) m c (a .shape .candidates) (enters (u n) (gatesOf (a .table .now)) 0 0 (a .wires .now))
+    (publishes (u n) (enters (u n) (gatesOf (a .table .now)) 0 0 (a .wires .now)) (gatesOf (a .table .now)) 0 0
+    (a .published .now)) in
     same-own
-    (outcome-none (firstOf (roundReasons (a .shape) (a .table .now) (a .t) (a .p) (a .round) (a .levels .now) (a .dealt .now) (a .heard .now) (a .wires .now) (a .published .now))) (depthsOf (ballotBytes (a .shape)) (gatesOf (a .table .now))) _ (by .0) (sym (by .1)))
-    (done .parts ∙ ap (λ (n : ℕ). enters (u n) (gatesOf (a .table .now)) 0 0 (a .wires .now)) e ∙ left-new (firstOf (roundReasons (a .shape) (a .table .now) (a .t) (a .p) (a .round) (a .levels .now) (a .dealt .now) (a .heard .now) (a .wires .now) (a .published .now))) (wiresMade (a .shape) (a .table .now) (a .p) (a .round) (a .levels .now) (a .dealt .now) (a .heard .now) (a .wires .now)) (a .wires .now) (by .0))
-    (done .shown ∙ ap (λ (n : ℕ). X n (ok .answer .given .0 .1 .1 .0) (ok .answer .given .0 .1 .0)) e ∙ ap (λ (m : ℕ). X (ballotBytes (a .shape)) m (ok .answer .given .0 .1 .0)) (sym rounds) ∙ ap (λ (c : ℕ). X (ballotBytes (a .shape)) (roundsOf (ballotBytes (a .shape)) (gatesOf (a .table .now))) c) (sym conditional) ∙ left-new (firstOf (roundReasons (a .shape) (a .table .now) (a .t) (a .p) (a .round) (a .levels .now) (a .dealt .now) (a .heard .now) (a .wires .now) (a .published .now))) (publishedMade (a .shape) (a .table .now) (a .p) (a .round) (a .levels .now) (a .dealt .now) (a .heard .now) (a .wires .now) (a .published .now)) (a .published .now) (by .0))
+    (outcome-none
+    (firstOf (roundReasons (a .shape) (a .table .now) (a .t) (a .p) (a .round) (a .levels .now) (a .dealt .now)
+    (a .heard .now) (a .wires .now) (a .published .now)))
+    (depthsOf (ballotBytes (a .shape)) (gatesOf (a .table .now))) _ (by .0) (sym (by .1)))
+    (done .parts ∙ ap (λ (n : ℕ). enters (u n) (gatesOf (a .table .now)) 0 0 (a .wires .now)) e
+    ∙ left-new
+    (firstOf (roundReasons (a .shape) (a .table .now) (a .t) (a .p) (a .round) (a .levels .now) (a .dealt .now)
+    (a .heard .now) (a .wires .now) (a .published .now)))
+    (wiresMade (a .shape) (a .table .now) (a .p) (a .round) (a .levels .now) (a .dealt .now) (a .heard .now)
+    (a .wires .now)) (a .wires .now) (by .0))
+    (done .shown ∙ ap (λ (n : ℕ). X n (ok .answer .given .0 .1 .1 .0) (ok .answer .given .0 .1 .0)) e
+    ∙ ap (λ (m : ℕ). X (ballotBytes (a .shape)) m (ok .answer .given .0 .1 .0)) (sym rounds)
+    ∙ ap (λ (c : ℕ). X (ballotBytes (a .shape)) (roundsOf (ballotBytes (a .shape)) (gatesOf (a .table .now))) c)
+    (sym conditional) ∙ left-new (firstOf
+    (roundReasons (a .shape) (a .table .now) (a .t) (a .p) (a .round) (a .levels .now) (a .dealt .now)
+    (a .heard .now) (a .wires .now) (a .published .now)))
+    (publishedMade (a .shape) (a .table .now) (a .p) (a .round) (a .levels .now) (a .dealt .now) (a .heard .now)
+    (a .wires .now) (a .published .now)) (a .published .now) (by .0))
 
 pub round-spec : {M : Type 1} → statement M
 round-spec =

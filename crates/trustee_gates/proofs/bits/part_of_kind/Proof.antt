@@ -15,7 +15,8 @@ use Rattle.basics.proofs.Arithmetic.{above-7}
 
 no-kind : (p k a b c z : ℕ) → 8 ≤ k → 0 ≡ partOfKind p k a b c z
 unfolding partOfKind
-no-kind p k a b c z h = sym (List·getD-eq-default (0 ∷ entered p 1 ∷ a ∷ (a + entered p 1) % 2 ∷ z ∷ (a + b + z) % 2 ∷ (a + b) % 2 ∷ (c + z) % 2 ∷ []) 0 {n = k} h)
+no-kind p k a b c z h = sym (List·getD-eq-default
+    (0 ∷ entered p 1 ∷ a ∷ (a + entered p 1) % 2 ∷ z ∷ (a + b + z) % 2 ∷ (a + b) % 2 ∷ (c + z) % 2 ∷ []) 0 {n = k} h)
 
 enter-once-requires : tie.Need-enter-once-requires
 enter-once-requires c κs = search needs

@@ -36,8 +36,11 @@ returns c =
     let p1 = t2 .before in
     let t1 = p1 .before in
     let a = t1 .before .args in
-    product-sum (a .p) (a .product) (a .first * a .v) (a .second * a .u) (a .first * a .second) (t1 .times .result) (t2 .times2 .result) (t3 .times3 .result) (e .enter-once .result) (p1 .plus .result) (p2 .plus2 .result) (c .plus3 .result)
-    (t1 .times .ensures) (t2 .times2 .ensures) (t3 .times3 .ensures) (p1 .plus .ensures) (p2 .plus2 .ensures) (e .enter-once .ensures) (c .plus3 .ensures)
+    product-sum (a .p) (a .product) (a .first * a .v) (a .second * a .u) (a .first * a .second) (t1 .times .result)
+    (t2 .times2 .result) (t3 .times3 .result) (e .enter-once .result) (p1 .plus .result) (p2 .plus2 .result)
+    (c .plus3 .result)
+    (t1 .times .ensures) (t2 .times2 .ensures) (t3 .times3 .ensures) (p1 .plus .ensures) (p2 .plus2 .ensures)
+    (e .enter-once .ensures) (c .plus3 .ensures)
 
 pub product-bit-spec : {M : Type 1} → statement M
 product-bit-spec =

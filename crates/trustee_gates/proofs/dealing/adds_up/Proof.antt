@@ -35,12 +35,20 @@ open-requires c κs = record { inside = omega arith; long = c .before .before .b
 shared-slice-read-if1 : tie.Need-shared-slice-read-if1 Inv-loop μ-loop
 shared-slice-read-if1 c = omega arith
 
+-- The stages of the function, seen from later ones.
+abbrev start-from-else1 : tie.Else1 Inv-loop μ-loop → tie.Start Inv-loop μ-loop
+start-from-else1 c = c .before .before .before .before .before .before .before
+
+abbrev start-from-then1 : tie.Then1 Inv-loop μ-loop → tie.Start Inv-loop μ-loop
+start-from-then1 c = c .before .before .before .before .before .before .before
+
 returns : tie.Need-returns Inv-loop μ-loop
 unfolding addsUp
 returns c =
     let l = c .before .before .before .before .loop in
-    let a = c .before .before .before .before .before .before .before .args in
-    not-all (passes (a .t) (a .ballots .now) (a .parts .now)) (length (a .ballots .now)) (l .x) (omega arith) (ne-eqb _ _ (λ e. c .if1 .taken (c .before .before .«open» .ensures ∙ e)))
+    let a = (start-from-then1 c) .args in
+    not-all (passes (a .t) (a .ballots .now) (a .parts .now)) (length (a .ballots .now)) (l .x) (omega arith)
+    (ne-eqb _ _ (λ e. c .if1 .taken (c .before .before .«open» .ensures ∙ e)))
 
 add-x : tie.Need-add-x Inv-loop μ-loop
 add-x c = omega arith
@@ -51,9 +59,10 @@ loop-less c = omega arith
 loop-again : tie.Need-loop-again Inv-loop μ-loop
 loop-again c =
     let l = c .before .before .before .before .loop in
-    let a = c .before .before .before .before .before .before .before .args in (
+    let a = (start-from-else1 c) .args in (
       omega arith,
-      all-more (passes (a .t) (a .ballots .now) (a .parts .now)) (l .x) (l .inv .1) (eq-eqb _ _ (sym (c .before .before .«open» .ensures) ∙ c .if1 .left))
+      all-more (passes (a .t) (a .ballots .now) (a .parts .now)) (l .x) (l .inv .1)
+          (eq-eqb _ _ (sym (c .before .before .«open» .ensures) ∙ c .if1 .left))
           ∙ ap (λ (n : ℕ). allBelow n (passes (a .t) (a .ballots .now) (a .parts .now))) (sym (add-one (l .x))),
     )
 

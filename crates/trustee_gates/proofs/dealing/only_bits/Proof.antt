@@ -42,8 +42,11 @@ loop-less c = omega arith
 loop-again : tie.Need-loop-again Inv-loop μ-loop
 loop-again c =
     let l = c .before .before .before .loop in
-    let xs = c .before .before .before .before .args .parts .now in
-    (omega arith, all-more (λ j. leb (getD xs j 0) 1) (l .i) (l .inv .1) (le-leb (getD xs (l .i) 0) 1 (omega arith)) ∙ ap (λ (n : ℕ). allBelow n (λ j. leb (getD xs j 0) 1)) (sym (add-one (l .i))))
+    let xs = c .before .before .before .before .args .parts .now in (
+      omega arith,
+      all-more (λ j. leb (getD xs j 0) 1) (l .i) (l .inv .1) (le-leb (getD xs (l .i) 0) 1 (omega arith))
+          ∙ ap (λ (n : ℕ). allBelow n (λ j. leb (getD xs j 0) 1)) (sym (add-one (l .i))),
+    )
 
 returns-2 : tie.Need-returns-2 Inv-loop μ-loop
 unfolding onlyBits

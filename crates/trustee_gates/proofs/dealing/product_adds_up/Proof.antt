@@ -50,7 +50,9 @@ returns c =
     let v = opened (a .t) (f (3 * a .i + 1)) in
     let w = opened (a .t) (f (3 * a .i + 2)) in
     let e : c .times .result ≡ u * v =
-    c .times .ensures ∙ ap (λ (n : ℕ). n * second .open2 .result % 2) (first .«open» .ensures) ∙ ap (λ (n : ℕ). u * n % 2) (second .open2 .ensures) ∙ bit-times u v (opened-bit (a .t) (f (3 * a .i))) (opened-bit (a .t) (f (3 * a .i + 1))) in
+    c .times .ensures ∙ ap (λ (n : ℕ). n * second .open2 .result % 2) (first .«open» .ensures)
+    ∙ ap (λ (n : ℕ). u * n % 2) (second .open2 .ensures)
+    ∙ bit-times u v (opened-bit (a .t) (f (3 * a .i))) (opened-bit (a .t) (f (3 * a .i + 1))) in
     ap (λ (n : ℕ). eqb n (c .times .result)) (third .open3 .ensures) ∙ ap (λ (n : ℕ). eqb w n) e
 
 pub product-adds-up-spec : {M : Type 1} → statement M

@@ -28,12 +28,20 @@ loop-holds c = (omega arith, all-none _)
 product-adds-up-requires : tie.Need-product-adds-up-requires Inv-loop μ-loop
 product-adds-up-requires c κs = (omega arith, c .before .before .before .pre .long)
 
+-- The stages of the function, seen from later ones.
+abbrev start-from-else1 : tie.Else1 Inv-loop μ-loop → tie.Start Inv-loop μ-loop
+start-from-else1 c = c .before .before .before .before .before
+
+abbrev start-from-then1 : tie.Then1 Inv-loop μ-loop → tie.Start Inv-loop μ-loop
+start-from-then1 c = c .before .before .before .before .before
+
 returns : tie.Need-returns Inv-loop μ-loop
 unfolding productsAddUp
 returns c =
     let l = c .before .before .before .loop in
-    let a = c .before .before .before .before .before .args in
-    not-all (productAddsUp (a .t) (piece (3 * a .conditional) (a .dealt .now))) (a .conditional) (l .i) (omega arith) (sym (c .before .product-adds-up .ensures) ∙ not-true _ (c .if1 .taken))
+    let a = (start-from-then1 c) .args in
+    not-all (productAddsUp (a .t) (piece (3 * a .conditional) (a .dealt .now))) (a .conditional) (l .i)
+    (omega arith) (sym (c .before .product-adds-up .ensures) ∙ not-true _ (c .if1 .taken))
 
 add-i : tie.Need-add-i Inv-loop μ-loop
 add-i c = omega arith
@@ -44,9 +52,10 @@ loop-less c = omega arith
 loop-again : tie.Need-loop-again Inv-loop μ-loop
 loop-again c =
     let l = c .before .before .before .loop in
-    let a = c .before .before .before .before .before .args in (
+    let a = (start-from-else1 c) .args in (
       omega arith,
-      all-more (productAddsUp (a .t) (piece (3 * a .conditional) (a .dealt .now))) (l .i) (l .inv .1) (sym (c .before .product-adds-up .ensures) ∙ not-false _ (c .if1 .left))
+      all-more (productAddsUp (a .t) (piece (3 * a .conditional) (a .dealt .now))) (l .i) (l .inv .1)
+          (sym (c .before .product-adds-up .ensures) ∙ not-false _ (c .if1 .left))
           ∙ ap (λ (n : ℕ). allBelow n (productAddsUp (a .t) (piece (3 * a .conditional) (a .dealt .now)))) (sym (add-one (l .i))),
     )
 

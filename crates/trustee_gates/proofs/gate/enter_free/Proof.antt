@@ -16,10 +16,12 @@ use Rattle.trustee_gates.proofs.gate.enter_free.Tie as tie
 
 -- what trustee q enters
 abbrev entering : ℕ → Numbers → List ℕ → ℕ → ℕ
-entering size g ws q = partOfKind q (g .kind) (part (piece size ws q) (g .a)) (part (piece size ws q) (g .b)) (part (piece size ws q) (g .c)) 0
+entering size g ws q = partOfKind q (g .kind) (part (piece size ws q) (g .a)) (part (piece size ws q) (g .b))
+    (part (piece size ws q) (g .c)) 0
 
 abbrev Inv-loop : tie.InvT-loop
-Inv-loop t size gate own wires₀ p₀ wires p = (p ≤ t) × (length wires ≡ length wires₀) × (wires ≡ eachPuts p size own (λ q. entering size gate wires₀ q ∷ []) wires₀)
+Inv-loop t size gate own wires₀ p₀ wires p = (p ≤ t) × (length wires ≡ length wires₀)
+    × (wires ≡ eachPuts p size own (λ q. entering size gate wires₀ q ∷ []) wires₀)
 
 abbrev μ-loop : tie.MeasureT-loop
 μ-loop t size gate own wires₀ p₀ wires p = t - p
@@ -40,11 +42,16 @@ new-part-requires c κs =
       wires-reach = reaches (a .t) (a .size) (l .wires) (l .p) (l .inv .1 ∙ s .pre .wires-length) (omega arith);
     }
 
+-- The stages of the function, seen from later ones.
+abbrev start-from-new-part : tie.After-new-part Inv-loop μ-loop → tie.Start Inv-loop μ-loop
+start-from-new-part c = c .before .before .before .before .before
+
 -- the place where a part is entered
-place : (c : tie.After-new-part Inv-loop μ-loop) → let l = c .before .before .before .loop in let a = c .before .before .before .before .before .args in l .p * a .size + a .own < length (l .wires)
+place : (c : tie.After-new-part Inv-loop μ-loop) → let l = c .before .before .before .loop in let a =
+    (start-from-new-part c) .args in l .p * a .size + a .own < length (l .wires)
 place c =
     let l = c .before .before .before .loop in
-    let s = c .before .before .before .before .before in
+    let s = (start-from-new-part c) in
     let a = s .args in
     omega (arith, s .pre .own-in, reaches (a .t) (a .size) (l .wires) (l .p) (l .inv .1 ∙ s .pre .wires-length) (omega arith))
 
@@ -66,13 +73,16 @@ loop-less c = omega arith
 loop-again : tie.Need-loop-again Inv-loop μ-loop
 loop-again c =
     let l = c .before .before .before .loop in
-    let s = c .before .before .before .before .before in
+    let s = (start-from-new-part c) in
     let a = s .args in
-    let same = own-piece (entering (a .size) (a .gate) (a .wires .now)) (l .wires) (a .wires .now) (l .p) (a .size) (a .own) (s .pre .own-in) (l .inv .2) in (
+    let same = own-piece (entering (a .size) (a .gate) (a .wires .now)) (l .wires) (a .wires .now) (l .p) (a .size)
+    (a .own) (s .pre .own-in) (l .inv .2) in (
       omega arith,
       length-set (l .wires) (l .p * a .size + a .own) (c .new-part .result) ∙ l .inv .1,
-      puts-one (entering (a .size) (a .gate) (a .wires .now)) (l .wires) (a .wires .now) (l .p) (a .size) (a .own) (c .new-part .result) (l .inv .2)
-          (c .new-part .ensures ∙ ap (λ (r : List ℕ). partOfKind (l .p) (a .gate .kind) (part r (a .gate .a)) (part r (a .gate .b)) (part r (a .gate .c)) 0) same),
+      puts-one (entering (a .size) (a .gate) (a .wires .now)) (l .wires) (a .wires .now) (l .p) (a .size) (a .own)
+          (c .new-part .result) (l .inv .2)
+          (c .new-part .ensures ∙ ap (λ (r : List ℕ). partOfKind (l .p) (a .gate .kind) (part r (a .gate .a))
+          (part r (a .gate .b)) (part r (a .gate .c)) 0) same),
     )
 
 same-length : tie.Need-same-length Inv-loop μ-loop

@@ -18,7 +18,11 @@ part-of-kind-requires : tie.Need-part-of-kind-requires
 part-of-kind-requires c κs = search needs
 
 returns : tie.Need-returns
-returns c = rw (sym (c .before .before .before .entry .ensures), sym (c .before .before .entry2 .ensures), sym (c .before .entry3 .ensures)) (c .part-of-kind .ensures)
+returns c = rw (
+  sym (c .before .before .before .entry .ensures),
+  sym (c .before .before .entry2 .ensures),
+  sym (c .before .entry3 .ensures),
+) (c .part-of-kind .ensures)
 
 pub new-part-spec : {M : Type 1} → statement M
 new-part-spec =

@@ -35,7 +35,11 @@ product-bit-requires c κs = search needs
 
 returns : tie.Need-returns
 unfolding productPart uOf vOf productOf part
-returns c = rw (sym (c .before .before .before .entry .ensures), sym (c .before .before .entry2 .ensures), sym (c .before .entry3 .ensures)) (c .product-bit .ensures)
+returns c = rw (
+  sym (c .before .before .before .entry .ensures),
+  sym (c .before .before .entry2 .ensures),
+  sym (c .before .entry3 .ensures),
+) (c .product-bit .ensures)
 
 pub product-part-spec : {M : Type 1} → statement M
 product-part-spec =

@@ -27,7 +27,9 @@ secondBit pieces g i dealt ws q = maskedSecond (piece (pieces .wires) ws q) (pie
 
 abbrev Inv-loop : tie.InvT-loop
 Inv-loop t pieces gate i dealt wires published₀ size first₀ second₀ p₀ published first second p =
-    (p ≤ t) × (length published ≡ length published₀) × (published ≡ eachPuts p (pieces .published) (2 * i) (λ q. firstBit pieces gate i dealt wires q ∷ secondBit pieces gate i dealt wires q ∷ []) published₀)
+    (p ≤ t) × (length published ≡ length published₀)
+    × (published ≡ eachPuts p (pieces .published) (2 * i)
+    (λ q. firstBit pieces gate i dealt wires q ∷ secondBit pieces gate i dealt wires q ∷ []) published₀)
     × (first ≡ opened p (firstBit pieces gate i dealt wires)) × (second ≡ opened p (secondBit pieces gate i dealt wires))
 
 abbrev μ-loop : tie.MeasureT-loop
@@ -37,27 +39,56 @@ loop-holds : tie.Need-loop-holds Inv-loop μ-loop
 unfolding eachPuts
 loop-holds c = (omega arith, refl, refl, opened-none _, opened-none _)
 
+-- The stages of the function, seen from later ones.
+abbrev start-from-loop-done : tie.After-loop Inv-loop μ-loop → tie.Start Inv-loop μ-loop
+start-from-loop-done c = c .before .before .before .before .before
+
+abbrev start-from-round : tie.In-loop Inv-loop μ-loop → tie.Start Inv-loop μ-loop
+start-from-round c = c .before .before .before .before .before
+
+abbrev start-from-masked-second : tie.After-masked-second Inv-loop μ-loop → tie.Start Inv-loop μ-loop
+start-from-masked-second c = c .before .before .before .before .before .before .before
+
 -- what both factors ask of the tables
-asked : (c : tie.In-loop Inv-loop μ-loop) → let a = c .before .before .before .before .before .args in let l = c .before .loop in FactorReady (a .pieces) (a .gate) (a .i) (l .p) (a .dealt .now) (a .wires .now)
+asked : (c : tie.In-loop Inv-loop μ-loop) → let a = (start-from-round c) .args in let l = c .before .loop in
+    FactorReady (a .pieces) (a .gate) (a .i) (l .p) (a .dealt .now) (a .wires .now)
 asked c =
-    let s = c .before .before .before .before .before in
+    let s = (start-from-round c) in
     let a = s .args in
     let l = c .before .loop in
     let r = s .pre in
     record {
-      operands = record { a-in = r .a-in; b-in = r .b-in; c-in = r .c-in; wires-reach = reaches (a .t) (a .pieces .wires) (a .wires .now) (l .p) (r .wires-length) (omega arith) };
-      triple = record { triple-in = r .triple-in; dealt-reach = reaches (a .t) (a .pieces .dealt) (a .dealt .now) (l .p) (r .dealt-length) (omega arith) };
+      operands = record {
+        a-in = r .a-in;
+        b-in = r .b-in;
+        c-in = r .c-in;
+        wires-reach =
+            reaches (a .t) (a .pieces .wires) (a .wires .now) (l .p) (r .wires-length) (omega arith);
+      };
+      triple = record {
+        triple-in = r .triple-in;
+        dealt-reach =
+            reaches (a .t) (a .pieces .dealt) (a .dealt .now) (l .p) (r .dealt-length) (omega arith);
+      };
     }
 
 -- the places of both bits
-place : (c : tie.After-masked-second Inv-loop μ-loop) → let l = c .before .before .before .loop in let a = c .before .before .before .before .before .before .before .args in
+place : (c : tie.After-masked-second Inv-loop μ-loop) → let l = c .before .before .before .loop in let a =
+    (start-from-masked-second c) .args in
     (l .p * a .pieces .published + (2 * a .i + 1) < length (l .published)) × (2 * a .i + 1 < a .pieces .published)
 place c =
     let l = c .before .before .before .loop in
-    let s = c .before .before .before .before .before .before .before in
+    let s = (start-from-masked-second c) in
     let a = s .args in
-    let r = s .pre in
-    (omega (arith, r .factors-in, reaches (a .t) (a .pieces .published) (l .published) (l .p) (l .inv .1 ∙ r .published-length) (omega arith)), r .factors-in)
+    let r = s .pre in (
+      omega (
+        arith,
+        r .factors-in,
+        reaches (a .t) (a .pieces .published) (l .published) (l .p)
+            (l .inv .1 ∙ r .published-length) (omega arith),
+      ),
+      r .factors-in,
+    )
 
 masked-first-requires : tie.Need-masked-first-requires Inv-loop μ-loop
 masked-first-requires c κs = asked c
@@ -83,7 +114,7 @@ add-published c = omega (arith, place c)
 slice-write-published-2 : tie.Need-slice-write-published-2 Inv-loop μ-loop
 slice-write-published-2 c =
     let l = c .before .before .before .loop in
-    let a = c .before .before .before .before .before .before .before .args in
+    let a = (start-from-masked-second c) .args in
     omega (arith, place c, length-set (l .published) (l .p * a .pieces .published + 2 * a .i) (c .before .masked-first .result))
 
 plus-requires : tie.Need-plus-requires Inv-loop μ-loop
@@ -102,7 +133,7 @@ loop-again : tie.Need-loop-again Inv-loop μ-loop
 loop-again c =
     let s2 = c .before .before in
     let l = s2 .before .before .before .loop in
-    let a = s2 .before .before .before .before .before .before .before .args in
+    let a = (start-from-masked-second s2) .args in
     let f : ℕ → ℕ = firstBit (a .pieces) (a .gate) (a .i) (a .dealt .now) (a .wires .now) in
     let g : ℕ → ℕ = secondBit (a .pieces) (a .gate) (a .i) (a .dealt .now) (a .wires .now) in
     let at = l .p * a .pieces .published + 2 * a .i in
@@ -110,9 +141,12 @@ loop-again c =
     let y = s2 .masked-second .result in (
       omega arith,
       length-set (set (l .published) at x) (at + 1) y ∙ length-set (l .published) at x ∙ l .inv .1,
-      puts-two f g (l .published) (a .published .now) (l .p) (a .pieces .published) (2 * a .i) x y (l .inv .2) (s2 .before .masked-first .ensures) (s2 .masked-second .ensures),
-      opened-more (l .p) f (l .first) x (c .before .plus .result) (l .inv .3) (s2 .before .masked-first .ensures) (c .before .plus .ensures) ∙ ap (λ (n : ℕ). opened n f) (sym (add-one (l .p))),
-      opened-more (l .p) g (l .second) y (c .plus2 .result) (l .inv .4) (s2 .masked-second .ensures) (c .plus2 .ensures) ∙ ap (λ (n : ℕ). opened n g) (sym (add-one (l .p))),
+      puts-two f g (l .published) (a .published .now) (l .p) (a .pieces .published) (2 * a .i) x y (l .inv .2)
+          (s2 .before .masked-first .ensures) (s2 .masked-second .ensures),
+      opened-more (l .p) f (l .first) x (c .before .plus .result) (l .inv .3) (s2 .before .masked-first .ensures)
+          (c .before .plus .ensures) ∙ ap (λ (n : ℕ). opened n f) (sym (add-one (l .p))),
+      opened-more (l .p) g (l .second) y (c .plus2 .result) (l .inv .4) (s2 .masked-second .ensures)
+          (c .plus2 .ensures) ∙ ap (λ (n : ℕ). opened n g) (sym (add-one (l .p))),
     )
 
 same-length : tie.Need-same-length Inv-loop μ-loop
@@ -122,7 +156,7 @@ returns : tie.Need-returns Inv-loop μ-loop
 unfolding openedFirst openedSecond
 returns c =
     let l = c .before .loop in
-    let a = c .before .before .before .before .before .args in
+    let a = (start-from-loop-done c) .args in
     let f : ℕ → ℕ = firstBit (a .pieces) (a .gate) (a .i) (a .dealt .now) (a .wires .now) in
     let g : ℕ → ℕ = secondBit (a .pieces) (a .gate) (a .i) (a .dealt .now) (a .wires .now) in
     let e : l .p ≡ a .t = omega arith in

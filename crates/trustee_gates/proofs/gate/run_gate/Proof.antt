@@ -18,10 +18,20 @@ use Rattle.trustee_gates.proofs.gate.run_gate.Statement.{statement}
 use Rattle.trustee_gates.proofs.gate.run_gate.Tie as tie
 use Rattle.trustee_shares.proofs.Publishing.{mark-none}
 
-taken : (c : tie.Then1) → conditionalOf (c .before .before .before .before .before .args .gate .kind) ≡ true
+-- The stages of the function, seen from later ones.
+abbrev start-from-else1 : tie.Else1 → tie.Start
+start-from-else1 c = c .before .before .before .before .before
+
+abbrev start-from-then1 : tie.Then1 → tie.Start
+start-from-then1 c = c .before .before .before .before .before
+
+abbrev then1-from-enter-products-arg : tie.After-enter-products-arg → tie.Then1
+then1-from-enter-products-arg c = c .before .before .before .before .before .before
+
+taken : (c : tie.Then1) → conditionalOf ((start-from-then1 c) .args .gate .kind) ≡ true
 taken c = sym (c .before .conditional .ensures) ∙ c .if1 .taken
 
-left : (c : tie.Else1) → conditionalOf (c .before .before .before .before .before .args .gate .kind) ≡ false
+left : (c : tie.Else1) → conditionalOf ((start-from-else1 c) .args .gate .kind) ≡ false
 left c = sym (c .before .conditional .ensures) ∙ c .if1 .left
 
 conditional-requires : tie.Need-conditional-requires
@@ -30,7 +40,7 @@ conditional-requires c κs = search needs
 publish-requires : tie.Need-publish-requires
 publish-requires c κs =
     let then = c .before .before in
-    let s = then .before .before .before .before .before in
+    let s = (start-from-then1 then) in
     let r = s .pre .gate in
     record {
       a-in = r .free .a-in;
@@ -45,8 +55,8 @@ publish-requires c κs =
 
 enter-products-requires : tie.Need-enter-products-requires
 enter-products-requires c κs =
-    let then = c .before .before .before .before .before .before in
-    let s = then .before .before .before .before .before in
+    let then = (then1-from-enter-products-arg c) in
+    let s = (start-from-then1 then) in
     let r = s .pre .gate in
     record { free = r .free; triple-in = r .triple-in (taken then); dealt-length = r .dealt-length }
 
@@ -64,13 +74,20 @@ returns c =
     let entered = c .before .before in
     let shown = entered .before .before .before .before in
     let then = shown .before .before .before in
-    let s = then .before .before .before .before .before in
+    let s = (start-from-then1 then) in
     let a = s .args in
     let is = taken then in
-    let X : Bool → List ℕ = λ b. cond b (eachPuts (a .t) (a .pieces .published) (2 * a .i) (λ p. maskedFirst (piece (a .pieces .wires) (a .wires .now) p) (piece (a .pieces .dealt) (a .dealt .now) p) (a .i) (gateOf (a .gate)) ∷ maskedSecond (piece (a .pieces .wires) (a .wires .now) p) (piece (a .pieces .dealt) (a .dealt .now) p) (a .i) (gateOf (a .gate)) ∷ []) (a .published .now)) (a .published .now) in
+    let X : Bool → List ℕ = λ b. cond b
+    (eachPuts (a .t) (a .pieces .published) (2 * a .i)
+    (λ p. maskedFirst (piece (a .pieces .wires) (a .wires .now) p) (piece (a .pieces .dealt) (a .dealt .now) p)
+    (a .i) (gateOf (a .gate)) ∷ maskedSecond (piece (a .pieces .wires) (a .wires .now) p)
+    (piece (a .pieces .dealt) (a .dealt .now) p) (a .i) (gateOf (a .gate)) ∷ []) (a .published .now))
+    (a .published .now) in
     record {
       next = sym (ap (λ (n : ℕ). a .i + n) (mark-one (gateOf (a .gate)) is));
-      parts = products-entered (a .t) (a .pieces .wires) (a .own) (a .i) (gateOf (a .gate)) (piece (a .pieces .dealt) (a .dealt .now)) (a .wires .now) _ _ _ (shown .publish .ensures .first) (shown .publish .ensures .second) (entered .enter-products .ensures);
+      parts = products-entered (a .t) (a .pieces .wires) (a .own) (a .i) (gateOf (a .gate))
+          (piece (a .pieces .dealt) (a .dealt .now)) (a .wires .now) _ _ _ (shown .publish .ensures .first)
+          (shown .publish .ensures .second) (entered .enter-products .ensures);
       shown = shown .publish .ensures .shown ∙ sym (ap X is);
     }
 
@@ -84,13 +101,20 @@ returns-2 : tie.Need-returns-2
 returns-2 c =
     let entered = c .before .before in
     let else = entered .before .before in
-    let s = else .before .before .before .before .before in
+    let s = (start-from-else1 else) in
     let a = s .args in
     let is = left else in
-    let X : Bool → List ℕ = λ b. cond b (eachPuts (a .t) (a .pieces .published) (2 * a .i) (λ p. maskedFirst (piece (a .pieces .wires) (a .wires .now) p) (piece (a .pieces .dealt) (a .dealt .now) p) (a .i) (gateOf (a .gate)) ∷ maskedSecond (piece (a .pieces .wires) (a .wires .now) p) (piece (a .pieces .dealt) (a .dealt .now) p) (a .i) (gateOf (a .gate)) ∷ []) (a .published .now)) (a .published .now) in
+    let X : Bool → List ℕ = λ b. cond b
+    (eachPuts (a .t) (a .pieces .published) (2 * a .i)
+    (λ p. maskedFirst (piece (a .pieces .wires) (a .wires .now) p) (piece (a .pieces .dealt) (a .dealt .now) p)
+    (a .i) (gateOf (a .gate)) ∷ maskedSecond (piece (a .pieces .wires) (a .wires .now) p)
+    (piece (a .pieces .dealt) (a .dealt .now) p) (a .i) (gateOf (a .gate)) ∷ []) (a .published .now))
+    (a .published .now) in
     record {
       next = omega (arith, mark-none (gateOf (a .gate)) is);
-      parts = free-entered (a .t) (a .pieces .wires) (a .own) (a .i) (gateOf (a .gate)) (piece (a .pieces .dealt) (a .dealt .now)) (a .wires .now) _ (s .pre .gate .known) is (entered .enter-free .ensures);
+      parts = free-entered (a .t) (a .pieces .wires) (a .own) (a .i) (gateOf (a .gate))
+          (piece (a .pieces .dealt) (a .dealt .now)) (a .wires .now) _ (s .pre .gate .known) is
+          (entered .enter-free .ensures);
       shown = sym (ap X is);
     }
 

@@ -16,11 +16,19 @@ entry-requires-2 c κs = search needs
 plus-requires : tie.Need-plus-requires
 plus-requires c κs = search needs
 
+-- The stages of the function, seen from later ones.
+abbrev start-from-plus : tie.After-plus → tie.Start
+start-from-plus c = c .before .before .before .before .before .before
+
 returns : tie.Need-returns
 unfolding secondFactor
 returns c =
-    let a = c .before .before .before .before .before .before .args in
-    rw (eq-eqb (a .gate .kind) 7 (c .before .before .if1 .taken), sym (c .before .before .before .before .entry .ensures), sym (c .before .entry2 .ensures)) (c .plus .ensures)
+    let a = (start-from-plus c) .args in
+    rw (
+      eq-eqb (a .gate .kind) 7 (c .before .before .if1 .taken),
+      sym (c .before .before .before .before .entry .ensures),
+      sym (c .before .entry2 .ensures),
+    ) (c .plus .ensures)
 
 returns-2 : tie.Need-returns-2
 unfolding secondFactor

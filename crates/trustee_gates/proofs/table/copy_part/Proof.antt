@@ -9,7 +9,8 @@ use lib.Seq.{sets, drop-cons}
 use Rattle.trustee_gates.proofs.table.copy_part.Statement.{statement}
 use Rattle.trustee_gates.proofs.table.copy_part.Tie as tie
 
-starts : (l : List ℕ) (into at count : ℕ) (from : List ℕ) → sets l (into + 0) (take (count - 0) (drop (at + 0) from)) ≡ sets l into (take count (drop at from))
+starts : (l : List ℕ) (into at count : ℕ) (from : List ℕ)
+    → sets l (into + 0) (take (count - 0) (drop (at + 0) from)) ≡ sets l into (take count (drop at from))
 starts l into at count from =
     let e : into + 0 ≡ into = omega arith in
     let f : at + 0 ≡ at = omega arith in
@@ -17,7 +18,8 @@ starts l into at count from =
     rw (e, f, h)
 
 further : (l from : List ℕ) (into at count j : ℕ) → j < count → at + j < length from
-    → sets (set l (into + j) (getD from (at + j) 0)) (into + (j + 1)) (take (count - (j + 1)) (drop (at + (j + 1)) from)) ≡ sets l (into + j) (take (count - j) (drop (at + j) from))
+    → sets (set l (into + j) (getD from (at + j) 0)) (into + (j + 1))
+    (take (count - (j + 1)) (drop (at + (j + 1)) from)) ≡ sets l (into + j) (take (count - j) (drop (at + j) from))
 further l from into at count j h k =
     let e : into + (j + 1) ≡ suc (into + j) = omega arith in
     let f : at + (j + 1) ≡ suc (at + j) = omega arith in
@@ -28,7 +30,8 @@ ends : (l from : List ℕ) (into at count j : ℕ) → count ≤ j → sets l (i
 ends l from into at count j h = let e : count - j ≡ 0 = omega arith in rw e
 
 abbrev Inv-loop : tie.InvT-loop
-Inv-loop count from at to₀ into j₀ to j = (j ≤ count) × (length to ≡ length to₀) × (sets to (into + j) (take (count - j) (drop (at + j) from)) ≡ sets to₀ into (take count (drop at from)))
+Inv-loop count from at to₀ into j₀ to j = (j ≤ count) × (length to ≡ length to₀)
+    × (sets to (into + j) (take (count - j) (drop (at + j) from)) ≡ sets to₀ into (take count (drop at from)))
 
 abbrev μ-loop : tie.MeasureT-loop
 μ-loop count from at to₀ into j₀ to j = count - j

@@ -12,7 +12,8 @@ use Rattle.trustee_gates.proofs.table.copy_pieces.Statement.{statement}
 use Rattle.trustee_gates.proofs.table.copy_pieces.Tie as tie
 
 abbrev Inv-loop : tie.InvT-loop
-Inv-loop t count from size at to₀ room into p₀ to p = (p ≤ t) × (length to ≡ length to₀) × (to ≡ eachPuts p room into (λ q. take count (drop at (piece size from q))) to₀)
+Inv-loop t count from size at to₀ room into p₀ to p = (p ≤ t) × (length to ≡ length to₀)
+    × (to ≡ eachPuts p room into (λ q. take count (drop at (piece size from q))) to₀)
 
 abbrev μ-loop : tie.MeasureT-loop
 μ-loop t count from size at to₀ room into p₀ to p = t - p
@@ -28,8 +29,10 @@ place c =
     let l = c .before .loop in
     let s = c .before .before .before .before in
     let a = s .args in
-    let r = s .pre in
-    (omega (arith, r .source-fits, reaches (a .t) (a .size) (a .from .now) (l .p) (r .source-length) (omega arith)), omega (arith, r .target-fits, reaches (a .t) (a .room) (l .to) (l .p) (l .inv .1 ∙ r .target-length) (omega arith)))
+    let r = s .pre in (
+      omega (arith, r .source-fits, reaches (a .t) (a .size) (a .from .now) (l .p) (r .source-length) (omega arith)),
+      omega (arith, r .target-fits, reaches (a .t) (a .room) (l .to) (l .p) (l .inv .1 ∙ r .target-length) (omega arith)),
+    )
 
 mul-copy-part : tie.Need-mul-copy-part Inv-loop μ-loop
 mul-copy-part c = omega (arith, place c)
@@ -52,15 +55,24 @@ add-p c = omega arith
 loop-less : tie.Need-loop-less Inv-loop μ-loop
 loop-less c = omega arith
 
+-- The stages of the function, seen from later ones.
+abbrev start-from-to : tie.After-to Inv-loop μ-loop → tie.Start Inv-loop μ-loop
+start-from-to c = c .before .before .before .before .before .before .before
+
+abbrev loop-reached-from-slice-known2 : tie.After-slice-known2 Inv-loop μ-loop → tie.At-loop Inv-loop μ-loop
+loop-reached-from-slice-known2 c = c .before .before .before .before .before
+
 loop-again : tie.Need-loop-again Inv-loop μ-loop
 loop-again c =
-    let l = c .before .before .before .before .before .loop in
-    let s = c .before .before .before .before .before .before .before .before in
+    let l = (loop-reached-from-slice-known2 c) .loop in
+    let s = (start-from-to (c .before)) in
     let a = s .args in
     let put = c .before .before .copy-part .ensures in (
       omega arith,
-      ap length put ∙ length-sets (l .to) (l .p * a .room + a .into) (take (a .count) (drop (l .p * a .size + a .at) (a .from .now))) ∙ l .inv .1,
-      puts-many (λ q. take (a .count) (drop (a .at) (piece (a .size) (a .from .now) q))) (l .to) (a .to .now) _ (l .p) (a .room) (a .into) (take (a .count) (drop (l .p * a .size + a .at) (a .from .now))) (l .inv .2) put
+      ap length put ∙ length-sets (l .to) (l .p * a .room + a .into)
+          (take (a .count) (drop (l .p * a .size + a .at) (a .from .now))) ∙ l .inv .1,
+      puts-many (λ q. take (a .count) (drop (a .at) (piece (a .size) (a .from .now) q))) (l .to) (a .to .now) _
+          (l .p) (a .room) (a .into) (take (a .count) (drop (l .p * a .size + a .at) (a .from .now))) (l .inv .2) put
           (piece-part (a .size) (a .from .now) (l .p) (a .at) (a .count) (s .pre .source-fits)),
     )
 
@@ -72,7 +84,8 @@ returns c =
     let l = c .before .loop in
     let a = c .before .before .before .before .args in
     let e : l .p ≡ a .t = omega arith in
-    l .inv .2 ∙ ap (λ (n : ℕ). eachPuts n (a .room) (a .into) (λ q. take (a .count) (drop (a .at) (piece (a .size) (a .from .now) q))) (a .to .now)) e
+    l .inv .2 ∙ ap (λ (n : ℕ). eachPuts n (a .room) (a .into)
+    (λ q. take (a .count) (drop (a .at) (piece (a .size) (a .from .now) q))) (a .to .now)) e
 
 pub copy-pieces-spec : {M : Type 1} → statement M
 copy-pieces-spec =

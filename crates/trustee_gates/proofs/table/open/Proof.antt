@@ -39,12 +39,17 @@ add-p c = omega arith
 loop-less : tie.Need-loop-less Inv-loop μ-loop
 loop-less c = omega arith
 
+-- The stages of the function, seen from later ones.
+abbrev start-from-plus : tie.After-plus Inv-loop μ-loop → tie.Start Inv-loop μ-loop
+start-from-plus c = c .before .before .before .before .before
+
 loop-again : tie.Need-loop-again Inv-loop μ-loop
 loop-again c =
     let l = c .before .before .before .loop in
-    let a = c .before .before .before .before .before .args in (
+    let a = (start-from-plus c) .args in (
       omega arith,
-      opened-more (l .p) (λ q. part (piece (a .size) (a .table .now) q) (a .index)) (l .sum) (c .before .entry .result) (c .plus .result) (l .inv .1) (c .before .entry .ensures) (c .plus .ensures)
+      opened-more (l .p) (λ q. part (piece (a .size) (a .table .now) q) (a .index)) (l .sum)
+          (c .before .entry .result) (c .plus .result) (l .inv .1) (c .before .entry .ensures) (c .plus .ensures)
           ∙ ap (λ (n : ℕ). opened n (λ q. part (piece (a .size) (a .table .now) q) (a .index))) (sym (add-one (l .p))),
     )
 

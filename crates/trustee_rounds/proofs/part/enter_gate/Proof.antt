@@ -13,7 +13,11 @@ use Rattle.trustee_rounds.proofs.part.enter_gate.Tie as tie
 returns : tie.Need-returns
 returns c =
     let a = c .before .before .before .before .args in
-    sym (ap (λ (b : Bool). cond b (set (a .wires .now) (a .own) (partOfKind (a .p) (a .gate .kind) (part (a .wires .now) (a .gate .a)) (part (a .wires .now) (a .gate .b)) (part (a .wires .now) (a .gate .c)) (productPart (a .p) (a .dealt .now) (a .i) (part (a .heard .now) (2 * a .i)) (part (a .heard .now) (2 * a .i + 1))))) (a .wires .now)) (ne-eqb (a .level) (a .round) (c .if1 .taken)))
+    sym (ap (λ (b : Bool). cond b (set (a .wires .now) (a .own)
+    (partOfKind (a .p) (a .gate .kind) (part (a .wires .now) (a .gate .a)) (part (a .wires .now) (a .gate .b))
+    (part (a .wires .now) (a .gate .c))
+    (productPart (a .p) (a .dealt .now) (a .i) (part (a .heard .now) (2 * a .i))
+    (part (a .heard .now) (2 * a .i + 1))))) (a .wires .now)) (ne-eqb (a .level) (a .round) (c .if1 .taken)))
 
 gate-part-requires : tie.Need-gate-part-requires
 gate-part-requires c κs = search needs
@@ -24,11 +28,20 @@ slice-write-wires c = search needs
 same-length : tie.Need-same-length
 same-length c = search needs
 
+-- The stages of the function, seen from later ones.
+abbrev start-from-gate-part : tie.After-gate-part → tie.Start
+start-from-gate-part c = c .before .before .before .before .before .before
+
 returns-2 : tie.Need-returns-2
 returns-2 c =
-    let a = c .before .before .before .before .before .before .args in
+    let a = (start-from-gate-part c) .args in
     ap (λ (v : ℕ). set (a .wires .now) (a .own) v) (c .gate-part .ensures)
-    ∙ sym (ap (λ (b : Bool). cond b (set (a .wires .now) (a .own) (partOfKind (a .p) (a .gate .kind) (part (a .wires .now) (a .gate .a)) (part (a .wires .now) (a .gate .b)) (part (a .wires .now) (a .gate .c)) (productPart (a .p) (a .dealt .now) (a .i) (part (a .heard .now) (2 * a .i)) (part (a .heard .now) (2 * a .i + 1))))) (a .wires .now)) (eq-eqb (a .level) (a .round) (c .before .before .if1 .left)))
+    ∙ sym (ap (λ (b : Bool). cond b
+    (set (a .wires .now) (a .own) (partOfKind (a .p) (a .gate .kind) (part (a .wires .now) (a .gate .a))
+    (part (a .wires .now) (a .gate .b)) (part (a .wires .now) (a .gate .c))
+    (productPart (a .p) (a .dealt .now) (a .i) (part (a .heard .now) (2 * a .i))
+    (part (a .heard .now) (2 * a .i + 1))))) (a .wires .now))
+    (eq-eqb (a .level) (a .round) (c .before .before .if1 .left)))
 
 pub enter-gate-spec : {M : Type 1} → statement M
 enter-gate-spec =

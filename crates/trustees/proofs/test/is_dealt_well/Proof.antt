@@ -38,7 +38,12 @@ returns-3 : tie.Need-returns-3
 unfolding dealtWell
 returns-3 c =
     let second = c .before .before in
-    rw (passed (second .before .before), passed2 second, sym (c .before .adds-up .ensures), not-true (c .before .adds-up .result) (c .if3 .taken))
+    rw (
+      passed (second .before .before),
+      passed2 second,
+      sym (c .before .adds-up .ensures),
+      not-true (c .before .adds-up .result) (c .if3 .taken),
+    )
 
 products-add-up-requires : tie.Need-products-add-up-requires
 products-add-up-requires c κs =
@@ -51,7 +56,12 @@ unfolding dealtWell
 returns-4 c =
     let third = c .before in
     let second = third .before .before in
-    rw (passed (second .before .before), passed2 second, sym (third .before .adds-up .ensures), not-false (third .before .adds-up .result) (third .if3 .left)) (c .products-add-up .ensures)
+    rw (
+      passed (second .before .before),
+      passed2 second,
+      sym (third .before .adds-up .ensures),
+      not-false (third .before .adds-up .result) (third .if3 .left),
+    ) (c .products-add-up .ensures)
 
 pub is-dealt-well-spec : {M : Type 1} → statement M
 is-dealt-well-spec =

@@ -32,7 +32,10 @@ returns-2 : tie.Need-returns-2
 unfolding tablesFit
 returns-2 c =
     let a = c .before .before .args in
-    rw (eq-eqb (length (a .shares .now)) (a .t * a .inputs) (c .before .if1 .left), ne-eqb (length (a .triples .now)) (a .t * (3 * a .conditional)) (c .if2 .taken))
+    rw (
+      eq-eqb (length (a .shares .now)) (a .t * a .inputs) (c .before .if1 .left),
+      ne-eqb (length (a .triples .now)) (a .t * (3 * a .conditional)) (c .if2 .taken),
+    )
 
 add-if3 : tie.Need-add-if3
 add-if3 c = omega (arith, c .before .before .pre .sizes)
@@ -44,7 +47,11 @@ returns-3 : tie.Need-returns-3
 unfolding tablesFit
 returns-3 c =
     let a = c .before .before .before .args in
-    rw (eq-eqb (length (a .shares .now)) (a .t * a .inputs) (c .before .before .if1 .left), eq-eqb (length (a .triples .now)) (a .t * (3 * a .conditional)) (c .before .if2 .left), ne-eqb (length (a .wires .now)) (a .t * (a .inputs + a .gates)) (c .if3 .taken))
+    rw (
+      eq-eqb (length (a .shares .now)) (a .t * a .inputs) (c .before .before .if1 .left),
+      eq-eqb (length (a .triples .now)) (a .t * (3 * a .conditional)) (c .before .if2 .left),
+      ne-eqb (length (a .wires .now)) (a .t * (a .inputs + a .gates)) (c .if3 .taken),
+    )
 
 mul-result : tie.Need-mul-result
 mul-result c = omega (arith, c .before .before .before .pre .sizes)
@@ -59,7 +66,11 @@ returns-4 : tie.Need-returns-4
 unfolding tablesFit
 returns-4 c =
     let a = c .before .before .before .args in
-    rw (eq-eqb (length (a .shares .now)) (a .t * a .inputs) (c .before .before .if1 .left), eq-eqb (length (a .triples .now)) (a .t * (3 * a .conditional)) (c .before .if2 .left), eq-eqb (length (a .wires .now)) (a .t * (a .inputs + a .gates)) (c .if3 .left))
+    rw (
+      eq-eqb (length (a .shares .now)) (a .t * a .inputs) (c .before .before .if1 .left),
+      eq-eqb (length (a .triples .now)) (a .t * (3 * a .conditional)) (c .before .if2 .left),
+      eq-eqb (length (a .wires .now)) (a .t * (a .inputs + a .gates)) (c .if3 .left),
+    )
 
 pub tables-fit-spec : {M : Type 1} → statement M
 tables-fit-spec =

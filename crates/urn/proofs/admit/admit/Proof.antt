@@ -63,7 +63,8 @@ same-length-2 c = search needs
 returns-2 : tie.Need-returns-2
 unfolding admitted admitAnswer countedBy
 returns-2 c =
-    both-parts (c .before .before .preview .ensures) (sym (refused-kept _ _ _ _ _ (sym (c .before .before .preview .ensures) ∙ ap countedBy (c .enum-told2 .given .1))))
+    both-parts (c .before .before .preview .ensures)
+    (sym (refused-kept _ _ _ _ _ (sym (c .before .before .preview .ensures) ∙ ap countedBy (c .enum-told2 .given .1))))
 
 pub admit-spec : {M : Type 1} → statement M
 admit-spec =

@@ -22,7 +22,8 @@ unfolding admitAnswer countedBy reasonOf
 returns c =
     let s = c .before .before .before in
     let a = s .args in
-    outcome-refused _ _ _ (admit-first (a .k) (a .d) (a .facts) (a .juror) (a .ballot .now) ∙ admit-13 _ _ _ _ _ (T-true _ (s .pre .graded)) (not-true _ (c .if1 .taken)))
+    outcome-refused _ _ _ (admit-first (a .k) (a .d) (a .facts) (a .juror) (a .ballot .now)
+    ∙ admit-13 _ _ _ _ _ (T-true _ (s .pre .graded)) (not-true _ (c .if1 .taken)))
 
 is-juror-requires : tie.Need-is-juror-requires
 is-juror-requires c κs = search needs
@@ -33,7 +34,10 @@ returns-2 c =
     let e = c .before .before in
     let s = e .before .before .before in
     let a = s .args in
-    outcome-refused _ _ _ (admit-first (a .k) (a .d) (a .facts) (a .juror) (a .ballot .now) ∙ admit-14 _ _ _ _ _ (T-true _ (s .pre .graded)) (not-false _ (e .if1 .left)) (and-first-fails (goodJuror (a .juror)) (not (a .facts .present)) (sym (c .before .is-juror .ensures) ∙ not-true _ (c .if2 .taken))))
+    outcome-refused _ _ _ (admit-first (a .k) (a .d) (a .facts) (a .juror) (a .ballot .now)
+    ∙ admit-14 _ _ _ _ _ (T-true _ (s .pre .graded)) (not-false _ (e .if1 .left))
+    (and-first-fails (goodJuror (a .juror)) (not (a .facts .present))
+    (sym (c .before .is-juror .ensures) ∙ not-true _ (c .if2 .taken))))
 
 returns-3 : tie.Need-returns-3
 unfolding admitAnswer countedBy reasonOf
@@ -41,7 +45,10 @@ returns-3 c =
     let e = c .before .before .before in
     let s = e .before .before .before in
     let a = s .args in
-    outcome-refused _ _ _ (admit-first (a .k) (a .d) (a .facts) (a .juror) (a .ballot .now) ∙ admit-14 _ _ _ _ _ (T-true _ (s .pre .graded)) (not-false _ (e .if1 .left)) (juror-present (goodJuror (a .juror)) (a .facts .present) (sym (c .before .before .is-juror .ensures) ∙ not-false _ (c .before .if2 .left)) (c .if3 .taken)))
+    outcome-refused _ _ _ (admit-first (a .k) (a .d) (a .facts) (a .juror) (a .ballot .now)
+    ∙ admit-14 _ _ _ _ _ (T-true _ (s .pre .graded)) (not-false _ (e .if1 .left))
+    (juror-present (goodJuror (a .juror)) (a .facts .present)
+    (sym (c .before .before .is-juror .ensures) ∙ not-false _ (c .before .if2 .left)) (c .if3 .taken)))
 
 test-requires : tie.Need-test-requires
 unfolding juryOfOne
@@ -60,7 +67,11 @@ returns-4 c =
     let e = q .before .before .before in
     let s = e .before .before .before in
     let a = s .args in
-    outcome-refused _ _ _ (admit-first (a .k) (a .d) (a .facts) (a .juror) (a .ballot .now) ∙ admit-ballot _ _ _ _ _ _ (T-true _ (s .pre .graded)) (not-false _ (e .if1 .left)) (juror-absent (goodJuror (a .juror)) (a .facts .present) (sym (q .before .before .is-juror .ensures) ∙ not-false _ (q .before .if2 .left)) (q .if3 .left)) (sym (t .test .ensures) ∙ ap refusedFor (c .before .reason .given .1)))
+    outcome-refused _ _ _ (admit-first (a .k) (a .d) (a .facts) (a .juror) (a .ballot .now)
+    ∙ admit-ballot _ _ _ _ _ _ (T-true _ (s .pre .graded)) (not-false _ (e .if1 .left))
+    (juror-absent (goodJuror (a .juror)) (a .facts .present)
+    (sym (q .before .before .is-juror .ensures) ∙ not-false _ (q .before .if2 .left)) (q .if3 .left))
+    (sym (t .test .ensures) ∙ ap refusedFor (c .before .reason .given .1)))
 
 enum-told : tie.Need-enum-told
 enum-told c = search needs
@@ -73,7 +84,11 @@ returns-5 c =
     let e = q .before .before .before in
     let s = e .before .before .before in
     let a = s .args in
-    outcome-refused _ _ _ (admit-first (a .k) (a .d) (a .facts) (a .juror) (a .ballot .now) ∙ admit-15 _ _ _ _ _ (T-true _ (s .pre .graded)) (not-false _ (e .if1 .left)) (juror-absent (goodJuror (a .juror)) (a .facts .present) (sym (q .before .before .is-juror .ensures) ∙ not-false _ (q .before .if2 .left)) (q .if3 .left)) (sym (t .test .ensures) ∙ ap refusedFor (c .before .enum-told .given .1)) (ap not (c .if4 .taken)))
+    outcome-refused _ _ _ (admit-first (a .k) (a .d) (a .facts) (a .juror) (a .ballot .now)
+    ∙ admit-15 _ _ _ _ _ (T-true _ (s .pre .graded)) (not-false _ (e .if1 .left))
+    (juror-absent (goodJuror (a .juror)) (a .facts .present)
+    (sym (q .before .before .is-juror .ensures) ∙ not-false _ (q .before .if2 .left)) (q .if3 .left))
+    (sym (t .test .ensures) ∙ ap refusedFor (c .before .enum-told .given .1)) (ap not (c .if4 .taken)))
 
 add-t15 : tie.Need-add-t15
 add-t15 c =
@@ -90,7 +105,11 @@ returns-6 c =
     let e = q .before .before .before in
     let s = e .before .before .before in
     let a = s .args in
-    outcome-accepted _ _ (admit-first (a .k) (a .d) (a .facts) (a .juror) (a .ballot .now) ∙ admit-none _ _ _ _ _ (T-true _ (s .pre .graded)) (not-false _ (e .if1 .left)) (juror-absent (goodJuror (a .juror)) (a .facts .present) (sym (q .before .before .is-juror .ensures) ∙ not-false _ (q .before .if2 .left)) (q .if3 .left)) (sym (t .test .ensures) ∙ ap refusedFor (i .before .enum-told .given .1)) (ap not (i .if4 .left)))
+    outcome-accepted _ _ (admit-first (a .k) (a .d) (a .facts) (a .juror) (a .ballot .now)
+    ∙ admit-none _ _ _ _ _ (T-true _ (s .pre .graded)) (not-false _ (e .if1 .left))
+    (juror-absent (goodJuror (a .juror)) (a .facts .present)
+    (sym (q .before .before .is-juror .ensures) ∙ not-false _ (q .before .if2 .left)) (q .if3 .left))
+    (sym (t .test .ensures) ∙ ap refusedFor (i .before .enum-told .given .1)) (ap not (i .if4 .left)))
 
 pub decide-spec : {M : Type 1} → statement M
 decide-spec =

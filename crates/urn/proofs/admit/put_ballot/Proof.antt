@@ -22,7 +22,8 @@ long s =
     let t = its-table (a .k) (a .d) (a .urn .now) ((s .pre .graded)) (s .pre .isSound) in
     omega (arith, t .size, size-least (a .k * a .d) (slotCount (a .k * a .d) (length (a .urn .now))) (t .least))
 
-inside : (s : tie.Start) → getD (s .args .urn .now) 1 0 * (2 + s .args .k * s .args .d) + (2 + s .args .k * s .args .d) ≤ length (s .args .urn .now)
+inside : (s : tie.Start) → getD (s .args .urn .now) 1 0 * (2 + s .args .k * s .args .d)
+    + (2 + s .args .k * s .args .d) ≤ length (s .args .urn .now)
 inside s =
     let a = s .args in
     free-inside (a .k) (a .d) (a .urn .now) ((s .pre .graded)) (s .pre .isSound) (s .pre .room)
@@ -92,13 +93,16 @@ slice-write-urn-2 c =
     let s = from-wide (c .before .before .before .before .before) in
     let l = long s in
     let q : length (c .before .before .put-slot .last .0) ≡ length (s .args .urn .now) = c .before .before .put-slot .kept .0 in
-    let r : 1 < length (set (c .before .before .put-slot .last .0) 0 (getD (s .args .urn .now) 1 0)) = omega (arith, length-set (c .before .before .put-slot .last .0) 0 (getD (s .args .urn .now) 1 0)) in
+    let r : 1 < length (set (c .before .before .put-slot .last .0) 0 (getD (s .args .urn .now) 1 0)) =
+    omega (arith, length-set (c .before .before .put-slot .last .0) 0 (getD (s .args .urn .now) 1 0)) in
     r
 
 same-length : tie.Need-same-length
 same-length c =
     let s = from-wide (c .before .before .before .before .before) in
-    length-set (set (c .before .before .put-slot .last .0) 0 (getD (s .args .urn .now) 1 0)) 1 _ ∙ length-set (c .before .before .put-slot .last .0) 0 (getD (s .args .urn .now) 1 0) ∙ c .before .before .put-slot .kept .0
+    length-set (set (c .before .before .put-slot .last .0) 0 (getD (s .args .urn .now) 1 0)) 1 _
+    ∙ length-set (c .before .before .put-slot .last .0) 0 (getD (s .args .urn .now) 1 0)
+    ∙ c .before .before .put-slot .kept .0
 
 returns : tie.Need-returns
 returns c =
@@ -110,7 +114,8 @@ returns c =
     let last = c .before .before .put-slot .last .0 in
     ap (λ (m : ℕ). set (set last 0 (getD u 1 0)) 1 (getD u (m * z) 0)) (h .wide .ensures)
     ∙ admit-bytes (a .k) (a .d) u ((s .pre .graded)) (s .pre .isSound) (s .pre .room) (a .juror) (a .ballot .now) last (s .pre .size)
-    (c .before .before .put-slot .ensures ∙ ap (λ (m : ℕ). take (m * z) u ++ (getD u 0 0 ∷ a .juror ∷ a .ballot .now) ++ drop (m * z + 2 + length (a .ballot .now)) u) (h .wide .ensures))
+    (c .before .before .put-slot .ensures ∙ ap (λ (m : ℕ). take (m * z) u
+    ++ (getD u 0 0 ∷ a .juror ∷ a .ballot .now) ++ drop (m * z + 2 + length (a .ballot .now)) u) (h .wide .ensures))
 
 pub put-ballot-spec : {M : Type 1} → statement M
 put-ballot-spec =

@@ -57,7 +57,9 @@ returns-2 c =
     let a = g .before .before .before .args in
     let b = a .k * a .d in
     let m = length (a .urn .now) in
-    let e = empty-13 (a .k) (a .d) (a .urn .now) (graded g) (counted-false (urnLength b m) (slotCount b m) _ (c .before .slots-in .ensures) (c .if2 .taken) (count-least b m)) in
+    let e = empty-13 (a .k) (a .d) (a .urn .now) (graded g)
+    (counted-false (urnLength b m) (slotCount b m) _ (c .before .slots-in .ensures) (c .if2 .taken)
+    (count-least b m)) in
     both-parts (outcome-refused _ _ _ e) (some-old _ _ _ _ e)
 
 free-all-requires : tie.Need-free-all-requires
@@ -67,7 +69,9 @@ free-all-requires c κs =
     let a = g .before .before .before .args in
     let b = a .k * a .d in
     let m = length (a .urn .now) in
-    table b (a .urn .now) _ (few-bytes (a .k) (a .d) (within g)) (counted-true (urnLength b m) (slotCount b m) _ (q .before .slots-in .ensures) (q .if2 .left)) (counted-is (urnLength b m) (slotCount b m) _ (q .before .slots-in .ensures) (q .if2 .left))
+    table b (a .urn .now) _ (few-bytes (a .k) (a .d) (within g))
+    (counted-true (urnLength b m) (slotCount b m) _ (q .before .slots-in .ensures) (q .if2 .left))
+    (counted-is (urnLength b m) (slotCount b m) _ (q .before .slots-in .ensures) (q .if2 .left))
 
 same-length : tie.Need-same-length
 same-length c = search needs
@@ -80,7 +84,8 @@ returns-3 c =
     let a = g .before .before .before .args in
     let b = a .k * a .d in
     let m = length (a .urn .now) in
-    let e = empty-none (a .k) (a .d) (a .urn .now) (graded g) (counted-true (urnLength b m) (slotCount b m) _ (q .before .slots-in .ensures) (q .if2 .left)) in
+    let e = empty-none (a .k) (a .d) (a .urn .now) (graded g)
+    (counted-true (urnLength b m) (slotCount b m) _ (q .before .slots-in .ensures) (q .if2 .left)) in
     both-parts (outcome-accepted _ _ e)
     (c .before .before .free-all .ensures
     ∙ ap (λ (n : ℕ). bytesOf (allFree n b)) (counted-is (urnLength b m) (slotCount b m) _ (q .before .slots-in .ensures) (q .if2 .left))

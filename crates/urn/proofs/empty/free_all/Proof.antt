@@ -53,8 +53,12 @@ unfolding slotBytes
 loop-holds c =
     let s = c .before .before .before .before .before in
     let urn = c .before .before .empty .last .0 in
-    let e : s .args .slots ≡ s .args .slots - 1 + 1 = omega (arith, s .pre .least) in
-    (subst (λ (i : ℕ). Freed (s .args .bytes) (s .args .slots) urn i 0) e (freed-start (s .args .bytes) (s .args .slots) urn (s .pre .least) (c .before .before .empty .ensures ∙ ap (λ (n : ℕ). replicate n 0) (s .pre .size))), refl)
+    let e : s .args .slots ≡ s .args .slots - 1 + 1 = omega (arith, s .pre .least) in (
+      subst (λ (i : ℕ). Freed (s .args .bytes) (s .args .slots) urn i 0) e
+          (freed-start (s .args .bytes) (s .args .slots) urn (s .pre .least)
+          (c .before .before .empty .ensures ∙ ap (λ (n : ℕ). replicate n 0) (s .pre .size))),
+      refl,
+    )
 
 slice-write-urn : tie.Need-slice-write-urn Inv-loop μ-loop
 unfolding slotBytes
@@ -89,14 +93,16 @@ loop-again c =
     let l = c .before .loop in
     let e : l .left ≡ l .left - 1 + 1 = omega arith in
     let there = freed-go b n (l .urn) (l .left) (l .left + 1) (l .first) (omega arith) (omega arith) (l .inv .0) in (
-      subst (λ (i : ℕ). Freed b n (set (l .urn) (l .at) (l .first)) i (l .left)) e (subst (λ (k : ℕ). Freed b n (set (l .urn) k (l .first)) (l .left) (l .left)) (sym (l .inv .1)) there),
+      subst (λ (i : ℕ). Freed b n (set (l .urn) (l .at) (l .first)) i (l .left)) e
+          (subst (λ (k : ℕ). Freed b n (set (l .urn) k (l .first)) (l .left) (l .left)) (sym (l .inv .1)) there),
       omega (arith, l .inv .1, one-before (l .left) b (c .loop-test .taken)),
     )
 
 slice-write-urn-2 : tie.Need-slice-write-urn-2 Inv-loop μ-loop
 slice-write-urn-2 c =
     let s = c .before .before .before .before .before .before .before in
-    let q : 1 < length (c .before .loop .urn) = omega (arith, c .before .loop .inv .0 .size, size-least (s .args .bytes) (s .args .slots) (s .pre .least)) in
+    let q : 1 < length (c .before .loop .urn) =
+    omega (arith, c .before .loop .inv .0 .size, size-least (s .args .bytes) (s .args .slots) (s .pre .least)) in
     q
 
 same-length : tie.Need-same-length Inv-loop μ-loop
@@ -109,7 +115,8 @@ returns c =
     let s = c .before .before .before .before .before .before .before in
     let l = c .before .loop in
     let one : l .left + 1 ≡ 1 = omega arith in
-    freed-done (s .args .bytes) (s .args .slots) (l .urn) (l .first) (s .pre .least) (subst (λ (i : ℕ). Freed (s .args .bytes) (s .args .slots) (l .urn) i (l .first)) one (l .inv .0))
+    freed-done (s .args .bytes) (s .args .slots) (l .urn) (l .first) (s .pre .least)
+    (subst (λ (i : ℕ). Freed (s .args .bytes) (s .args .slots) (l .urn) i (l .first)) one (l .inv .0))
 
 pub free-all-spec : {M : Type 1} → statement M
 free-all-spec =

@@ -38,7 +38,8 @@ returns c =
     let s = c .before .before .before .before in
     let a = s .args in
     record {
-      told = sym (no-facts (a .k) (a .d) (a .urn .now) (a .juror) (soundness-unsound _ _ (sym (c .before .before .test .ensures) ∙ c .enum-told .given .1)));
+      told = sym (no-facts (a .k) (a .d) (a .urn .now) (a .juror)
+          (soundness-unsound _ _ (sym (c .before .before .test .ensures) ∙ c .enum-told .given .1)));
       few = omega arith;
       placed = λ h. let z : _≡_ {A = ℕ} 0 1 = cc in absurd (omega arith);
     }
@@ -62,7 +63,8 @@ shared-slice-read-full c =
     let s = k .before .before .before .before .before in
     let a = s .args in
     let t = its-table (a .k) (a .d) (a .urn .now) (s .pre) (sound-told k .0) in
-    let l : 1 < length (a .urn .now) = omega (arith, t .size, size-least (a .k * a .d) (slotCount (a .k * a .d) (length (a .urn .now))) (t .least)) in
+    let l : 1 < length (a .urn .now) =
+    omega (arith, t .size, size-least (a .k * a .d) (slotCount (a .k * a .d) (length (a .urn .now))) (t .least)) in
     l
 
 find-requires : tie.Need-find-requires
@@ -93,7 +95,8 @@ returns-2 c =
     record {
       told =
           same-facts _ _ _ _ _ _ (sound-told k .1)
-          (sym (ap (member (a .juror)) (jurors-are (a .k) (a .d) (a .urn .now) (s .pre) e) ∙ link-found _ _ _ _ _ _ (sym (f .find .ensures) ∙ c .before .before2 .given .1)))
+          (sym (ap (member (a .juror)) (jurors-are (a .k) (a .d) (a .urn .now) (s .pre) e)
+          ∙ link-found _ _ _ _ _ _ (sym (f .find .ensures) ∙ c .before .before2 .given .1)))
           (sym (full-is (a .k) (a .d) (a .urn .now) (s .pre) e))
           ∙ sym (facts-are (a .k) (a .d) (a .urn .now) (s .pre) e (a .juror));
       few = omega (arith, sound-told k .1, few-ballots (a .k) (a .d) (a .urn .now) (s .pre) e);
@@ -111,7 +114,8 @@ returns-3 c =
     record {
       told =
           same-facts _ _ _ _ _ _ (sound-told k .1)
-          (sym (ap (member (a .juror)) (jurors-are (a .k) (a .d) (a .urn .now) (s .pre) e) ∙ link-absent _ _ _ _ (sym (f .find .ensures) ∙ c .enum-told2 .given .1)))
+          (sym (ap (member (a .juror)) (jurors-are (a .k) (a .d) (a .urn .now) (s .pre) e)
+          ∙ link-absent _ _ _ _ (sym (f .find .ensures) ∙ c .enum-told2 .given .1)))
           (sym (full-is (a .k) (a .d) (a .urn .now) (s .pre) e))
           ∙ sym (facts-are (a .k) (a .d) (a .urn .now) (s .pre) e (a .juror));
       few = omega (arith, sound-told k .1, few-ballots (a .k) (a .d) (a .urn .now) (s .pre) e);

@@ -31,12 +31,22 @@ add-from c =
 sub-copy : tie.Need-sub-copy
 sub-copy c =
     let a = c .before .before .args in
-    omega (arith, c .before .before .pre, length-set (a .urn .now) (a .at) (a .next), length-set (set (a .urn .now) (a .at) (a .next)) (a .at + 1) (a .juror))
+    omega (
+      arith,
+      c .before .before .pre,
+      length-set (a .urn .now) (a .at) (a .next),
+      length-set (set (a .urn .now) (a .at) (a .next)) (a .at + 1) (a .juror),
+    )
 
 part-copy-start : tie.Need-part-copy-start
 part-copy-start c =
     let a = c .before .before .args in
-    omega (arith, c .before .before .pre, length-set (a .urn .now) (a .at) (a .next), length-set (set (a .urn .now) (a .at) (a .next)) (a .at + 1) (a .juror))
+    omega (
+      arith,
+      c .before .before .pre,
+      length-set (a .urn .now) (a .at) (a .next),
+      length-set (set (a .urn .now) (a .at) (a .next)) (a .at + 1) (a .juror),
+    )
 
 part-copy-end : tie.Need-part-copy-end
 part-copy-end c = search needs
@@ -46,20 +56,29 @@ copy-requires c κs =
     let s = c .before .before .before in
     let a = s .args in
     let u = set (set (a .urn .now) (a .at) (a .next)) (a .at + 1) (a .juror) in
-    omega (arith, s .pre, length-set (a .urn .now) (a .at) (a .next), length-set (set (a .urn .now) (a .at) (a .next)) (a .at + 1) (a .juror), length-take (length u - (a .at + 2)) (drop (a .at + 2) u), length-drop (a .at + 2) u)
+    omega (
+      arith,
+      s .pre,
+      length-set (a .urn .now) (a .at) (a .next),
+      length-set (set (a .urn .now) (a .at) (a .next)) (a .at + 1) (a .juror),
+      length-take (length u - (a .at + 2)) (drop (a .at + 2) u),
+      length-drop (a .at + 2) u,
+    )
 
 same-length : tie.Need-same-length
 same-length c =
     let a = c .before .before .before .before .before .before .args in
     let u = set (set (a .urn .now) (a .at) (a .next)) (a .at + 1) (a .juror) in
     same-len-mid (a .at + 2) (length u - (a .at + 2)) u (c .before .before .copy .last .1 .0) (c .before .before .copy .kept .1 .0)
-    ∙ stored-length (a .urn .now) (a .ballot .now) (c .before .before .copy .last .1 .0) (a .at) (a .next) (a .juror) (c .before .before .before .before .before .before .pre)
+    ∙ stored-length (a .urn .now) (a .ballot .now) (c .before .before .copy .last .1 .0) (a .at) (a .next)
+    (a .juror) (c .before .before .before .before .before .before .pre)
 
 returns : tie.Need-returns
 returns c =
     let s = c .before .before .before .before .before .before in
     let a = s .args in
-    put-done (a .urn .now) (a .ballot .now) (c .before .before .copy .last .1 .0) (a .at) (a .next) (a .juror) (s .pre) (copied (c .before .before .copy .ensures))
+    put-done (a .urn .now) (a .ballot .now) (c .before .before .copy .last .1 .0) (a .at) (a .next) (a .juror)
+    (s .pre) (copied (c .before .before .copy .ensures))
 
 pub put-slot-spec : {M : Type 1} → statement M
 put-slot-spec =

@@ -22,7 +22,8 @@ unfolding withdrawAnswer countedBy reasonOf
 returns c =
     let s = c .before .before in
     let a = s .args in
-    outcome-refused _ _ _ (withdraw-first (a .k) (a .d) (a .facts) (a .juror) ∙ withdraw-13 _ _ _ (T-true _ (s .pre)) (not-true _ (c .if1 .taken)))
+    outcome-refused _ _ _ (withdraw-first (a .k) (a .d) (a .facts) (a .juror)
+    ∙ withdraw-13 _ _ _ (T-true _ (s .pre)) (not-true _ (c .if1 .taken)))
 
 is-juror-requires : tie.Need-is-juror-requires
 is-juror-requires c κs = search needs
@@ -33,7 +34,10 @@ returns-2 c =
     let e = c .before .before in
     let s = e .before .before in
     let a = s .args in
-    outcome-refused _ _ _ (withdraw-first (a .k) (a .d) (a .facts) (a .juror) ∙ withdraw-14 _ _ _ (T-true _ (s .pre)) (not-false _ (e .if1 .left)) (and-first-fails (goodJuror (a .juror)) (a .facts .present) (sym (c .before .is-juror .ensures) ∙ not-true _ (c .if2 .taken))))
+    outcome-refused _ _ _ (withdraw-first (a .k) (a .d) (a .facts) (a .juror)
+    ∙ withdraw-14 _ _ _ (T-true _ (s .pre)) (not-false _ (e .if1 .left))
+    (and-first-fails (goodJuror (a .juror)) (a .facts .present)
+    (sym (c .before .is-juror .ensures) ∙ not-true _ (c .if2 .taken))))
 
 returns-3 : tie.Need-returns-3
 unfolding withdrawAnswer countedBy reasonOf
@@ -42,7 +46,10 @@ returns-3 c =
     let e = i .before in
     let s = e .before .before in
     let a = s .args in
-    outcome-refused _ _ _ (withdraw-first (a .k) (a .d) (a .facts) (a .juror) ∙ withdraw-14 _ _ _ (T-true _ (s .pre)) (not-false _ (e .if1 .left)) (juror-gone (goodJuror (a .juror)) (a .facts .present) (sym (i .is-juror .ensures) ∙ not-false _ (c .before .before .if2 .left)) (not-true _ (c .if3 .taken))))
+    outcome-refused _ _ _ (withdraw-first (a .k) (a .d) (a .facts) (a .juror)
+    ∙ withdraw-14 _ _ _ (T-true _ (s .pre)) (not-false _ (e .if1 .left))
+    (juror-gone (goodJuror (a .juror)) (a .facts .present)
+    (sym (i .is-juror .ensures) ∙ not-false _ (c .before .before .if2 .left)) (not-true _ (c .if3 .taken))))
 
 returns-4 : tie.Need-returns-4
 unfolding withdrawAnswer countedBy
@@ -52,7 +59,11 @@ returns-4 c =
     let e = i .before in
     let s = e .before .before in
     let a = s .args in
-    ap accepted {x = 0} {y = a .facts .ballots - 1} (omega (arith, c .if4 .taken)) ∙ outcome-accepted _ _ (withdraw-first (a .k) (a .d) (a .facts) (a .juror) ∙ withdraw-none _ _ _ (T-true _ (s .pre)) (not-false _ (e .if1 .left)) (and-both (goodJuror (a .juror)) (a .facts .present) (sym (i .is-juror .ensures) ∙ not-false _ (q .before .before .if2 .left)) (not-false _ (q .if3 .left))))
+    ap accepted {x = 0} {y = a .facts .ballots - 1} (omega (arith, c .if4 .taken))
+    ∙ outcome-accepted _ _ (withdraw-first (a .k) (a .d) (a .facts) (a .juror)
+    ∙ withdraw-none _ _ _ (T-true _ (s .pre)) (not-false _ (e .if1 .left))
+    (and-both (goodJuror (a .juror)) (a .facts .present)
+    (sym (i .is-juror .ensures) ∙ not-false _ (q .before .before .if2 .left)) (not-false _ (q .if3 .left))))
 
 sub-t11 : tie.Need-sub-t11
 sub-t11 c = search needs
@@ -65,7 +76,10 @@ returns-5 c =
     let e = i .before in
     let s = e .before .before in
     let a = s .args in
-    outcome-accepted _ _ (withdraw-first (a .k) (a .d) (a .facts) (a .juror) ∙ withdraw-none _ _ _ (T-true _ (s .pre)) (not-false _ (e .if1 .left)) (and-both (goodJuror (a .juror)) (a .facts .present) (sym (i .is-juror .ensures) ∙ not-false _ (q .before .before .if2 .left)) (not-false _ (q .if3 .left))))
+    outcome-accepted _ _ (withdraw-first (a .k) (a .d) (a .facts) (a .juror)
+    ∙ withdraw-none _ _ _ (T-true _ (s .pre)) (not-false _ (e .if1 .left))
+    (and-both (goodJuror (a .juror)) (a .facts .present)
+    (sym (i .is-juror .ensures) ∙ not-false _ (q .before .before .if2 .left)) (not-false _ (q .if3 .left))))
 
 pub decide-spec : {M : Type 1} → statement M
 decide-spec =

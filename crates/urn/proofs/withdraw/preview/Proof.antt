@@ -19,7 +19,8 @@ returns : tie.Need-returns
 unfolding withdrawAnswer countedBy reasonOf
 returns c =
     let a = c .before .before .before .args in
-    outcome-refused _ _ _ (withdraw-first (a .k) (a .d) (factsOf (a .k) (a .d) (a .urn .now) (a .juror)) (a .juror) ∙ withdraw-1 _ _ _ (sym (c .before .is-graded .ensures) ∙ not-true _ (c .if1 .taken)))
+    outcome-refused _ _ _ (withdraw-first (a .k) (a .d) (factsOf (a .k) (a .d) (a .urn .now) (a .juror)) (a .juror)
+    ∙ withdraw-1 _ _ _ (sym (c .before .is-graded .ensures) ∙ not-true _ (c .if1 .taken)))
 
 look-requires : tie.Need-look-requires
 look-requires c κs =

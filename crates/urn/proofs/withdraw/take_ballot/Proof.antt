@@ -41,7 +41,9 @@ holder s = slotAt (urnSlots (s .args .k) (s .args .d) (s .args .urn .now)) (s .a
 -- where the ballot lies, and the slot before it
 told : (s : tie.Start) →
     let a = s .args in
-    positionOf (slotsOf (a .k * a .d) (slotCount (a .k * a .d) (length (a .urn .now))) (a .urn .now)) (holder s) 0 (chain (slotCount (a .k * a .d) (length (a .urn .now))) (getD (a .urn .now) 0 0) (slotsOf (a .k * a .d) (slotCount (a .k * a .d) (length (a .urn .now))) (a .urn .now)))
+    positionOf (slotsOf (a .k * a .d) (slotCount (a .k * a .d) (length (a .urn .now))) (a .urn .now)) (holder s) 0
+    (chain (slotCount (a .k * a .d) (length (a .urn .now))) (getD (a .urn .now) 0 0)
+    (slotsOf (a .k * a .d) (slotCount (a .k * a .d) (length (a .urn .now))) (a .urn .now)))
     ≡ Found (a .before) (a .slot)
 unfolding positionIn urnSlots holder
 told s = s .pre .placed
@@ -103,14 +105,25 @@ put-slot-requires c κs =
     let t = c .before .before .before .before .before in
     let s = t .before in
     let a = s .args in
-    omega (arith, at-inside s, length-set (a .urn .now) (a .before * (2 + a .k * a .d)) (getD (a .urn .now) (a .slot * (2 + a .k * a .d)) 0), length-take {A = ℕ} (a .k * a .d - 0) (replicate 56 0))
+    omega (
+      arith,
+      at-inside s,
+      length-set (a .urn .now) (a .before * (2 + a .k * a .d))
+          (getD (a .urn .now) (a .slot * (2 + a .k * a .d)) 0),
+      length-take {A = ℕ} (a .k * a .d - 0) (replicate 56 0),
+    )
 
 cast-urn : tie.Need-cast-urn
 cast-urn c =
     let t = c .before .before .before .before .before .before .before .before in
     let s = t .before in
     let a = s .args in
-    omega (arith, slot-below (a .k) (a .d) (a .urn .now) (limits s) (s .pre .isSound) (holder s) (a .before) (a .slot) (told s), its-table (a .k) (a .d) (a .urn .now) (limits s) (s .pre .isSound) .most)
+    omega (
+      arith,
+      slot-below (a .k) (a .d) (a .urn .now) (limits s) (s .pre .isSound) (holder s) (a .before)
+          (a .slot) (told s),
+      its-table (a .k) (a .d) (a .urn .now) (limits s) (s .pre .isSound) .most,
+    )
 
 slice-write-urn-2 : tie.Need-slice-write-urn-2
 slice-write-urn-2 c =
@@ -118,8 +131,15 @@ slice-write-urn-2 c =
     let s = t .before in
     let a = s .args in
     let l = long s in
-    let q : length (c .before .before .put-slot .last .0) ≡ length (set (a .urn .now) (a .before * (2 + a .k * a .d)) (getD (a .urn .now) (a .slot * (2 + a .k * a .d)) 0)) = c .before .before .put-slot .kept .0 in
-    let r : 1 < length (c .before .before .put-slot .last .0) = omega (arith, length-set (a .urn .now) (a .before * (2 + a .k * a .d)) (getD (a .urn .now) (a .slot * (2 + a .k * a .d)) 0)) in
+    let q : length (c .before .before .put-slot .last .0)
+    ≡ length (set (a .urn .now) (a .before * (2 + a .k * a .d))
+    (getD (a .urn .now) (a .slot * (2 + a .k * a .d)) 0)) = c .before .before .put-slot .kept .0 in
+    let r : 1 < length (c .before .before .put-slot .last .0) =
+    omega (
+      arith,
+      length-set (a .urn .now) (a .before * (2 + a .k * a .d))
+          (getD (a .urn .now) (a .slot * (2 + a .k * a .d)) 0),
+    ) in
     r
 
 same-length : tie.Need-same-length
@@ -127,7 +147,8 @@ same-length c =
     let t = c .before .before .before .before .before .before .before .before in
     let s = t .before in
     let a = s .args in
-    length-set (c .before .before .put-slot .last .0) 1 _ ∙ c .before .before .put-slot .kept .0 ∙ length-set (a .urn .now) (a .before * (2 + a .k * a .d)) (getD (a .urn .now) (a .slot * (2 + a .k * a .d)) 0)
+    length-set (c .before .before .put-slot .last .0) 1 _ ∙ c .before .before .put-slot .kept .0
+    ∙ length-set (a .urn .now) (a .before * (2 + a .k * a .d)) (getD (a .urn .now) (a .slot * (2 + a .k * a .d)) 0)
 
 returns : tie.Need-returns
 unfolding holder
@@ -135,7 +156,8 @@ returns c =
     let t = c .before .before .before .before .before .before .before .before in
     let s = t .before in
     let a = s .args in
-    withdraw-bytes (a .k) (a .d) (a .urn .now) (limits s) (s .pre .isSound) (holder s) (a .before) (a .slot) (told s) (take (a .k * a .d - 0) (replicate 56 0)) (c .before .before .put-slot .last .0)
+    withdraw-bytes (a .k) (a .d) (a .urn .now) (limits s) (s .pre .isSound) (holder s) (a .before) (a .slot)
+    (told s) (take (a .k * a .d - 0) (replicate 56 0)) (c .before .before .put-slot .last .0)
     (ap (λ (m : ℕ). take {A = ℕ} m (replicate 56 0)) (sub-zero (a .k * a .d)) ∙ take-zeros (a .k * a .d) 56 (small s))
     (c .before .before .put-slot .ensures)
 

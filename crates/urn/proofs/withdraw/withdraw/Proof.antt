@@ -73,7 +73,8 @@ inside : (e : tie.After-enum-told) →
     member (a .juror) (jurorsOf (ballotChain (urnSlots (a .k) (a .d) (a .urn .now)))) ≡ true
 inside e =
     let a = start e .args in
-    facts-present (a .k) (a .d) (a .urn .now) (a .juror) (its-sound e) (and-second (goodJuror (a .juror)) (factsOf (a .k) (a .d) (a .urn .now) (a .juror) .present) (passed e .juror))
+    facts-present (a .k) (a .d) (a .urn .now) (a .juror) (its-sound e)
+    (and-second (goodJuror (a .juror)) (factsOf (a .k) (a .d) (a .urn .now) (a .juror) .present) (passed e .juror))
 
 found : (e : tie.After-enum-told) →
     let a = start e .args in
@@ -99,7 +100,8 @@ returns : tie.Need-returns
 unfolding withdrawAnswer withdrawn countedBy reasonOf
 returns c =
     let a = c .before .before .before .args in
-    let e = withdraw-first (a .k) (a .d) (factsOf (a .k) (a .d) (a .urn .now) (a .juror)) (a .juror) ∙ withdraw-1 _ _ _ (sym (c .before .is-graded .ensures) ∙ not-true _ (c .if1 .taken)) in
+    let e = withdraw-first (a .k) (a .d) (factsOf (a .k) (a .d) (a .urn .now) (a .juror)) (a .juror)
+    ∙ withdraw-1 _ _ _ (sym (c .before .is-graded .ensures) ∙ not-true _ (c .if1 .taken)) in
     both-parts (outcome-refused _ _ _ e) (some-old _ _ _ _ e)
 
 look-requires : tie.Need-look-requires
@@ -125,7 +127,8 @@ take-ballot-requires c κs =
     record {
       graded = graded (e .before .before .before .before .before);
       isSound = its-sound e;
-      placed = ap (positionIn (a .k) (a .d) (a .urn .now)) (whose e _ _ (c .before .before .position .given .1)) ∙ sym (found e) ∙ c .before .before .position .given .1;
+      placed = ap (positionIn (a .k) (a .d) (a .urn .now)) (whose e _ _ (c .before .before .position .given .1))
+          ∙ sym (found e) ∙ c .before .before .position .given .1;
     }
 
 enum-told-2 : tie.Need-enum-told-2
@@ -144,7 +147,8 @@ returns-2 c =
     let a = start e .args in
     both-parts (answered (e .before .before))
     (c .before .before .take-ballot .ensures
-    ∙ ap (λ (j : ℕ). bytesOf (withoutBallot (a .k * a .d) (urnSlots (a .k) (a .d) (a .urn .now)) j)) (whose e _ _ (c .before .before .before .before .before .position .given .1))
+    ∙ ap (λ (j : ℕ). bytesOf (withoutBallot (a .k * a .d) (urnSlots (a .k) (a .d) (a .urn .now)) j))
+    (whose e _ _ (c .before .before .before .before .before .position .given .1))
     ∙ sym (none-new _ _ _ (no-reason e)))
 
 same-length-2 : tie.Need-same-length-2
@@ -157,7 +161,8 @@ returns-3 c =
     let a = start e .args in
     absurd
     (clash (member (a .juror) (jurorsOf (ballotChain (urnSlots (a .k) (a .d) (a .urn .now))))) (inside e)
-    (ap (member (a .juror)) (jurors-are (a .k) (a .d) (a .urn .now) (limits e) (its-sound e)) ∙ link-absent _ _ _ _ (sym (found e) ∙ c .enum-told2 .given .1)))
+    (ap (member (a .juror)) (jurors-are (a .k) (a .d) (a .urn .now) (limits e) (its-sound e))
+    ∙ link-absent _ _ _ _ (sym (found e) ∙ c .enum-told2 .given .1)))
 
 same-length-3 : tie.Need-same-length-3
 same-length-3 c = search needs
@@ -165,7 +170,8 @@ same-length-3 c = search needs
 returns-4 : tie.Need-returns-4
 unfolding withdrawn withdrawAnswer countedBy
 returns-4 c =
-    both-parts (answered (c .before .before)) (sym (refused-kept _ _ _ _ _ (sym (answered (c .before .before)) ∙ ap countedBy (c .enum-told3 .given .1))))
+    both-parts (answered (c .before .before))
+    (sym (refused-kept _ _ _ _ _ (sym (answered (c .before .before)) ∙ ap countedBy (c .enum-told3 .given .1))))
 
 pub withdraw-spec : {M : Type 1} → statement M
 withdraw-spec =

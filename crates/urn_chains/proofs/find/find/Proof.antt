@@ -23,9 +23,14 @@ below-end : (c : tie.Else1 Inv-loop μ-loop) → c .before .before .loop .slot <
 below-end c =
     let at = c .before .before in
     let a = at .before .before .before .before .args in
-    find-below (slotsOf (a .bytes) (a .slots) (a .urn .now)) (a .slots) (getD (a .urn .now) 0 0) (a .juror) (at .loop .before) (at .loop .count) (at .loop .slot) (at .loop .inv) (c .if1 .left) (omega (arith, c .before .loop-test .taken))
+    find-below (slotsOf (a .bytes) (a .slots) (a .urn .now)) (a .slots) (getD (a .urn .now) 0 0) (a .juror)
+    (at .loop .before) (at .loop .count) (at .loop .slot) (at .loop .inv) (c .if1 .left)
+    (omega (arith, c .before .loop-test .taken))
 
-inside : (c : tie.Else1 Inv-loop μ-loop) → c .before .before .loop .slot * (2 + c .before .before .before .before .before .before .args .bytes) + (2 + c .before .before .before .before .before .before .args .bytes) ≤ length (c .before .before .before .before .before .before .args .urn .now)
+inside : (c : tie.Else1 Inv-loop μ-loop) → c .before .before .loop .slot
+    * (2 + c .before .before .before .before .before .before .args .bytes)
+    + (2 + c .before .before .before .before .before .before .args .bytes)
+    ≤ length (c .before .before .before .before .before .before .args .urn .now)
 unfolding slotBytes
 inside c =
     let at = c .before .before in
@@ -39,7 +44,8 @@ add-size c =
 shared-slice-read-wide : tie.Need-shared-slice-read-wide Inv-loop μ-loop
 shared-slice-read-wide c =
     let s = c .before .before in
-    let l : 0 < length (s .args .urn .now) = omega (arith, s .pre .table .size, size-least (s .args .bytes) (s .args .slots) (s .pre .table .least)) in
+    let l : 0 < length (s .args .urn .now) =
+    omega (arith, s .pre .table .size, size-least (s .args .bytes) (s .args .slots) (s .pre .table .least)) in
     l
 
 wide-requires : tie.Need-wide-requires Inv-loop μ-loop
@@ -50,13 +56,15 @@ loop-holds : tie.Need-loop-holds Inv-loop μ-loop
 loop-holds c =
     let s = c .before .before .before in
     let a = s .args in
-    find-start (slotsOf (a .bytes) (a .slots) (a .urn .now)) (a .slots) (getD (a .urn .now) 0 0) (a .juror) (c .wide .result) (c .wide .ensures) (s .pre .inside)
+    find-start (slotsOf (a .bytes) (a .slots) (a .urn .now)) (a .slots) (getD (a .urn .now) 0 0) (a .juror)
+    (c .wide .result) (c .wide .ensures) (s .pre .inside)
 
 returns : tie.Need-returns Inv-loop μ-loop
 returns c =
     let at = c .before .before in
     let a = at .before .before .before .before .args in
-    find-stuck (slotsOf (a .bytes) (a .slots) (a .urn .now)) (a .slots) (getD (a .urn .now) 0 0) (a .juror) (at .loop .before) (at .loop .count) (at .loop .slot) (at .loop .inv) (c .if1 .taken)
+    find-stuck (slotsOf (a .bytes) (a .slots) (a .urn .now)) (a .slots) (getD (a .urn .now) 0 0) (a .juror)
+    (at .loop .before) (at .loop .count) (at .loop .slot) (at .loop .inv) (c .if1 .taken)
 
 mul-at : tie.Need-mul-at Inv-loop μ-loop
 mul-at c =
@@ -80,7 +88,9 @@ returns-2 c =
     let e = c .before .before .before in
     let at = e .before .before in
     let a = at .before .before .before .before .args in
-    find-here (slotsOf (a .bytes) (a .slots) (a .urn .now)) (a .slots) (getD (a .urn .now) 0 0) (a .juror) (at .loop .before) (at .loop .count) (at .loop .slot) (at .loop .inv) (e .if1 .left) (omega (arith, e .before .loop-test .taken))
+    find-here (slotsOf (a .bytes) (a .slots) (a .urn .now)) (a .slots) (getD (a .urn .now) 0 0) (a .juror)
+    (at .loop .before) (at .loop .count) (at .loop .slot) (at .loop .inv) (e .if1 .left)
+    (omega (arith, e .before .loop-test .taken))
     (juror-is (a .bytes) (a .slots) (a .urn .now) (at .loop .slot) (below-end e) ∙ sym (c .before .wide2 .ensures) ∙ c .if2 .taken)
 
 shared-slice-read-wide-3 : tie.Need-shared-slice-read-wide-3 Inv-loop μ-loop
@@ -108,15 +118,20 @@ loop-again c =
     let e = c .before .before .before .before .before in
     let at = e .before .before in
     let a = at .before .before .before .before .args in
-    find-go (slotsOf (a .bytes) (a .slots) (a .urn .now)) (a .slots) (getD (a .urn .now) 0 0) (a .juror) (at .loop .before) (at .loop .count) (at .loop .slot) (at .loop .inv) (c .wide3 .result)
-    (c .wide3 .ensures ∙ sym (next-is (a .bytes) (a .slots) (a .urn .now) (at .loop .slot) (below-end e))) (e .if1 .left) (omega (arith, e .before .loop-test .taken))
-    (λ q. c .before .before .if2 .left (c .before .before .before .wide2 .ensures ∙ sym (juror-is (a .bytes) (a .slots) (a .urn .now) (at .loop .slot) (below-end e)) ∙ q))
+    find-go (slotsOf (a .bytes) (a .slots) (a .urn .now)) (a .slots) (getD (a .urn .now) 0 0) (a .juror)
+    (at .loop .before) (at .loop .count) (at .loop .slot) (at .loop .inv) (c .wide3 .result)
+    (c .wide3 .ensures ∙ sym (next-is (a .bytes) (a .slots) (a .urn .now) (at .loop .slot) (below-end e)))
+    (e .if1 .left) (omega (arith, e .before .loop-test .taken))
+    (λ q. c .before .before .if2 .left
+    (c .before .before .before .wide2 .ensures
+    ∙ sym (juror-is (a .bytes) (a .slots) (a .urn .now) (at .loop .slot) (below-end e)) ∙ q))
 
 returns-3 : tie.Need-returns-3 Inv-loop μ-loop
 returns-3 c =
     let at = c .before in
     let a = at .before .before .before .before .args in
-    find-end (slotsOf (a .bytes) (a .slots) (a .urn .now)) (a .slots) (getD (a .urn .now) 0 0) (a .juror) (at .loop .before) (at .loop .count) (at .loop .slot) (at .loop .inv) (c .loop-test .left)
+    find-end (slotsOf (a .bytes) (a .slots) (a .urn .now)) (a .slots) (getD (a .urn .now) 0 0) (a .juror)
+    (at .loop .before) (at .loop .count) (at .loop .slot) (at .loop .inv) (c .loop-test .left)
 
 pub find-spec : {M : Type 1} → statement M
 find-spec =

@@ -43,7 +43,8 @@ returns-4 : tie.Need-returns-4
 unfolding slotBytes slotCount
 returns-4 c =
     let a = c .before .before .before .args in
-    ap (λ (t : Bool). cond t (slotCount (a .bytes) (a .length)) 0) (sym (length-all (a .bytes) (a .length) (c .before .before .if1 .left) (c .before .if2 .left) (c .if3 .left)))
+    ap (λ (t : Bool). cond t (slotCount (a .bytes) (a .length)) 0)
+    (sym (length-all (a .bytes) (a .length) (c .before .before .if1 .left) (c .before .if2 .left) (c .if3 .left)))
 
 pub slots-in-spec : {M : Type 1} → statement M
 slots-in-spec =

@@ -29,7 +29,9 @@ returns c =
     let a = s .args in
     let b = a .k * a .d in
     let m = length (a .urn .now) in
-    unsound-is _ _ (ap (λ (t : Bool). t && soundSlots (a .k) (a .d) (urnSlots (a .k) (a .d) (a .urn .now))) (counted-false (urnLength b m) (slotCount b m) _ (c .before .slots-in .ensures) (c .if1 .taken) (count-least b m)))
+    unsound-is _ _ (ap (λ (t : Bool). t && soundSlots (a .k) (a .d) (urnSlots (a .k) (a .d) (a .urn .now)))
+    (counted-false (urnLength b m) (slotCount b m) _ (c .before .slots-in .ensures) (c .if1 .taken)
+    (count-least b m)))
 
 test-slots-requires : tie.Need-test-slots-requires
 test-slots-requires c κs =
@@ -37,7 +39,13 @@ test-slots-requires c κs =
     let a = s .args in
     let b = a .k * a .d in
     let m = length (a .urn .now) in
-    record { graded = s .pre; table = table b (a .urn .now) _ (few-bytes (a .k) (a .d) (s .pre)) (counted-true (urnLength b m) (slotCount b m) _ (c .before .slots-in .ensures) (c .if1 .left)) (counted-is (urnLength b m) (slotCount b m) _ (c .before .slots-in .ensures) (c .if1 .left)) }
+    record {
+      graded = s .pre;
+      table =
+          table b (a .urn .now) _ (few-bytes (a .k) (a .d) (s .pre))
+          (counted-true (urnLength b m) (slotCount b m) _ (c .before .slots-in .ensures) (c .if1 .left))
+          (counted-is (urnLength b m) (slotCount b m) _ (c .before .slots-in .ensures) (c .if1 .left));
+    }
 
 returns-2 : tie.Need-returns-2
 unfolding sound urnSlots
@@ -49,8 +57,11 @@ returns-2 c =
     let m = length (a .urn .now) in
     let good = counted-true (urnLength b m) (slotCount b m) _ (e .before .slots-in .ensures) (e .if1 .left) in
     c .test-slots .ensures
-    ∙ ap (λ (n : ℕ). soundness (soundSlots (a .k) (a .d) (slotsOf b n (a .urn .now))) (length (ballotChain (slotsOf b n (a .urn .now))))) (counted-is (urnLength b m) (slotCount b m) _ (e .before .slots-in .ensures) (e .if1 .left))
-    ∙ ap (λ (t : Bool). soundness (t && soundSlots (a .k) (a .d) (slotsOf b (slotCount b m) (a .urn .now))) (length (ballotChain (slotsOf b (slotCount b m) (a .urn .now))))) (sym good)
+    ∙ ap (λ (n : ℕ). soundness (soundSlots (a .k) (a .d) (slotsOf b n (a .urn .now)))
+    (length (ballotChain (slotsOf b n (a .urn .now)))))
+    (counted-is (urnLength b m) (slotCount b m) _ (e .before .slots-in .ensures) (e .if1 .left))
+    ∙ ap (λ (t : Bool). soundness (t && soundSlots (a .k) (a .d) (slotsOf b (slotCount b m) (a .urn .now)))
+    (length (ballotChain (slotsOf b (slotCount b m) (a .urn .now))))) (sym good)
 
 pub test-spec : {M : Type 1} → statement M
 test-spec =

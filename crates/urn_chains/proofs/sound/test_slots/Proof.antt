@@ -33,28 +33,34 @@ head-told : (c : tie.After-is-zero) →
     allZero (take (a .k * a .d) (drop 2 (a .urn .now))) ≡ c .is-zero .result
 head-told c =
     let a = c .before .before .before .args in
-    ap (λ (n : ℕ). allZero (take n (drop 2 (a .urn .now)))) {x = a .k * a .d} {y = 2 + a .k * a .d - 2} (omega arith) ∙ sym (c .is-zero .ensures)
+    ap (λ (n : ℕ). allZero (take n (drop 2 (a .urn .now)))) {x = a .k * a .d} {y = 2 + a .k * a .d - 2}
+    (omega arith) ∙ sym (c .is-zero .ensures)
 
 -- what the walks found: each its chain; the one along the free chain began with the other's marks
 ballots-counted : (c : tie.Else2) →
     let a = from-ballots c .args in
-    c .before .before .walk-ballots .result .count ≡ length (chain (a .slots) (getD (a .urn .now) 0 0) (slotsOf (a .k * a .d) (a .slots) (a .urn .now)))
+    c .before .before .walk-ballots .result .count
+    ≡ length (chain (a .slots) (getD (a .urn .now) 0 0) (slotsOf (a .k * a .d) (a .slots) (a .urn .now)))
 ballots-counted c = c .before .before .walk-ballots .ensures .counted (not-false _ (c .if2 .left))
 
 free-counted : (c : tie.Else3) →
     let a = from-free c .args in
-    c .before .before .walk-free .result .count ≡ length (chain (a .slots) (getD (a .urn .now) 1 0) (slotsOf (a .k * a .d) (a .slots) (a .urn .now)))
+    c .before .before .walk-free .result .count
+    ≡ length (chain (a .slots) (getD (a .urn .now) 1 0) (slotsOf (a .k * a .d) (a .slots) (a .urn .now)))
 free-counted c = c .before .before .walk-free .ensures .counted (not-false _ (c .if3 .left))
 
 free-told : (c : tie.After-struct-known2) →
     let a = from-ballots (c .before .before .before) .args in
     let ss = slotsOf (a .k * a .d) (a .slots) (a .urn .now) in
-    freeFrom ss (a .slots) (getD (a .urn .now) 1 0) (markAll (chain (a .slots) (getD (a .urn .now) 0 0) ss) noMarks) ≡ c .before .walk-free .result .good
+    freeFrom ss (a .slots) (getD (a .urn .now) 1 0) (markAll (chain (a .slots) (getD (a .urn .now) 0 0) ss) noMarks)
+    ≡ c .before .walk-free .result .good
 free-told c =
     let e = c .before .before .before in
     let a = from-ballots e .args in
     let ss = slotsOf (a .k * a .d) (a .slots) (a .urn .now) in
-    ap (freeFrom ss (a .slots) (getD (a .urn .now) 1 0)) (sym (e .before .before .walk-ballots .ensures .marked (not-false _ (e .if2 .left)))) ∙ sym (c .before .walk-free .ensures .told)
+    ap (freeFrom ss (a .slots) (getD (a .urn .now) 1 0))
+    (sym (e .before .before .walk-ballots .ensures .marked (not-false _ (e .if2 .left))))
+    ∙ sym (c .before .walk-free .ensures .told)
 
 mul-bytes : tie.Need-mul-bytes
 mul-bytes c = search needs
@@ -82,7 +88,9 @@ returns : tie.Need-returns
 returns c =
     let s = c .before .before .before .before in
     let a = s .args in
-    unsound-is _ _ (never-true _ (λ e. clash _ (sound-tests (a .k) (a .d) (a .slots) (a .urn .now) (s .pre .table) e .head) (head-told (c .before) ∙ not-true _ (c .if1 .taken))))
+    unsound-is _ _
+    (never-true _ (λ e. clash _ (sound-tests (a .k) (a .d) (a .slots) (a .urn .now) (s .pre .table) e .head)
+    (head-told (c .before) ∙ not-true _ (c .if1 .taken))))
 
 walk-ballots-requires : tie.Need-walk-ballots-requires
 walk-ballots-requires c κs = search needs
@@ -91,7 +99,9 @@ returns-2 : tie.Need-returns-2
 returns-2 c =
     let s = from-head (c .before .before .before) in
     let a = s .args in
-    unsound-is _ _ (never-true _ (λ e. clash _ (sound-tests (a .k) (a .d) (a .slots) (a .urn .now) (s .pre .table) e .ballots) (sym (c .before .before .walk-ballots .ensures .told) ∙ not-true _ (c .if2 .taken))))
+    unsound-is _ _
+    (never-true _ (λ e. clash _ (sound-tests (a .k) (a .d) (a .slots) (a .urn .now) (s .pre .table) e .ballots)
+    (sym (c .before .before .walk-ballots .ensures .told) ∙ not-true _ (c .if2 .taken))))
 
 walk-free-requires : tie.Need-walk-free-requires
 walk-free-requires c κs =
@@ -102,7 +112,9 @@ returns-3 : tie.Need-returns-3
 returns-3 c =
     let s = from-ballots (c .before .before .before .before) in
     let a = s .args in
-    unsound-is _ _ (never-true _ (λ e. clash _ (sound-tests (a .k) (a .d) (a .slots) (a .urn .now) (s .pre .table) e .free) (free-told (c .before) ∙ not-true _ (c .if3 .taken))))
+    unsound-is _ _
+    (never-true _ (λ e. clash _ (sound-tests (a .k) (a .d) (a .slots) (a .urn .now) (s .pre .table) e .free)
+    (free-told (c .before) ∙ not-true _ (c .if3 .taken))))
 
 add-if4 : tie.Need-add-if4
 add-if4 c =
@@ -110,7 +122,14 @@ add-if4 c =
     let s = from-free e in
     let a = s .args in
     let ss = slotsOf (a .k * a .d) (a .slots) (a .urn .now) in
-    omega (arith, ballots-counted (e .before .before .before .before), free-counted e, chain-most (a .slots) (getD (a .urn .now) 0 0) ss, chain-most (a .slots) (getD (a .urn .now) 1 0) ss, s .pre .table .most)
+    omega (
+      arith,
+      ballots-counted (e .before .before .before .before),
+      free-counted e,
+      chain-most (a .slots) (getD (a .urn .now) 0 0) ss,
+      chain-most (a .slots) (getD (a .urn .now) 1 0) ss,
+      s .pre .table .most,
+    )
 
 sub-if4 : tie.Need-sub-if4
 sub-if4 c =
@@ -123,7 +142,12 @@ returns-4 c =
     let e = c .before .before .before in
     let s = from-free e in
     let a = s .args in
-    unsound-is _ _ (never-true _ (λ q. c .if4 .taken (ap (λ (m : ℕ). m + e .before .before .walk-free .result .count) (ballots-counted (e .before .before .before .before)) ∙ ap (λ (m : ℕ). length (chain (a .slots) (getD (a .urn .now) 0 0) (slotsOf (a .k * a .d) (a .slots) (a .urn .now))) + m) (free-counted e) ∙ sound-tests (a .k) (a .d) (a .slots) (a .urn .now) (s .pre .table) q .count)))
+    unsound-is _ _
+    (never-true _ (λ q. c .if4 .taken (ap (λ (m : ℕ). m + e .before .before .walk-free .result .count)
+    (ballots-counted (e .before .before .before .before))
+    ∙ ap (λ (m : ℕ). length (chain (a .slots) (getD (a .urn .now) 0 0)
+    (slotsOf (a .k * a .d) (a .slots) (a .urn .now))) + m) (free-counted e)
+    ∙ sound-tests (a .k) (a .d) (a .slots) (a .urn .now) (s .pre .table) q .count)))
 
 returns-5 : tie.Need-returns-5
 returns-5 c =
@@ -137,7 +161,10 @@ returns-5 c =
       head = head-told (b .before .before .before .before) ∙ not-false _ (b .before .before .before .if1 .left);
       ballots = sym (b .before .before .walk-ballots .ensures .told) ∙ not-false _ (b .if2 .left);
       free = free-told (e .before) ∙ not-false _ (e .if3 .left);
-      count = ap (λ (m : ℕ). m + length (chain (a .slots) (getD (a .urn .now) 1 0) (slotsOf (a .k * a .d) (a .slots) (a .urn .now)))) (sym (ballots-counted b)) ∙ ap (λ (m : ℕ). b .before .before .walk-ballots .result .count + m) (sym (free-counted e)) ∙ c .if4 .left;
+      count = ap (λ (m : ℕ). m + length
+          (chain (a .slots) (getD (a .urn .now) 1 0) (slotsOf (a .k * a .d) (a .slots) (a .urn .now))))
+          (sym (ballots-counted b)) ∙ ap (λ (m : ℕ). b .before .before .walk-ballots .result .count + m)
+          (sym (free-counted e)) ∙ c .if4 .left;
     }))
     (ballots-counted b ∙ sym (count-by-bytes (a .k * a .d) (a .slots) (a .urn .now) (s .pre .table)))
 

@@ -32,16 +32,20 @@ unfolding juryOfOne refusedFor noReason
 returns-2 c =
     let s = c .before .before .before .before .before in
     let a = s .args in
-    sym (ap (λ (t : Bool). t && goodBallot (a .k) (a .d) (a .ballot .now)) (some-juror (a .juror) (c .before .before .before .if1 .left) (omega arith))
-    ∙ good-graded (a .k) (a .d) (a .ballot .now) (s .pre) ∙ ap noReason (sym (c .before .before .test .ensures) ∙ ap refusedFor (c .enum-told .given .1)))
+    sym (ap (λ (t : Bool). t && goodBallot (a .k) (a .d) (a .ballot .now))
+    (some-juror (a .juror) (c .before .before .before .if1 .left) (omega arith))
+    ∙ good-graded (a .k) (a .d) (a .ballot .now) (s .pre)
+    ∙ ap noReason (sym (c .before .before .test .ensures) ∙ ap refusedFor (c .enum-told .given .1)))
 
 returns-3 : tie.Need-returns-3
 unfolding juryOfOne refusedFor noReason
 returns-3 c =
     let s = c .before .before .before .before .before in
     let a = s .args in
-    sym (ap (λ (t : Bool). t && goodBallot (a .k) (a .d) (a .ballot .now)) (some-juror (a .juror) (c .before .before .before .if1 .left) (omega arith))
-    ∙ good-graded (a .k) (a .d) (a .ballot .now) (s .pre) ∙ ap noReason (sym (c .before .before .test .ensures) ∙ ap refusedFor (c .enum-told2 .given .1)))
+    sym (ap (λ (t : Bool). t && goodBallot (a .k) (a .d) (a .ballot .now))
+    (some-juror (a .juror) (c .before .before .before .if1 .left) (omega arith))
+    ∙ good-graded (a .k) (a .d) (a .ballot .now) (s .pre)
+    ∙ ap noReason (sym (c .before .before .test .ensures) ∙ ap refusedFor (c .enum-told2 .given .1)))
 
 pub holds-ballot-spec : {M : Type 1} → statement M
 holds-ballot-spec =

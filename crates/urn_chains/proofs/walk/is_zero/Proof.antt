@@ -47,11 +47,18 @@ loop-again c =
     let xs = at .before .args .bytes .now in
     let rest = allZero (drop (at .loop .i + 1) xs) in
     ⊎-elim
-    (λ w. (omega arith, ap (λ (z : Bool). z && rest) (w .1) ∙ sym (and-second-fails (at .loop .zero) (allZero (drop (at .loop .i) xs)) (zero-here xs (at .loop .i) (omega arith) (w .0 .taken))) ∙ at .loop .inv .1))
     (λ w. (
       omega arith,
       ap (λ (z : Bool). z && rest) (w .1)
-          ∙ ap (λ (u : Bool). at .loop .zero && u) (ap (λ (j : ℕ). allZero (drop j xs)) (add-one (at .loop .i)) ∙ sym (zero-later xs (at .loop .i) (omega arith) (w .0 .left)))
+          ∙ sym (and-second-fails (at .loop .zero) (allZero (drop (at .loop .i) xs))
+          (zero-here xs (at .loop .i) (omega arith) (w .0 .taken))) ∙ at .loop .inv .1,
+    ))
+    (λ w. (
+      omega arith,
+      ap (λ (z : Bool). z && rest) (w .1)
+          ∙ ap (λ (u : Bool). at .loop .zero && u)
+          (ap (λ (j : ℕ). allZero (drop j xs)) (add-one (at .loop .i))
+          ∙ sym (zero-later xs (at .loop .i) (omega arith) (w .0 .left)))
           ∙ at .loop .inv .1,
     ))
     (c .if1 .came)
@@ -60,7 +67,8 @@ returns : tie.Need-returns Inv-loop μ-loop
 unfolding all allZero
 returns c =
     let at = c .before in
-    sym (done (at .loop .zero) _ (ap allZero (drop-of-length-le (at .before .args .bytes .now) {i = at .loop .i} (omega arith)))) ∙ at .loop .inv .1
+    sym (done (at .loop .zero) _ (ap allZero
+    (drop-of-length-le (at .before .args .bytes .now) {i = at .loop .i} (omega arith)))) ∙ at .loop .inv .1
 
 pub is-zero-spec : {M : Type 1} → statement M
 is-zero-spec =

@@ -16,14 +16,22 @@ use Rattle.urn_chains.proofs.walk.look_at_ballot.Statement.{statement}
 use Rattle.urn_chains.proofs.walk.look_at_ballot.Tie as tie
 
 -- the slot lies within the urn
-inside : (c : tie.Else1) → c .before .before .args .slot * (2 + c .before .before .args .k * c .before .before .args .d) + (2 + c .before .before .args .k * c .before .before .args .d) ≤ length (c .before .before .args .urn .now)
+inside : (c : tie.Else1) → c .before .before .args .slot
+    * (2 + c .before .before .args .k * c .before .before .args .d)
+    + (2 + c .before .before .args .k * c .before .before .args .d) ≤ length (c .before .before .args .urn .now)
 unfolding slotBytes
 inside c =
     let a = c .before .before .args in
     omega (arith, slot-within (a .slot) (a .slots) (a .k * a .d) (c .if1 .left), c .before .before .pre .bytes .table .size)
 
 -- what the tests of the slot say
-held : (c : tie.After-holds-ballot) → ballotAt (c .before .before .before .before .before .args .k) (c .before .before .before .before .before .args .d) (slotsOf (c .before .before .before .before .before .args .k * c .before .before .before .before .before .args .d) (c .before .before .before .before .before .args .slots) (c .before .before .before .before .before .args .urn .now)) (c .before .before .before .before .before .args .slot) ≡ c .holds-ballot .result
+held : (c : tie.After-holds-ballot)
+    → ballotAt (c .before .before .before .before .before .args .k)
+    (c .before .before .before .before .before .args .d)
+    (slotsOf (c .before .before .before .before .before .args .k
+    * c .before .before .before .before .before .args .d) (c .before .before .before .before .before .args .slots)
+    (c .before .before .before .before .before .args .urn .now))
+    (c .before .before .before .before .before .args .slot) ≡ c .holds-ballot .result
 unfolding slotBytes
 held c =
     let e = c .before .before .before in
@@ -31,13 +39,15 @@ held c =
     let p = e .before .before .pre in
     let at = a .slot * (2 + a .k * a .d) in
     ballot-by-bytes (a .k * a .d) (a .slots) (a .urn .now) (a .slot) (p .chained) (a .k) (a .d) (e .if1 .left) (p .bytes .table .size)
-    ∙ ap (λ (n : ℕ). goodJuror (getD (a .urn .now) (at + 1) 0) && goodBallot (a .k) (a .d) (take n (drop (at + 2) (a .urn .now)))) {x = a .k * a .d} {y = at + (2 + a .k * a .d) - (at + 2)} (omega arith)
+    ∙ ap (λ (n : ℕ). goodJuror (getD (a .urn .now) (at + 1) 0) && goodBallot (a .k) (a .d)
+    (take n (drop (at + 2) (a .urn .now)))) {x = a .k * a .d} {y = at + (2 + a .k * a .d) - (at + 2)} (omega arith)
     ∙ sym (c .holds-ballot .ensures)
 
 returns : tie.Need-returns
 returns c =
     let a = c .before .before .args in
-    look-wrong _ _ (ballot-out (a .k * a .d) (a .slots) (a .urn .now) (a .slot) (c .before .before .pre .chained) (a .k) (a .d) (c .if1 .taken))
+    look-wrong _ _ (ballot-out (a .k * a .d) (a .slots) (a .urn .now) (a .slot) (c .before .before .pre .chained)
+    (a .k) (a .d) (c .if1 .taken))
 
 mul-size : tie.Need-mul-size
 mul-size c = search needs

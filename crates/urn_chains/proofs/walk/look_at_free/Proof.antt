@@ -16,14 +16,19 @@ use Rattle.urn_chains.proofs.walk.look_at_free.Statement.{statement}
 use Rattle.urn_chains.proofs.walk.look_at_free.Tie as tie
 
 -- the slot lies within the urn
-inside : (c : tie.Else1) → c .before .before .args .slot * (2 + c .before .before .args .bytes) + (2 + c .before .before .args .bytes) ≤ length (c .before .before .args .urn .now)
+inside : (c : tie.Else1) → c .before .before .args .slot * (2 + c .before .before .args .bytes)
+    + (2 + c .before .before .args .bytes) ≤ length (c .before .before .args .urn .now)
 unfolding slotBytes
 inside c =
     let a = c .before .before .args in
     omega (arith, slot-within (a .slot) (a .slots) (a .bytes) (c .if1 .left), c .before .before .pre .table .size)
 
 -- what the tests of the slot say
-held : (c : tie.After-is-zero) → freeAt (slotsOf (c .before .before .before .before .before .before .args .bytes) (c .before .before .before .before .before .before .args .slots) (c .before .before .before .before .before .before .args .urn .now)) (c .before .before .before .before .before .before .args .slot) ≡ c .is-zero .result
+held : (c : tie.After-is-zero)
+    → freeAt (slotsOf (c .before .before .before .before .before .before .args .bytes)
+    (c .before .before .before .before .before .before .args .slots)
+    (c .before .before .before .before .before .before .args .urn .now))
+    (c .before .before .before .before .before .before .args .slot) ≡ c .is-zero .result
 unfolding slotBytes
 held c =
     let e = c .before .before .before .before in
@@ -31,7 +36,8 @@ held c =
     let p = e .before .before .pre in
     let at = a .slot * (2 + a .bytes) in
     free-by-bytes (a .bytes) (a .slots) (a .urn .now) (a .slot) (p .chained) (e .if1 .left) (p .table .size)
-    ∙ ap (λ (t : Bool). t && allZero (take (a .bytes) (drop (at + 2) (a .urn .now)))) (eq-eqb (getD (a .urn .now) (at + 1) 0) 0 (c .before .before .if2 .left))
+    ∙ ap (λ (t : Bool). t && allZero (take (a .bytes) (drop (at + 2) (a .urn .now))))
+    (eq-eqb (getD (a .urn .now) (at + 1) 0) 0 (c .before .before .if2 .left))
     ∙ ap (λ (n : ℕ). allZero (take n (drop (at + 2) (a .urn .now)))) {x = a .bytes} {y = at + (2 + a .bytes) - (at + 2)} (omega arith)
     ∙ sym (c .is-zero .ensures)
 
@@ -73,7 +79,8 @@ returns-2 c =
     let at = a .slot * (2 + a .bytes) in
     look-wrong _ _
     (free-by-bytes (a .bytes) (a .slots) (a .urn .now) (a .slot) (p .chained) (e .if1 .left) (p .table .size)
-    ∙ ap (λ (t : Bool). t && allZero (take (a .bytes) (drop (at + 2) (a .urn .now)))) (ne-eqb (getD (a .urn .now) (at + 1) 0) 0 (c .if2 .taken)))
+    ∙ ap (λ (t : Bool). t && allZero (take (a .bytes) (drop (at + 2) (a .urn .now))))
+    (ne-eqb (getD (a .urn .now) (at + 1) 0) 0 (c .if2 .taken)))
 
 sub-is-zero : tie.Need-sub-is-zero
 sub-is-zero c = search needs

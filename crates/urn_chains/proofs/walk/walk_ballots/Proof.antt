@@ -27,7 +27,9 @@ well : (c : tie.After-known-told Inv-loop μ-loop) →
     let at = c .before .before .before .before .before .before in
     let a = at .before .before .before .before .args in
     let ss = slotsOf (a .k * a .d) (a .slots) (a .urn .now) in
-    (ballotAt (a .k) (a .d) ss (at .loop .slot) ≡ true) × (c .before .look .given .0 .0 ≡ slotAt ss (at .loop .slot) .juror) × (c .before .look .given .0 .1 .0 ≡ slotAt ss (at .loop .slot) .next)
+    (ballotAt (a .k) (a .d) ss (at .loop .slot) ≡ true)
+    × (c .before .look .given .0 .0 ≡ slotAt ss (at .loop .slot) .juror)
+    × (c .before .look .given .0 .1 .0 ≡ slotAt ss (at .loop .slot) .next)
 well c =
     looked-well _ _ _ _ (sym (c .before .before .before .look-at-ballot .ensures) ∙ c .before .look .given .1)
 
@@ -38,7 +40,12 @@ slot-marked c =
     let s = at .before .before .before .before in
     let a = s .args in
     let ss = slotsOf (a .k * a .d) (a .slots) (a .urn .now) in
-    omega (arith, ballot-below (a .k) (a .d) ss (at .loop .slot) (well c .0), slots-length (a .k * a .d) (a .slots) (a .urn .now), s .pre .table .most)
+    omega (
+      arith,
+      ballot-below (a .k) (a .d) ss (at .loop .slot) (well c .0),
+      slots-length (a .k * a .d) (a .slots) (a .urn .now),
+      s .pre .table .most,
+    )
 
 juror-marked : (c : tie.After-known-told Inv-loop μ-loop) → c .before .look .given .0 .0 < 256
 juror-marked c =
@@ -50,7 +57,12 @@ juror-marked c =
 shared-slice-read-wide : tie.Need-shared-slice-read-wide Inv-loop μ-loop
 shared-slice-read-wide c =
     let s = c .before .before in
-    let l : 0 < length (s .args .urn .now) = omega (arith, s .pre .table .size, size-least (s .args .k * s .args .d) (s .args .slots) (s .pre .table .least)) in
+    let l : 0 < length (s .args .urn .now) =
+    omega (
+      arith,
+      s .pre .table .size,
+      size-least (s .args .k * s .args .d) (s .args .slots) (s .pre .table .least),
+    ) in
     l
 
 wide-requires : tie.Need-wide-requires Inv-loop μ-loop
@@ -62,13 +74,15 @@ unfolding noMarks
 loop-holds c =
     let s = c .before .before .before in
     let a = s .args in
-    ballots-start (a .k) (a .d) (slotsOf (a .k * a .d) (a .slots) (a .urn .now)) (a .slots) (getD (a .urn .now) 0 0) (c .wide .result) (c .wide .ensures)
+    ballots-start (a .k) (a .d) (slotsOf (a .k * a .d) (a .slots) (a .urn .now)) (a .slots) (getD (a .urn .now) 0 0)
+    (c .wide .result) (c .wide .ensures)
 
 returns : tie.Need-returns Inv-loop μ-loop
 returns c =
     let at = c .before .before in
     let a = at .before .before .before .before .args in
-    not-walked _ _ _ _ _ (ballots-fail (a .k) (a .d) _ (a .slots) _ _ _ _ _ (at .loop .inv) (omega (arith, c .before .loop-test .taken)) (λ l. absurd (omega (arith, c .if1 .taken))))
+    not-walked _ _ _ _ _ (ballots-fail (a .k) (a .d) _ (a .slots) _ _ _ _ _ (at .loop .inv)
+    (omega (arith, c .before .loop-test .taken)) (λ l. absurd (omega (arith, c .if1 .taken))))
 
 look-at-ballot-requires : tie.Need-look-at-ballot-requires Inv-loop μ-loop
 look-at-ballot-requires c κs =
@@ -90,7 +104,8 @@ returns-2 c =
     let a = at .before .before .before .before .args in
     let p : 0 < at .loop .slot = omega (arith, c .before .before .before .before .loop-test .taken) in
     not-walked _ _ _ _ _ (ballots-fail (a .k) (a .d) _ (a .slots) _ _ _ _ _ (at .loop .inv) p
-    (λ l. ballots-wrong (a .k) (a .d) _ (a .slots - at .loop .count) (at .loop .slot) _ _ (omega arith) p (looked-wrong _ _ (sym (c .before .before .look-at-ballot .ensures) ∙ c .enum-told .given .1))))
+    (λ l. ballots-wrong (a .k) (a .d) _ (a .slots - at .loop .count) (at .loop .slot) _ _ (omega arith) p
+    (looked-wrong _ _ (sym (c .before .before .look-at-ballot .ensures) ∙ c .enum-told .given .1))))
 
 array-read-if2 : tie.Need-array-read-if2 Inv-loop μ-loop
 array-read-if2 c =
@@ -115,7 +130,8 @@ returns-4 c =
     let a = at .before .before .before .before .args in
     let p : 0 < at .loop .slot = omega (arith, k .before .before .before .before .before .loop-test .taken) in
     not-walked _ _ _ _ _ (ballots-fail (a .k) (a .d) _ (a .slots) _ _ _ _ _ (at .loop .inv) p
-    (λ l. ballots-twice (a .k) (a .d) _ (a .slots - at .loop .count) (at .loop .slot) _ _ (omega arith) p (subst (λ (j : ℕ). getD (at .loop .jurors) j false ≡ true) (well k .1) (c .if3 .taken))))
+    (λ l. ballots-twice (a .k) (a .d) _ (a .slots - at .loop .count) (at .loop .slot) _ _ (omega arith) p
+    (subst (λ (j : ℕ). getD (at .loop .jurors) j false ≡ true) (well k .1) (c .if3 .taken))))
 
 array-write-marks : tie.Need-array-write-marks Inv-loop μ-loop
 array-write-marks c =
@@ -143,7 +159,10 @@ loop-again c =
     let at = k .before .before .before .before .before .before in
     let a = at .before .before .before .before .args in
     let w = well k in
-    ballots-go (a .k) (a .d) _ (a .slots) _ _ _ _ (at .loop .slot) (at .loop .inv) _ _ (w .1) (w .2) (k .before .before .before .before .if1 .left) (omega (arith, k .before .before .before .before .before .loop-test .taken)) (w .0) (c .before .if2 .left) (c .if3 .left)
+    ballots-go (a .k) (a .d) _ (a .slots) _ _ _ _ (at .loop .slot) (at .loop .inv) _ _ (w .1) (w .2)
+    (k .before .before .before .before .if1 .left)
+    (omega (arith, k .before .before .before .before .before .loop-test .taken)) (w .0) (c .before .if2 .left)
+    (c .if3 .left)
 
 returns-5 : tie.Need-returns-5 Inv-loop μ-loop
 returns-5 c =

@@ -31,7 +31,8 @@ well : (c : tie.After-known-told Inv-loop μ-loop) →
     let at = c .before .before .before .before .before .before in
     let a = at .before .before .before .before .args in
     let ss = slotsOf (a .bytes) (a .slots) (a .urn .now) in
-    (freeAt ss (at .loop .slot) ≡ true) × (c .before .look .given .0 .0 ≡ slotAt ss (at .loop .slot) .juror) × (c .before .look .given .0 .1 .0 ≡ slotAt ss (at .loop .slot) .next)
+    (freeAt ss (at .loop .slot) ≡ true) × (c .before .look .given .0 .0 ≡ slotAt ss (at .loop .slot) .juror)
+    × (c .before .look .given .0 .1 .0 ≡ slotAt ss (at .loop .slot) .next)
 well c =
     looked-well _ _ _ _ (sym (c .before .before .before .look-at-free .ensures) ∙ c .before .look .given .1)
 
@@ -58,13 +59,15 @@ loop-holds : tie.Need-loop-holds Inv-loop μ-loop
 loop-holds c =
     let s = c .before .before .before in
     let a = s .args in
-    free-start (slotsOf (a .bytes) (a .slots) (a .urn .now)) (a .slots) (getD (a .urn .now) 1 0) (c .wide .result) (a .met) (met-size s) (c .wide .ensures)
+    free-start (slotsOf (a .bytes) (a .slots) (a .urn .now)) (a .slots) (getD (a .urn .now) 1 0) (c .wide .result)
+    (a .met) (met-size s) (c .wide .ensures)
 
 returns : tie.Need-returns Inv-loop μ-loop
 returns c =
     let at = c .before .before in
     let a = at .before .before .before .before .args in
-    not-walked _ _ _ _ _ (free-fail _ (a .slots) _ _ _ _ _ (at .loop .inv) (omega (arith, c .before .loop-test .taken)) (λ l. absurd (omega (arith, c .if1 .taken))))
+    not-walked _ _ _ _ _ (free-fail _ (a .slots) _ _ _ _ _ (at .loop .inv)
+    (omega (arith, c .before .loop-test .taken)) (λ l. absurd (omega (arith, c .if1 .taken))))
 
 look-at-free-requires : tie.Need-look-at-free-requires Inv-loop μ-loop
 look-at-free-requires c κs =
@@ -86,7 +89,8 @@ returns-2 c =
     let a = at .before .before .before .before .args in
     let p : 0 < at .loop .slot = omega (arith, c .before .before .before .before .loop-test .taken) in
     not-walked _ _ _ _ _ (free-fail _ (a .slots) _ _ _ _ _ (at .loop .inv) p
-    (λ l. free-wrong _ (a .slots - at .loop .count) (at .loop .slot) _ (omega arith) p (looked-wrong _ _ (sym (c .before .before .look-at-free .ensures) ∙ c .enum-told .given .1))))
+    (λ l. free-wrong _ (a .slots - at .loop .count) (at .loop .slot) _ (omega arith) p
+    (looked-wrong _ _ (sym (c .before .before .look-at-free .ensures) ∙ c .enum-told .given .1))))
 
 array-read-if2 : tie.Need-array-read-if2 Inv-loop μ-loop
 array-read-if2 c =
@@ -122,7 +126,9 @@ loop-again c =
     let at = k .before .before .before .before .before .before in
     let a = at .before .before .before .before .args in
     let w = well k in
-    free-go _ (a .slots) _ _ _ _ (at .loop .slot) (at .loop .inv) _ (w .2) (k .before .before .before .before .if1 .left) (omega (arith, k .before .before .before .before .before .loop-test .taken)) (w .0) (c .if2 .left)
+    free-go _ (a .slots) _ _ _ _ (at .loop .slot) (at .loop .inv) _ (w .2)
+    (k .before .before .before .before .if1 .left)
+    (omega (arith, k .before .before .before .before .before .loop-test .taken)) (w .0) (c .if2 .left)
 
 returns-4 : tie.Need-returns-4 Inv-loop μ-loop
 returns-4 c =

@@ -20,7 +20,8 @@ use Rattle.urn_run.proofs.load.load.Tie as tie
 abbrev Inv-loop : tie.InvT-loop
 Inv-loop k d urn wires₀ bytes size count₀ slot₀ wires count slot =
     OnLoad (slotsOf (k * d) (slotCount (k * d) (length urn)) urn) (slotCount (k * d) (length urn)) (k * d) (length wires₀)
-    (sets wires₀ 0 (along (slotsOf (k * d) (slotCount (k * d) (length urn)) urn) (chain (slotCount (k * d) (length urn)) (getD urn 0 0) (slotsOf (k * d) (slotCount (k * d) (length urn)) urn))))
+    (sets wires₀ 0 (along (slotsOf (k * d) (slotCount (k * d) (length urn)) urn)
+    (chain (slotCount (k * d) (length urn)) (getD urn 0 0) (slotsOf (k * d) (slotCount (k * d) (length urn)) urn))))
     wires count slot
 
 abbrev μ-loop : tie.MeasureT-loop
@@ -37,7 +38,8 @@ shared-slice-read-wide c =
     let s = c .before .before .before in
     let a = s .args in
     let t = its-table (a .k) (a .d) (a .urn .now) (s .pre .graded) (s .pre .isSound) in
-    let l : 0 < length (a .urn .now) = omega (arith, t .size, size-least (a .k * a .d) (slotCount (a .k * a .d) (length (a .urn .now))) (t .least)) in
+    let l : 0 < length (a .urn .now) =
+    omega (arith, t .size, size-least (a .k * a .d) (slotCount (a .k * a .d) (length (a .urn .now))) (t .least)) in
     l
 
 wide-requires : tie.Need-wide-requires Inv-loop μ-loop
@@ -47,7 +49,8 @@ loop-holds : tie.Need-loop-holds Inv-loop μ-loop
 loop-holds c =
     let s = c .before .before .before .before in
     let a = s .args in
-    load-begin (a .k) (a .d) (a .urn .now) (s .pre .graded) (s .pre .isSound) (a .wires .now) (c .wide .result) (s .pre .room) (c .wide .ensures)
+    load-begin (a .k) (a .d) (a .urn .now) (s .pre .graded) (s .pre .isSound) (a .wires .now) (c .wide .result)
+    (s .pre .room) (c .wide .ensures)
 
 -- The start of the call, seen from within a turn.
 abbrev from-turn : tie.In-loop Inv-loop μ-loop → tie.Start Inv-loop μ-loop
@@ -119,7 +122,8 @@ copy-requires c κs =
     let s = from-turn (c .before .before) in
     let a = s .args in
     let l = c .before .before .before .loop in
-    copy-fits (a .k) (a .d) (a .urn .now) (s .pre .graded) (s .pre .isSound) _ _ (l .wires) (l .count) (l .slot) (l .inv) (goes-on (c .before .before))
+    copy-fits (a .k) (a .d) (a .urn .now) (s .pre .graded) (s .pre .isSound) _ _ (l .wires) (l .count) (l .slot)
+    (l .inv) (goes-on (c .before .before))
 
 shared-slice-read-wide-2 : tie.Need-shared-slice-read-wide-2 Inv-loop μ-loop
 shared-slice-read-wide-2 c = omega (arith, inside (c .before .before .before .before .before .before))
@@ -132,7 +136,11 @@ add-count c =
     let turn = c .before .before .before .before .before .before .before in
     let s = from-turn turn in
     let a = s .args in
-    omega (arith, not-all (c .before .before .before .before .before .before .before), its-table (a .k) (a .d) (a .urn .now) (s .pre .graded) (s .pre .isSound) .most)
+    omega (
+      arith,
+      not-all (c .before .before .before .before .before .before .before),
+      its-table (a .k) (a .d) (a .urn .now) (s .pre .graded) (s .pre .isSound) .most,
+    )
 
 loop-less : tie.Need-loop-less Inv-loop μ-loop
 loop-less c = omega (arith, not-all (c .before .before .before .before .before .before .before))
@@ -143,7 +151,9 @@ loop-again c =
     let s = from-turn turn in
     let a = s .args in
     let l = turn .before .loop in
-    turn-on (a .k) (a .d) (a .urn .now) (s .pre .graded) (s .pre .isSound) _ _ (l .wires) (l .count) (l .slot) (l .inv) (goes-on turn) (c .before .before .before .before .copy .last .1 .0) (c .wide2 .result) (copied (c .before .before .before .before .copy .ensures)) (c .wide2 .ensures)
+    turn-on (a .k) (a .d) (a .urn .now) (s .pre .graded) (s .pre .isSound) _ _ (l .wires) (l .count) (l .slot)
+    (l .inv) (goes-on turn) (c .before .before .before .before .copy .last .1 .0) (c .wide2 .result)
+    (copied (c .before .before .before .before .copy .ensures)) (c .wide2 .ensures)
 
 same-length : tie.Need-same-length Inv-loop μ-loop
 same-length c = c .before .loop .inv .kept
@@ -153,7 +163,8 @@ returns c =
     let s = c .before .before .before .before .before .before in
     let a = s .args in
     let l = c .before .loop in
-    loaded (a .k) (a .d) (a .urn .now) (s .pre .graded) (s .pre .isSound) (a .wires .now) (l .wires) (s .pre .room) (load-end _ _ _ _ _ (l .wires) (l .count) (l .slot) (l .inv) (c .loop-test .left))
+    loaded (a .k) (a .d) (a .urn .now) (s .pre .graded) (s .pre .isSound) (a .wires .now) (l .wires) (s .pre .room)
+    (load-end _ _ _ _ _ (l .wires) (l .count) (l .slot) (l .inv) (c .loop-test .left))
 
 pub load-spec : {M : Type 1} → statement M
 load-spec =

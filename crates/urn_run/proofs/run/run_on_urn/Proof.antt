@@ -23,7 +23,8 @@ use Rattle.urn_run.proofs.run.run_on_urn.Statement.{statement}
 use Rattle.urn_run.proofs.run.run_on_urn.Tie as tie
 
 -- the result of a call is equal if its three parts are
-whole : {a b : Outcome Size} {v w x y : List ℕ} → a ≡ b → v ≡ w → x ≡ y → _≡_ {A = RunResult} (record { answer = a; wires = v; board = x }) (record { answer = b; wires = w; board = y })
+whole : {a b : Outcome Size} {v w x y : List ℕ} → a ≡ b → v ≡ w → x ≡ y
+    → _≡_ {A = RunResult} (record { answer = a; wires = v; board = x }) (record { answer = b; wires = w; board = y })
 whole e f g = cc
 
 test-run-requires : tie.Need-test-run-requires
@@ -47,7 +48,8 @@ unfolding outcomeOf
 no-reason c =
     let a = from-test c .args in
     let o = firstOf (urnRunReasons (a .shape) (a .table .now) (a .urn .now) (a .tape .now) (a .wires .now) (a .board .now)) in
-    outcome-accepted o (sizeOf (gatesOf (a .table .now))) _ (sym (c .before .before .test-run .ensures) ∙ ap outcomeOf (c .enum-told .given .1))
+    outcome-accepted o (sizeOf (gatesOf (a .table .now))) _
+    (sym (c .before .before .test-run .ensures) ∙ ap outcomeOf (c .enum-told .given .1))
 
 passed : (c : tie.After-enum-told) →
     let a = from-test c .args in
@@ -78,9 +80,11 @@ finish-requires c κs =
     let a = from-test told .args in
     let p = passed told in
     let l = c .before .before .before .before .before .load in
-    subst (λ (i : ℕ). FinishReady i (a .table .now) (a .shape .candidates) (a .tape .now) (l .last .1 .1 .1 .0) (a .board .now)) (sym (c .before .before .ballot-bytes .ensures))
+    subst (λ (i : ℕ). FinishReady i (a .table .now) (a .shape .candidates) (a .tape .now) (l .last .1 .1 .1 .0)
+    (a .board .now)) (sym (c .before .before .ballot-bytes .ensures))
     (finish-ready (a .shape) (a .table .now) (a .urn .now) (a .tape .now) (a .wires .now) (a .board .now) p (l .last .1 .1 .1 .0)
-    (loaded-length (a .shape) (a .table .now) (a .urn .now) (a .tape .now) (a .wires .now) (a .board .now) p (l .last .1 .1 .1 .0) (l .ensures)))
+    (loaded-length (a .shape) (a .table .now) (a .urn .now) (a .tape .now) (a .wires .now) (a .board .now) p
+    (l .last .1 .1 .1 .0) (l .ensures)))
 
 empty-requires : tie.Need-empty-requires
 empty-requires c κs = search needs
@@ -107,12 +111,18 @@ returns c =
     let p = passed told in
     let gs = gatesOf (a .table .now) in
     let e = ran-on-urn-by (a .shape) (a .table .now) (a .urn .now) (a .tape .now) (a .wires .now) (a .board .now) none (no-reason told) in
-    let same = done .kept .1 .1 .1 .1 .0 ∙ loaded-length (a .shape) (a .table .now) (a .urn .now) (a .tape .now) (a .wires .now) (a .board .now) p (l .last .1 .1 .1 .0) (l .ensures) in
-    let front = ap (λ (i : ℕ). take i (l .last .1 .1 .1 .0)) (counted .ballot-bytes .ensures) ∙ loaded-front (a .shape) (a .table .now) (a .urn .now) (a .tape .now) (a .wires .now) (a .board .now) p (l .last .1 .1 .1 .0) (l .ensures) in
+    let same = done .kept .1 .1 .1 .1 .0
+    ∙ loaded-length (a .shape) (a .table .now) (a .urn .now) (a .tape .now) (a .wires .now) (a .board .now) p
+    (l .last .1 .1 .1 .0) (l .ensures) in
+    let front = ap (λ (i : ℕ). take i (l .last .1 .1 .1 .0)) (counted .ballot-bytes .ensures)
+    ∙ loaded-front (a .shape) (a .table .now) (a .urn .now) (a .tape .now) (a .wires .now) (a .board .now) p
+    (l .last .1 .1 .1 .0) (l .ensures) in
     whole
-    (told .before .before .test-run .ensures ∙ ap (λ (o : Option Reason). outcome o (sizeOf gs)) (no-reason told) ∙ sym (ap (λ (r : RunResult). r .answer) e))
+    (told .before .before .test-run .ensures ∙ ap (λ (o : Option Reason). outcome o (sizeOf gs)) (no-reason told)
+    ∙ sym (ap (λ (r : RunResult). r .answer) e))
     (c .before .before .empty .ensures ∙ ap (λ (n : ℕ). replicate n 0) same ∙ sym (ap (λ (r : RunResult). r .wires) e))
-    (done .ensures .board ∙ ap (λ (xs : List ℕ). boardOf (wiresOf xs gs) gs (a .shape .candidates) (a .tape .now)) front ∙ sym (ap (λ (r : RunResult). r .board) e))
+    (done .ensures .board ∙ ap (λ (xs : List ℕ). boardOf (wiresOf xs gs) gs (a .shape .candidates) (a .tape .now))
+    front ∙ sym (ap (λ (r : RunResult). r .board) e))
 
 same-length-3 : tie.Need-same-length-3
 same-length-3 c = search needs
@@ -127,8 +137,11 @@ returns-2 c =
     let o = firstOf (urnRunReasons (a .shape) (a .table .now) (a .urn .now) (a .tape .now) (a .wires .now) (a .board .now)) in
     let r = reasonOf (c .enum-told2 .given .0 .0) in
     let told = ap outcomeOf (c .enum-told2 .given .1) in
-    let e = ran-on-urn-by (a .shape) (a .table .now) (a .urn .now) (a .tape .now) (a .wires .now) (a .board .now) (some r) (outcome-refused o (sizeOf (gatesOf (a .table .now))) r (sym (c .before .before .test-run .ensures) ∙ told)) in
-    whole (told ∙ sym (ap (λ (q : RunResult). q .answer) e)) (sym (ap (λ (q : RunResult). q .wires) e)) (sym (ap (λ (q : RunResult). q .board) e))
+    let e = ran-on-urn-by (a .shape) (a .table .now) (a .urn .now) (a .tape .now) (a .wires .now) (a .board .now)
+    (some r) (outcome-refused o (sizeOf (gatesOf (a .table .now))) r
+    (sym (c .before .before .test-run .ensures) ∙ told)) in
+    whole (told ∙ sym (ap (λ (q : RunResult). q .answer) e)) (sym (ap (λ (q : RunResult). q .wires) e))
+    (sym (ap (λ (q : RunResult). q .board) e))
 
 pub run-on-urn-spec : {M : Type 1} → statement M
 run-on-urn-spec =

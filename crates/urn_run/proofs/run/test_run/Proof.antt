@@ -23,8 +23,12 @@ use Rattle.urn_run.proofs.run.test_run.Statement.{statement}
 use Rattle.urn_run.proofs.run.test_run.Tie as tie
 
 -- the first reason decides the answer
-refuses : (c : tie.Start) (r : Reason) → let a = c .args in firstOf (urnRunReasons (a .shape) (a .table .now) (a .urn .now) (a .tape .now) (a .wires .now) (a .board .now)) ≡ some r
-    → refused r ≡ outcome (firstOf (urnRunReasons (a .shape) (a .table .now) (a .urn .now) (a .tape .now) (a .wires .now) (a .board .now))) (sizeOf (gatesOf (a .table .now)))
+refuses : (c : tie.Start) (r : Reason) → let a = c .args in
+    firstOf (urnRunReasons (a .shape) (a .table .now) (a .urn .now) (a .tape .now) (a .wires .now) (a .board .now))
+    ≡ some r
+    → refused r ≡ outcome (firstOf
+    (urnRunReasons (a .shape) (a .table .now) (a .urn .now) (a .tape .now) (a .wires .now) (a .board .now)))
+    (sizeOf (gatesOf (a .table .now)))
 unfolding outcome
 refuses c r e = sym (ap (λ (o : Option Reason). outcome o (sizeOf (gatesOf (c .args .table .now)))) e)
 
@@ -51,7 +55,8 @@ graded c = sym (c .before .is-within-graded-limits .ensures) ∙ not-false (c .b
 -- after the test of the urn
 sound-told : (c : tie.After-known-told) →
     let a = from-urn c .args in
-    (sound (a .shape .candidates) (a .shape .grades) (a .urn .now) ≡ true) × (c .before .ballots .given .0 .0 ≡ ballotsIn (a .shape .candidates) (a .shape .grades) (a .urn .now))
+    (sound (a .shape .candidates) (a .shape .grades) (a .urn .now) ≡ true)
+    × (c .before .ballots .given .0 .0 ≡ ballotsIn (a .shape .candidates) (a .shape .grades) (a .urn .now))
 unfolding ballotsIn
 sound-told c = soundness-sound _ _ _ (sym (c .before .before .before .test .ensures) ∙ c .before .ballots .given .1)
 
@@ -63,7 +68,8 @@ passed : (c : tie.After-known-told2) → let a = from-list c .args in TestPassed
 unfolding outcomeOf size
 passed c =
     let a = from-list c .args in
-    test-passed (a .shape) (a .table .now) (size c) (sym (c .before .before .before .test2 .ensures) ∙ ap outcomeOf (c .before .answer .given .1))
+    test-passed (a .shape) (a .table .now) (size c)
+    (sym (c .before .before .before .test2 .ensures) ∙ ap outcomeOf (c .before .answer .given .1))
 
 is-within-graded-limits-requires : tie.Need-is-within-graded-limits-requires
 is-within-graded-limits-requires c κs = search needs
@@ -112,7 +118,9 @@ returns-3 c =
     let r = reasonOf (c .enum-told2 .given .0 .0) in
     let e = ap outcomeOf (c .enum-told2 .given .1) in
     e ∙ refuses start r
-    (by-list (a .shape) (a .table .now) (a .urn .now) (a .tape .now) (a .wires .now) (a .board .now) (graded (c .before .before .before .before .before .before .before)) (sound-told (c .before .before .before) .0) r (sym (c .before .before .test2 .ensures) ∙ e))
+    (by-list (a .shape) (a .table .now) (a .urn .now) (a .tape .now) (a .wires .now) (a .board .now)
+    (graded (c .before .before .before .before .before .before .before)) (sound-told (c .before .before .before) .0)
+    r (sym (c .before .before .test2 .ensures) ∙ e))
 
 returns-4 : tie.Need-returns-4
 unfolding outcomeOf reasonOf
@@ -122,7 +130,8 @@ returns-4 c =
     let urn = c .before .before .before .before .before .before in
     let told = sound-told urn in
     refuses start (reasonAt 4 0)
-    (by-4 (a .shape) (a .table .now) (a .urn .now) (a .tape .now) (a .wires .now) (a .board .now) (graded (urn .before .before .before .before)) (told .0) (passed (c .before .before) .reasons)
+    (by-4 (a .shape) (a .table .now) (a .urn .now) (a .tape .now) (a .wires .now) (a .board .now)
+    (graded (urn .before .before .before .before)) (told .0) (passed (c .before .before) .reasons)
     (λ q. c .if2 .taken (told .1 ∙ q)))
 
 ballot-bytes-requires : tie.Need-ballot-bytes-requires
@@ -139,7 +148,8 @@ enum-told-3 c = search needs
 
 -- what the tests 7 to 10 answer is what the whole answers
 lent-answer : (c : tie.After-test-buffers) → let a = from-buffers c .args in
-    firstOf (urnRunReasons (a .shape) (a .table .now) (a .urn .now) (a .tape .now) (a .wires .now) (a .board .now)) ≡ refusedFor (c .test-buffers .result)
+    firstOf (urnRunReasons (a .shape) (a .table .now) (a .urn .now) (a .tape .now) (a .wires .now) (a .board .now))
+    ≡ refusedFor (c .test-buffers .result)
 unfolding size
 lent-answer c =
     let a = from-buffers c .args in
@@ -147,15 +157,20 @@ lent-answer c =
     let urn = list .before .before .before .before in
     let told = sound-told urn in
     let p = passed list in
-    by-lent (a .shape) (a .table .now) (a .urn .now) (a .tape .now) (a .wires .now) (a .board .now) (graded (urn .before .before .before .before)) (told .0) (p .reasons) (size list) (refusedFor (c .test-buffers .result)) (p .size)
+    by-lent (a .shape) (a .table .now) (a .urn .now) (a .tape .now) (a .wires .now) (a .board .now)
+    (graded (urn .before .before .before .before)) (told .0) (p .reasons) (size list)
+    (refusedFor (c .test-buffers .result)) (p .size)
     (sym (told .1) ∙ c .before .before .if2 .left)
-    (sym (c .test-buffers .ensures ∙ ap (λ (i : ℕ). firstOf (bufferReasons i (a .shape .candidates) (size list) (a .tape .now) (a .wires .now) (a .board .now))) (c .before .ballot-bytes .ensures)))
+    (sym (c .test-buffers .ensures ∙ ap (λ (i : ℕ). firstOf
+    (bufferReasons i (a .shape .candidates) (size list) (a .tape .now) (a .wires .now) (a .board .now)))
+    (c .before .ballot-bytes .ensures)))
 
 returns-5 : tie.Need-returns-5
 unfolding outcomeOf refusedFor
 returns-5 c =
     let r = reasonOf (c .before .reason .given .0 .0) in
-    refuses (from-buffers (c .before .before .before)) r (lent-answer (c .before .before .before) ∙ ap refusedFor (c .before .reason .given .1))
+    refuses (from-buffers (c .before .before .before)) r
+    (lent-answer (c .before .before .before) ∙ ap refusedFor (c .before .reason .given .1))
 
 returns-6 : tie.Need-returns-6
 unfolding testOutcome refusedFor

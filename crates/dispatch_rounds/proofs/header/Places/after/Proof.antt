@@ -11,7 +11,14 @@ use Rattle.dispatch_rounds.proofs.header.Places.after.Tie as tie
 -- the places after a jury with this many ballot bytes
 abbrev made : Places → JuryHeader → ℕ → ℕ → Places
 made at s c i =
-    record { lists = at .lists + 4 * s .gates; ballots = at .ballots + i; tapes = at .tapes + c; wires = at .wires + (i + s .gates); boards = at .boards + (c + s .candidates) }
+    record {
+      lists = at .lists + 4 * s .gates;
+      ballots = at .ballots + i;
+      tapes = at .tapes + c;
+      wires = at .wires
+          + (i + s .gates);
+      boards = at .boards + (c + s .candidates);
+    }
 
 ballot-bytes-requires : tie.Need-ballot-bytes-requires
 ballot-bytes-requires c κs = search needs

@@ -32,84 +32,129 @@ above-requires c κs =
 
 -- after the low half
 
-lower : (c : tie.After-above) → Stands (c .above .result) ((c .before .before .before) .args .self .wire + (c .before .before .before) .args .low) ((c .before .before .before) .args .high)
+lower : (c : tie.After-above) → Stands (c .above .result)
+    ((c .before .before .before) .args .self .wire + (c .before .before .before) .args .low)
+    ((c .before .before .before) .args .high)
 lower c =
     let s = (c .before .before .before) in
     let a = s .args in
-    stands-after (a .self) (a .table .now) _ (c .above .last .1 .0) (c .above .result) _ _ _ (c .above .ensures) (length-above (a .self .wire) (a .f + 1) (a .x + 1) (a .x) (a .low))
+    stands-after (a .self) (a .table .now) _ (c .above .last .1 .0) (c .above .result) _ _ _ (c .above .ensures)
+    (length-above (a .self .wire) (a .f + 1) (a .x + 1) (a .x) (a .low))
     (stands (a .self) (a .self .wire) _ _ refl (omega arith) (s .pre .room))
 
 same-length : tie.Need-same-length
 same-length c =
     search needs
 
+-- The stages of the function, seen from later ones.
+abbrev start-from-else1 : tie.Else1 → tie.Start
+start-from-else1 c = c .before .before .before .before .before .before
+
+abbrev start-from-then1 : tie.Then1 → tie.Start
+start-from-then1 c = c .before .before .before .before .before .before
+
+abbrev start-from-chain-end : tie.After-chain-end → tie.Start
+start-from-chain-end c = c .before .before .before .before .before .before .before
+
+abbrev above-from-above-arg2 : tie.After-above-arg2 → tie.After-above
+above-from-above-arg2 c = c .before .before .before .before .before
+
+abbrev start-from-above2 : tie.After-above2 → tie.Start
+start-from-above2 c = start-from-else1 (c .before .before .before)
+
+abbrev above-from-above2 : tie.After-above2 → tie.After-above
+above-from-above2 c = c .before .before .before .before .before .before
+
+abbrev start-from-emit : tie.After-emit → tie.Start
+start-from-emit c = start-from-else1 (c .before .before .before .before .before .before .before .before)
+
+abbrev above-from-emit : tie.After-emit → tie.After-above
+above-from-emit c = above-from-above-arg2 (c .before .before .before .before .before .before)
+
+abbrev else1-from-emit : tie.After-emit → tie.Else1
+else1-from-emit c = c .before .before .before .before .before .before .before .before
+
+abbrev chain-end-from-emit : tie.After-emit → tie.After-chain-end
+chain-end-from-emit c = c .before .before .before .before .before .before .before
+
+abbrev above2-from-emit : tie.After-emit → tie.After-above2
+above2-from-emit c = c .before .before .before .before .before
+
 returns : tie.Need-returns
 returns c =
-    let a = (c .before .before .before .before .before .before) .args in wrote-as (a .self) (a .table .now) _ _ _ _ (above-halves-none (a .self .wire) (a .f) (a .x) (a .e) (a .low) (a .high) (c .if1 .taken)) ((c .before .before .before .above) .ensures)
+    let a = (start-from-then1 c) .args in
+    wrote-as (a .self) (a .table .now) _ _ _ _
+    (above-halves-none (a .self .wire) (a .f) (a .x) (a .e) (a .low) (a .high) (c .if1 .taken))
+    ((c .before .before .before .above) .ensures)
 
 add-start : tie.Need-add-start
 add-start c =
-    omega (arith, (c .before .before .before .before .before .before) .pre, (c .if1) .left)
+    omega (arith, (start-from-else1 c) .pre, (c .if1) .left)
 
 add-start-2 : tie.Need-add-start-2
 add-start-2 c =
-    omega (arith, (c .before .before .before .before .before .before) .pre, (c .if1) .left)
+    omega (arith, (start-from-else1 c) .pre, (c .if1) .left)
 
 add-chain-end : tie.Need-add-chain-end
 add-chain-end c =
-    omega (arith, (c .before .before .before .before .before .before) .pre, (c .if1) .left)
+    omega (arith, (start-from-else1 c) .pre, (c .if1) .left)
 
 sub-chain-end : tie.Need-sub-chain-end
 sub-chain-end c =
-    omega (arith, (c .before .before .before .before .before .before) .pre, (c .if1) .left)
+    omega (arith, (start-from-else1 c) .pre, (c .if1) .left)
 
 chain-end-requires : tie.Need-chain-end-requires
 chain-end-requires c κs =
-    omega (arith, (c .before .before .before .before .before .before) .pre, (c .if1) .left)
+    omega (arith, (start-from-else1 c) .pre, (c .if1) .left)
 
 add-above-3 : tie.Need-add-above-3
 add-above-3 c =
-    omega (arith, (c .before .before .before .before .before .before .before .before) .pre, (c .before .before .if1) .left)
+    omega (arith, (start-from-chain-end (c .before)) .pre, (c .before .before .if1) .left)
 
 add-above-4 : tie.Need-add-above-4
 add-above-4 c =
-    omega (arith, (c .before .before .before .before .before .before .before .before) .pre, (c .before .before .if1) .left)
+    omega (arith, (start-from-chain-end (c .before)) .pre, (c .before .before .if1) .left)
 
 add-above-5 : tie.Need-add-above-5
 add-above-5 c =
-    omega (arith, (c .before .before .before .before .before .before .before .before) .pre, (c .before .before .if1) .left)
+    omega (arith, (start-from-chain-end (c .before)) .pre, (c .before .before .if1) .left)
 
 add-above-6 : tie.Need-add-above-6
 add-above-6 c =
-    omega (arith, (c .before .before .before .before .before .before .before .before) .pre, (c .before .before .if1) .left)
+    omega (arith, (start-from-chain-end (c .before)) .pre, (c .before .before .if1) .left)
 
 sub-above : tie.Need-sub-above
 sub-above c =
-    omega (arith, (c .before .before .before .before .before .before .before .before) .pre, (c .before .before .if1) .left)
+    omega (arith, (start-from-chain-end (c .before)) .pre, (c .before .before .if1) .left)
 
 above-requires-2 : tie.Need-above-requires-2
 above-requires-2 c κs =
     let more = (c .before .before .if1) .left in
-    let l = lower (c .before .before .before .before .before) in
+    let l = lower (above-from-above-arg2 c) in
     record {
-      room = room-of ((c .before .before .before .before .before .above) .result) _ _ _ l (omega arith);
-      firstBelow = omega (arith, l .place, (c .before .before .before .before .before .before .before .before) .pre);
-      secondBelow = omega (arith, l .place, (c .before .before .before .before .before .before .before .before) .pre);
+      room = room-of (((above-from-above-arg2 c) .above) .result) _ _ _ l (omega arith);
+      firstBelow = omega (arith, l .place, (start-from-chain-end (c .before)) .pre);
+      secondBelow = omega (arith, l .place, (start-from-chain-end (c .before)) .pre);
     }
 
 -- after the high half
 
-upper : (c : tie.After-above2) → Stands (c .above2 .result) ((c .before .before .before .before .before .before .before .before .before) .args .self .wire + (c .before .before .before .before .before .before .before .before .before) .args .low + ((c .before .before .before .before .before .before .before .before .before) .args .high - 1)) 1
+upper : (c : tie.After-above2)
+    → Stands (c .above2 .result) ((start-from-above2 c) .args .self .wire + (start-from-above2 c) .args .low
+    + ((start-from-above2 c) .args .high - 1)) 1
 upper c =
-    let a = (c .before .before .before .before .before .before .before .before .before) .args in
+    let a = (start-from-above2 c) .args in
     let more = (c .before .before .before .if1) .left in
-    let l = lower (c .before .before .before .before .before .before) in
-    stands-after ((c .before .before .before .before .before .before .above) .result) ((c .before .before .before .before .before .before .above) .last .1 .0) _ (c .above2 .last .1 .0) (c .above2 .result) _ _ _ (c .above2 .ensures) (length-above ((c .before .before .before .before .before .before .above) .result .wire) (a .f + 1 + a .low + 1) (a .x + 1 + a .low + 1) (a .x + 1 + a .low) (a .high - 1))
-    (stands ((c .before .before .before .before .before .before .above) .result) (a .self .wire + a .low) _ _ (l .place) (omega arith) (l .left))
+    let l = lower (above-from-above2 c) in
+    stands-after (((above-from-above2 c) .above) .result) (((above-from-above2 c) .above) .last .1 .0) _
+    (c .above2 .last .1 .0) (c .above2 .result) _ _ _ (c .above2 .ensures)
+    (length-above (((above-from-above2 c) .above) .result .wire) (a .f + 1 + a .low + 1) (a .x + 1 + a .low + 1)
+    (a .x + 1 + a .low) (a .high - 1))
+    (stands (((above-from-above2 c) .above) .result) (a .self .wire + a .low) _ _ (l .place) (omega arith) (l .left))
 
 chain-end-requires-2 : tie.Need-chain-end-requires-2
 chain-end-requires-2 c κs =
-    omega (arith, (c .before .before .before .before .before .before .before .before .before .before .before .before) .pre)
+    omega (arith, (start-from-above2 (c .before .before .before)) .pre)
 
 emit-requires : tie.Need-emit-requires
 emit-requires c κs =
@@ -121,17 +166,25 @@ same-length-2 c =
 
 returns-2 : tie.Need-returns-2
 returns-2 c =
-    let a = (c .before .before .before .before .before .before .before .before .before .before .before .before .before .before .before .before) .args in
-    let more = (c .before .before .before .before .before .before .before .before .before .before .if1) .left in
-    let w₁ = (c .before .before .before .before .before .before .before .before .before .before .before .before .before .above) .result in
-    let t₁ = (c .before .before .before .before .before .before .before .before .before .before .before .before .before .above) .last .1 .0 in
-    let w₂ = (c .before .before .before .before .before .before .before .above2) .result in
-    let t₂ = (c .before .before .before .before .before .before .before .above2) .last .1 .0 in
+    let a = (start-from-emit (c .before .before)) .args in
+    let more = ((else1-from-emit (c .before .before)) .if1) .left in
+    let w₁ = ((above-from-emit (c .before .before)) .above) .result in
+    let t₁ = ((above-from-emit (c .before .before)) .above) .last .1 .0 in
+    let w₂ = ((above2-from-emit (c .before .before)) .above2) .result in
+    let t₂ = ((above2-from-emit (c .before .before)) .above2) .last .1 .0 in
     wrote-as (a .self) (a .table .now) _ _ _ _ (above-halves-some (a .self .wire) (a .f) (a .x) (a .e) (a .low) (a .high) (omega arith))
     (wrote-then (a .self) (a .table .now) _ t₂ w₂ _ _ _ _
-    (wrote-then (a .self) (a .table .now) _ t₁ w₁ _ _ t₂ w₂ ((c .before .before .before .before .before .before .before .before .before .before .before .before .before .above) .ensures) ((c .before .before .before .before .before .before .before .above2) .ensures) (ap (λ (k : ℕ). above k (a .f + 1 + a .low + 1) (a .x + 1 + a .low + 1) (a .x + 1 + a .low) (a .high - 1)) (lower (c .before .before .before .before .before .before .before .before .before .before .before .before .before) .place)))
-    (mux-wrote w₂ t₂ ((c .before .before .emit) .last .1 .0) ((c .before .before .emit) .result) (a .e) ((c .before .before .before .before .before .before .before .before .before .chain-end) .result) ((c .before .before .before .chain-end2) .result) ((c .before .before .emit) .ensures))
-    (one-gate 7 refl ((c .before .before .before .before .before .before .before .before .before .chain-end) .ensures) ((c .before .before .before .chain-end2) .ensures)))
+    (wrote-then (a .self) (a .table .now) _ t₁ w₁ _ _ t₂ w₂
+    (((above-from-emit (c .before .before)) .above) .ensures)
+    (((above2-from-emit (c .before .before)) .above2) .ensures)
+    (ap (λ (k : ℕ). above k (a .f + 1 + a .low + 1) (a .x + 1 + a .low + 1) (a .x + 1 + a .low) (a .high - 1))
+    (lower (above-from-emit (c .before .before)) .place)))
+    (mux-wrote w₂ t₂ ((c .before .before .emit) .last .1 .0) ((c .before .before .emit) .result) (a .e)
+    (((chain-end-from-emit (c .before .before)) .chain-end) .result)
+    ((c .before .before .before .chain-end2) .result) ((c .before .before .emit) .ensures))
+    (one-gate 7 refl (((chain-end-from-emit (c .before .before)) .chain-end) .ensures) ((c .before .before .before .chain-end2) .ensures)))
 
 pub above-halves-spec : {M : Type 1} → statement M
-above-halves-spec = tie.close (tie.spec add-above add-above-2 above-requires same-length returns add-start add-start-2 add-chain-end sub-chain-end chain-end-requires add-above-3 add-above-4 add-above-5 add-above-6 sub-above above-requires-2 chain-end-requires-2 emit-requires same-length-2 returns-2)
+above-halves-spec = tie.close (tie.spec add-above add-above-2 above-requires same-length returns add-start
+    add-start-2 add-chain-end sub-chain-end chain-end-requires add-above-3 add-above-4 add-above-5 add-above-6
+    sub-above above-requires-2 chain-end-requires-2 emit-requires same-length-2 returns-2)

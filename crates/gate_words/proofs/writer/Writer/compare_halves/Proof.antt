@@ -26,12 +26,31 @@ unequal-halves-requires c κs =
 
 -- after the first part
 
-differ : (c : tie.After-unequal-halves) → Stands (c .unequal-halves .result) ((c .before .before .before .before) .args .self .wire + unequalSpan ((c .before .before .before .before) .args .low + (c .before .before .before .before) .args .high)) ((c .before .before .before .before) .args .low + (c .before .before .before .before) .args .high)
+differ : (c : tie.After-unequal-halves)
+    → Stands (c .unequal-halves .result)
+    ((c .before .before .before .before) .args .self .wire
+    + unequalSpan ((c .before .before .before .before) .args .low
+    + (c .before .before .before .before) .args .high))
+    ((c .before .before .before .before) .args .low + (c .before .before .before .before) .args .high)
 differ c =
     let s = (c .before .before .before .before) in
     let a = s .args in
-    stands-after (a .self) (a .table .now) _ (c .unequal-halves .last .1 .0) (c .unequal-halves .result) _ _ _ (c .unequal-halves .ensures) (length-unequal-halves (a .self .wire) (a .x) (a .y) (a .low) (a .high))
+    stands-after (a .self) (a .table .now) _ (c .unequal-halves .last .1 .0) (c .unequal-halves .result) _ _ _
+    (c .unequal-halves .ensures) (length-unequal-halves (a .self .wire) (a .x) (a .y) (a .low) (a .high))
     (stands (a .self) (a .self .wire) _ _ refl (omega arith) (s .pre .room))
+
+-- The stages of the function, seen from later ones.
+abbrev start-from-above-halves-arg : tie.After-above-halves-arg → tie.Start
+start-from-above-halves-arg c = c .before .before .before .before .before .before .before
+
+abbrev start-from-above-halves : tie.After-above-halves → tie.Start
+start-from-above-halves c = c .before .before .before .before .before .before .before .before
+
+abbrev high-unequal-at-from-above-halves : tie.After-above-halves → tie.After-high-unequal-at
+high-unequal-at-from-above-halves c = c .before .before .before .before .before .before
+
+abbrev unequal-halves-from-slice-known3 : tie.After-slice-known3 → tie.After-unequal-halves
+unequal-halves-from-slice-known3 c = c .before .before .before .before .before .before
 
 above-halves-requires : tie.Need-above-halves-requires
 above-halves-requires c κs =
@@ -39,7 +58,7 @@ above-halves-requires c κs =
     record {
       room = d .left;
       firstBelow = omega (arith, d .place);
-      secondBelow = omega (arith, d .place, (c .before .before .before .before .before .before .before) .pre);
+      secondBelow = omega (arith, d .place, (start-from-above-halves-arg c) .pre);
     }
 
 same-length : tie.Need-same-length
@@ -49,10 +68,15 @@ same-length c =
 returns : tie.Need-returns
 unfolding compareHalves
 returns c =
-    let a = (c .before .before .before .before .before .before .before .before .before .before) .args in
-    wrote-then (a .self) (a .table .now) _ ((c .before .before .before .before .before .before .unequal-halves) .last .1 .0) ((c .before .before .before .before .before .before .unequal-halves) .result) _ _ _ _ ((c .before .before .before .before .before .before .unequal-halves) .ensures) ((c .before .before .above-halves) .ensures)
-    (ap (λ (k : ℕ). aboveHalves k (a .self .wire) (a .x) ((c .before .before .before .before .before .before .before .before .high-unequal-at) .result) (a .low) (a .high)) (differ (c .before .before .before .before .before .before) .place)
-    ∙ ap (λ (k : ℕ). aboveHalves (a .self .wire + unequalSpan (a .low + a .high)) (a .self .wire) (a .x) k (a .low) (a .high)) ((c .before .before .before .before .before .before .before .before .high-unequal-at) .ensures))
+    let a = (start-from-above-halves (c .before .before)) .args in
+    wrote-then (a .self) (a .table .now) _ (((unequal-halves-from-slice-known3 c) .unequal-halves) .last .1 .0)
+    (((unequal-halves-from-slice-known3 c) .unequal-halves) .result) _ _ _ _
+    (((unequal-halves-from-slice-known3 c) .unequal-halves) .ensures) ((c .before .before .above-halves) .ensures)
+    (ap (λ (k : ℕ). aboveHalves k (a .self .wire) (a .x)
+    (((high-unequal-at-from-above-halves (c .before .before)) .high-unequal-at) .result) (a .low) (a .high))
+    (differ (unequal-halves-from-slice-known3 c) .place)
+    ∙ ap (λ (k : ℕ). aboveHalves (a .self .wire + unequalSpan (a .low + a .high)) (a .self .wire) (a .x) k (a .low)
+    (a .high)) (((high-unequal-at-from-above-halves (c .before .before)) .high-unequal-at) .ensures))
 
 pub compare-halves-spec : {M : Type 1} → statement M
 compare-halves-spec = tie.close (tie.spec high-unequal-at-requires unequal-halves-requires above-halves-requires same-length returns)

@@ -35,8 +35,10 @@ emit-requires c κs =
     let s = c .before .before .before .before in
     let a = s .args in
     let l = c .before .before .loop in
-    goes-room (a .self) (a .table .now) (masked (a .f) (a .x) (a .digits)) (l .w) (l .table) (masked (a .f) (a .x + l .i) (a .digits - l .i)) 1 (a .digits) (l .inv .1)
-    (omega (arith, length-masked (a .f) (a .x + l .i) (a .digits - l .i))) (omega (arith, length-masked (a .f) (a .x) (a .digits))) (s .pre .room)
+    goes-room (a .self) (a .table .now) (masked (a .f) (a .x) (a .digits)) (l .w) (l .table)
+    (masked (a .f) (a .x + l .i) (a .digits - l .i)) 1 (a .digits) (l .inv .1)
+    (omega (arith, length-masked (a .f) (a .x + l .i) (a .digits - l .i)))
+    (omega (arith, length-masked (a .f) (a .x) (a .digits))) (s .pre .room)
 
 add-i : tie.Need-add-i Inv-loop μ-loop
 add-i c = omega arith
@@ -44,15 +46,24 @@ add-i c = omega arith
 loop-less : tie.Need-loop-less Inv-loop μ-loop
 loop-less c = omega arith
 
+-- The stages of the function, seen from later ones.
+abbrev start-from-emit : tie.After-emit Inv-loop μ-loop → tie.Start Inv-loop μ-loop
+start-from-emit c = c .before .before .before .before .before
+
+abbrev loop-reached-from-slice-known2 : tie.After-slice-known2 Inv-loop μ-loop → tie.At-loop Inv-loop μ-loop
+loop-reached-from-slice-known2 c = c .before .before .before .before .before
+
 loop-again : tie.Need-loop-again Inv-loop μ-loop
 loop-again c =
-    let s = c .before .before .before .before .before .before .before in
+    let s = (start-from-emit (c .before .before)) in
     let a = s .args in
-    let l = c .before .before .before .before .before .loop in
+    let l = (loop-reached-from-slice-known2 c) .loop in
     let e = c .before .before .emit in (
       omega arith,
       goes-on (a .self) (a .table .now) (masked (a .f) (a .x) (a .digits)) (l .w) (l .table) _ _ (e .last .1 .0) (e .result)
-          (goes-as (a .self) (a .table .now) (masked (a .f) (a .x) (a .digits)) (l .w) (l .table) _ _ (masked-step (a .f) (a .x) (l .i) (a .digits) (c .before .before .before .before .loop-test .taken)) (l .inv .1))
+          (goes-as (a .self) (a .table .now) (masked (a .f) (a .x) (a .digits)) (l .w) (l .table) _ _
+          (masked-step (a .f) (a .x) (l .i) (a .digits) (c .before .before .before .before .loop-test .taken))
+          (l .inv .1))
           (and-wrote (l .w) (l .table) (e .last .1 .0) (e .result) (a .f) (a .x + l .i) 0 (e .ensures)),
     )
 
@@ -63,7 +74,8 @@ returns : tie.Need-returns Inv-loop μ-loop
 returns c =
     let a = c .before .before .before .args in
     let l = c .before .loop in
-    goes-end (a .self) (a .table .now) (masked (a .f) (a .x) (a .digits)) (l .w) (l .table) _ (masked-none (a .f) (a .x + l .i) (l .i) (a .digits) (c .loop-test .left)) (l .inv .1)
+    goes-end (a .self) (a .table .now) (masked (a .f) (a .x) (a .digits)) (l .w) (l .table) _
+    (masked-none (a .f) (a .x + l .i) (l .i) (a .digits) (c .loop-test .left)) (l .inv .1)
 
 pub masked-spec : {M : Type 1} → statement M
 masked-spec = tie.close (tie.spec Inv-loop μ-loop loop-holds add-emit emit-requires add-i loop-less loop-again same-length returns)

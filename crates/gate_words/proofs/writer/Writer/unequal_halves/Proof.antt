@@ -32,16 +32,31 @@ differences-requires c κs =
 
 -- after the differences
 
-differ : (c : tie.After-differences) → Stands (c .differences .result) ((c .before .before .before) .args .self .wire + ((c .before .before .before) .args .low + (c .before .before .before) .args .high + 1)) ((c .before .before .before) .args .low + (c .before .before .before) .args .high)
+differ : (c : tie.After-differences)
+    → Stands (c .differences .result)
+    ((c .before .before .before) .args .self .wire
+    + ((c .before .before .before) .args .low + (c .before .before .before) .args .high + 1))
+    ((c .before .before .before) .args .low + (c .before .before .before) .args .high)
 differ c =
     let s = (c .before .before .before) in
     let a = s .args in
-    stands-after (a .self) (a .table .now) _ (c .differences .last .1 .0) (c .differences .result) _ _ _ (c .differences .ensures) (length-differences (a .x) (a .y) (a .low + a .high + 1))
+    stands-after (a .self) (a .table .now) _ (c .differences .last .1 .0) (c .differences .result) _ _ _
+    (c .differences .ensures) (length-differences (a .x) (a .y) (a .low + a .high + 1))
     (stands (a .self) (a .self .wire) _ _ refl (omega arith) (s .pre .room))
+
+-- The stages of the function, seen from later ones.
+abbrev start-from-any-of-halves-arg : tie.After-any-of-halves-arg → tie.Start
+start-from-any-of-halves-arg c = c .before .before .before .before .before .before
+
+abbrev start-from-any-of-halves : tie.After-any-of-halves → tie.Start
+start-from-any-of-halves c = c .before .before .before .before .before .before .before
+
+abbrev differences-from-slice-known3 : tie.After-slice-known3 → tie.After-differences
+differences-from-slice-known3 c = c .before .before .before .before .before .before
 
 add-any-of-halves : tie.Need-add-any-of-halves
 add-any-of-halves c =
-    omega (arith, (c .before .before .before .before .before .before) .pre .room .small)
+    omega (arith, (start-from-any-of-halves-arg c) .pre .room .small)
 
 any-of-halves-requires : tie.Need-any-of-halves-requires
 any-of-halves-requires c κs =
@@ -55,11 +70,16 @@ same-length c =
 returns : tie.Need-returns
 unfolding unequalHalves
 returns c =
-    let a = (c .before .before .before .before .before .before .before .before .before) .args in
-    let e : (c .before .before .before .before .before .before .differences) .result .wire ≡ a .self .wire + suc (a .low + a .high) = omega (arith, differ (c .before .before .before .before .before .before) .place) in
-    wrote-then (a .self) (a .table .now) _ ((c .before .before .before .before .before .before .differences) .last .1 .0) ((c .before .before .before .before .before .before .differences) .result) _ _ _ _
-    (wrote-as (a .self) (a .table .now) _ _ _ _ (ap (differences (a .x) (a .y)) (add-one (a .low + a .high))) ((c .before .before .before .before .before .before .differences) .ensures))
+    let a = (start-from-any-of-halves (c .before .before)) .args in
+    let e : ((differences-from-slice-known3 c) .differences) .result .wire ≡ a .self .wire
+    + suc (a .low + a .high) = omega (arith, differ (differences-from-slice-known3 c) .place) in
+    wrote-then (a .self) (a .table .now) _ (((differences-from-slice-known3 c) .differences) .last .1 .0)
+    (((differences-from-slice-known3 c) .differences) .result) _ _ _ _
+    (wrote-as (a .self) (a .table .now) _ _ _ _ (ap (differences (a .x) (a .y)) (add-one (a .low + a .high)))
+    (((differences-from-slice-known3 c) .differences) .ensures))
     ((c .before .before .any-of-halves) .ensures) (ap (λ (k : ℕ). anyOfHalves k (a .self .wire) (a .self .wire + 1) (a .low) (a .high)) e)
 
 pub unequal-halves-spec : {M : Type 1} → statement M
-unequal-halves-spec = tie.close (tie.spec add-differences add-differences-2 differences-requires add-any-of-halves any-of-halves-requires same-length returns)
+unequal-halves-spec = tie.close
+    (tie.spec add-differences add-differences-2 differences-requires add-any-of-halves any-of-halves-requires
+    same-length returns)

@@ -20,7 +20,8 @@ use Rattle.graded_circuit.proofs.plan.Plan.new.Tie as tie
 widths : (s : Shape) → T (gradedLimits s) → (1 ≤ widthOf (s .ballots)) × (widthOf (s .ballots) ≤ 8)
 widths s t = let w = within-T s t in (omega (arith, width-half (s .ballots) (w .n-least)), width-most (s .ballots) (w .n-most))
 
-halves : (s : Shape) → T (gradedLimits s) → ((s .ballots + 1) / 2 ≤ 2 ^ (widthOf (s .ballots) - 1)) × (1 + s .ballots / 2 ≤ 2 ^ (widthOf (s .ballots) - 1))
+halves : (s : Shape) → T (gradedLimits s) → ((s .ballots + 1) / 2 ≤ 2 ^ (widthOf (s .ballots) - 1))
+    × (1 + s .ballots / 2 ≤ 2 ^ (widthOf (s .ballots) - 1))
 halves s t =
     let high = high-width (s .ballots) (within-T s t .n-least) in
     (half-most (s .ballots) (widthOf (s .ballots) - 1) high, rest-most (s .ballots) (widthOf (s .ballots) - 1) high)
@@ -50,23 +51,33 @@ ballot-bytes-requires : tie.Need-ballot-bytes-requires
 ballot-bytes-requires c κs = let a = c .before .before .before .before .before in graded-T (a .args .shape) (a .pre)
 
 cast-t8 : tie.Need-cast-t8
-cast-t8 c = let a = c .before .before .before .before .before .before in omega (arith, c .ballot-bytes .ensures, bytes-are (a .args .shape) (within-T (a .args .shape) (a .pre)), bytes-bound (a .args .shape) (within-T (a .args .shape) (a .pre)))
+cast-t8 c = let a = c .before .before .before .before .before .before in
+    omega (
+      arith,
+      c .ballot-bytes .ensures,
+      bytes-are (a .args .shape) (within-T (a .args .shape) (a .pre)),
+      bytes-bound (a .args .shape) (within-T (a .args .shape) (a .pre)),
+    )
 
 add-t9 : tie.Need-add-t9
 add-t9 c = let a = c .before .before .before .before .before .before in omega (arith, within-T (a .args .shape) (a .pre) .n-most)
 
 -- the power of two of the low digits
-power-is : (c : tie.After-ballot-bytes) → c .before .before .before .power .result ≡ 2 ^ (widthOf (c .before .before .before .before .before .before .args .shape .ballots) - 1)
+power-is : (c : tie.After-ballot-bytes) → c .before .before .before .power .result
+    ≡ 2 ^ (widthOf (c .before .before .before .before .before .before .args .shape .ballots) - 1)
 power-is c = c .before .before .before .power .ensures ∙ ap (λ (k : ℕ). 2 ^ (k - 1)) (c .before .before .before .before .width .ensures)
 
 sub-t11 : tie.Need-sub-t11
-sub-t11 c = let a = c .before .before .before .before .before .before in let e = power-is c in omega (arith, halves (a .args .shape) (a .pre))
+sub-t11 c = let a = c .before .before .before .before .before .before in let e = power-is c in
+    omega (arith, halves (a .args .shape) (a .pre))
 
 sub-t12 : tie.Need-sub-t12
-sub-t12 c = let a = c .before .before .before .before .before .before in let e = power-is c in omega (arith, halves (a .args .shape) (a .pre))
+sub-t12 c = let a = c .before .before .before .before .before .before in let e = power-is c in
+    omega (arith, halves (a .args .shape) (a .pre))
 
 sub-t14 : tie.Need-sub-t14
-sub-t14 c = let a = c .before .before .before .before .before .before in let e = power-is c in omega (arith, halves (a .args .shape) (a .pre))
+sub-t14 c = let a = c .before .before .before .before .before .before in let e = power-is c in
+    omega (arith, halves (a .args .shape) (a .pre))
 
 -- the width of the number of a grade
 grade-widths : (s : Shape) → T (gradedLimits s) → (1 ≤ widthOf (s .grades - 1)) × (widthOf (s .grades - 1) ≤ 8)
@@ -75,16 +86,19 @@ grade-widths s t =
     (omega (arith, width-half (s .grades - 1) (omega (arith, w .d-least))), width-most (s .grades - 1) (omega (arith, w .d-most)))
 
 sub-width : tie.Need-sub-width
-sub-width c = let a = c .before .before .before .before .before .before .before in omega (arith, within-T (a .args .shape) (a .pre) .d-least)
+sub-width c = let a = c .before .before .before .before .before .before .before in
+    omega (arith, within-T (a .args .shape) (a .pre) .d-least)
 
 width-requires-2 : tie.Need-width-requires-2
 width-requires-2 c κs = search needs
 
 cast-t17 : tie.Need-cast-t17
-cast-t17 c = let a = c .before .before .before .before .before .before .before .before in omega (arith, c .width2 .ensures, grade-widths (a .args .shape) (a .pre))
+cast-t17 c = let a = c .before .before .before .before .before .before .before .before in
+    omega (arith, c .width2 .ensures, grade-widths (a .args .shape) (a .pre))
 
 sub-t18 : tie.Need-sub-t18
-sub-t18 c = let a = c .before .before .before .before .before .before .before .before in omega (arith, c .width2 .ensures, grade-widths (a .args .shape) (a .pre))
+sub-t18 c = let a = c .before .before .before .before .before .before .before .before in
+    omega (arith, c .width2 .ensures, grade-widths (a .args .shape) (a .pre))
 
 planned : Shape → ℕ → ℕ → ℕ → ℕ → Plan
 planned s inputs width most graded =
@@ -99,7 +113,8 @@ planned s inputs width most graded =
       places = graded - 1;
     }
 
-same-plan : (s : Shape) (inputs width most graded : ℕ) → inputs ≡ ballotBytes s → width ≡ widthOf (s .ballots) → most ≡ 2 ^ (widthOf (s .ballots) - 1)
+same-plan : (s : Shape) (inputs width most graded : ℕ) → inputs ≡ ballotBytes s → width ≡ widthOf (s .ballots)
+    → most ≡ 2 ^ (widthOf (s .ballots) - 1)
     → graded ≡ widthOf (s .grades - 1) → planned s inputs width most graded ≡ planOf s
 unfolding planned planOf
 same-plan s inputs width most graded e₁ e₂ e₃ e₄ =
@@ -113,7 +128,8 @@ unfolding planned
 returns c =
     let l = c .before .before in
     let a = l .before .before .before .before .before .before in
-    same-plan (a .args .shape) (l .ballot-bytes .result) (l .before .before .before .before .width .result) (l .before .before .before .power .result) (c .width2 .result)
+    same-plan (a .args .shape) (l .ballot-bytes .result) (l .before .before .before .before .width .result)
+    (l .before .before .before .power .result) (c .width2 .result)
     (l .ballot-bytes .ensures) (l .before .before .before .before .width .ensures) (power-is l) (c .width2 .ensures)
 
 pub new-spec : {M : Type 1} → statement M

@@ -22,7 +22,8 @@ joined1 c =
     ⊎-elim (λ w. and-taken _ _ _ (le-leb _ _ (w .0 .taken)) (w .2))
     (λ w. and-left _ _ _ (lt-leb _ _ (w .0 .left)) (w .1)) (c .if1 .came)
 
-joined2 : (c : tie.Joined2) → c .if2 .if3 ≡ (k-tests (c .before .before .before .args .self) && leb 2 (c .before .before .before .args .self .grades))
+joined2 : (c : tie.Joined2) → c .if2 .if3
+    ≡ (k-tests (c .before .before .before .args .self) && leb 2 (c .before .before .before .args .self .grades))
 joined2 c =
     ⊎-elim (λ w. and-taken _ _ _ (sym (joined1 (c .before)) ∙ w .0 .taken) (w .2))
     (λ w. and-left _ _ _ (sym (joined1 (c .before)) ∙ w .0 .left) (w .1 ∙ joined1 (c .before))) (c .if2 .came)
@@ -32,7 +33,9 @@ joined3 c =
     ⊎-elim (λ w. and-taken _ _ _ (sym (joined2 (c .before)) ∙ w .0 .taken) (w .2))
     (λ w. and-left _ _ _ (sym (joined2 (c .before)) ∙ w .0 .left) (w .1 ∙ joined2 (c .before))) (c .if3 .came)
 
-joined4 : (c : tie.Joined4) → c .if4 .if5 ≡ (d-tests (c .before .before .before .before .before .args .self) && leb 1 (c .before .before .before .before .before .args .self .ballots))
+joined4 : (c : tie.Joined4) → c .if4 .if5
+    ≡ (d-tests (c .before .before .before .before .before .args .self) && leb 1
+    (c .before .before .before .before .before .args .self .ballots))
 joined4 c =
     ⊎-elim (λ w. and-taken _ _ _ (sym (joined3 (c .before)) ∙ w .0 .taken) (w .2))
     (λ w. and-left _ _ _ (sym (joined3 (c .before)) ∙ w .0 .left) (w .1 ∙ joined3 (c .before))) (c .if4 .came)

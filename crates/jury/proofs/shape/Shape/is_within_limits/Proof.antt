@@ -17,13 +17,16 @@ returns : tie.Need-returns
 unfolding withinLimits
 returns c =
     let s = c .before .before .args .self in
-    or-taken (gradedLimits s) (rankedLimits s) _ (sym (c .before .is-within-graded-limits .ensures) ∙ c .if1 .taken) (c .before .is-within-graded-limits .ensures)
+    or-taken (gradedLimits s) (rankedLimits s) _ (sym (c .before .is-within-graded-limits .ensures) ∙ c .if1 .taken)
+    (c .before .is-within-graded-limits .ensures)
 
 returns-2 : tie.Need-returns-2
 unfolding withinLimits
 returns-2 c =
     let s = c .before .before .before .args .self in
-    or-left (gradedLimits s) (rankedLimits s) _ (sym (c .before .before .is-within-graded-limits .ensures) ∙ c .before .if1 .left) (c .is-within-ranked-limits .ensures)
+    or-left (gradedLimits s) (rankedLimits s) _
+    (sym (c .before .before .is-within-graded-limits .ensures) ∙ c .before .if1 .left)
+    (c .is-within-ranked-limits .ensures)
 
 pub is-within-limits-spec : {M : Type 1} → statement M
 is-within-limits-spec =

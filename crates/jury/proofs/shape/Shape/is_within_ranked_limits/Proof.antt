@@ -19,13 +19,16 @@ joined1 c =
     ⊎-elim (λ w. and-taken _ _ _ (le-leb _ _ (w .0 .taken)) (w .2))
     (λ w. and-left _ _ _ (lt-leb _ _ (w .0 .left)) (w .1)) (c .if1 .came)
 
-joined2 : (c : tie.Joined2) → c .if2 .if3 ≡ (k-tests (c .before .before .before .args .self) && isRanking (c .before .before .before .args .self))
+joined2 : (c : tie.Joined2) → c .if2 .if3
+    ≡ (k-tests (c .before .before .before .args .self) && isRanking (c .before .before .before .args .self))
 unfolding isRanking
 joined2 c =
     ⊎-elim (λ w. and-taken _ _ _ (sym (joined1 (c .before)) ∙ w .0 .taken) (w .2))
     (λ w. and-left _ _ _ (sym (joined1 (c .before)) ∙ w .0 .left) (w .1 ∙ joined1 (c .before))) (c .if2 .came)
 
-joined3 : (c : tie.Joined3) → c .if3 .if4 ≡ (k-tests (c .before .before .before .before .args .self) && isRanking (c .before .before .before .before .args .self) && leb 1 (c .before .before .before .before .args .self .ballots))
+joined3 : (c : tie.Joined3) → c .if3 .if4
+    ≡ (k-tests (c .before .before .before .before .args .self) && isRanking
+    (c .before .before .before .before .args .self) && leb 1 (c .before .before .before .before .args .self .ballots))
 joined3 c =
     ⊎-elim (λ w. and-taken _ _ _ (sym (joined2 (c .before)) ∙ w .0 .taken) (w .2))
     (λ w. and-left _ _ _ (sym (joined2 (c .before)) ∙ w .0 .left) (w .1 ∙ joined2 (c .before))) (c .if3 .came)

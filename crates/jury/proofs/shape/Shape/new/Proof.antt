@@ -15,14 +15,24 @@ is-within-limits-requires c κs = search needs
 returns : tie.Need-returns
 unfolding shapedFor unless
 returns c =
-    let s : Shape = record { candidates = c .before .before .args .candidates; grades = c .before .before .args .grades; ballots = c .before .before .args .ballots } in
+    let s : Shape = record {
+      candidates = c .before .before .args .candidates;
+      grades =
+          c .before .before .args .grades;
+      ballots = c .before .before .args .ballots;
+    } in
     let e = sym (c .if1 .taken) ∙ c .before .is-within-limits .ensures in
     record { result = ap (λ (t : Bool). cond t (Within s) Outside) e; reason = ap (λ (t : Bool). unless t 1) e }
 
 returns-2 : tie.Need-returns-2
 unfolding shapedFor unless
 returns-2 c =
-    let s : Shape = record { candidates = c .before .before .args .candidates; grades = c .before .before .args .grades; ballots = c .before .before .args .ballots } in
+    let s : Shape = record {
+      candidates = c .before .before .args .candidates;
+      grades =
+          c .before .before .args .grades;
+      ballots = c .before .before .args .ballots;
+    } in
     let e = sym (c .if1 .left) ∙ c .before .is-within-limits .ensures in
     record { result = ap (λ (t : Bool). cond t (Within s) Outside) e; reason = ap (λ (t : Bool). unless t 1) e }
 
